@@ -1,0 +1,171 @@
+//! Items, one after the other.
+
+ghost use Rattle.std.specs.Prelude.{◌≡◌};
+ghost use Rattle.pcep_objects.specs.declared.object.Srp.{Srp};
+ghost use Rattle.pcep_messages.specs.Report.{Gives, report_from, srp_id, about_srp, about_item, lacks_identifiers, setup_of, hold_of, colours_of, hops_or_none, report_of, reports_of, before_fault, cut_off, reports_from};
+
+use crate::fault::{About, MessageFault};
+use crate::groups::Item;
+use crate::message::{Colours, StateReport};
+use pcep_objects::{Hop, Lsp, Lspa, ObjectFault, Srp};
+use pcep_word::Priority;
+use sequence::Sequence;
+use std::alloc::Global;
+use std::collections::VecDeque;
+
+fn id_of(srp: Option<Srp>) -> Option<u32>
+    ensures { result ≡ srp_id srp }
+{
+    match srp {
+        Some(srp) if srp.id != 0 => Some(srp.id),
+        _ => None,
+    }
+}
+
+fn about(srp: Option<u32>) -> About
+    ensures { result ≡ about_srp srp }
+{
+    match srp {
+        None => About::Nothing,
+        Some(id) => About::Srp(id),
+    }
+}
+
+fn lacks(lsp: &Lsp) -> bool
+    ensures { result ≡ lacks_identifiers lsp.now }
+{
+    lsp.plsp.number() != 0 && lsp.identifiers.is_none()
+}
+
+fn priorities(lspa: Option<Lspa>) -> (Priority, Priority)
+    ensures setup { result.0 ≡ setup_of lspa }
+    ensures hold { result.1 ≡ hold_of lspa }
+{
+    match lspa {
+        None => (Priority::capped(7), Priority::capped(7)),
+        Some(lspa) => (lspa.setup, lspa.hold),
+    }
+}
+
+fn colours_in(lspa: Option<Lspa>) -> Colours
+    ensures { result ≡ colours_of lspa }
+{
+    match lspa {
+        None => Colours {
+            exclude_any: 0,
+            include_any: 0,
+            include_all: 0,
+        },
+        Some(lspa) => Colours {
+            exclude_any: lspa.exclude_any,
+            include_any: lspa.include_any,
+            include_all: lspa.include_all,
+        },
+    }
+}
+
+fn route_of(alloc: Global, ero: Option<Sequence<Hop>>) -> Sequence<Hop>
+    ensures { result ≡ hops_or_none ero }
+{
+    match ero {
+        Some(hops) => hops,
+        None => Sequence::from_vec(Vec::new(alloc)),
+    }
+}
+
+/// The report of an item that has an LSP.
+fn report_with(alloc: Global, item: Item, lsp: Lsp) -> StateReport
+    ensures { result ≡ report_from item lsp }
+{
+    let srp = id_of(item.srp);
+    let (setup, hold) = priorities(item.lspa);
+    let colours = colours_in(item.lspa);
+    let bandwidth = item.bandwidth;
+    StateReport {
+        srp,
+        plsp: lsp.plsp,
+        remove: lsp.remove,
+        sync: lsp.sync,
+        delegate: lsp.delegate,
+        admin: lsp.admin,
+        operational: lsp.operational,
+        created: lsp.created,
+        name: lsp.name,
+        identifiers: lsp.identifiers,
+        ero: route_of(alloc, item.ero),
+        rro: item.rro,
+        bandwidth,
+        setup,
+        hold,
+        colours,
+    }
+}
+
+/// The report of an item.
+#[tactic(auto, unfolding(crate::specs::Report::report_of))]
+fn report(alloc: Global, mut item: Item) -> Result<StateReport, MessageFault>
+    ensures { Gives (λ x. x) result (report_of item) }
+{
+    let srp = id_of(item.srp);
+    let Some(lsp) = item.lsp.take() else {
+        return Err(MessageFault::Refused(6, 8, about(srp)));
+    };
+    if lacks(&lsp) {
+        return Err(MessageFault::MissingIdentifiers(about(srp)));
+    }
+    if item.ero.is_none() && !lsp.remove {
+        return Err(MessageFault::Refused(6, 9, about(srp)));
+    }
+    Ok(report_with(alloc, item, lsp))
+}
+
+/// The fault where an object cannot be read after this item.
+fn cut(item: &Item, fault: ObjectFault) -> MessageFault
+    ensures { result ≡ cut_off item.now fault }
+{
+    let about = about(id_of(item.srp));
+    match &item.lsp {
+        Some(lsp) if lacks(lsp) => MessageFault::MissingIdentifiers(about),
+        _ => MessageFault::BadObject(fault, about),
+    }
+}
+
+fn each_report(alloc: Global, mut items: VecDeque<Item>) -> Result<Vec<StateReport>, MessageFault>
+    ensures { Gives (λ v. v.items) result (reports_of items.items) }
+{
+    let mut found = Vec::new(alloc);
+    while let Some(item) = items.pop_front() {
+        let report = report(alloc, item)?;
+        found.push(report)?;
+    }
+    Ok(found)
+}
+
+fn fault_after(
+    alloc: Global,
+    mut items: VecDeque<Item>,
+    fault: ObjectFault,
+) -> Result<Vec<StateReport>, MessageFault>
+    ensures { Gives (λ v. v.items) result (before_fault items.items fault) }
+{
+    let Some(last) = items.pop_back() else {
+        return Err(MessageFault::BadObject(fault, About::Nothing));
+    };
+    let _before = each_report(alloc, items)?;
+    Err(cut(&last, fault))
+}
+
+/// The reports of the items. An object that cannot be read may come after them.
+#[tactic(auto, unfolding(crate::specs::Report::reports_from))]
+pub fn reports(
+    alloc: Global,
+    items: VecDeque<Item>,
+    fault: Option<ObjectFault>,
+) -> Result<Vec<StateReport>, MessageFault>
+    ensures { Gives (λ v. v.items) result (reports_from items.items fault) }
+{
+    match fault {
+        None => each_report(alloc, items),
+        Some(fault) => fault_after(alloc, items, fault),
+    }
+}

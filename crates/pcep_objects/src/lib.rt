@@ -1,0 +1,16 @@
+//! Objects of PCEP, read from bytes.
+#![tactic(auto)]
+
+mod fault;
+mod header;
+mod hops;
+mod object;
+mod pieces;
+mod reading;
+mod tlvs;
+mod writing;
+
+pub use fault::{BodyFault, ObjectFault};
+pub use object::{Bandwidths, Hop, Identifiers, Lsp, Lspa, Object, Operational, Plsp, Srp};
+pub use reading::read_object;
+pub use writing::{route_is_read_again, srp_is_read_again, write_srp};
