@@ -1,0 +1,58 @@
+-- The links that a route uses: from the start's owner, hop by hop.
+use Rattle.std.specs.Prelude.{ℕ, Bool, ◌==◌, ◌&&◌, List, [], ◌∷◌, ◌++◌, Option, Some, None, if◌then◌else◌, position, fold}
+use Rattle.std.specs.List.{list_any}
+use Rattle.std.specs.Option.{option_or}
+use Rattle.pcep_objects.specs.declared.object.Hop.{Hop}
+use Rattle.pcep_objects.specs.declared.object.Hop.TheVariants.{Host, Other}
+use Rattle.te_base.specs.declared.network.Link.{Link}
+use Rattle.te_base.specs.declared.walk.Walker.{Walker}
+use Rattle.te_base.specs.Base.{Base}
+use Rattle.te_base.specs.Owners.{owner_of}
+
+-- the current node, the remembered address, and the links so far
+pub record Place : Type 0 where
+  pub node : ℕ
+  pub remembered : Option ℕ
+  pub links : List ℕ
+
+abbrev pub joins : ℕ → ℕ → Link → Bool
+joins from to l = l.from == from && l.to == to
+
+-- the least-numbered link with a remembered local address
+abbrev pub remembered_link : List Link → ℕ → ℕ → Option ℕ → Option ℕ
+remembered_link links from to None = None
+remembered_link links from to (Some near) = position (λ l. joins from to l && l.local == near) links
+
+-- by its remote address, else by its remembered local address, else any
+abbrev pub chosen_link : List Link → ℕ → ℕ → ℕ → Option ℕ → Option ℕ
+chosen_link links from to address remembered =
+    option_or (position (λ l. joins from to l && l.remote == address) links)
+    (option_or (remembered_link links from to remembered) (position (joins from to) links))
+
+abbrev pub with_link_once : List ℕ → Option ℕ → List ℕ
+with_link_once links None = links
+with_link_once links (Some link) = if list_any (λ l. l == link) links then links else links ++ link ∷ []
+
+-- on to the node that owns the address
+abbrev pub moved : Base → Place → ℕ → Option ℕ → Place
+moved base p address None = p
+moved base p address (Some node) =
+    if node == p.node then record { node = p.node; remembered = Some address; links = p.links }
+    else record { node = node; remembered = None; links = with_link_once p.links (chosen_link base.links p.node node address p.remembered) }
+
+abbrev pub stepped : Base → Place → ℕ → Place
+stepped base p address = moved base p address (owner_of base.owners address)
+
+abbrev pub hopped : Base → Place → Hop → Place
+hopped base p (Host address loose) = stepped base p address
+hopped base p (Other kind bytes) = p
+
+abbrev pub walk_from : Base → Option ℕ → List Hop → ℕ → List ℕ
+walk_from base None hops end = []
+walk_from base (Some node) hops end = (stepped base (fold (hopped base) (record { node = node; remembered = None; links = [] }) hops) end).links
+
+abbrev pub walk : Base → ℕ → List Hop → ℕ → List ℕ
+walk base start hops end = walk_from base (owner_of base.owners start) hops end
+
+abbrev pub place_of : Walker → Place
+place_of w = record { node = w.node; remembered = w.remembered; links = w.links.items }

@@ -1,0 +1,118 @@
+//! The base: what a link text says, and look-ups in it.
+ghost use Rattle.std.specs.Prelude.{◌≡◌, IfOk, slice_get, length};
+ghost use Rattle.te_base.specs.Faults.{Gives};
+ghost use Rattle.te_base.specs.LinkText.{base_of, base_of_tree};
+ghost use Rattle.te_base.specs.Owners.{owner_of};
+ghost use Rattle.te_base.specs.Walk.{walk};
+ghost use Rattle.te_base.specs.Views.{base_in};
+ghost use Rattle.toml.specs.View.{table_view};
+
+use crate::fault::TeFault;
+use crate::fields::tables;
+use crate::network::{Link, LinkNumber, NodeNumber, Parts};
+use crate::tables::{add_links, add_nodes, owner_in};
+use crate::walk::walk_parts;
+use pcep_objects::Hop;
+use pcep_word::Ipv4;
+use std::alloc::{AllocError, Global};
+use std::marker::Model;
+use toml::Table;
+
+/// The nodes, links and owners of a link text.
+#[derive(Debug, Drop)]
+pub struct TeBase {
+    parts: Parts,
+}
+
+impl Model for TeBase {
+    ghost use Rattle.te_base.specs.Base.{Base};
+    ghost use Rattle.te_base.specs.Views.{base_in};
+
+    ghost Value = { Base };
+
+    ghost view = { λ b. base_in b.parts };
+}
+
+#[tactic(auto, unfolding(crate::specs::LinkText::base_of_tree))]
+fn read_tree(alloc: Global, document: &Table) -> Result<Parts, TeFault>
+    ensures { Gives base_in result (base_of_tree (table_view document.now)) }
+{
+    let nodes = tables(alloc, document, "node")?;
+    let links = tables(alloc, document, "link")?;
+    if nodes.len() > 1024 || links.len() > 4096 {
+        return Err(TeFault::TooMany);
+    }
+    let mut parts = Parts {
+        nodes: Vec::new(alloc),
+        links: Vec::new(alloc),
+        owners: Vec::new(alloc),
+    };
+    add_nodes(alloc, &mut parts, &nodes)?;
+    add_links(&mut parts, &links)?;
+    Ok(parts)
+}
+
+fn read_parts(alloc: Global, text: &str) -> Result<Parts, TeFault>
+    ensures { Gives base_in result (base_of text.now) }
+{
+    match toml::table_from_str(alloc, text) {
+        Ok(document) => read_tree(alloc, &document),
+        Err(e) => {
+            if e.is_memory() {
+                Err(TeFault::OutOfMemory)
+            } else {
+                Err(TeFault::NotToml)
+            }
+        }
+    }
+}
+
+impl TeBase {
+    /// What the text says, or its first fault.
+    pub fn read(alloc: Global, text: &str) -> Result<TeBase, TeFault>
+        ensures { Gives (λ b. b) result (base_of text.now) }
+    {
+        let parts = read_parts(alloc, text)?;
+        Ok(TeBase { parts })
+    }
+
+    pub fn link(&self, number: LinkNumber) -> Option<Link>
+        ensures { result ≡ slice_get self.now.links number }
+    {
+        self.parts.links.get(number).copied()
+    }
+
+    /// How many links there are.
+    pub fn link_count(&self) -> usize
+        ensures { result ≡ length self.now.links }
+    {
+        self.parts.links.len()
+    }
+
+    /// All links, by their numbers.
+    pub fn links(&self) -> &[Link]
+        ensures { result.now ≡ self.now.links }
+    {
+        &self.parts.links
+    }
+
+    /// The node that owns an address.
+    pub fn owner(&self, address: Ipv4) -> Option<NodeNumber>
+        ensures { result ≡ owner_of self.now.owners address }
+    {
+        owner_in(&self.parts.owners, address)
+    }
+
+    /// The links of a route from one address to another.
+    pub fn walk(
+        &self,
+        alloc: Global,
+        start: Ipv4,
+        hops: &[Hop],
+        end: Ipv4,
+    ) -> Result<Vec<LinkNumber>, AllocError>
+        ensures { IfOk result (λ v. v.items ≡ walk self.now start hops.now end) }
+    {
+        walk_parts(alloc, &self.parts, start, hops, end)
+    }
+}

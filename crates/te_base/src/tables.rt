@@ -1,0 +1,108 @@
+//! One table after the other.
+ghost use Rattle.std.specs.Prelude.{◌≡◌, map};
+ghost use Rattle.toml.specs.View.{table_view};
+ghost use Rattle.te_base.specs.Faults.{Gives, Leaves};
+ghost use Rattle.te_base.specs.Owners.{owner_of, owned};
+ghost use Rattle.te_base.specs.LinkText.{node_named, with_node, with_link, with_nodes, with_links, ends_of};
+ghost use Rattle.te_base.specs.Views.{link_texts, base_in};
+
+use crate::fault::TeFault;
+use crate::fields::{LinkFields, link_fields, node_fields};
+use crate::network::{Link, Node, NodeNumber, Owner, Parts};
+use crate::ranges::{link_in_ranges, node_of};
+use pcep_word::Ipv4;
+use std::alloc::Global;
+use toml::Table;
+
+/// The node that owns an address.
+pub(crate) fn owner_in(owners: &[Owner], address: Ipv4) -> Option<NodeNumber>
+    ensures { result ≡ owner_of owners.now address }
+{
+    owners.iter().find(|o| o.address == address).map(|o| o.node)
+}
+
+fn node_number(nodes: &[Node], name: &str) -> Option<NodeNumber>
+    ensures { result ≡ node_named nodes.now name.now }
+{
+    nodes.iter().position(|n| n.name.as_str() == name)
+}
+
+fn own(owners: &mut Vec<Owner>, address: Ipv4, node: NodeNumber) -> Result<(), TeFault>
+    ensures { Leaves result (owned owners.old.items address node) owners.new.items }
+{
+    match owner_in(owners, address) {
+        None => {
+            owners.push(Owner { address, node })?;
+            Ok(())
+        }
+        Some(other) => {
+            if other == node {
+                Ok(())
+            } else {
+                Err(TeFault::AddressTwice)
+            }
+        }
+    }
+}
+
+#[tactic(auto, unfolding(crate::specs::LinkText::with_node))]
+fn add_node(alloc: Global, parts: &mut Parts, table: &Table) -> Result<(), TeFault>
+    ensures { Leaves result (with_node (base_in parts.old) (table_view table.now)) (base_in parts.new) }
+{
+    let fields = node_fields(table)?;
+    let node = node_of(alloc, &fields)?;
+    if node_number(&parts.nodes, node.name.as_str()).is_some() {
+        return Err(TeFault::NameTwice);
+    }
+    let number = parts.nodes.len();
+    own(&mut parts.owners, node.id, number)?;
+    parts.nodes.push(node)?;
+    Ok(())
+}
+
+#[tactic(auto, unfolding(crate::specs::LinkText::ends_of))]
+fn ends(parts: &Parts, fields: &LinkFields) -> Result<(NodeNumber, NodeNumber), TeFault>
+    ensures { Gives (λ p. p) result (ends_of (base_in parts.now) (link_texts fields.now)) }
+{
+    let Some(from) = node_number(&parts.nodes, fields.from) else {
+        return Err(TeFault::UnknownNode);
+    };
+    let Some(to) = node_number(&parts.nodes, fields.to) else {
+        return Err(TeFault::UnknownNode);
+    };
+    if from == to {
+        return Err(TeFault::SelfLoop);
+    }
+    Ok((from, to))
+}
+
+#[tactic(auto, unfolding(crate::specs::LinkText::with_link))]
+fn add_link(parts: &mut Parts, table: &Table) -> Result<(), TeFault>
+    ensures { Leaves result (with_link (base_in parts.old) (table_view table.now)) (base_in parts.new) }
+{
+    let fields = link_fields(table)?;
+    let link = link_in_ranges(&fields)?;
+    let (from, to) = ends(parts, &fields)?;
+    own(&mut parts.owners, link.local, from)?;
+    own(&mut parts.owners, link.remote, to)?;
+    parts.links.push(Link { from, to, ..link })?;
+    Ok(())
+}
+
+pub(crate) fn add_nodes(alloc: Global, parts: &mut Parts, tables: &[&Table]) -> Result<(), TeFault>
+    ensures { Leaves result (with_nodes (map (λ t. table_view t.now) tables.now) (base_in parts.old)) (base_in parts.new) }
+{
+    for table in tables {
+        add_node(alloc, parts, table)?;
+    }
+    Ok(())
+}
+
+pub(crate) fn add_links(parts: &mut Parts, tables: &[&Table]) -> Result<(), TeFault>
+    ensures { Leaves result (with_links (map (λ t. table_view t.now) tables.now) (base_in parts.old)) (base_in parts.new) }
+{
+    for table in tables {
+        add_link(parts, table)?;
+    }
+    Ok(())
+}

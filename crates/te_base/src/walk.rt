@@ -1,0 +1,134 @@
+//! The links that a route uses.
+ghost use Rattle.std.specs.Prelude.{◌≡◌, IfOk, fold, position, ◌==◌, ◌&&◌};
+ghost use Rattle.te_base.specs.Walk.{walk, chosen_link, with_link_once, stepped, hopped, place_of, joins, remembered_link};
+ghost use Rattle.te_base.specs.Views.{base_in};
+
+use crate::network::{Link, LinkNumber, NodeNumber, Parts};
+use crate::tables::owner_in;
+use pcep_objects::Hop;
+use pcep_word::Ipv4;
+use std::alloc::{AllocError, Global};
+
+/// Where a walk is: the current node, the remembered address, and the links so far.
+#[derive(Drop)]
+struct Walker {
+    node: NodeNumber,
+    remembered: Option<Ipv4>,
+    links: Vec<LinkNumber>,
+}
+
+fn by_remote(links: &[Link], from: NodeNumber, to: NodeNumber, address: Ipv4) -> Option<LinkNumber>
+    ensures { result ≡ position (λ l. joins from to l && l.remote == address) links.now }
+{
+    links
+        .iter()
+        .position(|l| l.from == from && l.to == to && l.remote == address)
+}
+
+fn by_local(links: &[Link], from: NodeNumber, to: NodeNumber, near: Ipv4) -> Option<LinkNumber>
+    ensures { result ≡ position (λ l. joins from to l && l.local == near) links.now }
+{
+    links
+        .iter()
+        .position(|l| l.from == from && l.to == to && l.local == near)
+}
+
+fn by_remembered(
+    links: &[Link],
+    from: NodeNumber,
+    to: NodeNumber,
+    remembered: Option<Ipv4>,
+) -> Option<LinkNumber>
+    ensures { result ≡ remembered_link links.now from to remembered }
+{
+    match remembered {
+        None => None,
+        Some(near) => by_local(links, from, to, near),
+    }
+}
+
+fn any_link(links: &[Link], from: NodeNumber, to: NodeNumber) -> Option<LinkNumber>
+    ensures { result ≡ position (joins from to) links.now }
+{
+    links.iter().position(|l| l.from == from && l.to == to)
+}
+
+/// Which link leads from one node to another, for the hop at this address.
+fn chosen(
+    links: &[Link],
+    from: NodeNumber,
+    to: NodeNumber,
+    address: Ipv4,
+    remembered: Option<Ipv4>,
+) -> Option<LinkNumber>
+    ensures { result ≡ chosen_link links.now from to address remembered }
+{
+    match by_remote(links, from, to, address) {
+        Some(link) => Some(link),
+        None => match by_remembered(links, from, to, remembered) {
+            Some(link) => Some(link),
+            None => any_link(links, from, to),
+        },
+    }
+}
+
+fn add_once(links: &mut Vec<LinkNumber>, link: Option<LinkNumber>) -> Result<(), AllocError>
+    ensures { IfOk result (λ _. links.new.items ≡ with_link_once links.old.items link) }
+{
+    if let Some(link) = link {
+        if !links.contains(&link) {
+            links.push(link)?;
+        }
+    }
+    Ok(())
+}
+
+fn step(parts: &Parts, walker: &mut Walker, address: Ipv4) -> Result<(), AllocError>
+    ensures { IfOk result (λ _. place_of walker.new ≡ stepped (base_in parts.now) (place_of walker.old) address) }
+{
+    let Some(node) = owner_in(&parts.owners, address) else {
+        return Ok(());
+    };
+    if node == walker.node {
+        walker.remembered = Some(address);
+        return Ok(());
+    }
+    let link = chosen(&parts.links, walker.node, node, address, walker.remembered);
+    add_once(&mut walker.links, link)?;
+    walker.node = node;
+    walker.remembered = None;
+    Ok(())
+}
+
+fn walk_hops(parts: &Parts, walker: &mut Walker, hops: &[Hop]) -> Result<(), AllocError>
+    ensures { IfOk result (λ _. place_of walker.new ≡ fold (hopped (base_in parts.now)) (place_of walker.old) hops.now) }
+{
+    for hop in hops {
+        if let Hop::Host(address, _) = hop {
+            step(parts, walker, *address)?;
+        }
+    }
+    Ok(())
+}
+
+pub(crate) fn walk_parts(
+    alloc: Global,
+    parts: &Parts,
+    start: Ipv4,
+    hops: &[Hop],
+    end: Ipv4,
+) -> Result<Vec<LinkNumber>, AllocError>
+    ensures { IfOk result (λ v. v.items ≡ walk (base_in parts.now) start hops.now end) }
+{
+    let Some(node) = owner_in(&parts.owners, start) else {
+        return Ok(Vec::new(alloc));
+    };
+    let mut walker = Walker {
+        node,
+        remembered: None,
+        links: Vec::new(alloc),
+    };
+    walk_hops(parts, &mut walker, hops)?;
+    step(parts, &mut walker, end)?;
+    Ok(walker.links)
+}
