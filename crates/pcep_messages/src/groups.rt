@@ -3,7 +3,7 @@
 ghost use Rattle.std.specs.Prelude.{◌≡◌, IfOk, OnOk};
 ghost use Rattle.pcep_messages.specs.Groups.{no_objects, greatest, grouped, IsGrouped, PutsObject, PutsSrp};
 
-use pcep_objects::{Hop, Lsp, Lspa, Object, Srp};
+use pcep_objects::{Hop, LspObject, Lspa, Object, Srp};
 use pcep_word::Bandwidth;
 use sequence::Sequence;
 use std::alloc::{AllocError, Global};
@@ -14,7 +14,7 @@ use std::mem;
 #[derive(Debug, Drop)]
 pub struct Item {
     pub srp: Option<Srp>,
-    pub lsp: Option<Lsp>,
+    pub lsp: Option<LspObject>,
     pub ero: Option<Sequence<Hop>>,
     pub rro: Option<Sequence<Hop>>,
     pub lspa: Option<Lspa>,

@@ -1,14 +1,14 @@
 //! Items, one after the other.
 
-ghost use Rattle.std.specs.Prelude.{◌≡◌};
+ghost use Rattle.std.specs.Prelude.{◌≡◌, min};
 ghost use Rattle.pcep_objects.specs.declared.object.Srp.{Srp};
-ghost use Rattle.pcep_messages.specs.Report.{Gives, report_from, srp_id, about_srp, about_item, lacks_identifiers, setup_of, hold_of, colours_of, hops_or_none, report_of, reports_of, before_fault, cut_off, reports_from};
+ghost use Rattle.pcep_messages.specs.Report.{Gives, report_from, srp_id, about_srp, about_item, lacks_identifiers, setup_of, hold_of, colours_of, bandwidth_or_none, hops_or_none, report_of, reports_of, before_fault, cut_off, reports_from};
 
 use crate::fault::{About, MessageFault};
 use crate::groups::Item;
-use crate::message::{Colours, StateReport};
-use pcep_objects::{Hop, Lsp, Lspa, ObjectFault, Srp};
-use pcep_word::Priority;
+use crate::message::StateReport;
+use pcep_objects::{Colours, Hop, LspObject, Lspa, ObjectFault, Srp};
+use pcep_word::{Bandwidth, Priority};
 use sequence::Sequence;
 use std::alloc::Global;
 use std::collections::VecDeque;
@@ -31,10 +31,21 @@ fn about(srp: Option<u32>) -> About
     }
 }
 
-fn lacks(lsp: &Lsp) -> bool
+fn lacks(lsp: &LspObject) -> bool
     ensures { result ≡ lacks_identifiers lsp.now }
 {
     lsp.plsp.number() != 0 && lsp.identifiers.is_none()
+}
+
+/// The better of the two priorities.
+fn in_force(setup: Priority, hold: Priority) -> Priority
+    ensures { result ≡ min setup hold }
+{
+    if setup.number() < hold.number() {
+        setup
+    } else {
+        hold
+    }
 }
 
 fn priorities(lspa: Option<Lspa>) -> (Priority, Priority)
@@ -43,7 +54,7 @@ fn priorities(lspa: Option<Lspa>) -> (Priority, Priority)
 {
     match lspa {
         None => (Priority::capped(7), Priority::capped(7)),
-        Some(lspa) => (lspa.setup, lspa.hold),
+        Some(lspa) => (lspa.setup, in_force(lspa.setup, lspa.hold)),
     }
 }
 
@@ -56,11 +67,23 @@ fn colours_in(lspa: Option<Lspa>) -> Colours
             include_any: 0,
             include_all: 0,
         },
-        Some(lspa) => Colours {
-            exclude_any: lspa.exclude_any,
-            include_any: lspa.include_any,
-            include_all: lspa.include_all,
-        },
+        Some(lspa) => lspa.colours,
+    }
+}
+
+#[tactic(auto, unfolding(pcep_word::specs::Word::bandwidth_of, pcep_word::specs::Word::rounded_up, pcep_word::specs::Word::magnitude, pcep_word::specs::Word::mantissa, pcep_word::specs::Word::scale))]
+fn no_bandwidth() -> Bandwidth
+    ensures { result ≡ 0 }
+{
+    Bandwidth::of_word(0).unwrap()
+}
+
+fn bandwidth_in(bandwidth: Option<Bandwidth>) -> Bandwidth
+    ensures { result ≡ bandwidth_or_none bandwidth }
+{
+    match bandwidth {
+        Some(bandwidth) => bandwidth,
+        None => no_bandwidth(),
     }
 }
 
@@ -74,13 +97,13 @@ fn route_of(alloc: Global, ero: Option<Sequence<Hop>>) -> Sequence<Hop>
 }
 
 /// The report of an item that has an LSP.
-fn report_with(alloc: Global, item: Item, lsp: Lsp) -> StateReport
+fn report_with(alloc: Global, item: Item, lsp: LspObject) -> StateReport
     ensures { result ≡ report_from item lsp }
 {
     let srp = id_of(item.srp);
     let (setup, hold) = priorities(item.lspa);
     let colours = colours_in(item.lspa);
-    let bandwidth = item.bandwidth;
+    let bandwidth = bandwidth_in(item.bandwidth);
     StateReport {
         srp,
         plsp: lsp.plsp,

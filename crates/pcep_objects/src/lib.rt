@@ -1,6 +1,7 @@
 //! Objects of PCEP, read from bytes.
 #![tactic(auto)]
 
+mod copies;
 mod fault;
 mod header;
 mod hops;
@@ -11,6 +12,9 @@ mod tlvs;
 mod writing;
 
 pub use fault::{BodyFault, ObjectFault};
-pub use object::{Bandwidths, Hop, Identifiers, Lsp, Lspa, Object, Operational, Plsp, Srp};
+pub use object::{
+    Bandwidths, Capabilities, Colours, Hop, Identifiers, LspObject, Lspa, Object, Operational,
+    Plsp, Srp,
+};
 pub use reading::read_object;
 pub use writing::{route_is_read_again, srp_is_read_again, write_srp};

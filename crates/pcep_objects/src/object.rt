@@ -58,7 +58,7 @@ pub struct Identifiers {
     pub sender: Ipv4,
     pub lsp: u16,
     pub tunnel: u16,
-    pub extended: Ipv4,
+    pub extended: u32,
     pub endpoint: Ipv4,
 }
 
@@ -70,6 +70,15 @@ pub enum Tlv {
     Skipped,
 }
 
+/// What a peer lets the PCE do, from its Open (RFC 8231 section 7.1.1, RFC 8281 section 4.1).
+#[derive(Clone, Copy, Debug, PartialEq, Eq)]
+pub struct Capabilities {
+    /// Delegated LSPs may be updated.
+    pub update: bool,
+    /// LSPs may be created.
+    pub create: bool,
+}
+
 #[derive(Clone, Copy, Debug, PartialEq, Eq)]
 pub struct Srp {
     pub remove: bool,
@@ -77,7 +86,7 @@ pub struct Srp {
 }
 
 #[derive(Debug, Drop)]
-pub struct Lsp {
+pub struct LspObject {
     pub plsp: Plsp,
     pub delegate: bool,
     pub sync: bool,
@@ -89,11 +98,20 @@ pub struct Lsp {
     pub identifiers: Option<Identifiers>,
 }
 
+/// The link colours that a path may, has to and must not use: 32 colours each, one a bit (RFC 5440 section 7.11).
+#[derive(Clone, Copy, Debug, PartialEq, Eq)]
+pub struct Colours {
+    /// No link of the path has one of these.
+    pub exclude_any: u32,
+    /// Each link of the path has one of these, unless it is 0.
+    pub include_any: u32,
+    /// Each link of the path has all of these.
+    pub include_all: u32,
+}
+
 #[derive(Clone, Copy, Debug, PartialEq, Eq)]
 pub struct Lspa {
-    pub exclude_any: u32,
-    pub include_any: u32,
-    pub include_all: u32,
+    pub colours: Colours,
     pub setup: Priority,
     pub hold: Priority,
     pub local: bool,
@@ -112,6 +130,6 @@ pub enum Object {
     Ero(Sequence<Hop>),
     Rro(Sequence<Hop>),
     Lspa(Lspa),
-    Lsp(Lsp),
+    Lsp(LspObject),
     Srp(Srp),
 }

@@ -36,7 +36,7 @@ fn read_identifiers(value: &[u8]) -> Identifiers
         sender: Ipv4(BigEndian::read_u32(value)),
         lsp: BigEndian::read_u16(&value[4..]),
         tunnel: BigEndian::read_u16(&value[6..]),
-        extended: Ipv4(BigEndian::read_u32(&value[8..])),
+        extended: BigEndian::read_u32(&value[8..]),
         endpoint: Ipv4(BigEndian::read_u32(&value[12..])),
     }
 }

@@ -1,0 +1,87 @@
+//! Copies of objects and of their parts.
+
+use crate::object::{
+    Capabilities, Colours, Hop, Identifiers, LspObject, Lspa, Object, Operational, Plsp, Srp,
+};
+use sequence::PlainData;
+use std::alloc::AllocError;
+
+impl PlainData for Plsp {
+    fn copy(&self) -> Result<Plsp, AllocError> {
+        Ok(*self)
+    }
+}
+
+impl PlainData for Operational {
+    fn copy(&self) -> Result<Operational, AllocError> {
+        Ok(*self)
+    }
+}
+
+impl PlainData for Identifiers {
+    fn copy(&self) -> Result<Identifiers, AllocError> {
+        Ok(*self)
+    }
+}
+
+impl PlainData for Capabilities {
+    fn copy(&self) -> Result<Capabilities, AllocError> {
+        Ok(*self)
+    }
+}
+
+impl PlainData for Colours {
+    fn copy(&self) -> Result<Colours, AllocError> {
+        Ok(*self)
+    }
+}
+
+impl PlainData for Srp {
+    fn copy(&self) -> Result<Srp, AllocError> {
+        Ok(*self)
+    }
+}
+
+impl PlainData for Lspa {
+    fn copy(&self) -> Result<Lspa, AllocError> {
+        Ok(*self)
+    }
+}
+
+impl PlainData for Hop {
+    fn copy(&self) -> Result<Hop, AllocError> {
+        match self {
+            Hop::Host(address, loose) => Ok(Hop::Host(*address, *loose)),
+            Hop::Other(kind, bytes) => Ok(Hop::Other(*kind, bytes.copy()?)),
+        }
+    }
+}
+
+impl PlainData for LspObject {
+    fn copy(&self) -> Result<LspObject, AllocError> {
+        Ok(LspObject {
+            plsp: self.plsp,
+            delegate: self.delegate,
+            sync: self.sync,
+            remove: self.remove,
+            admin: self.admin,
+            operational: self.operational,
+            created: self.created,
+            name: self.name.copy()?,
+            identifiers: self.identifiers.copy()?,
+        })
+    }
+}
+
+impl PlainData for Object {
+    fn copy(&self) -> Result<Object, AllocError> {
+        match self {
+            Object::Bandwidth(which, bandwidth) => Ok(Object::Bandwidth(*which, *bandwidth)),
+            Object::Ero(hops) => Ok(Object::Ero(hops.copy()?)),
+            Object::Rro(hops) => Ok(Object::Rro(hops.copy()?)),
+            Object::Lspa(lspa) => Ok(Object::Lspa(*lspa)),
+            Object::Lsp(lsp) => Ok(Object::Lsp(lsp.copy()?)),
+            Object::Srp(srp) => Ok(Object::Srp(*srp)),
+        }
+    }
+}
