@@ -1,5 +1,5 @@
 -- A network as its link text says it: nodes and links by their numbers, and who owns which address.
-use Rattle.std.specs.Prelude.{List, []}
+use Rattle.std.specs.Prelude.{ℕ, ◌≢◌, ◌<◌, ◌≤◌, ◌^◌, List, [], length, All}
 use Rattle.te_base.specs.declared.network.Node.{Node}
 use Rattle.te_base.specs.declared.network.Link.{Link}
 use Rattle.te_base.specs.declared.network.Owner.{Owner}
@@ -11,3 +11,21 @@ pub record Base : Type 0 where
 
 abbrev pub empty_base : Base
 empty_base = record { nodes = []; links = []; owners = [] }
+
+-- a link from one of so many nodes to another, each of its numbers in its range
+pub record IsLinkAmong (nodes : ℕ) (link : Link) : Type 0 where
+  pub from : link.from < nodes
+  pub to : link.to < nodes
+  pub apart : link.from ≢ link.to
+  pub igp_positive : 0 < link.igp
+  pub igp_small : link.igp < 2 ^ 24
+  pub te_positive : 0 < link.te
+  pub te_small : link.te < 2 ^ 24
+  pub reservable_small : link.reservable < 2 ^ 48
+
+-- what holds of each base that was read
+pub record IsSound (base : Base) : Type 0 where
+  pub few_nodes : length base.nodes ≤ 1024
+  pub few_links : length base.links ≤ 4096
+  pub links : All (IsLinkAmong (length base.nodes)) base.links
+  pub owners : All (λ o. o.node < length base.nodes) base.owners

@@ -1,20 +1,20 @@
 -- The values that a link text's fields may have.
-use Rattle.std.specs.Prelude.{ℕ, ℤ, pos, negsuc, ◌&&◌, nat_le, List, length, Result, Ok, Err, if◌then◌else◌}
+use Rattle.std.specs.Prelude.{ℕ, ℤ, pos, negsuc, ◌&&◌, ◌==◌, nat_le, List, length, Result, Ok, Err, if◌then◌else◌}
+use Rattle.pcep_word.specs.Address.{address_of}
 use Rattle.te_base.specs.declared.fault.TeFault.{TeFault}
 use Rattle.te_base.specs.declared.fault.TeFault.TheVariants.{OutOfRange}
 use Rattle.te_base.specs.declared.network.Node.{Node}
 use Rattle.te_base.specs.declared.network.Link.{Link}
 use Rattle.te_base.specs.Faults.{◌>>=◌, some_or}
 use Rattle.te_base.specs.Fields.{NodeText, LinkText}
-use Rattle.te_base.specs.Address.{address_of}
 
 -- a name has 1 to 64 bytes
 abbrev pub name_of : List ℕ → Result (List ℕ) TeFault
 name_of text = if nat_le 1 (length text) && nat_le (length text) 64 then Ok text else Err OutOfRange
 
--- a dotted address, not 0.0.0.0
+-- a dotted address other than 0.0.0.0, which is no node's
 abbrev pub address_in : List ℕ → Result ℕ TeFault
-address_in text = some_or OutOfRange (address_of text)
+address_in text = some_or OutOfRange (address_of text) >>= λ address. if address == 0 then Err OutOfRange else Ok address
 
 abbrev pub within : ℕ → ℕ → ℤ → Result ℕ TeFault
 within low high (pos n) = if nat_le low n && nat_le n high then Ok n else Err OutOfRange

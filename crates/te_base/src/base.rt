@@ -1,5 +1,6 @@
 //! The base: what a link text says, and look-ups in it.
-ghost use Rattle.std.specs.Prelude.{◌≡◌, IfOk, slice_get, length};
+ghost use Rattle.std.specs.Prelude.{◌≡◌, ◌<◌, ◌≤◌, IfOk, IfSome, All, slice_get, length};
+ghost use Rattle.te_base.specs.Base.{IsLinkAmong};
 ghost use Rattle.te_base.specs.Faults.{Gives};
 ghost use Rattle.te_base.specs.LinkText.{base_of, base_of_tree};
 ghost use Rattle.te_base.specs.Owners.{owner_of};
@@ -25,12 +26,14 @@ pub struct TeBase {
 }
 
 impl Model for TeBase {
-    ghost use Rattle.te_base.specs.Base.{Base};
+    ghost use Rattle.te_base.specs.Base.{Base, IsSound};
     ghost use Rattle.te_base.specs.Views.{base_in};
 
     ghost Value = { Base };
 
     ghost view = { λ b. base_in b.parts };
+
+    ghost invariant = { λ b. IsSound (base_in b.parts) };
 }
 
 #[tactic(auto, unfolding(crate::specs::LinkText::base_of_tree))]
@@ -76,29 +79,43 @@ impl TeBase {
         Ok(TeBase { parts })
     }
 
+    /// The link of a number.
     pub fn link(&self, number: LinkNumber) -> Option<Link>
-        ensures { result ≡ slice_get self.now.links number }
+        ensures link { result ≡ slice_get self.now.links number }
+        ensures sound { IfSome result (IsLinkAmong (length self.now.nodes)) }
     {
         self.parts.links.get(number).copied()
     }
 
-    /// How many links there are.
+    /// How many links there are, at most 4,096.
     pub fn link_count(&self) -> usize
-        ensures { result ≡ length self.now.links }
+        ensures count { result ≡ length self.now.links }
+        ensures few { result ≤ 4096 }
     {
         self.parts.links.len()
     }
 
-    /// All links, by their numbers.
+    /// How many nodes there are, at most 1,024.
+    pub fn node_count(&self) -> usize
+        ensures count { result ≡ length self.now.nodes }
+        ensures few { result ≤ 1024 }
+    {
+        self.parts.nodes.len()
+    }
+
+    /// All links, each at its number.
     pub fn links(&self) -> &[Link]
-        ensures { result.now ≡ self.now.links }
+        ensures links { result.now ≡ self.now.links }
+        ensures few { length result.now ≤ 4096 }
+        ensures sound { All (IsLinkAmong (length self.now.nodes)) result.now }
     {
         &self.parts.links
     }
 
     /// The node that owns an address.
     pub fn owner(&self, address: Ipv4) -> Option<NodeNumber>
-        ensures { result ≡ owner_of self.now.owners address }
+        ensures owner { result ≡ owner_of self.now.owners address }
+        ensures node { IfSome result (λ n. n < length self.now.nodes) }
     {
         owner_in(&self.parts.owners, address)
     }

@@ -1,7 +1,6 @@
 //! The nodes, links and owners of a link text.
 #![tactic(auto)]
 
-mod address;
 mod base;
 mod fault;
 mod fields;

@@ -4,7 +4,6 @@ ghost use Rattle.te_base.specs.Faults.{Gives};
 ghost use Rattle.te_base.specs.Ranges.{name_of, address_in, within, node_value, link_value, link_ranges};
 ghost use Rattle.te_base.specs.Views.{node_texts, link_texts};
 
-use crate::address::parse_address;
 use crate::fault::TeFault;
 use crate::fields::{LinkFields, NodeFields};
 use crate::name::Name;
@@ -24,9 +23,9 @@ fn checked_name(text: &str) -> Result<&str, TeFault>
 fn address(text: &str) -> Result<Ipv4, TeFault>
     ensures { Gives (λ a. a) result (address_in text.now) }
 {
-    match parse_address(text) {
-        Some(address) => Ok(address),
-        None => Err(TeFault::OutOfRange),
+    match Ipv4::parse(text) {
+        Some(address) if address.0 != 0 => Ok(address),
+        _ => Err(TeFault::OutOfRange),
     }
 }
 

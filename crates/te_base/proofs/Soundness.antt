@@ -1,0 +1,226 @@
+-- Each base that a link text says is sound.
+use Rattle.std.proofs.Common.{◌≡◌, ◌≢◌, ℕ, ℤ, pos, negsuc, codes, ◌+◌, ◌<◌, ◌≤◌, ◌==◌, ◌&&◌, nat_le, Bool, true, false, List, [], ◌∷◌, length, Option, Some, None, is_some, Result, Ok, Err, IfOk, IfSome, All, option_map, find, refl, sym, subst, arith, length-append, if◌then◌else◌}
+use Rattle.std.proofs.lemmas.List.Elements.{All-nil, All-push, All-weaker, All-head, All-tail}
+use Rattle.std.proofs.lemmas.List.Quantifiers.{position-Some}
+use Rattle.std.proofs.lemmas.Bool.Decides.{nat_tests}
+use Rattle.std.proofs.lemmas.Grind.{common_steps}
+use Rattle.std.proofs.lemmas.Result.{IfOk-weaker, IfOk-at_ok}
+use Rattle.std.specs.Str.{bytes_eq}
+use Rattle.toml.specs.Data.{Members}
+use Rattle.toml.specs.Parse.{parse_document}
+use Rattle.te_base.specs.declared.fault.TeFault.{TeFault}
+use Rattle.te_base.specs.declared.fault.TeFault.TheVariants.{NotToml, OutOfRange, UnknownNode, AddressTwice, NameTwice, SelfLoop, TooMany}
+use Rattle.te_base.specs.declared.network.Node.{Node}
+use Rattle.te_base.specs.declared.network.Link.{Link}
+use Rattle.te_base.specs.declared.network.Owner.{Owner}
+use Rattle.te_base.specs.Faults.{◌>>=◌, some_or}
+use Rattle.te_base.specs.Base.{Base, empty_base, IsLinkAmong, IsSound}
+use Rattle.te_base.specs.Owners.{owner_of, with_owner, owned}
+use Rattle.te_base.specs.Fields.{LinkText, node_text, link_text, tables_at}
+use Rattle.te_base.specs.Ranges.{name_of, address_in, within, node_value, link_value, link_ranges}
+use Rattle.te_base.specs.LinkText.{node_named, with_node, ends_of, with_link, with_nodes, with_links, few_enough, base_of_tree, base_of}
+
+-- ---- steps that go well
+
+anything : {A : Type 0} (r : Result A TeFault) → IfOk r (λ _. Unit {0})
+anything (Ok x) = tt
+anything (Err e) = tt
+
+-- What a step gives has Q, where its first part has P and what follows makes Q of P.
+bind : {A B : Type 0} (r : Result A TeFault) (f : A → Result B TeFault) (P : A → Type 0) (Q : B → Type 0) → IfOk r P → ((x : A) → P x → IfOk (f x) Q) → IfOk (r >>= f) Q
+bind (Ok x) f P Q p q = q x p
+bind (Err e) f P Q p q = tt
+
+after : {A B : Type 0} (r : Result A TeFault) (f : A → Result B TeFault) (Q : B → Type 0) → ((x : A) → IfOk (f x) Q) → IfOk (r >>= f) Q
+after r f Q q = bind r f (λ _. Unit {0}) Q (anything r) (λ x _. q x)
+
+-- a value behind a test
+when : {A : Type 0} (b : Bool) (x : A) (e : TeFault) (P : A → Type 0) → (b ≡ true → P x) → IfOk (if b then Ok x else Err e) P
+when true x e P p = p refl
+when false x e P p = tt
+
+unless : {A : Type 0} (b : Bool) (x : A) (e : TeFault) (P : A → Type 0) → (b ≡ false → P x) → IfOk (if b then Err e else Ok x) P
+unless true x e P p = tt
+unless false x e P p = p refl
+
+-- ---- values in range
+
+within_test : (low high n : ℕ) → (nat_le low n && nat_le n high) ≡ true → (low ≤ n) × (n ≤ high)
+within_test low high n = grind (arith, nat_tests, common_steps)
+
+within_range : (low high : ℕ) (z : ℤ) → IfOk (within low high z) (λ n. (low ≤ n) × (n ≤ high))
+within_range low high (pos n) = when (nat_le low n && nat_le n high) n OutOfRange (λ n. (low ≤ n) × (n ≤ high)) (within_test low high n)
+within_range low high (negsuc n) = tt
+
+pub record InRanges (l : Link) : Type 0 where
+  igp : (1 ≤ l.igp) × (l.igp ≤ 16777215)
+  te : (1 ≤ l.te) × (l.te ≤ 16777215)
+  reservable : l.reservable ≤ 281474976710655
+
+link_value_range : (t : LinkText) (from to : ℕ) → IfOk (link_value t from to) InRanges
+unfolding link_value
+link_value_range t from to =
+    after (address_in t.local) _ InRanges (λ near.
+    after (address_in t.remote) _ InRanges (λ far.
+    bind (within 1 16777215 t.igp) _ (λ n. (1 ≤ n) × (n ≤ 16777215)) InRanges (within_range 1 16777215 t.igp) (λ igp igp_in.
+    bind (within 1 16777215 t.te) _ (λ n. (1 ≤ n) × (n ≤ 16777215)) InRanges (within_range 1 16777215 t.te) (λ te te_in.
+    after (within 0 4294967295 t.colour) _ InRanges (λ colour.
+    bind (within 0 281474976710655 t.reservable) _ (λ n. (0 ≤ n) × (n ≤ 281474976710655)) InRanges (within_range 0 281474976710655 t.reservable) (λ reservable reservable_in.
+    record { igp = igp_in; te = te_in; reservable = reservable_in.1 }))))))
+
+link_ranges_range : (t : LinkText) → IfOk (link_ranges t) InRanges
+unfolding link_ranges
+link_ranges_range t = after (name_of t.from) _ InRanges (λ _. after (name_of t.to) _ InRanges (λ _. link_value_range t 0 0))
+
+-- ---- ends and owners
+
+some_or_is : {A : Type 0} (e : TeFault) (o : Option A) (P : A → Type 0) → ((x : A) → o ≡ Some x → P x) → IfOk (some_or e o) P
+some_or_is e None P p = tt
+some_or_is e (Some x) P p = p x refl
+
+node_named_within : (nodes : List Node) (name : List ℕ) (n : ℕ) → node_named nodes name ≡ Some n → n < length nodes
+node_named_within [] name n is = absurd cc
+node_named_within (d ∷ ds) name n is = (position-Some (λ m. bytes_eq m.name name) (d ∷ ds) n d is).0
+
+differ : (a b : ℕ) → (a == b) ≡ false → a ≢ b
+differ a b = grind (arith, nat_tests, common_steps)
+
+pub record AreEnds (nodes : ℕ) (ends : ℕ × ℕ) : Type 0 where
+  from : ends.0 < nodes
+  to : ends.1 < nodes
+  apart : ends.0 ≢ ends.1
+
+ends_within : (base : Base) (t : LinkText) → IfOk (ends_of base t) (AreEnds (length base.nodes))
+unfolding ends_of
+ends_within base t =
+    let Within : ℕ → Type 0 = λ n. n < length base.nodes in
+    let found : (name : List ℕ) → IfOk (some_or UnknownNode (node_named base.nodes name)) Within = λ name. some_or_is UnknownNode (node_named base.nodes name) Within (node_named_within base.nodes name) in
+    bind (some_or UnknownNode (node_named base.nodes t.from)) _ Within (AreEnds (length base.nodes)) (found t.from) (λ from from_in.
+    bind (some_or UnknownNode (node_named base.nodes t.to)) _ Within (AreEnds (length base.nodes)) (found t.to) (λ to to_in.
+    unless (from == to) (from, to) SelfLoop (AreEnds (length base.nodes)) (λ other. record { from = from_in; to = to_in; apart = differ from to other })))
+
+AreNodes : ℕ → List Owner → Type 0
+AreNodes nodes owners = All (λ o. o.node < nodes) owners
+
+with_owner_within : (nodes : ℕ) (owners : List Owner) (address node : ℕ) (o : Option ℕ) → AreNodes nodes owners → node < nodes → IfOk (with_owner owners address node o) (AreNodes nodes)
+unfolding AreNodes
+with_owner_within nodes owners address node None all lt = All-push (λ o. o.node < nodes) owners (record { address = address; node = node }) all lt
+with_owner_within nodes owners address node (Some other) all lt = when (other == node) owners AddressTwice (AreNodes nodes) (λ _. all)
+
+-- ---- one table after the other
+
+-- So many nodes and links were read, and links and owners are of these nodes.
+pub record Joined (nodes links : ℕ) (base : Base) : Type 0 where
+  nodes_are : length base.nodes ≡ nodes
+  links_are : length base.links ≡ links
+  joined : All (IsLinkAmong nodes) base.links
+  owned : AreNodes nodes base.owners
+
+renamed : (n m k h : ℕ) (base : Base) → n ≡ m → k ≡ h → Joined n k base → Joined m h base
+renamed n m k h base e f j =
+    let one : Joined m k base = (let P : ℕ → Type 0 = λ a. Joined a k base in subst P e j) in
+    let P : ℕ → Type 0 = λ a. Joined m a base in subst P f one
+
+behind : {A : Type 0} (b : Bool) (r : Result A TeFault) (e : TeFault) (P : A → Type 0) → IfOk r P → IfOk (if b then Err e else r) P
+behind true r e P p = tt
+behind false r e P p = p
+
+link_of_more : (n : ℕ) (l : Link) → IsLinkAmong n l → IsLinkAmong (n + 1) l
+link_of_more n l is = record {
+  from = omega arith;
+  to = omega arith;
+  apart = is.apart;
+  igp_positive = is.igp_positive;
+  igp_small = is.igp_small;
+  te_positive = is.te_positive;
+  te_small = is.te_small;
+  reservable_small = is.reservable_small;
+}
+
+with_node_joined : (base : Base) (t : Members) (n k : ℕ) → Joined n k base → IfOk (with_node base t) (Joined (n + 1) k)
+unfolding with_node AreNodes
+with_node_joined base t n k j =
+    let number : length base.nodes < n + 1 = omega arith in
+    let before : All (λ o. o.node < n + 1) base.owners = All-weaker (λ o. o.node < n) (λ o. o.node < n + 1) (λ o lt. omega arith) base.owners j.owned in
+    after (node_text t) _ (Joined (n + 1) k) (λ fields.
+    after (node_value fields) _ (Joined (n + 1) k) (λ node.
+    bind (if is_some (node_named base.nodes node.name) then Err NameTwice else owned base.owners node.id (length base.nodes)) _ (AreNodes (n + 1)) (Joined (n + 1) k)
+    (behind (is_some (node_named base.nodes node.name)) (owned base.owners node.id (length base.nodes)) NameTwice (AreNodes (n + 1))
+    (with_owner_within (n + 1) base.owners node.id (length base.nodes) (owner_of base.owners node.id) before number))
+    (λ owners owners_in. record {
+      nodes_are = omega (arith, length-append base.nodes (node ∷ []));
+      links_are = j.links_are;
+      joined = All-weaker (IsLinkAmong n) (IsLinkAmong (n + 1)) (link_of_more n) base.links j.joined;
+      owned = owners_in;
+    })))
+
+with_link_joined : (base : Base) (t : Members) (n k : ℕ) → Joined n k base → IfOk (with_link base t) (Joined n (k + 1))
+unfolding with_link AreNodes
+with_link_joined base t n k j =
+    after (link_text t) _ (Joined n (k + 1)) (λ fields.
+    bind (link_ranges fields) _ InRanges (Joined n (k + 1)) (link_ranges_range fields) (λ link range.
+    bind (ends_of base fields) _ (AreEnds (length base.nodes)) (Joined n (k + 1)) (ends_within base fields) (λ ends are.
+    let from : ends.0 < n = omega arith in
+    let to : ends.1 < n = omega arith in
+    bind (owned base.owners link.local ends.0) _ (AreNodes n) (Joined n (k + 1)) (with_owner_within n base.owners link.local ends.0 (owner_of base.owners link.local) j.owned from) (λ near near_in.
+    bind (owned near link.remote ends.1) _ (AreNodes n) (Joined n (k + 1)) (with_owner_within n near link.remote ends.1 (owner_of near link.remote) near_in to) (λ owners owners_in.
+    let read : Link = record { from = ends.0; to = ends.1; local = link.local; remote = link.remote; igp = link.igp; te = link.te; colour = link.colour; reservable = link.reservable } in
+    let is : IsLinkAmong n read = record { from = from; to = to; apart = are.apart; igp_positive = omega arith; igp_small = omega arith; te_positive = omega arith; te_small = omega arith; reservable_small = omega arith } in
+    record {
+      nodes_are = j.nodes_are;
+      links_are = omega (arith, length-append base.links (read ∷ []));
+      joined = All-push (IsLinkAmong n) base.links read j.joined is;
+      owned = owners_in;
+    })))))
+
+with_nodes_joined : (ts : List Members) (base : Base) (n m k : ℕ) → n + length ts ≡ m → Joined n k base → IfOk (with_nodes ts base) (Joined m k)
+with_nodes_joined [] base n m k e j = renamed n m k k base (omega arith) refl j
+with_nodes_joined (t ∷ ts) base n m k e j =
+    bind (with_node base t) _ (Joined (n + 1) k) (Joined m k) (with_node_joined base t n k j) (λ next j'. with_nodes_joined ts next (n + 1) m k (omega arith) j')
+
+with_links_joined : (ts : List Members) (base : Base) (n k h : ℕ) → k + length ts ≡ h → Joined n k base → IfOk (with_links ts base) (Joined n h)
+with_links_joined [] base n k h e j = renamed n n k h base refl (omega arith) j
+with_links_joined (t ∷ ts) base n k h e j =
+    bind (with_link base t) _ (Joined n (k + 1)) (Joined n h) (with_link_joined base t n k j) (λ next j'. with_links_joined ts next n (k + 1) h (omega arith) j')
+
+-- ---- the whole text
+
+few_test : (nodes links : ℕ) → (nat_le nodes 1024 && nat_le links 4096) ≡ true → (nodes ≤ 1024) × (links ≤ 4096)
+few_test nodes links = grind (arith, nat_tests, common_steps)
+
+few : (nodes links : ℕ) → IfOk (few_enough nodes links) (λ _. (nodes ≤ 1024) × (links ≤ 4096))
+few nodes links = when (nat_le nodes 1024 && nat_le links 4096) tt TooMany (λ _. (nodes ≤ 1024) × (links ≤ 4096)) (few_test nodes links)
+
+nothing_joined : Joined 0 0 empty_base
+unfolding AreNodes
+nothing_joined = record { nodes_are = refl; links_are = refl; joined = All-nil (IsLinkAmong 0); owned = All-nil (λ o. o.node < 0) }
+
+joined_sound : (n k : ℕ) (base : Base) → n ≤ 1024 → k ≤ 4096 → Joined n k base → IsSound base
+unfolding AreNodes
+joined_sound n k base few_nodes few_links j = record {
+  few_nodes = omega arith;
+  few_links = omega arith;
+  links = (let P : ℕ → Type 0 = λ a. All (IsLinkAmong a) base.links in subst P (sym j.nodes_are) j.joined);
+  owners = (let P : ℕ → Type 0 = λ a. All (λ o. o.node < a) base.owners in subst P (sym j.nodes_are) j.owned);
+}
+
+tree_sound : (t : Members) → IfOk (base_of_tree t) IsSound
+unfolding base_of_tree
+tree_sound t =
+    after (tables_at (codes "node") t) _ IsSound (λ nodes.
+    after (tables_at (codes "link") t) _ IsSound (λ links.
+    bind (few_enough (length nodes) (length links)) _ (λ _. (length nodes ≤ 1024) × (length links ≤ 4096)) IsSound (few (length nodes) (length links)) (λ _ limits.
+    bind (with_nodes nodes empty_base) _ (Joined (length nodes) 0) IsSound (with_nodes_joined nodes empty_base 0 (length nodes) 0 (omega arith) nothing_joined) (λ base j.
+    IfOk-weaker (with_links links base) (Joined (length nodes) (length links)) IsSound (λ b j'. joined_sound (length nodes) (length links) b limits.0 limits.1 j')
+    (with_links_joined links base (length nodes) 0 (length links) (omega arith) j)))))
+
+-- Each base that a link text says is sound.
+pub base_of-sound : (text : List ℕ) (base : Base) → base_of text ≡ Ok base → IsSound base
+base_of-sound text base is = IfOk-at_ok IsSound is (after (some_or NotToml (parse_document text)) base_of_tree IsSound tree_sound)
+
+-- an owner is a node where all owners are
+pub owner_within : (nodes : ℕ) (owners : List Owner) (address : ℕ) → All (λ o. o.node < nodes) owners → IfSome (owner_of owners address) (λ n. n < nodes)
+owner_within nodes [] address all = tt
+owner_within nodes (o ∷ os) address all =
+    elim (o.address == address) as (λ b. IfSome (option_map (λ x. x.node) (if b then Some o else find (λ x. x.address == address) os)) (λ n. n < nodes))
+    [ true ↦ All-head (λ x. x.node < nodes) o os all | false ↦ owner_within nodes os address (All-tail (λ x. x.node < nodes) o os all) ]
