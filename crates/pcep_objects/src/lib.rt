@@ -8,7 +8,9 @@ mod hops;
 mod object;
 mod pieces;
 mod reading;
+mod session_objects;
 mod tlvs;
+mod word_tlvs;
 mod writing;
 
 pub use fault::{BodyFault, ObjectFault};
@@ -17,4 +19,5 @@ pub use object::{
     Plsp, Srp,
 };
 pub use reading::read_object;
+pub use session_objects::{Close, Notification, Open, PcepError};
 pub use writing::{route_is_read_again, srp_is_read_again, write_srp};
