@@ -8,6 +8,7 @@ mod hops;
 mod object;
 mod pieces;
 mod reading;
+mod request_objects;
 mod session_objects;
 mod tlvs;
 mod word_tlvs;
@@ -19,5 +20,6 @@ pub use object::{
     Plsp, Srp,
 };
 pub use reading::read_object;
+pub use request_objects::{EndPoints, NoPath, NoPathVector, Rp};
 pub use session_objects::{Close, Notification, Open, PcepError};
 pub use writing::{route_is_read_again, srp_is_read_again, write_srp};
