@@ -1,0 +1,98 @@
+-- What is known of LSPs, and the lists after a change.
+use Rattle.std.specs.Prelude.{ℕ, Bool, true, false, ◌==◌, ◌&&◌, not, List, [], ◌∷◌, ◌++◌, map, filter, find, option_map, Option, Some, None, if◌then◌else◌, cond}
+use Rattle.std.specs.List.{list_any}
+use Rattle.lsp_base.specs.Same.{same_path, is_reported}
+use Rattle.lsp_base.specs.declared.path.Path.{Path}
+use Rattle.lsp_base.specs.declared.lsp.Lsp.{Lsp}
+use Rattle.lsp_base.specs.declared.effect.Record.{Record}
+use Rattle.lsp_base.specs.declared.effect.RecordChange.{RecordChange}
+use Rattle.lsp_base.specs.declared.effect.Effect.{Effect}
+
+-- the paths and the records of all LSPs
+pub record Lsps : Type 0 where
+  pub paths : List Path
+  pub records : List Record
+
+abbrev pub no_lsps : Lsps
+no_lsps = record { paths = []; records = [] }
+
+abbrev pub is_record_of : ℕ → ℕ → Record → Bool
+is_record_of peer plsp r = r.peer == peer && r.plsp == plsp
+
+-- what is known of an LSP
+abbrev pub lsp_at : List Record → ℕ → ℕ → Option Lsp
+lsp_at records peer plsp = option_map (λ r. r.lsp) (find (is_record_of peer plsp) records)
+
+-- the path is one of the LSP's: reported, or a grant that is bound to it
+abbrev pub is_path_of : ℕ → ℕ → Path → Bool
+is_path_of peer plsp x = x.peer == peer && x.plsp == plsp
+
+-- ---- effects
+
+abbrev pub effect_of : List Path → List Path → List RecordChange → Bool → Effect
+effect_of dropped added records wants = record { change = record { dropped = dropped; added = added }; records = records; wants_path = wants }
+
+abbrev pub no_effect : Effect
+no_effect = effect_of [] [] [] false
+
+-- ---- the lists after an effect
+
+-- the list without the first path that is this one
+abbrev pub without_path : Path → List Path → List Path
+without_path d [] = []
+without_path d (x ∷ xs) = cond (same_path x d) xs (x ∷ without_path d xs)
+
+-- the list without each of these paths
+abbrev pub without : List Path → List Path → List Path
+without paths [] = paths
+without paths (d ∷ ds) = without (without_path d paths) ds
+
+-- a record set: in its place where there is one, else as the last
+abbrev pub put : List Record → ℕ → ℕ → Lsp → List Record
+put [] peer plsp lsp = record { peer = peer; plsp = plsp; lsp = lsp } ∷ []
+put (r ∷ rs) peer plsp lsp = cond (is_record_of peer plsp r) (record { peer = peer; plsp = plsp; lsp = lsp } ∷ rs) (r ∷ put rs peer plsp lsp)
+
+-- the record taken away
+abbrev pub taken_away : List Record → ℕ → ℕ → List Record
+taken_away [] peer plsp = []
+taken_away (r ∷ rs) peer plsp = cond (is_record_of peer plsp r) rs (r ∷ taken_away rs peer plsp)
+
+abbrev pub set_record : ℕ → List Record → ℕ → Option Lsp → List Record
+set_record peer records plsp None = taken_away records peer plsp
+set_record peer records plsp (Some lsp) = put records peer plsp lsp
+
+abbrev pub set_records : ℕ → List Record → List RecordChange → List Record
+set_records peer records [] = records
+set_records peer records (c ∷ cs) = set_records peer (set_record peer records c.plsp c.lsp) cs
+
+-- the LSPs after an effect on those of a peer
+unfoldable pub changed : Lsps → ℕ → Effect → Lsps
+changed lsps peer effect = record {
+  paths = without lsps.paths effect.change.dropped ++ effect.change.added;
+  records = set_records peer lsps.records effect.records;
+}
+
+-- a path of the peer is stale from now on
+abbrev pub made_stale : ℕ → Path → Path
+made_stale peer x = if x.peer == peer then record x { fresh = false } else x
+
+-- the peer's paths stale
+unfoldable pub with_stale : Lsps → ℕ → Lsps
+with_stale lsps peer = record lsps { paths = map (made_stale peer) lsps.paths }
+
+-- ---- paths that go, with the records that then have none
+
+abbrev pub taking : Record → RecordChange
+taking r = record { plsp = r.plsp; lsp = None }
+
+-- the record is of the peer, and each path of it passes the test
+abbrev pub has_none_left : (Path → Bool) → ℕ → List Path → Record → Bool
+has_none_left test peer paths r = r.peer == peer && not (list_any (λ x. not (test x) && is_path_of peer r.plsp x) paths)
+
+-- the peer's records of which no path stays where those that pass the test go
+abbrev pub ended_records : Lsps → ℕ → (Path → Bool) → List RecordChange
+ended_records lsps peer test = map taking (filter (has_none_left test peer lsps.paths) lsps.records)
+
+-- the effect that drops the paths that pass the test
+unfoldable pub dropping : Lsps → ℕ → (Path → Bool) → Effect
+dropping lsps peer test = effect_of (filter test lsps.paths) [] (ended_records lsps peer test) false

@@ -1,0 +1,6 @@
+pub mod Same
+pub mod InForce
+pub mod Whys
+pub mod Shares
+pub mod Base
+pub mod Rooms

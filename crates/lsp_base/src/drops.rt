@@ -1,0 +1,93 @@
+//! Paths that go, with the records that then have none.
+ghost use Rattle.std.specs.Prelude.{◌≡◌, [], false, map, filter, IfOk};
+ghost use Rattle.lsp_base.specs.Base.{is_path_of, taking, has_none_left, ended_records, dropping};
+ghost use Rattle.lsp_base.specs.Rooms.{IsWithinLimit};
+
+use crate::base::LspBase;
+use crate::effect::{Effect, Record, RecordChange};
+use crate::lists::{Choice, any_chosen, chosen};
+use crate::path::Path;
+use pcep_objects::Plsp;
+use std::alloc::{AllocError, Global};
+
+/// Whether the path is one of the LSP's: reported, or a grant that is bound to it.
+pub fn is_path_of_lsp(path: &Path, peer: u32, plsp: Plsp) -> bool
+    ensures { result ≡ is_path_of peer plsp path.now }
+{
+    path.peer == peer && path.plsp == plsp
+}
+
+/// The paths of an LSP that stay where those of another choice go.
+#[derive(Drop)]
+struct StaysOf<'a, C: Choice> {
+    going: &'a C,
+    peer: u32,
+    plsp: Plsp,
+}
+
+impl<'a, C: Choice> Choice for StaysOf<'a, C> {
+    ghost use Rattle.std.specs.Prelude.{◌&&◌, not};
+    ghost use Rattle.lsp_base.specs.Base.{is_path_of};
+
+    ghost chooses = { λ s x. not (C.chooses s.going.now x) && is_path_of s.peer s.plsp x };
+
+    fn chooses(&self, path: &Path) -> bool {
+        !self.going.chooses(path) && is_path_of_lsp(path, self.peer, self.plsp)
+    }
+}
+
+fn has_ended<C: Choice>(paths: &[Path], known: &Record, peer: u32, going: &C) -> bool
+    ensures { result ≡ has_none_left (C.chooses going.now) peer paths.now known.now }
+{
+    let plsp = known.plsp;
+    known.peer == peer && !any_chosen(paths, &StaysOf { going, peer, plsp })
+}
+
+/// Takes away the peer's records of which no path stays where those of the choice go.
+pub fn ended<C: Choice>(
+    alloc: Global,
+    base: &LspBase,
+    peer: u32,
+    going: &C,
+) -> Result<Vec<RecordChange>, AllocError>
+    ensures { IfOk result (λ changes. changes.items ≡ ended_records base.now.content peer (C.chooses going.now)) }
+{
+    ended_among(alloc, base.paths(), base.records(), peer, going)
+}
+
+fn ended_among<C: Choice>(
+    alloc: Global,
+    paths: &[Path],
+    records: &[Record],
+    peer: u32,
+    going: &C,
+) -> Result<Vec<RecordChange>, AllocError>
+    ensures { IfOk result (λ changes. changes.items ≡ map taking (filter (has_none_left (C.chooses going.now) peer paths.now) records.now)) }
+{
+    let mut changes = Vec::new(alloc);
+    for record in records {
+        if has_ended(paths, record, peer, going) {
+            changes.push(RecordChange {
+                plsp: record.plsp,
+                lsp: None,
+            })?;
+        }
+    }
+    Ok(changes)
+}
+
+/// Drops the paths of the choice, with the peer's records that then have none.
+#[tactic(auto, unfolding(crate::specs::Base::dropping))]
+pub fn dropping_effect<C: Choice>(
+    alloc: Global,
+    base: &LspBase,
+    peer: u32,
+    choice: &C,
+) -> Result<Effect, AllocError>
+    ensures dropping { IfOk result (λ effect. effect ≡ dropping base.now.content peer (C.chooses choice.now)) }
+    ensures few { IfOk result (λ effect. IsWithinLimit base.now.content effect) }
+{
+    let dropped = chosen(alloc, base.paths(), choice)?;
+    let records = ended(alloc, base, peer, choice)?;
+    Ok(Effect::new(dropped, Vec::new(alloc), records, false))
+}

@@ -1,0 +1,40 @@
+//! What is known of LSPs: their paths with what each reserves, and one record for each LSP. The rules
+//! compute an `Effect`, `LspBase::reserve` makes all the room that it needs, and `LspBase::change` then
+//! carries it out without growing anything. A layer above may rely on it that the lists after a change
+//! are exactly `without paths dropped ++ added` and the records set in the effect's order, and that at
+//! most 16,384 paths ever stand. What paths reserve is defined in `specs/Shares.antt` (shared explicit
+//! reservation, RFC 3209), the lists after a change in `specs/Base.antt`.
+//!
+//! ```text
+//! fn carry_out(base: &mut LspBase, peer: u32, effect: Effect) -> Result<(), AllocError>
+//!     requires { IsWithinLimit base.old.content effect }
+//!     ensures ok { OnOk result (base.new.content ≡ changed base.old.content peer effect) }
+//!     ensures unchanged { OnErr result (base.new.content ≡ base.old.content) }
+//! {
+//!     base.reserve(&effect)?;
+//!     base.change(peer, effect);
+//!     Ok(())
+//! }
+//! ```
+#![tactic(auto)]
+
+mod base;
+mod drops;
+mod effect;
+mod lists;
+mod lsp;
+mod path;
+mod records;
+mod shares;
+mod tunnel;
+mod why;
+
+pub use base::{LspBase, PATH_LIMIT};
+pub use drops::{dropping_effect, ended, is_path_of_lsp};
+pub use effect::{Change, Effect, Record, RecordChange};
+pub use lists::{Choice, Edit, any_chosen, chosen, edit_all};
+pub use lsp::{Constraints, Lsp, Metric, OtherBounds, Priorities};
+pub use path::Path;
+pub use shares::{reserved_on, share_on, unreserved_on};
+pub use tunnel::{Part, Tunnel, is_part_reported};
+pub use why::{Ends, Why};
