@@ -4,7 +4,7 @@ use Rattle.std.specs.Prelude.{filter}
 use Rattle.std.proofs.lemmas.Bool.{eqb-true, eq-eqb, and_parts, and_from, false≢true, both_ways, false_from_ne_true}
 use Rattle.std.proofs.lemmas.List.Filters.{length-filter_both}
 use Rattle.lsp_base.specs.Same.{same_tunnel, same_part, same_links, same_flag, same_path}
-use Rattle.lsp_base.specs.Base.{Lsps, without_path, without, effect_of}
+use Rattle.lsp_base.specs.Base.{Lsps, without_path, without, effect_of, changed}
 use Rattle.lsp_base.specs.Rooms.{IsWithinLimit}
 use Rattle.lsp_base.specs.declared.tunnel.Tunnel.{Tunnel}
 use Rattle.lsp_base.specs.declared.tunnel.Tunnel.TheVariants.{Signalled, Unsignalled, Asked}
@@ -152,3 +152,8 @@ IsWithinLimit-effect lsps test dropped added records wants e h =
     let same = ap (λ d. length (without lsps.paths d ++ added)) e in
     let gone = ap length e in
     omega arith
+
+-- the paths after such an effect
+pub paths-changed : (lsps : Lsps) (peer : ℕ) (test : Path → Bool) (dropped added : List Path) (records : List RecordChange) (wants : Bool) → dropped ≡ filter test lsps.paths → (changed lsps peer (effect_of dropped added records wants)).paths ≡ filter (λ x. not (test x)) lsps.paths ++ added
+unfolding changed
+paths-changed lsps peer test dropped added records wants e = ap (λ d. without lsps.paths d ++ added) e ∙ ap (λ stay. stay ++ added) (without-filter test lsps.paths)

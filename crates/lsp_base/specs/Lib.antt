@@ -4,3 +4,4 @@ pub mod Whys
 pub mod Shares
 pub mod Base
 pub mod Rooms
+pub mod Grants

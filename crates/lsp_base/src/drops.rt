@@ -1,6 +1,6 @@
 //! Paths that go, with the records that then have none.
-ghost use Rattle.std.specs.Prelude.{◌≡◌, [], false, map, filter, IfOk};
-ghost use Rattle.lsp_base.specs.Base.{is_path_of, taking, has_none_left, ended_records, dropping};
+ghost use Rattle.std.specs.Prelude.{◌≡◌, not, map, filter, IfOk};
+ghost use Rattle.lsp_base.specs.Base.{is_path_of, taking, has_none_left, ended_records, changed, dropping};
 ghost use Rattle.lsp_base.specs.Rooms.{IsWithinLimit};
 
 use crate::base::LspBase;
@@ -85,6 +85,8 @@ pub fn dropping_effect<C: Choice>(
     choice: &C,
 ) -> Result<Effect, AllocError>
     ensures dropping { IfOk result (λ effect. effect ≡ dropping base.now.content peer (C.chooses choice.now)) }
+    ensures stay { IfOk result (λ effect. (changed base.now.content peer effect).paths
+        ≡ filter (λ x. not (C.chooses choice.now x)) base.now.content.paths) }
     ensures few { IfOk result (λ effect. IsWithinLimit base.now.content effect) }
 {
     let dropped = chosen(alloc, base.paths(), choice)?;

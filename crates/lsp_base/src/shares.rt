@@ -1,12 +1,12 @@
 //! What paths reserve on a link, from the list of all paths. It takes no memory.
-ghost use Rattle.std.specs.Prelude.{◌≡◌, ◌<◌, ◌≤◌, ◌^◌, length, if◌then◌else◌};
+ghost use Rattle.std.specs.Prelude.{◌≡◌, ◌<◌, ◌≤◌, ◌^◌, length, if◌then◌else◌, option_map, slice_get};
 ghost use Rattle.std.specs.List.{list_any};
 ghost use Rattle.lsp_base.specs.Shares.{has_link, is_of_tunnel, is_held, share, reserved, reservable, unreserved};
 
 use crate::path::Path;
 use crate::tunnel::{Tunnel, is_same_tunnel};
 use pcep_word::Priority;
-use te_base::{Link, LinkNumber};
+use te_base::{Link, LinkNumber, TeBase};
 
 fn has_link(path: &Path, link: LinkNumber) -> bool
     ensures { result ≡ has_link link path.now }
@@ -91,4 +91,22 @@ pub fn unreserved_on(links: &[Link], paths: &[Path], link: LinkNumber, priority:
     ensures { result ≡ unreserved links.now paths.now link priority }
 {
     links[link].reservable as i64 - reserved_on(paths, link, priority) as i64
+}
+
+/// What is left of the reservable bandwidth of a link of the network, or `None` where there is no such
+/// link.
+pub fn unreserved_at(
+    te: &TeBase,
+    paths: &[Path],
+    link: LinkNumber,
+    priority: Priority,
+) -> Option<i64>
+    requires { length paths.now ≤ 16384 }
+    ensures { result ≡ option_map (λ _. unreserved te.now.links paths.now link priority)
+        (slice_get te.now.links link) }
+{
+    match te.link(link) {
+        Some(_) => Some(unreserved_on(te.links(), paths, link, priority)),
+        None => None,
+    }
 }

@@ -1,7 +1,9 @@
-use Rattle.std.proofs.Common.{subst, sym, ap, ◌∙◌, ◌≤◌, ◌+◌, length, arith, false}
+use Rattle.std.proofs.Common.{subst, sym, ap, ◌∙◌, ◌≤◌, ◌+◌, length, arith, false, not, ◌++◌}
 use Rattle.std.specs.Prelude.{filter}
+use Rattle.std.proofs.lemmas.List.{append-nil}
+use Rattle.lsp_base.specs.Base.{changed}
 use Rattle.lsp_base.specs.Rooms.{IsWithinLimit}
-use Rattle.lsp_base.proofs.Removal.{IsWithinLimit-effect}
+use Rattle.lsp_base.proofs.Removal.{IsWithinLimit-effect, paths-changed}
 use Rattle.lsp_base.proofs.drops.dropping_effect.Goals as goal
 
 pub returns-clause-few : goal.returns-clause-few
@@ -13,3 +15,14 @@ returns-clause-few g c =
     let none = ap length c.new.ensures.items in
     let few : length lsps.paths + length c.new.result.items ≤ 16384 + length c.in_ok-dropped.dropped.items = omega arith in
     subst (λ e. IsWithinLimit lsps e) (sym c.new-2.ensures) (IsWithinLimit-effect lsps test _ _ c.in_ok-records.records.items false dropped few)
+
+pub returns-clause-stay : goal.returns-clause-stay
+returns-clause-stay g c =
+    let lsps = c.args.base.now.content in
+    let test = g.C.Choice.chooses c.args.choice.now in
+    let stay = filter (λ x. not (test x)) lsps.paths in
+    let dropped = c.in_ok-dropped.ensures ∙ ap (filter test) c.paths.ensures.paths in
+    ap (λ e. (changed lsps c.args.peer e).paths) c.new-2.ensures
+    ∙ paths-changed lsps c.args.peer test _ _ c.in_ok-records.records.items false dropped
+    ∙ ap (λ added. stay ++ added) c.new.ensures.items
+    ∙ append-nil stay
