@@ -3,7 +3,8 @@ use Rattle.std.proofs.Common.{◌≡◌, ◌≢◌, ℕ, suc, Bool, true, false,
 use Rattle.std.proofs.lemmas.Bool.{cases_lt, eqb-true, ne_eqb, le-leb, leb-true, and_parts}
 use Rattle.std.proofs.lemmas.Fmt.{decimal_digit, decimal_step}
 use Rattle.std.specs.Fmt.{decimal}
-use Rattle.byteorder.specs.Endian.{big_number}
+use Rattle.std.specs.Int.{byte_at}
+use Rattle.byteorder.specs.Endian.{big_bytes, big_number}
 use Rattle.pcep_word.specs.Address.{text_of, address_of, octet_of, cut, is_digit, is_leading}
 
 -- ---- one number
@@ -169,10 +170,10 @@ octet_plain n h =
 
 -- ---- the whole address
 
-abbrev pub dotted : ℕ → ℕ → ℕ → ℕ → List ℕ
-dotted a b c d = decimal a ++ (46 ∷ (decimal b ++ (46 ∷ (decimal c ++ (46 ∷ decimal d)))))
+abbrev joined_by_dots : ℕ → ℕ → ℕ → ℕ → List ℕ
+joined_by_dots a b c d = decimal a ++ (46 ∷ (decimal b ++ (46 ∷ (decimal c ++ (46 ∷ decimal d)))))
 
-dotted_again : (a b c d : ℕ) → a < 256 → b < 256 → c < 256 → d < 256 → address_of (dotted a b c d) ≡ Some (big_number 4 (a ∷ b ∷ c ∷ d ∷ []))
+dotted_again : (a b c d : ℕ) → a < 256 → b < 256 → c < 256 → d < 256 → address_of (joined_by_dots a b c d) ≡ Some (big_number 4 (a ∷ b ∷ c ∷ d ∷ []))
 unfolding address_of
 dotted_again a b c d sa sb sc sd =
     let first = cut_at (decimal a) (decimal b ++ (46 ∷ (decimal c ++ (46 ∷ decimal d)))) (octet_plain a sa) in
@@ -183,8 +184,8 @@ dotted_again a b c d sa sb sc sd =
 pub text_again : (address : ℕ) → address < 2 ^ 32 → address_of (text_of address) ≡ Some address
 unfolding text_of
 text_again address small =
-    dotted_again (address / 2 ^ 24) (address / 2 ^ 16 % 2 ^ 8) (address / 2 ^ 8 % 2 ^ 8) (address % 2 ^ 8) (omega arith) (omega arith) (omega arith) (omega arith)
-    ∙ ap Some (let e : big_number 4 (address / 2 ^ 24 ∷ address / 2 ^ 16 % 2 ^ 8 ∷ address / 2 ^ 8 % 2 ^ 8 ∷ address % 2 ^ 8 ∷ []) ≡ address = omega arith in e)
+    dotted_again (byte_at 3 address) (byte_at 2 address) (byte_at 1 address) (byte_at 0 address) (omega arith) (omega arith) (omega arith) (omega arith)
+    ∙ ap Some (let e : big_number 4 (big_bytes 4 address) ≡ address = omega arith in e)
 
 bind_is : {A B : Type 0} (o : Option A) (f : A → Option B) (b : B) → option_and_then f o ≡ Some b → (a : A) × (o ≡ Some a) × (f a ≡ Some b)
 bind_is None f b e = cc
@@ -193,16 +194,16 @@ bind_is (Some a) f b e = (a, refl, e)
 some_is : {A : Type 0} (x y : A) → Some x ≡ Some y → x ≡ y
 some_is x y e = cc
 
-numbers_are : (a b c d n : ℕ) → a < 256 → b < 256 → c < 256 → d < 256 → big_number 4 (a ∷ b ∷ c ∷ d ∷ []) ≡ n → (n < 2 ^ 32) × (text_of n ≡ dotted a b c d)
+numbers_are : (a b c d n : ℕ) → a < 256 → b < 256 → c < 256 → d < 256 → big_number 4 (a ∷ b ∷ c ∷ d ∷ []) ≡ n → (n < 2 ^ 32) × (text_of n ≡ joined_by_dots a b c d)
 unfolding text_of
 numbers_are a b c d n sa sb sc sd e =
-    let ea : n / 2 ^ 24 ≡ a = omega arith in
-    let eb : n / 2 ^ 16 % 2 ^ 8 ≡ b = omega arith in
-    let ec : n / 2 ^ 8 % 2 ^ 8 ≡ c = omega arith in
-    let ed : n % 2 ^ 8 ≡ d = omega arith in
+    let ea : byte_at 3 n ≡ a = omega arith in
+    let eb : byte_at 2 n ≡ b = omega arith in
+    let ec : byte_at 1 n ≡ c = omega arith in
+    let ed : byte_at 0 n ≡ d = omega arith in
     (omega arith, rw (ea, eb, ec, ed) refl)
 
-joined : (text p q r s t u : List ℕ) (a b c d : ℕ) → text ≡ p ++ (46 ∷ q) → q ≡ r ++ (46 ∷ s) → s ≡ t ++ (46 ∷ u) → p ≡ decimal a → r ≡ decimal b → t ≡ decimal c → u ≡ decimal d → text ≡ dotted a b c d
+joined : (text p q r s t u : List ℕ) (a b c d : ℕ) → text ≡ p ++ (46 ∷ q) → q ≡ r ++ (46 ∷ s) → s ≡ t ++ (46 ∷ u) → p ≡ decimal a → r ≡ decimal b → t ≡ decimal c → u ≡ decimal d → text ≡ joined_by_dots a b c d
 joined text p q r s t u a b c d one two three ea eb ec ed = one ∙ (rw (two, three, ea, eb, ec, ed) refl)
 
 pub address_is : (text : List ℕ) (n : ℕ) → address_of text ≡ Some n → (n < 2 ^ 32) × (text ≡ text_of n)

@@ -1,12 +1,17 @@
 -- IPv4 addresses as text: four numbers from 0 to 255 joined by dots.
-use Rattle.std.specs.Prelude.{ℕ, ◌+◌, ◌-◌, ◌*◌, ◌/◌, ◌%◌, ◌^◌, ◌==◌, ◌&&◌, nat_le, Bool, List, [], ◌∷◌, ◌++◌, Option, Some, None, option_map, option_and_then, if◌then◌else◌}
+use Rattle.std.specs.Prelude.{ℕ, ◌+◌, ◌-◌, ◌*◌, ◌==◌, ◌&&◌, nat_le, Bool, List, [], ◌∷◌, ◌++◌, Option, Some, None, option_map, option_and_then, if◌then◌else◌}
 use Rattle.std.specs.Fmt.{decimal}
-use Rattle.byteorder.specs.Endian.{big_number}
+use Rattle.byteorder.specs.Endian.{big_bytes, big_number}
 
--- the text of an address, the highest byte first
+-- some numbers in decimal, joined by dots
+abbrev pub dotted : List ℕ → List ℕ
+dotted [] = []
+dotted (n ∷ []) = decimal n
+dotted (n ∷ m ∷ numbers) = decimal n ++ (46 ∷ dotted (m ∷ numbers))
+
+-- the text of an address: its four bytes, the highest first
 unfoldable pub text_of : ℕ → List ℕ
-text_of address =
-    decimal (address / 2 ^ 24) ++ (46 ∷ (decimal (address / 2 ^ 16 % 2 ^ 8) ++ (46 ∷ (decimal (address / 2 ^ 8 % 2 ^ 8) ++ (46 ∷ decimal (address % 2 ^ 8))))))
+text_of address = dotted (big_bytes 4 address)
 
 -- '0' to '9', and '1' to '9'
 abbrev pub is_digit : ℕ → Bool

@@ -4,7 +4,8 @@ use crate::plain::PlainData;
 use std::alloc::AllocError;
 use std::marker::Model;
 
-/// A list in plain data, made from a `Vec` and given back as one.
+/// A list in plain data, made from a `Vec` and given back as one. Its copy is made where the elements of
+/// the list are.
 #[derive(Debug, Drop)]
 pub struct Sequence<T> {
     items: Vec<T>,
@@ -33,6 +34,7 @@ impl<T> Sequence<T> {
         self.items
     }
 
+    /// The elements, lent.
     pub fn as_slice(&self) -> &[T]
         ensures { result.now ≡ self.now }
     {
@@ -40,6 +42,7 @@ impl<T> Sequence<T> {
     }
 }
 
+/// A copy of each element, in order.
 fn copied<T: PlainData>(items: &Vec<T>) -> Result<Vec<T>, AllocError>
     ensures { IfOk result (λ copy. copy.items ≡ items.now.items) }
 {
