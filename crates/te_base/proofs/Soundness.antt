@@ -1,7 +1,6 @@
 -- Each base that a link text says is sound.
 use Rattle.std.proofs.Common.{◌≡◌, ◌≢◌, ℕ, ℤ, pos, negsuc, codes, ◌+◌, ◌<◌, ◌≤◌, ◌==◌, ◌&&◌, nat_le, Bool, true, false, List, [], ◌∷◌, length, Option, Some, None, is_some, Result, Ok, Err, IfOk, IfSome, All, option_map, find, refl, sym, subst, arith, length-append, if◌then◌else◌}
 use Rattle.std.proofs.lemmas.List.Elements.{All-nil, All-push, All-weaker, All-head, All-tail}
-use Rattle.std.proofs.lemmas.List.Quantifiers.{position-Some}
 use Rattle.std.proofs.lemmas.Bool.Decides.{nat_tests}
 use Rattle.std.proofs.lemmas.Grind.{common_steps}
 use Rattle.std.proofs.lemmas.Result.{IfOk-weaker, IfOk-at_ok}
@@ -14,34 +13,14 @@ use Rattle.te_base.specs.declared.network.Node.{Node}
 use Rattle.te_base.specs.declared.network.Link.{Link}
 use Rattle.te_base.specs.declared.network.Owner.{Owner}
 use Rattle.te_base.specs.Faults.{◌>>=◌, some_or}
+use Rattle.te_base.proofs.Steps.{bind, after, when, unless, behind, some_or_is}
+use Rattle.te_base.proofs.Found.{position_within}
+use Rattle.te_base.proofs.Ownership.{base_of-owned}
 use Rattle.te_base.specs.Base.{Base, empty_base, IsLinkAmong, IsSound}
 use Rattle.te_base.specs.Owners.{owner_of, with_owner, owned}
 use Rattle.te_base.specs.Fields.{LinkText, node_text, link_text, tables_at}
 use Rattle.te_base.specs.Ranges.{name_of, address_in, within, node_value, link_value, link_ranges}
 use Rattle.te_base.specs.LinkText.{node_named, with_node, ends_of, with_link, with_nodes, with_links, few_enough, base_of_tree, base_of}
-
--- ---- steps that go well
-
-anything : {A : Type 0} (r : Result A TeFault) → IfOk r (λ _. Unit {0})
-anything (Ok x) = tt
-anything (Err e) = tt
-
--- What a step gives has Q, where its first part has P and what follows makes Q of P.
-bind : {A B : Type 0} (r : Result A TeFault) (f : A → Result B TeFault) (P : A → Type 0) (Q : B → Type 0) → IfOk r P → ((x : A) → P x → IfOk (f x) Q) → IfOk (r >>= f) Q
-bind (Ok x) f P Q p q = q x p
-bind (Err e) f P Q p q = tt
-
-after : {A B : Type 0} (r : Result A TeFault) (f : A → Result B TeFault) (Q : B → Type 0) → ((x : A) → IfOk (f x) Q) → IfOk (r >>= f) Q
-after r f Q q = bind r f (λ _. Unit {0}) Q (anything r) (λ x _. q x)
-
--- a value behind a test
-when : {A : Type 0} (b : Bool) (x : A) (e : TeFault) (P : A → Type 0) → (b ≡ true → P x) → IfOk (if b then Ok x else Err e) P
-when true x e P p = p refl
-when false x e P p = tt
-
-unless : {A : Type 0} (b : Bool) (x : A) (e : TeFault) (P : A → Type 0) → (b ≡ false → P x) → IfOk (if b then Err e else Ok x) P
-unless true x e P p = tt
-unless false x e P p = p refl
 
 -- ---- values in range
 
@@ -74,13 +53,8 @@ link_ranges_range t = after (name_of t.from) _ InRanges (λ _. after (name_of t.
 
 -- ---- ends and owners
 
-some_or_is : {A : Type 0} (e : TeFault) (o : Option A) (P : A → Type 0) → ((x : A) → o ≡ Some x → P x) → IfOk (some_or e o) P
-some_or_is e None P p = tt
-some_or_is e (Some x) P p = p x refl
-
 node_named_within : (nodes : List Node) (name : List ℕ) (n : ℕ) → node_named nodes name ≡ Some n → n < length nodes
-node_named_within [] name n is = absurd cc
-node_named_within (d ∷ ds) name n is = (position-Some (λ m. bytes_eq m.name name) (d ∷ ds) n d is).0
+node_named_within nodes name n is = rw is at (position_within (λ m. bytes_eq m.name name) nodes)
 
 differ : (a b : ℕ) → (a == b) ≡ false → a ≢ b
 differ a b = grind (arith, nat_tests, common_steps)
@@ -120,10 +94,6 @@ renamed : (n m k h : ℕ) (base : Base) → n ≡ m → k ≡ h → Joined n k b
 renamed n m k h base e f j =
     let one : Joined m k base = (let P : ℕ → Type 0 = λ a. Joined a k base in subst P e j) in
     let P : ℕ → Type 0 = λ a. Joined m a base in subst P f one
-
-behind : {A : Type 0} (b : Bool) (r : Result A TeFault) (e : TeFault) (P : A → Type 0) → IfOk r P → IfOk (if b then Err e else r) P
-behind true r e P p = tt
-behind false r e P p = p
 
 link_of_more : (n : ℕ) (l : Link) → IsLinkAmong n l → IsLinkAmong (n + 1) l
 link_of_more n l is = record {
@@ -195,28 +165,36 @@ nothing_joined : Joined 0 0 empty_base
 unfolding AreNodes
 nothing_joined = record { nodes_are = refl; links_are = refl; joined = All-nil (IsLinkAmong 0); owned = All-nil (λ o. o.node < 0) }
 
-joined_sound : (n k : ℕ) (base : Base) → n ≤ 1024 → k ≤ 4096 → Joined n k base → IsSound base
+pub record IsBounded (base : Base) : Type 0 where
+  few_nodes : length base.nodes ≤ 1024
+  few_links : length base.links ≤ 4096
+  links : All (IsLinkAmong (length base.nodes)) base.links
+  owners : All (λ o. o.node < length base.nodes) base.owners
+
+joined_bounded : (n k : ℕ) (base : Base) → n ≤ 1024 → k ≤ 4096 → Joined n k base → IsBounded base
 unfolding AreNodes
-joined_sound n k base few_nodes few_links j = record {
+joined_bounded n k base few_nodes few_links j = record {
   few_nodes = omega arith;
   few_links = omega arith;
   links = (let P : ℕ → Type 0 = λ a. All (IsLinkAmong a) base.links in subst P (sym j.nodes_are) j.joined);
   owners = (let P : ℕ → Type 0 = λ a. All (λ o. o.node < a) base.owners in subst P (sym j.nodes_are) j.owned);
 }
 
-tree_sound : (t : Members) → IfOk (base_of_tree t) IsSound
+tree_bounded : (t : Members) → IfOk (base_of_tree t) IsBounded
 unfolding base_of_tree
-tree_sound t =
-    after (tables_at (codes "node") t) _ IsSound (λ nodes.
-    after (tables_at (codes "link") t) _ IsSound (λ links.
-    bind (few_enough (length nodes) (length links)) _ (λ _. (length nodes ≤ 1024) × (length links ≤ 4096)) IsSound (few (length nodes) (length links)) (λ _ limits.
-    bind (with_nodes nodes empty_base) _ (Joined (length nodes) 0) IsSound (with_nodes_joined nodes empty_base 0 (length nodes) 0 (omega arith) nothing_joined) (λ base j.
-    IfOk-weaker (with_links links base) (Joined (length nodes) (length links)) IsSound (λ b j'. joined_sound (length nodes) (length links) b limits.0 limits.1 j')
+tree_bounded t =
+    after (tables_at (codes "node") t) _ IsBounded (λ nodes.
+    after (tables_at (codes "link") t) _ IsBounded (λ links.
+    bind (few_enough (length nodes) (length links)) _ (λ _. (length nodes ≤ 1024) × (length links ≤ 4096)) IsBounded (few (length nodes) (length links)) (λ _ limits.
+    bind (with_nodes nodes empty_base) _ (Joined (length nodes) 0) IsBounded (with_nodes_joined nodes empty_base 0 (length nodes) 0 (omega arith) nothing_joined) (λ base j.
+    IfOk-weaker (with_links links base) (Joined (length nodes) (length links)) IsBounded (λ b j'. joined_bounded (length nodes) (length links) b limits.0 limits.1 j')
     (with_links_joined links base (length nodes) 0 (length links) (omega arith) j)))))
 
 -- Each base that a link text says is sound.
 pub base_of-sound : (text : List ℕ) (base : Base) → base_of text ≡ Ok base → IsSound base
-base_of-sound text base is = IfOk-at_ok IsSound is (after (some_or NotToml (parse_document text)) base_of_tree IsSound tree_sound)
+base_of-sound text base is =
+    let b : IsBounded base = IfOk-at_ok IsBounded is (after (some_or NotToml (parse_document text)) base_of_tree IsBounded tree_bounded) in
+    record { few_nodes = b.few_nodes; few_links = b.few_links; links = b.links; owners = b.owners; owned = base_of-owned text base is }
 
 -- an owner is a node where all owners are
 pub owner_within : (nodes : ℕ) (owners : List Owner) (address : ℕ) → All (λ o. o.node < nodes) owners → IfSome (owner_of owners address) (λ n. n < nodes)

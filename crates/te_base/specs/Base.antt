@@ -3,6 +3,7 @@ use Rattle.std.specs.Prelude.{ℕ, ◌≢◌, ◌<◌, ◌≤◌, ◌^◌, List,
 use Rattle.te_base.specs.declared.network.Node.{Node}
 use Rattle.te_base.specs.declared.network.Link.{Link}
 use Rattle.te_base.specs.declared.network.Owner.{Owner}
+use Rattle.te_base.specs.Owners.{AreOwners}
 
 pub record Base : Type 0 where
   pub nodes : List Node
@@ -29,3 +30,4 @@ pub record IsSound (base : Base) : Type 0 where
   pub few_links : length base.links ≤ 4096
   pub links : All (IsLinkAmong (length base.nodes)) base.links
   pub owners : All (λ o. o.node < length base.nodes) base.owners
+  pub owned : AreOwners base.nodes base.links base.owners

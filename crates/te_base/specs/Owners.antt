@@ -1,8 +1,10 @@
--- Who owns an address: a node owns its own address, the local addresses of the links that leave it and
--- the remote addresses of those that reach it.
-use Rattle.std.specs.Prelude.{ℕ, ◌==◌, List, [], ◌∷◌, ◌++◌, Option, Some, None, Result, Ok, Err, if◌then◌else◌, option_map, find}
+-- Who owns an address.
+use Rattle.std.specs.Prelude.{ℕ, ◌≡◌, ◌==◌, ◌&&◌, ◌||◌, Bool, false, List, [], ◌∷◌, ◌++◌, Option, Some, None, Result, Ok, Err, if◌then◌else◌, option_map, find}
+use Rattle.std.specs.List.{list_any, enumerate_from}
 use Rattle.te_base.specs.declared.fault.TeFault.{TeFault}
 use Rattle.te_base.specs.declared.fault.TeFault.TheVariants.{AddressTwice}
+use Rattle.te_base.specs.declared.network.Node.{Node}
+use Rattle.te_base.specs.declared.network.Link.{Link}
 use Rattle.te_base.specs.declared.network.Owner.{Owner}
 
 -- the node that owns an address
@@ -16,3 +18,26 @@ with_owner owners address node (Some other) = if other == node then Ok owners el
 -- the owners, with one more address; it may be there already where the same node owns it
 abbrev pub owned : List Owner → ℕ → ℕ → Result (List Owner) TeFault
 owned owners address node = with_owner owners address node (owner_of owners address)
+
+-- A node owns its own address, the local addresses of the links that leave it and the remote addresses
+-- of the links that reach it, and no other.
+abbrev pub is_id_of : List Node → ℕ → ℕ → Bool
+is_id_of nodes node address = list_any (λ (p : ℕ × Node). p.0 == node && p.1.id == address) (enumerate_from 0 nodes)
+
+abbrev pub is_local_of : List Link → ℕ → ℕ → Bool
+is_local_of links node address = list_any (λ (l : Link). l.from == node && l.local == address) links
+
+abbrev pub is_remote_of : List Link → ℕ → ℕ → Bool
+is_remote_of links node address = list_any (λ (l : Link). l.to == node && l.remote == address) links
+
+abbrev pub owns : List Node → List Link → ℕ → ℕ → Bool
+owns nodes links node address = is_id_of nodes node address || is_local_of links node address || is_remote_of links node address
+
+-- whether it is this node
+abbrev pub is_node : Option ℕ → ℕ → Bool
+is_node None node = false
+is_node (Some other) node = other == node
+
+-- the owners are told right
+abbrev pub AreOwners : List Node → List Link → List Owner → Type 0
+AreOwners nodes links owners = (address node : ℕ) → is_node (owner_of owners address) node ≡ owns nodes links node address

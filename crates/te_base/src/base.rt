@@ -1,9 +1,9 @@
 //! The base: what a link text says, and look-ups in it.
-ghost use Rattle.std.specs.Prelude.{◌≡◌, ◌<◌, ◌≤◌, IfOk, IfSome, All, slice_get, length};
+ghost use Rattle.std.specs.Prelude.{◌≡◌, ◌≢◌, ◌<◌, ◌≤◌, ◌↔◌, ℕ, IsTrue, IfOk, IfSome, All, AllPairs, slice_get, length};
 ghost use Rattle.te_base.specs.Base.{IsLinkAmong};
 ghost use Rattle.te_base.specs.Faults.{Gives};
 ghost use Rattle.te_base.specs.LinkText.{base_of, base_of_tree};
-ghost use Rattle.te_base.specs.Owners.{owner_of};
+ghost use Rattle.te_base.specs.Owners.{owner_of, owns};
 ghost use Rattle.te_base.specs.Walk.{walk};
 ghost use Rattle.te_base.specs.Views.{base_in};
 ghost use Rattle.toml.specs.View.{table_view};
@@ -115,6 +115,7 @@ impl TeBase {
     /// The node that owns an address.
     pub fn owner(&self, address: Ipv4) -> Option<NodeNumber>
         ensures owner { result ≡ owner_of self.now.owners address }
+        ensures owns { (node : ℕ) → (result ≡ Some node) ↔ IsTrue (owns self.now.nodes self.now.links node address) }
         ensures node { IfSome result (λ n. n < length self.now.nodes) }
     {
         owner_in(&self.parts.owners, address)
@@ -128,7 +129,9 @@ impl TeBase {
         hops: &[Hop],
         end: Ipv4,
     ) -> Result<Vec<LinkNumber>, AllocError>
-        ensures { IfOk result (λ v. v.items ≡ walk self.now start hops.now end) }
+        ensures links { IfOk result (λ v. v.items ≡ walk self.now start hops.now end) }
+        ensures exist { IfOk result (λ v. All (λ l. l < length self.now.links) v.items) }
+        ensures once { IfOk result (λ v. AllPairs (λ l k. l ≢ k) v.items) }
     {
         walk_parts(alloc, &self.parts, start, hops, end)
     }
