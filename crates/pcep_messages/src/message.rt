@@ -1,3 +1,5 @@
+//! What messages say.
+
 use pcep_objects::{Colours, Hop, Identifiers, Operational, Plsp};
 use pcep_word::{Bandwidth, Priority};
 use sequence::{PlainData, Sequence};

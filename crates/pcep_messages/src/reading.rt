@@ -1,32 +1,36 @@
-ghost use Rattle.std.specs.Prelude.{◌≡◌, ◌≢◌, IfOk, IfErr};
-ghost use Rattle.pcep_messages.specs.Report.{Gives, names_nothing, report_in, has_header, message_in, Reads, IsFaulty};
+//! Whole messages.
+
+ghost use Rattle.std.specs.Prelude.{◌≡◌, ◌≢◌, ℕ, List, IfOk, IfErr};
+ghost use Rattle.pcep_messages.specs.Reports.{names_nothing, report_body};
+ghost use Rattle.pcep_messages.specs.Messages.{Gives, has_header, message_of, message_in, Reads, IsFaulty, ReadsOrIsFaulty};
 ghost use Rattle.pcep_messages.specs.declared.fault.MessageFault.TheVariants.{OutOfMemory};
 
 use crate::fault::{About, MessageFault};
-use crate::groups::{Item, groups_of};
+use crate::items::{Item, items_of};
 use crate::message::{Message, StateReport};
-use crate::next::objects_in;
-use crate::reports::reports;
+use crate::objects::objects_in;
+use crate::reports::reports_before;
 use byteorder::{BigEndian, ByteOrder};
 use sequence::Sequence;
 use std::alloc::Global;
 
-fn nothing_named(front: &Item) -> bool
+fn names_nothing(front: &Item) -> bool
     ensures { result ≡ names_nothing front.now }
 {
     front.ero.is_none() && front.rro.is_none() && front.lspa.is_none() && front.bandwidth.is_none()
 }
 
-#[tactic(auto, unfolding(crate::specs::Report::report_in))]
+/// The body of a PCRpt.
+#[tactic(auto, unfolding(crate::specs::Reports::report_body))]
 fn read_report(alloc: Global, body: &[u8]) -> Result<Vec<StateReport>, MessageFault>
-    ensures { Gives (λ v. v.items) result (report_in body.now) }
+    ensures { Gives (λ v. v.items) result (report_body body.now) }
 {
     let (objects, fault) = objects_in(alloc, body)?;
-    let (front, items) = groups_of(alloc, objects)?;
-    if !nothing_named(&front) || (items.is_empty() && fault.is_none()) {
+    let (front, items) = items_of(alloc, objects)?;
+    if !names_nothing(&front) || (items.is_empty() && fault.is_none()) {
         return Err(MessageFault::Refused(6, 8, About::Nothing));
     }
-    reports(alloc, items, fault)
+    reports_before(alloc, items, fault)
 }
 
 fn has_header(bytes: &[u8]) -> bool
@@ -38,24 +42,40 @@ fn has_header(bytes: &[u8]) -> bool
         && bytes.len() % 4 == 0
 }
 
-#[tactic(auto, unfolding(crate::specs::Report::message_in))]
+fn read_body(alloc: Global, kind: u8, body: &[u8]) -> Result<Message, MessageFault>
+    ensures { Gives (λ x. x) result (message_of kind body.now) }
+{
+    if kind != 10 {
+        return Ok(Message::Unknown(kind));
+    }
+    let reports = read_report(alloc, body)?;
+    Ok(Message::Report(Sequence::from_vec(reports)))
+}
+
+#[tactic(auto, unfolding(crate::specs::Messages::message_in))]
 fn read(alloc: Global, bytes: &[u8]) -> Result<Message, MessageFault>
     ensures { Gives (λ x. x) result (message_in bytes.now) }
 {
     if !has_header(bytes) {
         return Err(MessageFault::BadHeader);
     }
-    if bytes[1] != 10 {
-        return Ok(Message::Unknown(bytes[1]));
-    }
-    let found = read_report(alloc, &bytes[4..])?;
-    Ok(Message::Report(Sequence::from_vec(found)))
+    read_body(alloc, bytes[1], &bytes[4..])
 }
 
-/// Reads one whole message.
+/// Reads the bytes of one whole message.
+///
+/// Objects are read from first to last, and the first fault refuses the whole message. At one object its
+/// own fault comes first, then what the item that it ends lacks, then its place or its missing identifiers.
+/// Objects of unknown classes and types, and those that an item doesn't name, are skipped. `OutOfMemory`
+/// comes where a growth was refused.
 pub fn read_message(alloc: Global, bytes: &[u8]) -> Result<Message, MessageFault>
-    ensures read { IfOk result (Reads bytes.now) }
-    ensures fault { IfErr result (λ e. e ≢ OutOfMemory → IsFaulty bytes.now e) }
+    ensures reads { IfOk result (Reads bytes.now) }
+    ensures first_fault { IfErr result (λ e. e ≢ OutOfMemory → IsFaulty bytes.now e) }
 {
     read(alloc, bytes)
 }
+
+/// Any bytes either read as one message or have one first fault, and never both.
+pub fn messages_are_read_or_faulty()
+    ensures { (bytes : List ℕ) → ReadsOrIsFaulty bytes }
+{}

@@ -1,11 +1,11 @@
-//! Items, one after the other.
+//! What the items of a state report say.
 
 ghost use Rattle.std.specs.Prelude.{◌≡◌, min};
-ghost use Rattle.pcep_objects.specs.declared.object.Srp.{Srp};
-ghost use Rattle.pcep_messages.specs.Report.{Gives, report_from, srp_id, about_srp, about_item, lacks_identifiers, setup_of, hold_of, colours_of, bandwidth_or_none, hops_or_none, report_of, reports_of, before_fault, cut_off, reports_from};
+ghost use Rattle.pcep_messages.specs.Reports.{report_with, srp_id, about_srp, lacks_identifiers, setup_of, hold_of, colours_of, bandwidth_or_none, hops_or_none, report_of, reports_of, before_fault, cut_off, reports_before};
+ghost use Rattle.pcep_messages.specs.Messages.{Gives};
 
 use crate::fault::{About, MessageFault};
-use crate::groups::Item;
+use crate::items::Item;
 use crate::message::StateReport;
 use pcep_objects::{Colours, Hop, LspObject, Lspa, ObjectFault, Srp};
 use pcep_word::{Bandwidth, Priority};
@@ -13,7 +13,7 @@ use sequence::Sequence;
 use std::alloc::Global;
 use std::collections::VecDeque;
 
-fn id_of(srp: Option<Srp>) -> Option<u32>
+fn srp_id(srp: Option<Srp>) -> Option<u32>
     ensures { result ≡ srp_id srp }
 {
     match srp {
@@ -22,7 +22,7 @@ fn id_of(srp: Option<Srp>) -> Option<u32>
     }
 }
 
-fn about(srp: Option<u32>) -> About
+fn about_srp(srp: Option<u32>) -> About
     ensures { result ≡ about_srp srp }
 {
     match srp {
@@ -31,7 +31,7 @@ fn about(srp: Option<u32>) -> About
     }
 }
 
-fn lacks(lsp: &LspObject) -> bool
+fn lacks_identifiers(lsp: &LspObject) -> bool
     ensures { result ≡ lacks_identifiers lsp.now }
 {
     lsp.plsp.number() != 0 && lsp.identifiers.is_none()
@@ -58,7 +58,7 @@ fn priorities(lspa: Option<Lspa>) -> (Priority, Priority)
     }
 }
 
-fn colours_in(lspa: Option<Lspa>) -> Colours
+fn colours_of(lspa: Option<Lspa>) -> Colours
     ensures { result ≡ colours_of lspa }
 {
     match lspa {
@@ -71,23 +71,16 @@ fn colours_in(lspa: Option<Lspa>) -> Colours
     }
 }
 
-#[tactic(auto, unfolding(pcep_word::specs::Word::bandwidth_of, pcep_word::specs::Word::rounded_up, pcep_word::specs::Word::magnitude, pcep_word::specs::Word::mantissa, pcep_word::specs::Word::scale))]
-fn no_bandwidth() -> Bandwidth
-    ensures { result ≡ 0 }
-{
-    Bandwidth::of_word(0).unwrap()
-}
-
-fn bandwidth_in(bandwidth: Option<Bandwidth>) -> Bandwidth
+fn bandwidth_or_none(bandwidth: Option<Bandwidth>) -> Bandwidth
     ensures { result ≡ bandwidth_or_none bandwidth }
 {
     match bandwidth {
         Some(bandwidth) => bandwidth,
-        None => no_bandwidth(),
+        None => Bandwidth::zero(),
     }
 }
 
-fn route_of(alloc: Global, ero: Option<Sequence<Hop>>) -> Sequence<Hop>
+fn hops_or_none(alloc: Global, ero: Option<Sequence<Hop>>) -> Sequence<Hop>
     ensures { result ≡ hops_or_none ero }
 {
     match ero {
@@ -98,12 +91,12 @@ fn route_of(alloc: Global, ero: Option<Sequence<Hop>>) -> Sequence<Hop>
 
 /// The report of an item that has an LSP.
 fn report_with(alloc: Global, item: Item, lsp: LspObject) -> StateReport
-    ensures { result ≡ report_from item lsp }
+    ensures { result ≡ report_with item lsp }
 {
-    let srp = id_of(item.srp);
+    let srp = srp_id(item.srp);
     let (setup, hold) = priorities(item.lspa);
-    let colours = colours_in(item.lspa);
-    let bandwidth = bandwidth_in(item.bandwidth);
+    let colours = colours_of(item.lspa);
+    let bandwidth = bandwidth_or_none(item.bandwidth);
     StateReport {
         srp,
         plsp: lsp.plsp,
@@ -115,7 +108,7 @@ fn report_with(alloc: Global, item: Item, lsp: LspObject) -> StateReport
         created: lsp.created,
         name: lsp.name,
         identifiers: lsp.identifiers,
-        ero: route_of(alloc, item.ero),
+        ero: hops_or_none(alloc, item.ero),
         rro: item.rro,
         bandwidth,
         setup,
@@ -125,30 +118,30 @@ fn report_with(alloc: Global, item: Item, lsp: LspObject) -> StateReport
 }
 
 /// The report of an item.
-#[tactic(auto, unfolding(crate::specs::Report::report_of))]
-fn report(alloc: Global, mut item: Item) -> Result<StateReport, MessageFault>
+#[tactic(auto, unfolding(crate::specs::Reports::report_of))]
+fn report_of(alloc: Global, mut item: Item) -> Result<StateReport, MessageFault>
     ensures { Gives (λ x. x) result (report_of item) }
 {
-    let srp = id_of(item.srp);
+    let srp = srp_id(item.srp);
     let Some(lsp) = item.lsp.take() else {
-        return Err(MessageFault::Refused(6, 8, about(srp)));
+        return Err(MessageFault::Refused(6, 8, about_srp(srp)));
     };
-    if lacks(&lsp) {
-        return Err(MessageFault::MissingIdentifiers(about(srp)));
+    if lacks_identifiers(&lsp) {
+        return Err(MessageFault::MissingIdentifiers(about_srp(srp)));
     }
     if item.ero.is_none() && !lsp.remove {
-        return Err(MessageFault::Refused(6, 9, about(srp)));
+        return Err(MessageFault::Refused(6, 9, about_srp(srp)));
     }
     Ok(report_with(alloc, item, lsp))
 }
 
 /// The fault where an object cannot be read after this item.
-fn cut(item: &Item, fault: ObjectFault) -> MessageFault
+fn cut_off(item: &Item, fault: ObjectFault) -> MessageFault
     ensures { result ≡ cut_off item.now fault }
 {
-    let about = about(id_of(item.srp));
+    let about = about_srp(srp_id(item.srp));
     match &item.lsp {
-        Some(lsp) if lacks(lsp) => MessageFault::MissingIdentifiers(about),
+        Some(lsp) if lacks_identifiers(lsp) => MessageFault::MissingIdentifiers(about),
         _ => MessageFault::BadObject(fault, about),
     }
 }
@@ -158,7 +151,7 @@ fn each_report(alloc: Global, mut items: VecDeque<Item>) -> Result<Vec<StateRepo
 {
     let mut found = Vec::new(alloc);
     while let Some(item) = items.pop_front() {
-        let report = report(alloc, item)?;
+        let report = report_of(alloc, item)?;
         found.push(report)?;
     }
     Ok(found)
@@ -175,17 +168,17 @@ fn fault_after(
         return Err(MessageFault::BadObject(fault, About::Nothing));
     };
     let _before = each_report(alloc, items)?;
-    Err(cut(&last, fault))
+    Err(cut_off(&last, fault))
 }
 
 /// The reports of the items. An object that cannot be read may come after them.
-#[tactic(auto, unfolding(crate::specs::Report::reports_from))]
-pub fn reports(
+#[tactic(auto, unfolding(crate::specs::Reports::reports_before))]
+pub fn reports_before(
     alloc: Global,
     items: VecDeque<Item>,
     fault: Option<ObjectFault>,
 ) -> Result<Vec<StateReport>, MessageFault>
-    ensures { Gives (λ v. v.items) result (reports_from items.items fault) }
+    ensures { Gives (λ v. v.items) result (reports_before items.items fault) }
 {
     match fault {
         None => each_report(alloc, items),

@@ -1,5 +1,5 @@
 -- The bodies of RP, NO-PATH and END-POINTS are read again from their spelling.
-use Rattle.std.proofs.Common.{◌≡◌, ℕ, ◌+◌, ◌*◌, ◌/◌, ◌%◌, ◌^◌, ◌<◌, ◌≤◌, Bool, true, false, cond, List, [], Option, Some, None, Result, Ok, refl, ap, ◌∙◌, arith}
+use Rattle.std.proofs.Common.{◌≡◌, ℕ, ◌+◌, ◌%◌, ◌^◌, ◌<◌, Bool, true, false, cond, [], Option, Some, None, Result, Ok, refl, ap, ◌∙◌, arith}
 use Rattle.byteorder.specs.Endian.{big_bytes}
 use Rattle.byteorder.specs.Numbers.{big_number-reads_back}
 use Rattle.pcep_objects.specs.declared.fault.BodyFault.{BodyFault}
@@ -8,10 +8,10 @@ use Rattle.pcep_objects.specs.declared.request_objects.NoPath.{NoPath}
 use Rattle.pcep_objects.specs.declared.request_objects.NoPathVector.{NoPathVector}
 use Rattle.pcep_objects.specs.declared.request_objects.EndPoints.{EndPoints}
 use Rattle.pcep_objects.specs.Steps.{field, has, cut}
-use Rattle.pcep_objects.specs.Reading.{tlv_size}
+use Rattle.pcep_objects.specs.Tlvs.{tlv_size}
 use Rattle.pcep_objects.specs.WordTlvs.{word_tlv, word_in, skipped_tlvs}
 use Rattle.pcep_objects.specs.RequestObjects.{rp_of, rp_flags, rp_written, IsRp, no_path_of, no_path_written, end_points_of, end_points_written, IsEndPoints}
-use Rattle.pcep_objects.proofs.Flags.{bit, bit_small, weight, has_bit}
+use Rattle.pcep_objects.proofs.Flags.{bit_small, weight, has_bit}
 
 -- ---- RP
 

@@ -6,7 +6,7 @@ use Rattle.pcep_objects.specs.declared.session_objects.Close.{Close}
 use Rattle.pcep_objects.specs.declared.session_objects.Notification.{Notification}
 use Rattle.pcep_objects.specs.declared.session_objects.PcepError.{PcepError}
 use Rattle.pcep_objects.specs.Steps.{cut}
-use Rattle.pcep_objects.specs.Reading.{tlv_size}
+use Rattle.pcep_objects.specs.Tlvs.{tlv_size}
 use Rattle.pcep_objects.specs.WordTlvs.{word_tlv, word_in, skipped_tlvs}
 use Rattle.pcep_objects.specs.SessionObjects.{open_of, open_written, close_of, close_written, notification_of, notification_written, error_of, error_written}
 

@@ -1,5 +1,5 @@
 -- The objects of a session's own messages, read and spelled: OPEN, CLOSE, NOTIFICATION, PCEP-ERROR.
-use Rattle.std.specs.Prelude.{ℕ, ◌+◌, ◌*◌, List, [], ◌∷◌, ◌++◌, length, drop, slice_index, Option, Some, None, Result, Ok, Err, nat_lt, if◌then◌else◌}
+use Rattle.std.specs.Prelude.{ℕ, ◌+◌, List, [], ◌∷◌, ◌++◌, length, drop, slice_index, Option, Some, None, Result, Ok, Err, nat_lt, if◌then◌else◌}
 use Rattle.std.specs.Option.{option_map}
 use Rattle.pcep_objects.specs.Steps.{◌>>=◌, has}
 use Rattle.pcep_objects.specs.WordTlvs.{word_in, skipped_tlvs, word_spelled}

@@ -2,7 +2,7 @@
 use Rattle.std.specs.Prelude.{ℕ, not, List, [], ◌∷◌, ◌++◌, Option, Some, None, Result, Ok, Err, ◌==◌, if◌then◌else◌}
 use Rattle.byteorder.specs.Endian.{big_bytes}
 use Rattle.pcep_objects.specs.Steps.{◌>>=◌, field, pieces}
-use Rattle.pcep_objects.specs.Reading.{tlv_size}
+use Rattle.pcep_objects.specs.Tlvs.{tlv_size}
 use Rattle.pcep_objects.specs.declared.fault.BodyFault.{BodyFault}
 use Rattle.pcep_objects.specs.declared.fault.BodyFault.TheVariants.{BadTlv}
 

@@ -1,25 +1,50 @@
-//! Objects of PCEP, read from bytes.
+//! The objects of PCEP as values, and their reading from bytes.
+//!
+//! An object is a header of four bytes and a body by its class and type (RFC 5440 section 7, RFC 8231
+//! section 7). `read_object` gives the object at the front of some bytes with its length, or the first
+//! fault; the layer above may rely on it that the answer is exactly the one of the definitions, for every
+//! list of bytes, and that bytes never both read and have a fault. The classes that it reads are SRP, LSP
+//! with its two TLVs, ERO, RRO, LSPA and BANDWIDTH; any other is answered by `UnknownClass`, with its length.
+//!
+//! The definitions stand in `specs/`: `Tlvs` and `Routes` cut an object's lists into pieces, `Bodies` has
+//! the layout of each class, `Objects` the header, the table of classes and `Reads` and `IsFaulty`,
+//! `Spelling` the one spelling of an object, which is read again.
+//!
+//! ```
+//! // The first object of a message's body, and the bytes after it.
+//! fn first_object(alloc: Global, body: &[u8]) -> Result<(Object, &[u8]), ObjectFault> {
+//!     let (object, size) = read_object(alloc, body)?;
+//!     Ok((object, &body[size..]))
+//! }
+//! ```
+//!
+//! The modules, lowest first: `object`, `copies`, `fault`, `pieces`, `tlvs`, `word_tlvs`, `routes`, `bodies`,
+//! `session_objects`, `request_objects`, `header`, `reading`, `writing`.
 #![tactic(auto)]
 
+mod bodies;
 mod copies;
 mod fault;
 mod header;
-mod hops;
 mod object;
 mod pieces;
 mod reading;
 mod request_objects;
+mod routes;
 mod session_objects;
 mod tlvs;
 mod word_tlvs;
 mod writing;
 
-pub use fault::{BodyFault, ObjectFault};
+pub use fault::ObjectFault;
 pub use object::{
-    Bandwidths, Capabilities, Colours, Hop, Identifiers, LspObject, Lspa, Object, Operational,
+    BandwidthType, Capabilities, Colours, Hop, Identifiers, LspObject, Lspa, Object, Operational,
     Plsp, Srp,
 };
-pub use reading::read_object;
+pub use reading::{objects_are_read_or_faulty, read_object};
 pub use request_objects::{EndPoints, NoPath, NoPathVector, Rp};
 pub use session_objects::{Close, Notification, Open, PcepError};
-pub use writing::{route_is_read_again, srp_is_read_again, write_srp};
+pub use writing::{ero_is_read_again, srp_is_read_again};
+
+#[cfg(test)]
+mod tests;

@@ -1,10 +1,13 @@
+//! The objects of PCEP and their parts. All numbers are as the wire has them.
+
 ghost use Rattle.std.specs.Prelude.{◌≡◌, ◌<◌, ◌^◌};
 
 use pcep_word::{Bandwidth, Ipv4, Priority};
 use sequence::Sequence;
 use std::marker::Model;
 
-/// The number of an LSP at its peer.
+/// A PLSP-ID: the number, below 2^20, by which a peer names one of its LSPs as long as its session lasts
+/// (RFC 8231 section 7.3). 0 and 0xFFFFF name none.
 #[derive(Clone, Copy, Debug, PartialEq, Eq)]
 pub struct Plsp {
     number: u32,
@@ -23,6 +26,7 @@ impl Model for Plsp {
 }
 
 impl Plsp {
+    /// The PLSP-ID of this number, which has to be below 2^20.
     pub fn new(number: u32) -> Plsp
         requires { number < 2 ^ 20 }
         ensures { result ≡ number }
@@ -30,6 +34,7 @@ impl Plsp {
         Plsp { number }
     }
 
+    /// The number, below 2^20.
     pub fn number(self) -> u32
         ensures number { result ≡ self }
         ensures small { result < 2 ^ 20 }
@@ -38,98 +43,143 @@ impl Plsp {
     }
 }
 
+/// A subobject of a route (RFC 3209 section 4.3.3).
 #[derive(Debug, Drop)]
 pub enum Hop {
+    /// An IPv4 address with prefix length 32, and whether the hop is loose. In a recorded route none is.
     Host(Ipv4, bool),
+    /// Any other subobject: its whole kind byte, and the bytes after the length byte.
     Other(u8, Sequence<u8>),
 }
 
+/// The operational state of an LSP (RFC 8231 section 7.3).
 #[derive(Clone, Copy, Debug, PartialEq, Eq)]
 pub enum Operational {
+    /// The LSP is not active.
     Down,
+    /// It is signalled.
     Up,
+    /// It is up and carries traffic.
     Active,
+    /// It is being torn down.
     GoingDown,
+    /// It is being signalled.
     GoingUp,
 }
 
+/// IPV4-LSP-IDENTIFIERS: what the peer signals the LSP with (RFC 8231 section 7.3.1, RFC 3209 section 4.6).
 #[derive(Clone, Copy, Debug, PartialEq, Eq)]
 pub struct Identifiers {
+    /// The address of the tunnel's first node.
     pub sender: Ipv4,
+    /// The LSP ID: the number of this path among those of its tunnel.
     pub lsp: u16,
+    /// The Tunnel ID.
     pub tunnel: u16,
+    /// The Extended Tunnel ID.
     pub extended: u32,
+    /// The address of the tunnel's last node.
     pub endpoint: Ipv4,
 }
 
-/// A TLV of an LSP, or one that is skipped.
+/// A TLV that an object names, or one that is skipped.
 #[derive(Debug, Drop)]
 pub enum Tlv {
+    /// SYMBOLIC-PATH-NAME (RFC 8231 section 7.3.2).
     Name(Sequence<u8>),
+    /// IPV4-LSP-IDENTIFIERS (RFC 8231 section 7.3.1).
     Identifiers(Identifiers),
+    /// A TLV that its object doesn't name.
     Skipped,
 }
 
-/// What a peer lets the PCE do, from its Open (RFC 8231 section 7.1.1, RFC 8281 section 4.1).
+/// What a peer lets the PCE do: STATEFUL-PCE-CAPABILITY of its Open (RFC 8231 section 7.1.1).
 #[derive(Clone, Copy, Debug, PartialEq, Eq)]
 pub struct Capabilities {
-    /// Delegated LSPs may be updated.
+    /// The PCE may update LSPs that are delegated to it (flag U).
     pub update: bool,
-    /// LSPs may be created.
+    /// The PCE may create LSPs (flag I of RFC 8281 section 4.1).
     pub create: bool,
 }
 
+/// SRP, which numbers the PCE's requests and the reports that answer them (RFC 8231 section 7.2).
 #[derive(Clone, Copy, Debug, PartialEq, Eq)]
 pub struct Srp {
+    /// The LSP is to be removed (flag R of RFC 8281 section 5.2).
     pub remove: bool,
+    /// The SRP-ID. 0 and 0xFFFFFFFF are reserved.
     pub id: u32,
 }
 
+/// LSP (RFC 8231 section 7.3).
 #[derive(Debug, Drop)]
 pub struct LspObject {
+    /// The PLSP-ID.
     pub plsp: Plsp,
+    /// The LSP is delegated to the PCE (flag D).
     pub delegate: bool,
+    /// The object belongs to state synchronization (flag S).
     pub sync: bool,
+    /// The LSP was removed (flag R).
     pub remove: bool,
+    /// The LSP is to be active (flag A).
     pub admin: bool,
+    /// The state of the LSP (field O). A value that the RFC leaves free counts as `Up`.
     pub operational: Operational,
+    /// The LSP was created by a PCE (flag C of RFC 8281 section 5.3.1).
     pub created: bool,
+    /// The first SYMBOLIC-PATH-NAME.
     pub name: Option<Sequence<u8>>,
+    /// The first IPV4-LSP-IDENTIFIERS.
     pub identifiers: Option<Identifiers>,
 }
 
-/// The link colours that a path may, has to and must not use: 32 colours each, one a bit (RFC 5440 section 7.11).
+/// Which colours a link of the path may have, 32 of them, one a bit (RFC 5440 section 7.11).
 #[derive(Clone, Copy, Debug, PartialEq, Eq)]
 pub struct Colours {
     /// No link of the path has one of these.
     pub exclude_any: u32,
-    /// Each link of the path has one of these, unless it is 0.
+    /// Each link of the path has one of these, unless this is 0.
     pub include_any: u32,
     /// Each link of the path has all of these.
     pub include_all: u32,
 }
 
+/// LSPA, the attributes of an LSP (RFC 5440 section 7.11).
 #[derive(Clone, Copy, Debug, PartialEq, Eq)]
 pub struct Lspa {
+    /// The colours that bind the path.
     pub colours: Colours,
+    /// The setup priority.
     pub setup: Priority,
+    /// The holding priority as it is written, which may be worse than the setup priority.
     pub hold: Priority,
-    pub local: bool,
+    /// Local protection is wanted (flag L).
+    pub local_protection: bool,
 }
 
-/// Which of the two bandwidths an object has.
+/// The object type of a BANDWIDTH (RFC 5440 section 7.7).
 #[derive(Clone, Copy, Debug, PartialEq, Eq)]
-pub enum Bandwidths {
+pub enum BandwidthType {
+    /// Type 1: the bandwidth that is asked for.
     Requested,
+    /// Type 2: the bandwidth of an LSP that stands.
     Current,
 }
 
+/// An object of PCEP.
 #[derive(Debug, Drop)]
 pub enum Object {
-    Bandwidth(Bandwidths, Bandwidth),
+    /// BANDWIDTH, in bytes per second (RFC 5440 section 7.7).
+    Bandwidth(BandwidthType, Bandwidth),
+    /// ERO, the route that a path is to take (RFC 5440 section 7.9).
     Ero(Sequence<Hop>),
+    /// RRO, the route that a path takes (RFC 5440 section 7.10).
     Rro(Sequence<Hop>),
+    /// LSPA, the attributes of an LSP (RFC 5440 section 7.11).
     Lspa(Lspa),
+    /// LSP (RFC 8231 section 7.3).
     Lsp(LspObject),
+    /// SRP (RFC 8231 section 7.2).
     Srp(Srp),
 }

@@ -1,6 +1,8 @@
-ghost use Rattle.std.specs.Prelude.{◌≡◌, ◌<◌, ◌≤◌, ℕ, length, IfOk};
-ghost use Rattle.pcep_objects.specs.Steps.{Gives};
-ghost use Rattle.pcep_objects.specs.Reading.{tlv_size, padded, lsp_tlv, lsp_tlvs, no_tlvs, any_tlv, first_name, first_identifiers, identifiers_of};
+//! TLVs (RFC 5440 section 7.1).
+
+ghost use Rattle.std.specs.Prelude.{◌≡◌, ◌<◌, ◌≤◌, ◌+◌, length, IfOk};
+ghost use Rattle.pcep_objects.specs.Steps.{Gives, field, from_end};
+ghost use Rattle.pcep_objects.specs.Tlvs.{padded, tlv_size, tlv_value, lsp_tlv, lsp_tlvs, identifiers_of, no_tlvs, before};
 
 use crate::fault::BodyFault;
 use crate::object::{Identifiers, Tlv};
@@ -10,10 +12,18 @@ use pcep_word::Ipv4;
 use sequence::Sequence;
 use std::alloc::Global;
 
+/// What the TLVs of an LSP say.
+#[derive(Drop)]
+pub struct NamedTlvs {
+    pub name: Option<Sequence<u8>>,
+    pub identifiers: Option<Identifiers>,
+}
+
 /// The length of the TLV at the front, with its padding.
-#[tactic(auto, unfolding(crate::specs::Reading::tlv_size))]
-fn size_of_tlv(bytes: &[u8]) -> Result<usize, BodyFault>
+#[tactic(auto, unfolding(crate::specs::Tlvs::tlv_size))]
+pub fn size_of_tlv(bytes: &[u8]) -> Result<usize, BodyFault>
     ensures gives { Gives (λ n. n) result (tlv_size bytes.now) }
+    ensures value { IfOk result (λ n. n ≡ 4 + padded (field 2 2 bytes.now)) }
     ensures positive { IfOk result (λ n. 0 < n) }
     ensures within { IfOk result (λ n. n ≤ length bytes.now) }
 {
@@ -41,29 +51,26 @@ fn read_identifiers(value: &[u8]) -> Identifiers
     }
 }
 
-#[tactic(auto, unfolding(crate::specs::Reading::lsp_tlv))]
-fn read_lsp_tlv(alloc: Global, piece: &[u8]) -> Result<Tlv, BodyFault>
-    ensures { Gives (λ x. x) result (lsp_tlv piece.now) }
+fn read_value(alloc: Global, kind: u16, value: &[u8]) -> Result<Tlv, BodyFault>
+    ensures { Gives (λ x. x) result (tlv_value kind value.now) }
 {
-    if piece.len() < 4 {
-        return Err(BodyFault::BadTlv);
+    match kind {
+        17 => Ok(Tlv::Name(Sequence::from_vec(Vec::from_slice(alloc, value)?))),
+        18 if value.len() == 16 => Ok(Tlv::Identifiers(read_identifiers(value))),
+        18 => Err(BodyFault::BadTlv),
+        _ => Ok(Tlv::Skipped),
     }
-    let kind = BigEndian::read_u16(piece);
-    let len = BigEndian::read_u16(&piece[2..]) as usize;
-    if piece.len() - 4 < len {
-        return Err(BodyFault::BadTlv);
-    }
-    let (value, _) = piece[4..].split_at(len);
-    if kind == 17 {
-        return Ok(Tlv::Name(Sequence::from_vec(Vec::from_slice(alloc, value)?)));
-    }
-    if kind != 18 {
-        return Ok(Tlv::Skipped);
-    }
-    if value.len() != 16 {
-        return Err(BodyFault::BadTlv);
-    }
-    Ok(Tlv::Identifiers(read_identifiers(value)))
+}
+
+#[tactic(auto, unfolding(crate::specs::Tlvs::lsp_tlv))]
+fn read_tlv(alloc: Global, bytes: &[u8]) -> Result<Tlv, BodyFault>
+    ensures { Gives (λ x. x) result (lsp_tlv bytes.now) }
+{
+    let _size = size_of_tlv(bytes)?;
+    let kind = BigEndian::read_u16(bytes);
+    let len = BigEndian::read_u16(&bytes[2..]) as usize;
+    let (value, _) = bytes[4..].split_at(len);
+    read_value(alloc, kind, value)
 }
 
 /// Reads the TLVs of an LSP.
@@ -84,64 +91,45 @@ impl Pieces for LspTlvs {
     }
 
     fn read(&self, piece: &[u8]) -> Result<Tlv, BodyFault> {
-        read_lsp_tlv(self.alloc, piece)
+        read_tlv(self.alloc, piece)
     }
 }
 
-/// Reads TLVs of which none counts.
-#[derive(Drop)]
-struct AnyTlvs;
-
-impl Pieces for AnyTlvs {
-    type Item = Tlv;
-
-    ghost size = { tlv_size };
-
-    ghost read = { λ _ piece. any_tlv piece };
-
-    fn size(&self, bytes: &[u8]) -> Result<usize, BodyFault> {
-        size_of_tlv(bytes)
-    }
-
-    fn read(&self, _piece: &[u8]) -> Result<Tlv, BodyFault> {
-        Ok(Tlv::Skipped)
+fn nothing_named() -> NamedTlvs
+    ensures { result ≡ no_tlvs }
+{
+    NamedTlvs {
+        name: None,
+        identifiers: None,
     }
 }
 
-#[tactic(auto, unfolding(crate::specs::Reading::no_tlvs))]
-pub fn skip_tlvs(alloc: Global, bytes: &[u8]) -> Result<Vec<Tlv>, BodyFault>
-    ensures { Gives (λ v. v.items) result (no_tlvs bytes.now) }
+fn put(tlv: Tlv, named: &mut NamedTlvs)
+    ensures { named.new ≡ before tlv named.old }
 {
-    read_all(alloc, &AnyTlvs, bytes)
+    match tlv {
+        Tlv::Name(name) => named.name = Some(name),
+        Tlv::Identifiers(identifiers) => named.identifiers = Some(identifiers),
+        Tlv::Skipped => {}
+    }
 }
 
-#[tactic(auto, unfolding(crate::specs::Reading::lsp_tlvs))]
-pub fn read_lsp_tlvs(alloc: Global, bytes: &[u8]) -> Result<Vec<Tlv>, BodyFault>
-    ensures { Gives (λ v. v.items) result (lsp_tlvs bytes.now) }
+/// What TLVs say: the first of each type counts.
+fn named_in(mut tlvs: Vec<Tlv>) -> NamedTlvs
+    ensures { result ≡ from_end before no_tlvs tlvs.items }
 {
-    read_all(alloc, &LspTlvs { alloc }, bytes)
-}
-
-/// What counts of the TLVs of an LSP.
-#[derive(Drop)]
-pub struct Marks {
-    pub name: Option<Sequence<u8>>,
-    pub identifiers: Option<Identifiers>,
-}
-
-/// The first name and the first identifiers.
-pub fn marks_of(mut tlvs: Vec<Tlv>) -> Marks
-    ensures name { result.name ≡ first_name tlvs.items }
-    ensures identifiers { result.identifiers ≡ first_identifiers tlvs.items }
-{
-    let mut name = None;
-    let mut identifiers = None;
+    let mut named = nothing_named();
     while let Some(tlv) = tlvs.pop() {
-        match tlv {
-            Tlv::Name(value) => name = Some(value),
-            Tlv::Identifiers(value) => identifiers = Some(value),
-            Tlv::Skipped => {}
-        }
+        put(tlv, &mut named);
     }
-    Marks { name, identifiers }
+    named
+}
+
+/// Reads the TLVs of an LSP.
+#[tactic(auto, unfolding(crate::specs::Tlvs::lsp_tlvs))]
+pub fn read_lsp_tlvs(alloc: Global, bytes: &[u8]) -> Result<NamedTlvs, BodyFault>
+    ensures { Gives (λ x. x) result (lsp_tlvs bytes.now) }
+{
+    let tlvs = read_all(alloc, &LspTlvs { alloc }, bytes)?;
+    Ok(named_in(tlvs))
 }

@@ -2,38 +2,21 @@
 
 ghost use Rattle.std.specs.Prelude.{◌≡◌, ◌<◌, ◌≤◌, ◌+◌, ℕ, length, IfOk};
 ghost use Rattle.pcep_objects.specs.Steps.{Gives, field};
-ghost use Rattle.pcep_objects.specs.Reading.{tlv_size, padded};
+ghost use Rattle.pcep_objects.specs.Tlvs.{tlv_size, padded};
 ghost use Rattle.pcep_objects.specs.WordTlvs.{word_tlv, word_in, first_some, skipped_tlvs};
 
 use crate::fault::BodyFault;
 use crate::pieces::{Pieces, read_all};
+use crate::tlvs::size_of_tlv;
 use byteorder::{BigEndian, ByteOrder};
 use std::alloc::Global;
-
-/// The length of the TLV at the front, with its padding.
-#[tactic(auto, unfolding(crate::specs::Reading::tlv_size))]
-fn tlv_length(bytes: &[u8]) -> Result<usize, BodyFault>
-    ensures gives { Gives (λ n. n) result (tlv_size bytes.now) }
-    ensures value { IfOk result (λ n. n ≡ 4 + padded (field 2 2 bytes.now)) }
-    ensures within { IfOk result (λ n. n ≤ length bytes.now) }
-{
-    if bytes.len() < 4 {
-        return Err(BodyFault::BadTlv);
-    }
-    let value = BigEndian::read_u16(&bytes[2..]) as usize;
-    let size = 4 + (value + 3) / 4 * 4;
-    if bytes.len() < size {
-        return Err(BodyFault::BadTlv);
-    }
-    Ok(size)
-}
 
 /// The word of a TLV of this type; a TLV of another type has none.
 #[tactic(auto, unfolding(crate::specs::WordTlvs::word_tlv))]
 fn word_of_tlv(kind: u16, tlv: &[u8]) -> Result<Option<u32>, BodyFault>
     ensures { Gives (λ x. x) result (word_tlv kind tlv.now) }
 {
-    let _size = tlv_length(tlv)?;
+    let _size = size_of_tlv(tlv)?;
     if BigEndian::read_u16(tlv) != kind {
         return Ok(None);
     }
@@ -57,7 +40,7 @@ impl Pieces for WordTlvs {
     ghost read = { λ s tlv. word_tlv s.kind tlv };
 
     fn size(&self, bytes: &[u8]) -> Result<usize, BodyFault> {
-        tlv_length(bytes)
+        size_of_tlv(bytes)
     }
 
     fn read(&self, tlv: &[u8]) -> Result<Option<u32>, BodyFault> {
@@ -77,11 +60,11 @@ impl Pieces for SkippedTlvs {
     ghost read = { λ _ tlv. tlv_size tlv };
 
     fn size(&self, bytes: &[u8]) -> Result<usize, BodyFault> {
-        tlv_length(bytes)
+        size_of_tlv(bytes)
     }
 
     fn read(&self, tlv: &[u8]) -> Result<usize, BodyFault> {
-        tlv_length(tlv)
+        size_of_tlv(tlv)
     }
 }
 

@@ -1,0 +1,51 @@
+-- Messages of PCEP in bytes: what the bytes read as, or the first fault.
+use Rattle.std.specs.Prelude.{◌≡◌, ℕ, ◌/◌, ◌%◌, ◌^◌, Bool, not, ◌&&◌, List, length, drop, slice_index, Result, Ok, Err, nat_lt, ◌==◌, if◌then◌else◌}
+use Rattle.pcep_objects.specs.Steps.{◌>>=◌, field, HasOneAnswer}
+use Rattle.pcep_messages.specs.Reports.{report_body}
+use Rattle.pcep_messages.specs.declared.fault.MessageFault.{MessageFault}
+use Rattle.pcep_messages.specs.declared.fault.MessageFault.TheVariants.{BadHeader, BadObject, Missing, MissingIdentifiers, BadP, Refused, OutOfMemory}
+use Rattle.pcep_messages.specs.declared.message.Message.{Message}
+use Rattle.pcep_messages.specs.declared.message.Message.TheVariants.{Report, Unknown}
+
+abbrev pub fault_number : MessageFault → ℕ
+fault_number BadHeader = 1
+fault_number (BadObject fault about) = 2
+fault_number (Missing class about) = 3
+fault_number (MissingIdentifiers about) = 4
+fault_number (BadP about) = 5
+fault_number (Refused kind value about) = 6
+fault_number OutOfMemory = 7
+
+-- The common header of a message (RFC 5440 section 6.1): version 1 in three bits, flags in five, the type,
+-- and the length of the whole message, a multiple of 4.
+abbrev pub has_header : List ℕ → Bool
+has_header bytes =
+    not (nat_lt (length bytes) 4) && slice_index bytes 0 / 2 ^ 5 == 1 && field 2 2 bytes == length bytes && length bytes % 4 == 0
+
+-- PCRpt is type 10 (RFC 8231 section 6.1)
+abbrev pub message_of : ℕ → List ℕ → Result Message MessageFault
+message_of kind body = if kind == 10 then (report_body body >>= λ reports. Ok (Report reports)) else Ok (Unknown kind)
+
+unfoldable pub message_in : List ℕ → Result Message MessageFault
+message_in bytes = if has_header bytes then message_of (slice_index bytes 1) (drop 4 bytes) else Err BadHeader
+
+-- the bytes are this message
+abbrev pub Reads : List ℕ → Message → Type 0
+Reads bytes message = message_in bytes ≡ Ok message
+
+-- this fault is the first
+abbrev pub IsFaulty : List ℕ → MessageFault → Type 0
+IsFaulty bytes fault = message_in bytes ≡ Err fault
+
+-- the bytes are one message or have one first fault
+abbrev pub ReadsOrIsFaulty : List ℕ → Type 0
+ReadsOrIsFaulty bytes = HasOneAnswer (Reads bytes) (IsFaulty bytes)
+
+-- what a function returned is what reading gives, unless memory ran out
+abbrev pub Fails : {Y : Type 0} → MessageFault → Result Y MessageFault → Type 0
+Fails OutOfMemory read = Unit {0}
+Fails fault read = read ≡ Err fault
+
+abbrev pub Gives : {X Y : Type 0} → (X → Y) → Result X MessageFault → Result Y MessageFault → Type 0
+Gives view (Ok x) read = read ≡ Ok (view x)
+Gives view (Err fault) read = Fails fault read

@@ -1,0 +1,61 @@
+//! The objects of a message, from first to last.
+
+ghost use Rattle.std.specs.Prelude.{◌≡◌, ◌≤◌, length, IfOk};
+ghost use Rattle.pcep_objects.specs.Objects.{object_at};
+ghost use Rattle.pcep_messages.specs.Objects.{next_of, found_in, SizeWithin, IsFound};
+
+use pcep_objects::{Object, ObjectFault, read_object};
+use std::alloc::{AllocError, Global};
+
+/// What stands at the front of the bytes.
+#[derive(Drop)]
+pub enum Next {
+    /// An object, and its length.
+    Object(Object, usize),
+    /// An object of an unknown class or type, by its length.
+    Skipped(usize),
+    /// An object with a fault of its own.
+    Bad(ObjectFault),
+}
+
+fn next_object(alloc: Global, bytes: &[u8]) -> Result<Next, AllocError>
+    ensures next { IfOk result (λ x. x ≡ next_of (object_at bytes.now)) }
+    ensures size { IfOk result (SizeWithin (length bytes.now)) }
+{
+    match read_object(alloc, bytes) {
+        Ok((object, size)) => Ok(Next::Object(object, size)),
+        Err(ObjectFault::UnknownClass { size, .. }) => Ok(Next::Skipped(size)),
+        Err(ObjectFault::UnknownType { size, .. }) => Ok(Next::Skipped(size)),
+        Err(ObjectFault::OutOfMemory) => Err(AllocError),
+        Err(ObjectFault::Short) => Ok(Next::Bad(ObjectFault::Short)),
+        Err(ObjectFault::BadLength) => Ok(Next::Bad(ObjectFault::BadLength)),
+        Err(ObjectFault::BadTlv) => Ok(Next::Bad(ObjectFault::BadTlv)),
+        Err(ObjectFault::BadNumber) => Ok(Next::Bad(ObjectFault::BadNumber)),
+    }
+}
+
+/// The objects up to the first that has a fault of its own, and that fault.
+pub fn objects_in(
+    alloc: Global,
+    bytes: &[u8],
+) -> Result<(Vec<Object>, Option<ObjectFault>), AllocError>
+    ensures { IfOk result (λ x. IsFound (found_in bytes.now) x.0.items x.1) }
+{
+    let mut objects = Vec::new(alloc);
+    let mut rest = bytes;
+    while !rest.is_empty() {
+        match next_object(alloc, rest)? {
+            Next::Object(object, size) => {
+                objects.push(object)?;
+                let (_, after) = rest.split_at(size);
+                rest = after;
+            }
+            Next::Skipped(size) => {
+                let (_, after) = rest.split_at(size);
+                rest = after;
+            }
+            Next::Bad(fault) => return Ok((objects, Some(fault))),
+        }
+    }
+    Ok((objects, None))
+}

@@ -1,0 +1,21 @@
+-- The faults of objects: their numbers, and the faults of bodies among them.
+use Rattle.std.specs.Prelude.{ℕ}
+use Rattle.pcep_objects.specs.declared.fault.BodyFault.{BodyFault}
+use Rattle.pcep_objects.specs.declared.fault.BodyFault.TheVariants as body
+use Rattle.pcep_objects.specs.declared.fault.ObjectFault.{ObjectFault}
+use Rattle.pcep_objects.specs.declared.fault.ObjectFault.TheVariants.{Short, BadLength, BadTlv, BadNumber, UnknownClass, UnknownType, OutOfMemory}
+
+abbrev pub fault_number : ObjectFault → ℕ
+fault_number Short = 1
+fault_number BadLength = 2
+fault_number BadTlv = 3
+fault_number BadNumber = 4
+fault_number (UnknownClass p size) = 5
+fault_number (UnknownType p size) = 6
+fault_number OutOfMemory = 7
+
+abbrev pub fault_of : BodyFault → ObjectFault
+fault_of body.BadLength = BadLength
+fault_of body.BadTlv = BadTlv
+fault_of body.BadNumber = BadNumber
+fault_of body.OutOfMemory = OutOfMemory

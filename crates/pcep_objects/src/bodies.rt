@@ -1,0 +1,115 @@
+//! The bodies of objects, class by class.
+
+ghost use Rattle.std.specs.Prelude.{◌≡◌};
+ghost use Rattle.pcep_objects.specs.Steps.{Gives};
+ghost use Rattle.pcep_objects.specs.Bodies.{operational_of, bandwidth_body, ero_body, rro_body, lspa_body, lsp_body, srp_body};
+
+use crate::fault::BodyFault;
+use crate::object::{BandwidthType, Colours, LspObject, Lspa, Object, Operational, Plsp, Srp};
+use crate::routes::read_hops;
+use crate::tlvs::read_lsp_tlvs;
+use crate::word_tlvs::skip_any_tlvs;
+use byteorder::{BigEndian, ByteOrder};
+use pcep_word::{Bandwidth, Priority};
+use std::alloc::Global;
+
+/// BANDWIDTH (RFC 5440 section 7.7).
+#[tactic(auto, unfolding(crate::specs::Bodies::bandwidth_body))]
+pub fn read_bandwidth(kind: BandwidthType, body: &[u8]) -> Result<Object, BodyFault>
+    ensures { Gives (λ x. x) result (bandwidth_body kind body.now) }
+{
+    if body.len() != 4 {
+        return Err(BodyFault::BadLength);
+    }
+    match Bandwidth::of_word(BigEndian::read_u32(body)) {
+        None => Err(BodyFault::BadNumber),
+        Some(bandwidth) => Ok(Object::Bandwidth(kind, bandwidth)),
+    }
+}
+
+/// ERO (RFC 5440 section 7.9).
+#[tactic(auto, unfolding(crate::specs::Bodies::ero_body))]
+pub fn read_ero(alloc: Global, body: &[u8]) -> Result<Object, BodyFault>
+    ensures { Gives (λ x. x) result (ero_body body.now) }
+{
+    Ok(Object::Ero(read_hops(alloc, true, body)?))
+}
+
+/// RRO (RFC 5440 section 7.10).
+#[tactic(auto, unfolding(crate::specs::Bodies::rro_body))]
+pub fn read_rro(alloc: Global, body: &[u8]) -> Result<Object, BodyFault>
+    ensures { Gives (λ x. x) result (rro_body body.now) }
+{
+    Ok(Object::Rro(read_hops(alloc, false, body)?))
+}
+
+/// LSPA (RFC 5440 section 7.11).
+#[tactic(auto, unfolding(crate::specs::Bodies::lspa_body))]
+pub fn read_lspa(alloc: Global, body: &[u8]) -> Result<Object, BodyFault>
+    ensures { Gives (λ x. x) result (lspa_body body.now) }
+{
+    if body.len() < 16 {
+        return Err(BodyFault::BadLength);
+    }
+    let _skipped = skip_any_tlvs(alloc, &body[16..])?;
+    Ok(Object::Lspa(Lspa {
+        colours: Colours {
+            exclude_any: BigEndian::read_u32(body),
+            include_any: BigEndian::read_u32(&body[4..]),
+            include_all: BigEndian::read_u32(&body[8..]),
+        },
+        setup: Priority::capped(body[12]),
+        hold: Priority::capped(body[13]),
+        local_protection: body[14] & 1 != 0,
+    }))
+}
+
+fn operational(word: u32) -> Operational
+    ensures { result ≡ operational_of word }
+{
+    match (word >> 4) & 7 {
+        0 => Operational::Down,
+        2 => Operational::Active,
+        3 => Operational::GoingDown,
+        4 => Operational::GoingUp,
+        _ => Operational::Up,
+    }
+}
+
+/// LSP (RFC 8231 section 7.3).
+#[tactic(auto, unfolding(crate::specs::Bodies::lsp_body))]
+pub fn read_lsp(alloc: Global, body: &[u8]) -> Result<Object, BodyFault>
+    ensures { Gives (λ x. x) result (lsp_body body.now) }
+{
+    if body.len() < 4 {
+        return Err(BodyFault::BadLength);
+    }
+    let tlvs = read_lsp_tlvs(alloc, &body[4..])?;
+    let word = BigEndian::read_u32(body);
+    Ok(Object::Lsp(LspObject {
+        plsp: Plsp::new(word >> 12),
+        delegate: word & 0x001 != 0,
+        sync: word & 0x002 != 0,
+        remove: word & 0x004 != 0,
+        admin: word & 0x008 != 0,
+        operational: operational(word),
+        created: word & 0x080 != 0,
+        name: tlvs.name,
+        identifiers: tlvs.identifiers,
+    }))
+}
+
+/// SRP (RFC 8231 section 7.2).
+#[tactic(auto, unfolding(crate::specs::Bodies::srp_body))]
+pub fn read_srp(alloc: Global, body: &[u8]) -> Result<Object, BodyFault>
+    ensures { Gives (λ x. x) result (srp_body body.now) }
+{
+    if body.len() < 8 {
+        return Err(BodyFault::BadLength);
+    }
+    let _skipped = skip_any_tlvs(alloc, &body[8..])?;
+    Ok(Object::Srp(Srp {
+        remove: BigEndian::read_u32(body) & 1 != 0,
+        id: BigEndian::read_u32(&body[4..]),
+    }))
+}
