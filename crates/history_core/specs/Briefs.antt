@@ -1,0 +1,10 @@
+-- What is kept of a reply.
+use Rattle.step_core.specs.declared.event.Reply.{Reply}
+use Rattle.step_core.specs.declared.event.Reply.TheVariants as reply
+use Rattle.history_core.specs.declared.step.Brief.{Brief}
+use Rattle.history_core.specs.declared.step.Brief.TheVariants as brief
+
+abbrev pub brief_of : Reply → Brief
+brief_of reply.Done = brief.Done
+brief_of (reply.Booked wants_path) = brief.Booked wants_path
+brief_of (reply.Refused why) = brief.Refused why

@@ -1,0 +1,43 @@
+-- Histories: the steps that were taken from a state, and the state to which they lead.
+use Rattle.std.specs.Prelude.{◌≡◌, List, [], ◌∷◌, ◌++◌}
+use Rattle.te_base.specs.Base.{Base}
+use Rattle.step_core.specs.declared.event.Event.{Event}
+use Rattle.step_core.specs.declared.event.Reply.{Reply}
+use Rattle.step_core.specs.States.{State, empty}
+use Rattle.step_core.specs.Steps.{step}
+use Rattle.history_core.specs.declared.step.Step.{Step}
+use Rattle.history_core.specs.Briefs.{brief_of}
+
+-- the state after the events of these steps, one by one
+abbrev pub replay : State → List Step → State
+replay s [] = s
+replay s (x ∷ xs) = replay (step s x.event).state xs
+
+-- each kept brief is that of the reply that the event gets there
+abbrev pub IsLegalFrom : State → List Step → Type 0
+IsLegalFrom s [] = Unit {0}
+IsLegalFrom s (x ∷ xs) = (x.brief ≡ brief_of (step s x.event).reply) × IsLegalFrom (step s x.event).state xs
+
+-- what a database is seen as: a state, with the steps that led to it
+pub record Content : Type 0 where
+  pub state : State
+  pub history : List Step
+
+-- the history is legal from the start, and leads from there to the state
+pub record ReplaysFrom (start : State) (d : Content) : Type 0 where
+  pub legal : IsLegalFrom start d.history
+  pub leads : replay start d.history ≡ d.state
+
+-- the history is that of a network of which nothing was reported yet
+abbrev pub Replays : Content → Type 0
+Replays d = ReplaysFrom (empty d.state.te) d
+
+abbrev pub nothing_happened : Base → Content
+nothing_happened te = record { state = empty te; history = [] }
+
+abbrev pub kept_step : Event → Reply → Step
+kept_step event reply = record { event = event; brief = brief_of reply }
+
+-- the state after one more event, and the history with it and the brief of its reply
+abbrev pub stepped : Content → Event → Reply → Content
+stepped d event reply = record { state = (step d.state event).state; history = d.history ++ kept_step event reply ∷ [] }

@@ -1,0 +1,28 @@
+//! The database: a state with the history of the steps that led to it. Every event that `apply` answers
+//! with `Ok`, a refused one too, is kept as one `Step`, which has the event and the brief of its reply. Of
+//! every value of `Database` it holds that its history replays: from the empty state, on one thread, its
+//! events give these very briefs and lead to its state (`specs/Histories.antt`). So what `unreserved`
+//! answers is what the kept reports leave of a link. At most 1,048,576 steps are kept.
+//!
+//! ```text
+//! fn left_after(database: &mut Database, event: Event) -> Result<Option<i64>, Fault>
+//!     ensures { IfOk result (λ left. IfSome left (λ n. n ≡ unreserved database.new.state 0 7)) }
+//!     ensures { Replays database.new }
+//! {
+//!     let _reply = database.apply(event)?;
+//!     Ok(database.unreserved(0, Priority::capped(7)))
+//! }
+//! ```
+#![tactic(auto)]
+
+mod database;
+mod fault;
+mod step;
+
+pub use database::{Database, STEP_LIMIT};
+pub use fault::Fault;
+pub use step::{Brief, Step};
+pub use step_core::{Event, Reply, Why};
+
+#[cfg(test)]
+mod tests;

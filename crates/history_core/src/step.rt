@@ -1,0 +1,43 @@
+//! What is kept of a step.
+ghost use Rattle.std.specs.Prelude.{◌≡◌};
+ghost use Rattle.history_core.specs.Briefs.{brief_of};
+
+use sequence::PlainData;
+use std::alloc::AllocError;
+use step_core::{Event, Reply, Why};
+
+/// A reply, cut down to what a history keeps of it.
+#[derive(Clone, Copy, Debug, PartialEq, Eq)]
+pub enum Brief {
+    Done,
+    Booked { wants_path: bool },
+    Refused(Why),
+}
+
+/// A kept step: an event, and the brief of its reply.
+#[derive(Debug, Drop)]
+pub struct Step {
+    pub event: Event,
+    pub brief: Brief,
+}
+
+impl PlainData for Step {
+    fn copy(&self) -> Result<Step, AllocError> {
+        Ok(Step {
+            event: self.event.copy()?,
+            brief: self.brief,
+        })
+    }
+}
+
+pub(crate) fn shortened(reply: &Reply) -> Brief
+    ensures { result ≡ brief_of reply.now }
+{
+    match reply {
+        Reply::Done => Brief::Done,
+        Reply::Booked { wants_path } => Brief::Booked {
+            wants_path: *wants_path,
+        },
+        Reply::Refused(why) => Brief::Refused(*why),
+    }
+}

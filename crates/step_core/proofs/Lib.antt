@@ -1,0 +1,4 @@
+pub mod PeerLists
+pub mod Others
+pub mod Effects
+pub mod StepLaws

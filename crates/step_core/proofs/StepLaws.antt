@@ -1,0 +1,123 @@
+-- What the layers above use of the step.
+use Rattle.std.proofs.Common.{◌≡◌, ◌==◌, ◌∙◌, ℕ, ◌+◌, ◌≤◌, Bool, true, false, cond, List, refl, sym, ap, subst, arith}
+use Rattle.std.specs.Prelude.{Option, Some, None, Result, Ok, Err, OnOk, OnErr, if◌then◌else◌, not, filter}
+use Rattle.std.specs.declared.alloc.AllocError.{AllocError}
+use Rattle.pcep_objects.specs.declared.object.Capabilities.{Capabilities}
+use Rattle.pcep_messages.specs.declared.message.StateReport.{StateReport}
+use Rattle.lsp_base.specs.Base.{changed, with_stale}
+use Rattle.lsp_base.specs.declared.effect.Effect.{Effect}
+use Rattle.lsp_base.specs.declared.why.Why.{Why}
+use Rattle.sync_rules.specs.Peers.{up_effect, marker_effect, down_effect, expire_effect}
+use Rattle.delegate_rules.specs.Effects.{report_result}
+use Rattle.step_core.specs.declared.event.Event.{Event}
+use Rattle.step_core.specs.declared.event.Event.TheVariants.{Up, Report, Marker, Down, Expire}
+use Rattle.step_core.specs.declared.event.Reply.{Reply}
+use Rattle.step_core.specs.declared.event.Reply.TheVariants.{Done, Booked, Refused}
+use Rattle.step_core.specs.States.{State, affected, moves_paths, peer_at, put_peer, in_session, is_peer, is_up}
+use Rattle.step_core.specs.Steps.{Outcome, decided, done, step, up_step, marker_step, down_step, expire_step, report_step, booked, wants, ◌⨟◌, must_be_up, must_be_down, must_be_known, may_be_known, after_up, after_marker, after_down, after_expire}
+use Rattle.step_core.specs.Laws.{peer_of, OthersStay, CountsRise}
+use Rattle.step_core.specs.declared.peer.Peer.{Peer}
+use Rattle.step_core.proofs.Others.{IsOwn, other_paths, other_records, other_peers, changed-paths, changed-records, with_stale-paths, with_stale-records, peer_at-number, put_peer-others, forget-others}
+use Rattle.step_core.proofs.Effects.{up-own, marker-own, down-own, expire-own, report-own}
+
+-- what holds of the state, and of what follows where no test fails, holds after
+decided-has : (P : State → Type 0) (s : State) (whys : Option Why) (o : Outcome) → P s → P o.state → P (decided s whys o).state
+decided-has P s (Some why) o here there = here
+decided-has P s None o here there = there
+
+-- what holds of the state, and after any effect that a report may have, holds after the report
+booked-has : (P : State → Type 0) (s : State) (n : ℕ) (result : Result Effect Why) → P s → ((e : Effect) → result ≡ Ok e → P (affected s n e)) → P (booked s n result).state
+booked-has P s n (Err why) here there = here
+booked-has P s n (Ok e) here there = there e refl
+
+-- ---- the network stays
+
+pub te_stays : (s : State) (event : Event) → (step s event).state.te ≡ s.te
+unfolding step
+te_stays s (Up n sent) = decided-has (λ t. t.te ≡ s.te) s (must_be_down s n ⨟ may_be_known s n) (done (after_up s n sent)) refl refl
+te_stays s (Report n r) = decided-has (λ t. t.te ≡ s.te) s (must_be_up s n) (booked s n (report_result s.base s.te n r)) refl (booked-has (λ t. t.te ≡ s.te) s n (report_result s.base s.te n r) refl (λ e is. refl))
+te_stays s (Marker n) = decided-has (λ t. t.te ≡ s.te) s (must_be_up s n) (done (after_marker s n)) refl refl
+te_stays s (Down n) = decided-has (λ t. t.te ≡ s.te) s (must_be_up s n) (done (after_down s n)) refl refl
+te_stays s (Expire n) = decided-has (λ t. t.te ≡ s.te) s (must_be_known s n ⨟ must_be_down s n) (done (after_expire s n)) refl refl
+
+-- ---- counts rise by one at most, and never fall
+
+no_rise : (s : State) → CountsRise s s
+no_rise s = record { changes_kept = omega arith; changes_rise = omega arith; sessions_kept = omega arith; sessions_rise = omega arith }
+
+counted : (b : Bool) (n : ℕ) → (n ≤ cond b (n + 1) n) × (cond b (n + 1) n ≤ n + 1)
+counted true n = (omega arith, omega arith)
+counted false n = (omega arith, omega arith)
+
+affected_rise : (s : State) (n : ℕ) (e : Effect) (ps : List Peer) (last : ℕ) → s.last_session ≤ last → last ≤ s.last_session + 1 → CountsRise s (record (affected s n e) { peers = ps; last_session = last })
+affected_rise s n e ps last low high = record { changes_kept = (counted (moves_paths e) s.changes).0; changes_rise = (counted (moves_paths e) s.changes).1; sessions_kept = low; sessions_rise = high }
+
+pub counts_rise : (s : State) (event : Event) → CountsRise s (step s event).state
+unfolding step
+counts_rise s (Up n sent) = decided-has (CountsRise s) s (must_be_down s n ⨟ may_be_known s n) (done (after_up s n sent)) (no_rise s) (affected_rise s n (up_effect s.base n sent) _ _ (omega arith) (omega arith))
+counts_rise s (Report n r) = decided-has (CountsRise s) s (must_be_up s n) (booked s n (report_result s.base s.te n r)) (no_rise s) (booked-has (CountsRise s) s n (report_result s.base s.te n r) (no_rise s) (λ e is. affected_rise s n e s.peers s.last_session (omega arith) (omega arith)))
+counts_rise s (Marker n) = decided-has (CountsRise s) s (must_be_up s n) (done (after_marker s n)) (no_rise s) (affected_rise s n (marker_effect s.base n) _ s.last_session (omega arith) (omega arith))
+counts_rise s (Down n) = decided-has (CountsRise s) s (must_be_up s n) (done (after_down s n)) (no_rise s) (record { changes_kept = omega arith; changes_rise = omega arith; sessions_kept = omega arith; sessions_rise = omega arith })
+counts_rise s (Expire n) = decided-has (CountsRise s) s (must_be_known s n ⨟ must_be_down s n) (done (after_expire s n)) (no_rise s) (affected_rise s n (expire_effect s.base n) _ s.last_session (omega arith) (omega arith))
+
+-- ---- an event changes what is of its own peer alone
+
+all_stay : (n : ℕ) (s : State) → OthersStay n s s
+all_stay n s = record { paths = refl; records = refl; peers = refl }
+
+affected_others : (n : ℕ) (s : State) (e : Effect) (ps : List Peer) (last : ℕ) → IsOwn n e → other_peers n ps ≡ other_peers n s.peers → OthersStay n s (record (affected s n e) { peers = ps; last_session = last })
+affected_others n s e ps last own peers = record { paths = changed-paths n s.base e own; records = changed-records n s.base e; peers = peers }
+
+up_others : (n : ℕ) (s : State) (sent : Option Capabilities) → OthersStay n s (after_up s n sent)
+up_others n s sent = affected_others n s (up_effect s.base n sent) _ _ (up-own n s.base sent) (put_peer-others n (in_session (peer_at s.peers n) (s.last_session + 1) sent) s.peers (peer_at-number n s.peers))
+
+marker_others : (n : ℕ) (s : State) → OthersStay n s (after_marker s n)
+marker_others n s = affected_others n s (marker_effect s.base n) _ s.last_session (marker-own n s.base) (put_peer-others n (record (peer_at s.peers n) { syncing = false }) s.peers (peer_at-number n s.peers))
+
+down_others : (n : ℕ) (s : State) → OthersStay n s (after_down s n)
+down_others n s = record {
+  paths = with_stale-paths n (changed s.base n (down_effect s.base n)) ∙ changed-paths n s.base (down_effect s.base n) (down-own n s.base);
+  records = with_stale-records n (changed s.base n (down_effect s.base n)) ∙ changed-records n s.base (down_effect s.base n);
+  peers = put_peer-others n (record (peer_at s.peers n) { up = false; syncing = false }) s.peers (peer_at-number n s.peers);
+}
+
+expire_others : (n : ℕ) (s : State) → OthersStay n s (after_expire s n)
+expire_others n s = affected_others n s (expire_effect s.base n) _ s.last_session (expire-own n s.base) (forget-others n s.peers)
+
+pub others_stay : (s : State) (event : Event) → OthersStay (peer_of event) s (step s event).state
+unfolding step
+others_stay s (Up n sent) = decided-has (OthersStay n s) s (must_be_down s n ⨟ may_be_known s n) (done (after_up s n sent)) (all_stay n s) (up_others n s sent)
+others_stay s (Report n r) = decided-has (OthersStay n s) s (must_be_up s n) (booked s n (report_result s.base s.te n r)) (all_stay n s) (booked-has (OthersStay n s) s n (report_result s.base s.te n r) (all_stay n s) (λ e is. affected_others n s e s.peers s.last_session (report-own n s.base s.te r e is) refl))
+others_stay s (Marker n) = decided-has (OthersStay n s) s (must_be_up s n) (done (after_marker s n)) (all_stay n s) (marker_others n s)
+others_stay s (Down n) = decided-has (OthersStay n s) s (must_be_up s n) (done (after_down s n)) (all_stay n s) (down_others n s)
+others_stay s (Expire n) = decided-has (OthersStay n s) s (must_be_known s n ⨟ must_be_down s n) (done (after_expire s n)) (all_stay n s) (expire_others n s)
+
+-- ---- a refused event changes nothing
+
+refused_tests : (s : State) (whys : Option Why) (o : Outcome) (why : Why) → (o.reply ≡ Refused why → o.state ≡ s) → (decided s whys o).reply ≡ Refused why → (decided s whys o).state ≡ s
+refused_tests s (Some first) o why rest is = refl
+refused_tests s None o why rest is = rest is
+
+refused_report : (s : State) (n : ℕ) (result : Result Effect Why) (why : Why) → (booked s n result).reply ≡ Refused why → (booked s n result).state ≡ s
+refused_report s n (Err first) why is = refl
+refused_report s n (Ok e) why is = absurd (cc (is))
+
+pub refused_stays : (s : State) (event : Event) (why : Why) → (step s event).reply ≡ Refused why → (step s event).state ≡ s
+unfolding step
+refused_stays s (Up n sent) why is = refused_tests s (must_be_down s n ⨟ may_be_known s n) (done (after_up s n sent)) why (λ no. absurd (cc (no))) is
+refused_stays s (Report n r) why is = refused_tests s (must_be_up s n) (booked s n (report_result s.base s.te n r)) why (refused_report s n (report_result s.base s.te n r) why) is
+refused_stays s (Marker n) why is = refused_tests s (must_be_up s n) (done (after_marker s n)) why (λ no. absurd (cc (no))) is
+refused_stays s (Down n) why is = refused_tests s (must_be_up s n) (done (after_down s n)) why (λ no. absurd (cc (no))) is
+refused_stays s (Expire n) why is = refused_tests s (must_be_known s n ⨟ must_be_down s n) (done (after_expire s n)) why (λ no. absurd (cc (no))) is
+
+-- ---- the same of a call that takes the step, or leaves the state where memory is refused
+
+by_step : (P : State → Type 0) (s t : State) (event : Event) (result : Result Reply AllocError) → P s → P (step s event).state → OnOk result (t ≡ (step s event).state) → OnErr result (t ≡ s) → P t
+by_step P s t event (Ok reply) here there ok err = subst P (sym ok) there
+by_step P s t event (Err e) here there ok err = subst P (sym err) here
+
+pub others_stay-by : (s t : State) (event : Event) (result : Result Reply AllocError) → OnOk result (t ≡ (step s event).state) → OnErr result (t ≡ s) → OthersStay (peer_of event) s t
+others_stay-by s t event result ok err = by_step (OthersStay (peer_of event) s) s t event result (all_stay (peer_of event) s) (others_stay s event) ok err
+
+pub counts_rise-by : (s t : State) (event : Event) (result : Result Reply AllocError) → OnOk result (t ≡ (step s event).state) → OnErr result (t ≡ s) → CountsRise s t
+counts_rise-by s t event result ok err = by_step (CountsRise s) s t event result (no_rise s) (counts_rise s event) ok err

@@ -1,0 +1,8 @@
+use Rattle.step_core.proofs.StepLaws.{others_stay-by, counts_rise-by}
+use Rattle.step_core.proofs.state.State.step.Goals as goal
+
+pub returns-clause-others_stay : goal.returns-clause-others_stay
+returns-clause-others_stay c = others_stay-by c.args.self.now c.take_step.new.self c.args.event.now c.take_step.result c.take_step.ensures.state c.take_step.ensures.unchanged_without_memory
+
+pub returns-clause-counts_rise : goal.returns-clause-counts_rise
+returns-clause-counts_rise c = counts_rise-by c.args.self.now c.take_step.new.self c.args.event.now c.take_step.result c.take_step.ensures.state c.take_step.ensures.unchanged_without_memory

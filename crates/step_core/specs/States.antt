@@ -1,0 +1,65 @@
+-- What the database knows: the network, peers, and the paths and records of their LSPs.
+use Rattle.std.specs.Prelude.{ℕ, ◌+◌, Bool, true, false, ◌==◌, ◌&&◌, not, List, [], ◌∷◌, find, unwrap_or, Option, Some, None, is_some, if◌then◌else◌}
+use Rattle.std.specs.List.{list_any}
+use Rattle.pcep_objects.specs.declared.object.Capabilities.{Capabilities}
+use Rattle.te_base.specs.Base.{Base}
+use Rattle.lsp_base.specs.Base.{Lsps, no_lsps, changed}
+use Rattle.lsp_base.specs.declared.path.Path.{Path}
+use Rattle.lsp_base.specs.declared.effect.Effect.{Effect}
+use Rattle.step_core.specs.declared.peer.Peer.{Peer}
+
+pub record State : Type 0 where
+  pub te : Base
+  pub base : Lsps
+  pub peers : List Peer
+  -- how many events dropped or added a path
+  pub changes : ℕ
+  -- counted over all peers, and never used again
+  pub last_session : ℕ
+
+-- nothing was reported yet
+abbrev pub empty : Base → State
+empty te = record { te = te; base = no_lsps; peers = []; changes = 0; last_session = 0 }
+
+-- ---- peers
+
+abbrev pub is_peer : ℕ → Peer → Bool
+is_peer n p = p.number == n
+
+abbrev pub is_known : List Peer → ℕ → Bool
+is_known peers n = list_any (is_peer n) peers
+
+abbrev pub no_capabilities : Capabilities
+no_capabilities = record { update = false; create = false }
+
+-- what counts for a peer that isn't known
+abbrev pub unknown_peer : ℕ → Peer
+unknown_peer n = record { number = n; up = false; session = 0; capabilities = no_capabilities; syncing = false }
+
+abbrev pub peer_at : List Peer → ℕ → Peer
+peer_at peers n = unwrap_or (find (is_peer n) peers) (unknown_peer n)
+
+abbrev pub is_up : State → ℕ → Bool
+is_up s n = (peer_at s.peers n).up
+
+-- the peer set: in its place where it is known, else as the last
+abbrev pub put_peer : List Peer → Peer → List Peer
+put_peer [] p = p ∷ []
+put_peer (q ∷ ps) p = if is_peer p.number q then p ∷ ps else q ∷ put_peer ps p
+
+-- a peer in a new session; it synchronizes where it sent the capability (RFC 8231 section 5.6)
+abbrev pub in_session : Peer → ℕ → Option Capabilities → Peer
+in_session p session sent = record p { up = true; session = session; capabilities = unwrap_or sent no_capabilities; syncing = is_some sent }
+
+-- ---- effects
+
+abbrev pub is_empty : List Path → Bool
+is_empty [] = true
+is_empty (x ∷ xs) = false
+
+abbrev pub moves_paths : Effect → Bool
+moves_paths e = not (is_empty e.change.dropped && is_empty e.change.added)
+
+-- the state after an effect on a peer's LSPs
+abbrev pub affected : State → ℕ → Effect → State
+affected s n e = record s { base = changed s.base n e; changes = if moves_paths e then s.changes + 1 else s.changes }

@@ -1,0 +1,75 @@
+//! Events, and what the database answers.
+use lsp_base::Why;
+use pcep_messages::StateReport;
+use pcep_objects::Capabilities;
+use sequence::PlainData;
+use std::alloc::AllocError;
+
+/// What happens to the database. Every event is of one peer.
+#[derive(Debug, Drop)]
+pub enum Event {
+    /// A session came up. The capabilities are those of the peer's STATEFUL-PCE-CAPABILITY, if it sent
+    /// one (RFC 8231 section 7.1.1): it then synchronizes.
+    Up {
+        peer: u32,
+        capabilities: Option<Capabilities>,
+    },
+    /// An LSP was reported (RFC 8231 section 6.1).
+    Report {
+        peer: u32,
+        report: StateReport,
+    },
+    /// The end of synchronization (RFC 8231 section 5.6).
+    Marker {
+        peer: u32,
+    },
+    /// The peer's session ended.
+    Down {
+        peer: u32,
+    },
+    /// A peer that stays down is to be forgotten.
+    Expire {
+        peer: u32,
+    },
+}
+
+impl PlainData for Event {
+    fn copy(&self) -> Result<Event, AllocError> {
+        Ok(match self {
+            Event::Up { peer, capabilities } => Event::Up {
+                peer: *peer,
+                capabilities: *capabilities,
+            },
+            Event::Report { peer, report } => Event::Report {
+                peer: *peer,
+                report: report.copy()?,
+            },
+            Event::Marker { peer } => Event::Marker { peer: *peer },
+            Event::Down { peer } => Event::Down { peer: *peer },
+            Event::Expire { peer } => Event::Expire { peer: *peer },
+        })
+    }
+}
+
+/// What the database answers to an event.
+#[derive(Debug, Drop, PartialEq, Eq)]
+pub enum Reply {
+    Done,
+    /// A report was booked. The LSP waits for a path that the PCE may give it: it is delegated and down,
+    /// has no route, and its peer takes updates and isn't synchronizing.
+    Booked { wants_path: bool },
+    /// The event changed nothing.
+    Refused(Why),
+}
+
+impl PlainData for Reply {
+    fn copy(&self) -> Result<Reply, AllocError> {
+        Ok(match self {
+            Reply::Done => Reply::Done,
+            Reply::Booked { wants_path } => Reply::Booked {
+                wants_path: *wants_path,
+            },
+            Reply::Refused(why) => Reply::Refused(*why),
+        })
+    }
+}

@@ -1,0 +1,109 @@
+//! The whole state, looks at it, and one step of it.
+ghost use Rattle.std.specs.Prelude.{◌≡◌, ◌<◌, ◌≤◌, ◌^◌, ◌↔◌, length, IfOk, OnOk, OnErr, IsNone, IfSome};
+ghost use Rattle.lsp_base.specs.Shares.{unreserved};
+ghost use Rattle.step_core.specs.States.{empty, is_up};
+ghost use Rattle.step_core.specs.Steps.{step};
+ghost use Rattle.step_core.specs.Laws.{peer_of, OthersStay, CountsRise};
+
+use crate::event::{Event, Reply};
+use crate::peer::{Peer, find_peer};
+use lsp_base::{LspBase, unreserved_on};
+use pcep_word::Priority;
+use std::alloc::{AllocError, Global};
+use std::marker::Model;
+use te_base::{LinkNumber, TeBase};
+
+mod reports;
+mod sessions;
+
+/// What the database knows at one moment.
+#[derive(Drop)]
+pub struct State {
+    alloc: Global,
+    te: TeBase,
+    base: LspBase,
+    peers: Vec<Peer>,
+    changes: u64,
+    last_session: u64,
+}
+
+impl Model for State {
+    ghost use Rattle.step_core.specs.States.{State as Known};
+
+    ghost Value = { Known };
+
+    ghost view = { λ s. record { te = s.te; base = s.base.content; peers = s.peers.items; changes = s.changes; last_session = s.last_session } };
+}
+
+impl State {
+    /// A network of which nothing was reported yet. The links and nodes are dropped where memory is
+    /// refused.
+    pub fn new(alloc: Global, te: TeBase) -> Result<State, AllocError>
+        ensures { IfOk result (λ state. state ≡ empty te) }
+    {
+        Ok(State {
+            alloc,
+            te,
+            base: LspBase::new(alloc),
+            peers: Vec::new(alloc),
+            changes: 0,
+            last_session: 0,
+        })
+    }
+
+    #[tactic(auto, unfolding(crate::specs::Steps::step))]
+    fn take_step(&mut self, event: &Event) -> Result<Reply, AllocError>
+        requires changes { self.old.changes < 2 ^ 62 }
+        requires sessions { self.old.last_session < 2 ^ 62 }
+        ensures reply { IfOk result (λ reply. reply ≡ (step self.old event.now).reply) }
+        ensures state { OnOk result (self.new ≡ (step self.old event.now).state) }
+        ensures unchanged_without_memory { OnErr result (self.new ≡ self.old) }
+    {
+        match event {
+            Event::Up { peer, capabilities } => self.up(*peer, *capabilities),
+            Event::Report { peer, report } => self.report(*peer, report),
+            Event::Marker { peer } => self.marker(*peer),
+            Event::Down { peer } => self.down(*peer),
+            Event::Expire { peer } => self.expire(*peer),
+        }
+    }
+
+    /// One event. It makes all the room that it needs before it changes anything.
+    pub fn step(&mut self, event: &Event) -> Result<Reply, AllocError>
+        requires changes { self.old.changes < 2 ^ 62 }
+        requires sessions { self.old.last_session < 2 ^ 62 }
+        ensures reply { IfOk result (λ reply. reply ≡ (step self.old event.now).reply) }
+        ensures state { OnOk result (self.new ≡ (step self.old event.now).state) }
+        ensures unchanged_without_memory { OnErr result (self.new ≡ self.old) }
+        ensures others_stay { OthersStay (peer_of event.now) self.old self.new }
+        ensures counts_rise { CountsRise self.old self.new }
+    {
+        self.take_step(event)
+    }
+
+    /// What is left on a link at a priority, in bytes per second: what may be reserved on it, minus,
+    /// summed over tunnels, the greatest bandwidth of the tunnel's paths there that are held at that
+    /// priority or a better one. It is below zero where more is reported than the link bears. `None`
+    /// where there is no such link. It takes no memory.
+    pub fn unreserved(&self, link: LinkNumber, priority: Priority) -> Option<i64>
+        ensures no_such_link { IsNone result ↔ (length self.now.te.links ≤ link) }
+        ensures left { IfSome result (λ left. left ≡ unreserved self.now.te.links self.now.base.paths link priority) }
+    {
+        let _there = self.te.link(link)?;
+        Some(unreserved_on(self.te.links(), self.base.paths(), link, priority))
+    }
+
+    /// Whether a session of the peer is up.
+    pub fn is_up(&self, peer: u32) -> bool
+        ensures { result ≡ is_up self.now peer }
+    {
+        find_peer(self.peers.as_slice(), peer).up
+    }
+
+    /// The links and nodes.
+    pub fn te_base(&self) -> &TeBase
+        ensures { result.now ≡ self.now.te }
+    {
+        &self.te
+    }
+}
