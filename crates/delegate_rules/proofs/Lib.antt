@@ -1,0 +1,2 @@
+mod ReportRows
+pub mod Limits

@@ -1,0 +1,4 @@
+pub mod Reports
+pub mod Grants
+pub mod Effects
+pub mod Faults

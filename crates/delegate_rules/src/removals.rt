@@ -1,0 +1,96 @@
+//! The effect of a removal: a report with R set.
+ghost use Rattle.std.specs.Prelude.{◌≡◌, ◌==◌, ◌&&◌, ◌||◌, IfOk};
+ghost use Rattle.delegate_rules.specs.Grants.{is_grant_met, is_grant_settled};
+ghost use Rattle.delegate_rules.specs.Effects.{is_reported_as, is_removed, goes_by_removal, bound_grants, records_left, removal_effect_by};
+
+use crate::grants::{grants_bound, meets_grant, settles_grant};
+use crate::identity::{are_all_zero, identifiers};
+use crate::reported::has_no_path;
+use lsp_base::{Choice, Effect, LspBase, Part, Path, RecordChange, chosen, ended, is_path_of_lsp};
+use pcep_messages::StateReport;
+use std::alloc::{AllocError, Global};
+
+fn is_reported_as(lsp: u16, path: &Path) -> bool
+    ensures { result ≡ is_reported_as lsp path.now.part }
+{
+    match path.part {
+        Part::Reported(other) => other == lsp,
+        Part::Granted(_) => false,
+    }
+}
+
+fn removes(peer: u32, report: &StateReport, path: &Path) -> bool
+    ensures { result ≡ is_removed peer report.now path.now }
+{
+    let i = identifiers(report);
+    let lsp = i.lsp;
+    let all = are_all_zero(i);
+    is_path_of_lsp(path, peer, report.plsp) && (all || is_reported_as(lsp, path))
+}
+
+fn ends_grant(granted: bool, peer: u32, report: &StateReport, path: &Path) -> bool
+    ensures { result ≡ (is_grant_met granted peer report.now path.now
+        && (is_grant_settled report.now path.now || path.now.plsp == 0)) }
+{
+    meets_grant(granted, peer, report, path)
+        && (settles_grant(report, path) || path.plsp.number() == 0)
+}
+
+/// The paths that go by a removal.
+#[derive(Drop)]
+struct GoesByRemoval<'a> {
+    granted: bool,
+    peer: u32,
+    report: &'a StateReport,
+}
+
+impl<'a> Choice for GoesByRemoval<'a> {
+    ghost use Rattle.delegate_rules.specs.Effects.{goes_by_removal};
+
+    ghost chooses = { λ s x. goes_by_removal s.granted s.peer s.report.now x };
+
+    fn chooses(&self, path: &Path) -> bool {
+        removes(self.peer, self.report, path)
+            || ends_grant(self.granted, self.peer, self.report, path)
+    }
+}
+
+/// Takes away the peer's records that have no path left, unless a grant was bound.
+fn records_after(
+    alloc: Global,
+    base: &LspBase,
+    peer: u32,
+    goes: &GoesByRemoval,
+    bound: &[Path],
+) -> Result<Vec<RecordChange>, AllocError>
+    ensures { IfOk result (λ changes. changes.items ≡ records_left base.now.content peer
+        (goes_by_removal goes.now.granted goes.now.peer goes.now.report.now) bound.now) }
+{
+    if has_no_path(bound) {
+        ended(alloc, base, peer, goes)
+    } else {
+        Ok(Vec::new(alloc))
+    }
+}
+
+/// What a removal does, by whether the LSP has a grant.
+#[tactic(auto, unfolding(crate::specs::Effects::removal_effect_by))]
+pub fn effect_of_removal(
+    alloc: Global,
+    granted: bool,
+    base: &LspBase,
+    peer: u32,
+    report: &StateReport,
+) -> Result<Effect, AllocError>
+    ensures { IfOk result (λ effect. effect ≡ removal_effect_by granted base.now.content peer report.now) }
+{
+    let goes = GoesByRemoval {
+        granted,
+        peer,
+        report,
+    };
+    let dropped = chosen(alloc, base.paths(), &goes)?;
+    let bound = grants_bound(alloc, base.paths(), granted, peer, report)?;
+    let records = records_after(alloc, base, peer, &goes, bound.as_slice())?;
+    Ok(Effect::new(dropped, bound, records, false))
+}

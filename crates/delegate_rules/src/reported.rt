@@ -1,0 +1,264 @@
+//! The path and the record of a report with R clear, and its effect.
+ghost use Rattle.std.specs.Prelude.{◌≡◌, ◌∷◌, ◌||◌, IfOk, unwrap_or, option_copied};
+ghost use Rattle.delegate_rules.specs.Reports.{links_of, priorities_of, reported_path, reported_constraints, reported_lsp, old_source, old_destination, old_name, old_removing};
+ghost use Rattle.delegate_rules.specs.Grants.{moved_grants};
+ghost use Rattle.delegate_rules.specs.Effects.{is_nil, is_unsignalled, is_replaced_part, is_replaced, goes_by_report, wants_path, one_record, report_effect_by};
+
+use crate::grants::{grants_moved, meets_grant};
+use crate::identity::{are_all_zero, identifiers, means_down, report_tunnel};
+use lsp_base::{
+    Choice, Constraints, Effect, Lsp, Metric, OtherBounds, Part, Path, Priorities, RecordChange,
+    Tunnel, chosen, is_path_of_lsp,
+};
+use pcep_messages::StateReport;
+use pcep_objects::Plsp;
+use pcep_word::Ipv4;
+use sequence::{PlainData, Sequence};
+use std::alloc::{AllocError, Global};
+use te_base::{LinkNumber, TeBase};
+
+fn report_links(
+    alloc: Global,
+    te: &TeBase,
+    report: &StateReport,
+) -> Result<Vec<LinkNumber>, AllocError>
+    ensures { IfOk result (λ links. links.items ≡ links_of te.now report.now) }
+{
+    if means_down(report.operational) {
+        return Ok(Vec::new(alloc));
+    }
+    let i = identifiers(report);
+    let hops = match &report.rro {
+        Some(hops) => hops.as_slice(),
+        None => report.ero.as_slice(),
+    };
+    te.walk(alloc, i.sender, hops, i.endpoint)
+}
+
+fn priorities_of_report(report: &StateReport) -> Priorities
+    ensures { result ≡ priorities_of report.now }
+{
+    Priorities::new(report.setup, report.hold)
+}
+
+#[tactic(auto, unfolding(crate::specs::Reports::reported_path))]
+fn path_of_report(
+    alloc: Global,
+    te: &TeBase,
+    peer: u32,
+    report: &StateReport,
+) -> Result<Path, AllocError>
+    ensures { IfOk result (λ path. path ≡ reported_path te.now peer report.now) }
+{
+    let links = report_links(alloc, te, report)?;
+    Ok(Path {
+        peer,
+        plsp: report.plsp,
+        part: Part::Reported(identifiers(report).lsp),
+        tunnel: report_tunnel(peer, report),
+        hold: priorities_of_report(report).hold(),
+        bandwidth: report.bandwidth,
+        links: Sequence::from_vec(links),
+        fresh: true,
+    })
+}
+
+fn source_of(old: Option<&Lsp>) -> Option<Ipv4>
+    ensures { result ≡ old_source (option_copied old.entry) }
+{
+    match old {
+        Some(lsp) => lsp.constraints.source,
+        None => None,
+    }
+}
+
+fn destination_of(old: Option<&Lsp>) -> Option<Ipv4>
+    ensures { result ≡ old_destination (option_copied old.entry) }
+{
+    match old {
+        Some(lsp) => lsp.constraints.destination,
+        None => None,
+    }
+}
+
+fn removing_of(old: Option<&Lsp>) -> Option<u32>
+    ensures { result ≡ old_removing (option_copied old.entry) }
+{
+    match old {
+        Some(lsp) => lsp.removing,
+        None => None,
+    }
+}
+
+#[tactic(auto, unfolding(crate::specs::Reports::reported_constraints))]
+fn constraints_of_report(report: &StateReport, old: Option<&Lsp>) -> Constraints
+    ensures { result ≡ reported_constraints report.now (option_copied old.entry) }
+{
+    let i = identifiers(report);
+    let zero = are_all_zero(i);
+    Constraints {
+        source: if zero { source_of(old) } else { Some(i.sender) },
+        destination: if zero {
+            destination_of(old)
+        } else {
+            Some(i.endpoint)
+        },
+        bandwidth: report.bandwidth,
+        priorities: priorities_of_report(report),
+        colours: report.colours,
+        minimise: Metric::Te,
+        bound: None,
+        hop_bound: None,
+        other_bounds: OtherBounds {
+            igp: None,
+            te: None,
+        },
+    }
+}
+
+fn name_of_report(
+    alloc: Global,
+    report: &StateReport,
+    old: Option<&Lsp>,
+) -> Result<Sequence<u8>, AllocError>
+    ensures { IfOk result (λ name. name ≡ unwrap_or report.now.name (old_name (option_copied old.entry))) }
+{
+    match &report.name {
+        Some(name) => name.copy(),
+        None => match old {
+            Some(lsp) => lsp.name.copy(),
+            None => Ok(Sequence::from_vec(Vec::new(alloc))),
+        },
+    }
+}
+
+#[tactic(auto, unfolding(crate::specs::Reports::reported_lsp))]
+fn lsp_of_report(
+    alloc: Global,
+    peer: u32,
+    report: &StateReport,
+    old: Option<&Lsp>,
+) -> Result<Lsp, AllocError>
+    ensures { IfOk result (λ lsp. lsp ≡ reported_lsp peer report.now (option_copied old.entry)) }
+{
+    let name = name_of_report(alloc, report, old)?;
+    Ok(Lsp {
+        name,
+        delegated: report.delegate,
+        created: report.created,
+        constraints: constraints_of_report(report, old),
+        tunnel: report_tunnel(peer, report),
+        removing: removing_of(old),
+    })
+}
+
+fn replaces_part(zero: bool, lsp: u16, path: &Path) -> bool
+    ensures { result ≡ is_replaced_part zero lsp path.now.tunnel path.now.part }
+{
+    match path.part {
+        Part::Granted(_) => false,
+        Part::Reported(other) => {
+            zero || other == lsp || matches!(path.tunnel, Tunnel::Unsignalled { .. })
+        }
+    }
+}
+
+fn replaces(peer: u32, report: &StateReport, path: &Path) -> bool
+    ensures { result ≡ is_replaced peer report.now path.now }
+{
+    let i = identifiers(report);
+    let lsp = i.lsp;
+    let zero = are_all_zero(i);
+    is_path_of_lsp(path, peer, report.plsp) && replaces_part(zero, lsp, path)
+}
+
+/// The paths that go by a report with R clear.
+#[derive(Drop)]
+struct GoesByReport<'a> {
+    granted: bool,
+    peer: u32,
+    report: &'a StateReport,
+}
+
+impl<'a> Choice for GoesByReport<'a> {
+    ghost use Rattle.delegate_rules.specs.Effects.{goes_by_report};
+
+    ghost chooses = { λ s x. goes_by_report s.granted s.peer s.report.now x };
+
+    fn chooses(&self, path: &Path) -> bool {
+        replaces(self.peer, self.report, path)
+            || meets_grant(self.granted, self.peer, self.report, path)
+    }
+}
+
+pub fn has_no_path(paths: &[Path]) -> bool
+    ensures { result ≡ is_nil paths.now }
+{
+    match paths {
+        [] => true,
+        [_, ..] => false,
+    }
+}
+
+fn waits_for_path(report: &StateReport, grants: &[Path], old: Option<&Lsp>) -> bool
+    ensures { result ≡ wants_path report.now grants.now (option_copied old.entry) }
+{
+    report.delegate
+        && means_down(report.operational)
+        && report.ero.as_slice().is_empty()
+        && has_no_path(grants)
+        && removing_of(old).is_none()
+}
+
+fn path_and_grants(
+    alloc: Global,
+    path: Path,
+    mut grants: Vec<Path>,
+) -> Result<Vec<Path>, AllocError>
+    ensures { IfOk result (λ added. added.items ≡ path ∷ grants.items) }
+{
+    let mut added = Vec::new(alloc);
+    added.push(path)?;
+    added.append(&mut grants)?;
+    Ok(added)
+}
+
+fn record_of(alloc: Global, plsp: Plsp, lsp: Lsp) -> Result<Vec<RecordChange>, AllocError>
+    ensures { IfOk result (λ changes. changes.items ≡ one_record plsp lsp) }
+{
+    let mut changes = Vec::new(alloc);
+    changes.push(RecordChange {
+        plsp,
+        lsp: Some(lsp),
+    })?;
+    Ok(changes)
+}
+
+/// What a report with R clear does, by whether the LSP has a grant and what was known of it.
+#[tactic(auto, unfolding(crate::specs::Effects::report_effect_by))]
+pub fn effect_of_report(
+    alloc: Global,
+    granted: bool,
+    old: Option<&Lsp>,
+    paths: &[Path],
+    te: &TeBase,
+    peer: u32,
+    report: &StateReport,
+) -> Result<Effect, AllocError>
+    ensures { IfOk result (λ effect. effect
+        ≡ report_effect_by granted (option_copied old.entry) paths.now te.now peer report.now) }
+{
+    let goes = GoesByReport {
+        granted,
+        peer,
+        report,
+    };
+    let dropped = chosen(alloc, paths, &goes)?;
+    let grants = grants_moved(alloc, paths, granted, peer, report)?;
+    let wants_path = waits_for_path(report, grants.as_slice(), old);
+    let path = path_of_report(alloc, te, peer, report)?;
+    let added = path_and_grants(alloc, path, grants)?;
+    let lsp = lsp_of_report(alloc, peer, report, old)?;
+    let records = record_of(alloc, report.plsp, lsp)?;
+    Ok(Effect::new(dropped, added, records, wants_path))
+}
