@@ -1,0 +1,134 @@
+ghost use Rattle.std.specs.Prelude.{◌≡◌, ◌==◌, [], not, false, map, filter, IfOk};
+ghost use Rattle.lsp_base.specs.Base.{changed, effect_of};
+ghost use Rattle.lsp_base.specs.Rooms.{IsWithinLimit};
+ghost use Rattle.sync_rules.specs.Peers.{is_stale_of, is_of_peer, left_alone, marker_effect, up_effect, down_effect, expire_effect};
+
+use lsp_base::{Choice, Effect, Lsp, LspBase, Path, Record, RecordChange, dropping_effect};
+use pcep_objects::Capabilities;
+use sequence::PlainData;
+use std::alloc::{AllocError, Global};
+
+/// The peer's stale paths and grants.
+#[derive(Drop)]
+struct StaleOf {
+    peer: u32,
+}
+
+impl Choice for StaleOf {
+    ghost use Rattle.sync_rules.specs.Peers.{is_stale_of};
+
+    ghost chooses = { λ s x. is_stale_of s.peer x };
+
+    fn chooses(&self, path: &Path) -> bool {
+        path.peer == self.peer && !path.fresh
+    }
+}
+
+/// All of the peer's paths and grants.
+#[derive(Drop)]
+struct OfPeer {
+    peer: u32,
+}
+
+impl Choice for OfPeer {
+    ghost use Rattle.sync_rules.specs.Peers.{is_of_peer};
+
+    ghost chooses = { λ s x. is_of_peer s.peer x };
+
+    fn chooses(&self, path: &Path) -> bool {
+        path.peer == self.peer
+    }
+}
+
+/// The end of the peer's synchronization: what it did not report again is gone, with the records that then
+/// have no path (RFC 8231 section 5.6).
+#[tactic(auto, unfolding(crate::specs::Peers::marker_effect))]
+pub fn on_marker(alloc: Global, base: &LspBase, peer: u32) -> Result<Effect, AllocError>
+    ensures effect { IfOk result (λ effect. effect ≡ marker_effect base.now.content peer) }
+    ensures stay { IfOk result (λ effect. (changed base.now.content peer effect).paths
+        ≡ filter (λ x. not (is_stale_of peer x)) base.now.content.paths) }
+    ensures few { IfOk result (λ effect. IsWithinLimit base.now.content effect) }
+{
+    dropping_effect(alloc, base, peer, &StaleOf { peer })
+}
+
+/// The peer is given up: all that it reported or was granted goes, with its records.
+#[tactic(auto, unfolding(crate::specs::Peers::expire_effect))]
+pub fn on_expire(alloc: Global, base: &LspBase, peer: u32) -> Result<Effect, AllocError>
+    ensures effect { IfOk result (λ effect. effect ≡ expire_effect base.now.content peer) }
+    ensures stay { IfOk result (λ effect. (changed base.now.content peer effect).paths
+        ≡ filter (λ x. not (is_of_peer peer x)) base.now.content.paths) }
+    ensures few { IfOk result (λ effect. IsWithinLimit base.now.content effect) }
+{
+    dropping_effect(alloc, base, peer, &OfPeer { peer })
+}
+
+/// The effect that keeps all paths and sets these records.
+#[tactic(auto, unfolding(lsp_base::specs::Base::changed))]
+fn keeping_paths(alloc: Global, base: &LspBase, peer: u32, records: Vec<RecordChange>) -> Effect
+    ensures effect { result ≡ effect_of [] [] records.items false }
+    ensures stay { (changed base.now.content peer result).paths ≡ base.now.content.paths }
+    ensures few { IsWithinLimit base.now.content result }
+{
+    let _few = base.paths();
+    Effect::new(Vec::new(alloc), Vec::new(alloc), records, false)
+}
+
+/// A session of the peer is up. With STATEFUL-PCE-CAPABILITY it synchronizes first, and nothing goes yet;
+/// without, it will report nothing again, and what is stale goes at once (RFC 8231 section 5.6).
+#[tactic(auto, unfolding(crate::specs::Peers::up_effect))]
+pub fn on_up(
+    alloc: Global,
+    base: &LspBase,
+    peer: u32,
+    capabilities: Option<Capabilities>,
+) -> Result<Effect, AllocError>
+    ensures effect { IfOk result (λ effect. effect ≡ up_effect base.now.content peer capabilities) }
+    ensures few { IfOk result (λ effect. IsWithinLimit base.now.content effect) }
+{
+    match capabilities {
+        None => on_marker(alloc, base, peer),
+        Some(_) => Ok(keeping_paths(alloc, base, peer, Vec::new(alloc))),
+    }
+}
+
+fn left_by_itself(known: &Record) -> Result<RecordChange, AllocError>
+    ensures { IfOk result (λ change. change ≡ left_alone known.now) }
+{
+    let lsp = Lsp {
+        name: known.lsp.name.copy()?,
+        delegated: false,
+        created: known.lsp.created,
+        constraints: known.lsp.constraints,
+        tunnel: known.lsp.tunnel,
+        removing: None,
+    };
+    Ok(RecordChange {
+        plsp: known.plsp,
+        lsp: Some(lsp),
+    })
+}
+
+fn all_left(alloc: Global, records: &[Record], peer: u32) -> Result<Vec<RecordChange>, AllocError>
+    ensures { IfOk result (λ changes. changes.items ≡ map left_alone (filter (λ r. r.peer == peer) records.now)) }
+{
+    let mut changes = Vec::new(alloc);
+    for known in records {
+        if known.peer == peer {
+            changes.push(left_by_itself(known)?)?;
+        }
+    }
+    Ok(changes)
+}
+
+/// The session of the peer has ended: its delegations and removals end. No path goes (the caller makes
+/// them stale).
+#[tactic(auto, unfolding(crate::specs::Peers::down_effect))]
+pub fn on_down(alloc: Global, base: &LspBase, peer: u32) -> Result<Effect, AllocError>
+    ensures effect { IfOk result (λ effect. effect ≡ down_effect base.now.content peer) }
+    ensures stay { IfOk result (λ effect. (changed base.now.content peer effect).paths ≡ base.now.content.paths) }
+    ensures few { IfOk result (λ effect. IsWithinLimit base.now.content effect) }
+{
+    let records = all_left(alloc, base.records(), peer)?;
+    Ok(keeping_paths(alloc, base, peer, records))
+}
