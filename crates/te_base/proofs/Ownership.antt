@@ -1,20 +1,19 @@
 -- An address has the owner that nodes and links give it.
-use Rattle.std.proofs.Common.{◌≡◌, ℕ, codes, zero, suc, ◌+◌, ◌==◌, ◌&&◌, ◌||◌, Bool, true, false, cond, List, [], ◌∷◌, ◌++◌, length, Option, Some, None, is_some, Result, Ok, Err, IfOk, IsTrue, ◌↔◌, option_map, find, refl, sym, ap, subst, ◌∙◌, arith, zero-add, add-zero, if◌then◌else◌}
+use Rattle.std.proofs.Common.{◌≡◌, ℕ, codes, suc, ◌+◌, ◌==◌, ◌&&◌, ◌||◌, Bool, true, false, List, [], ◌∷◌, ◌++◌, length, Option, Some, None, is_some, Ok, Err, IfOk, IsTrue, ◌↔◌, option_map, find, refl, sym, ap, subst, ◌∙◌, arith, zero-add, add-zero, if◌then◌else◌}
 use Rattle.std.proofs.lemmas.List.Folds.{list_any-append}
-use Rattle.std.proofs.lemmas.Result.{IfOk-weaker, IfOk-at_ok}
+use Rattle.std.proofs.lemmas.Result.{IfOk-at_ok}
 use Rattle.std.specs.List.{list_any, enumerate_from}
 use Rattle.std.specs.Option.{option_or}
 use Rattle.toml.specs.Data.{Members}
 use Rattle.toml.specs.Parse.{parse_document}
-use Rattle.te_base.specs.declared.fault.TeFault.{TeFault}
 use Rattle.te_base.specs.declared.fault.TeFault.TheVariants.{NotToml, AddressTwice, NameTwice}
 use Rattle.te_base.specs.declared.network.Node.{Node}
 use Rattle.te_base.specs.declared.network.Link.{Link}
 use Rattle.te_base.specs.declared.network.Owner.{Owner}
-use Rattle.te_base.specs.Faults.{◌>>=◌, some_or}
+use Rattle.te_base.specs.Faults.{some_or}
 use Rattle.te_base.specs.Base.{Base, empty_base}
 use Rattle.te_base.specs.Owners.{owner_of, with_owner, owned, is_id_of, is_local_of, is_remote_of, owns, is_node, AreOwners}
-use Rattle.te_base.specs.Fields.{LinkText, node_text, link_text, tables_at}
+use Rattle.te_base.specs.Fields.{node_text, link_text, tables_at}
 use Rattle.te_base.specs.Ranges.{node_value, link_ranges}
 use Rattle.te_base.specs.LinkText.{node_named, with_node, ends_of, with_link, with_nodes, with_links, few_enough, base_of_tree, base_of}
 use Rattle.te_base.proofs.Found.{same_number, equal_numbers}

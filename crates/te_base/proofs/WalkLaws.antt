@@ -1,5 +1,5 @@
 -- A walk names links of the base, and none twice.
-use Rattle.std.proofs.Common.{◌≡◌, ◌≢◌, ℕ, ◌+◌, ◌<◌, ◌==◌, ◌&&◌, Bool, true, false, List, [], ◌∷◌, ◌++◌, length, get_or, Option, Some, None, IfSome, All, AllPairs, position, fold, refl, sym, ap, subst, ◌∙◌, arith, if◌then◌else◌}
+use Rattle.std.proofs.Common.{◌≡◌, ◌≢◌, ℕ, ◌<◌, ◌==◌, ◌&&◌, Bool, true, false, List, [], ◌∷◌, ◌++◌, length, get_or, Option, Some, None, IfSome, All, AllPairs, position, fold, refl, arith, if◌then◌else◌}
 use Rattle.std.proofs.lemmas.List.Elements.{All-nil, All-push}
 use Rattle.std.proofs.lemmas.List.Quantifiers.{all_pairs_push}
 use Rattle.std.proofs.lemmas.List.Folds.{list_any_at}
@@ -10,7 +10,7 @@ use Rattle.pcep_objects.specs.declared.object.Hop.TheVariants.{Host, Other}
 use Rattle.te_base.specs.declared.network.Link.{Link}
 use Rattle.te_base.specs.Base.{Base}
 use Rattle.te_base.specs.Owners.{owner_of}
-use Rattle.te_base.specs.Walk.{Place, joins, remembered_link, chosen_link, with_link_once, moved, stepped, hopped, walk_from, walk}
+use Rattle.te_base.specs.Walk.{Place, joins, chosen_link, with_link_once, moved, hopped, walk_from, walk}
 use Rattle.te_base.proofs.Found.{equal_numbers, position_within, either}
 
 -- links below a number, and none of them twice
@@ -36,9 +36,9 @@ absent links link none k d lt same =
 pushed : (n : ℕ) (links : List ℕ) (link : ℕ) (t : Bool) → list_any (λ l. l == link) links ≡ t → link < n → AreSome n links → AreSome n (if t then links else links ++ link ∷ [])
 pushed n links link true is lt are = are
 pushed n links link false is lt are = record {
-    below = All-push (λ l. l < n) links link are.below lt;
-    once = all_pairs_push (λ l k. l ≢ k) links link are.once (absent links link is);
-  }
+  below = All-push (λ l. l < n) links link are.below lt;
+  once = all_pairs_push (λ l k. l ≢ k) links link are.once (absent links link is);
+}
 
 once_more : (n : ℕ) (links : List ℕ) (o : Option ℕ) → IfSome o (λ l. l < n) → AreSome n links → AreSome n (with_link_once links o)
 once_more n links None lt are = are

@@ -1,4 +1,4 @@
-//! The base: what a link text says, and look-ups in it.
+//! What a link text says, and look-ups in it.
 ghost use Rattle.std.specs.Prelude.{◌≡◌, ◌≢◌, ◌<◌, ◌≤◌, ◌↔◌, ℕ, IsTrue, IfOk, IfSome, All, AllPairs, slice_get, length};
 ghost use Rattle.te_base.specs.Base.{IsLinkAmong};
 ghost use Rattle.te_base.specs.Faults.{Gives};
@@ -19,7 +19,7 @@ use std::alloc::{AllocError, Global};
 use std::marker::Model;
 use toml::Table;
 
-/// The nodes, links and owners of a link text.
+/// The nodes, links and owners of a link text. A contract sees it as a `Base` of lists, which is sound.
 #[derive(Debug, Drop)]
 pub struct TeBase {
     parts: Parts,
@@ -71,7 +71,8 @@ fn read_parts(alloc: Global, text: &str) -> Result<Parts, TeFault>
 }
 
 impl TeBase {
-    /// What the text says, or its first fault.
+    /// What the text says, or its first fault in the order that `TeFault` tells. Nodes and links are
+    /// numbered from 0 in the order of the text.
     pub fn read(alloc: Global, text: &str) -> Result<TeBase, TeFault>
         ensures { Gives (λ b. b) result (base_of text.now) }
     {
@@ -79,7 +80,7 @@ impl TeBase {
         Ok(TeBase { parts })
     }
 
-    /// The link of a number.
+    /// The link of a number, None past the last.
     pub fn link(&self, number: LinkNumber) -> Option<Link>
         ensures link { result ≡ slice_get self.now.links number }
         ensures sound { IfSome result (IsLinkAmong (length self.now.nodes)) }
@@ -112,7 +113,8 @@ impl TeBase {
         &self.parts.links
     }
 
-    /// The node that owns an address.
+    /// The node that owns an address: the one that has it as its own, as the local address of a link
+    /// that leaves it, or as the remote address of a link that reaches it. None where no node does.
     pub fn owner(&self, address: Ipv4) -> Option<NodeNumber>
         ensures owner { result ≡ owner_of self.now.owners address }
         ensures owns { (node : ℕ) → (result ≡ Some node) ↔ IsTrue (owns self.now.nodes self.now.links node address) }
@@ -121,7 +123,14 @@ impl TeBase {
         owner_in(&self.parts.owners, address)
     }
 
-    /// The links of a route from one address to another.
+    /// The links that a route uses from a start to an end, in order (RFC 3209 section 4.3.3 for an
+    /// explicit route, 4.4 for a recorded one).
+    ///
+    /// From the owner of the start, each address leads to its owner over the link from the current node
+    /// with that remote address, else over one whose local address the route named last, else over the
+    /// least-numbered one. A hop to a node without such a link uses none, an address that no node owns
+    /// and a hop of another kind do nothing, loose hops are walked like strict ones, and a link that
+    /// comes again is kept once. A start that no node owns uses no link.
     pub fn walk(
         &self,
         alloc: Global,

@@ -1,4 +1,4 @@
-//! The fields of a table, as they stand.
+//! The fields of a table as they stand, before any value is judged.
 ghost use Rattle.std.specs.Prelude.{◌≡◌, map, option_map};
 ghost use Rattle.toml.specs.View.{view, table_view, array_view};
 ghost use Rattle.toml.specs.Data.{get_member};

@@ -1,4 +1,25 @@
-//! The nodes, links and owners of a link text.
+//! The network that paths are booked on: nodes, directed links and who owns which address. A link text
+//! in TOML says it, `TeBase::read` gives what the text says or its first fault, and it never changes after.
+//!
+//! The layer above may rely on each `TeBase` being sound: at most 1,024 nodes and 4,096 links, each link
+//! from one node to another with every number in its range, each address owned by the node that has it as
+//! its own or as its end of a link, and by no other. `TeBase::walk` gives the links that a route of RFC 3209
+//! uses, of which each exists and none comes twice; they are what a path on that route reserves.
+//!
+//! The definitions stand in `specs/`: `LinkText` is the text's meaning with its faults in order, over
+//! `Fields`, `Ranges` and `Owners`; `Base` has the lists and `IsSound`, `Walk` the walk, and `Faults` the
+//! words in which a clause says "this value, or this fault first".
+//!
+//! ```text
+//! fn first_link(alloc: Global, text: &str, from: Ipv4, to: Ipv4) -> Result<Option<Link>, TeFault> {
+//!     let base = TeBase::read(alloc, text)?;
+//!     let links = base.walk(alloc, from, &[], to)?;
+//!     match links.first() {
+//!         Some(number) => Ok(base.link(*number)),
+//!         None => Ok(None),
+//!     }
+//! }
+//! ```
 #![tactic(auto)]
 
 mod base;

@@ -1,4 +1,4 @@
-//! The values of a table, each in its range.
+//! The values of a table's fields, each in its range.
 ghost use Rattle.std.specs.Prelude.{◌≡◌, ◌≤◌, IfOk};
 ghost use Rattle.te_base.specs.Faults.{Gives};
 ghost use Rattle.te_base.specs.Ranges.{name_of, address_in, within, node_value, link_value, link_ranges};

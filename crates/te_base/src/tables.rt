@@ -1,4 +1,4 @@
-//! One table after the other.
+//! The tables of a link text, one after the other: each adds a node or a link to what was read before.
 ghost use Rattle.std.specs.Prelude.{◌≡◌, map};
 ghost use Rattle.toml.specs.View.{table_view};
 ghost use Rattle.te_base.specs.Faults.{Gives, Leaves};
