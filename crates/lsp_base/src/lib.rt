@@ -40,3 +40,6 @@ pub use path::Path;
 pub use shares::{reserved_on, share_on, unreserved_at, unreserved_on};
 pub use tunnel::{Part, Tunnel, is_part_reported};
 pub use why::{Ends, Why};
+
+#[cfg(test)]
+mod tests;
