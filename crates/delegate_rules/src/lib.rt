@@ -27,3 +27,6 @@ mod rules;
 
 pub use fault::RuleFault;
 pub use rules::on_report;
+
+#[cfg(test)]
+mod tests;
