@@ -6,8 +6,9 @@
 //!
 //! ```text
 //! fn left_after(database: &mut Database, event: Event) -> Result<Option<i64>, Fault>
-//!     ensures { IfOk result (λ left. IfSome left (λ n. n ≡ unreserved database.new.state 0 7)) }
-//!     ensures { Replays database.new }
+//!     ensures step { IfOk result (λ _. database.new.state ≡ (step database.old.state event).state) }
+//!     ensures left { IfOk result (λ left. IfSome left (λ n. n ≡ unreserved database.new.state.te.links database.new.state.base.paths 0 7)) }
+//!     ensures replays { Replays database.new }
 //! {
 //!     let _reply = database.apply(event)?;
 //!     Ok(database.unreserved(0, Priority::capped(7)))

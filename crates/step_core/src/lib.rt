@@ -2,14 +2,15 @@
 //! down, the end of synchronization, state reports, and peers that expire. `State::step` is the
 //! definition `step` of `specs/Steps.antt` in full, the state after it and the reply; a refused event
 //! changes nothing, and where memory is refused nothing has changed. An event changes the paths, the
-//! records and the session of its own peer alone (`specs/Laws.antt`). What is left of a link is defined
-//! in `specs/States.antt`, over the share rule of `lsp_base`.
+//! records and the session of its own peer alone (`specs/Laws.antt`). What is left of a link is the share
+//! rule of `lsp_base` over the paths of the state.
 //!
 //! ```text
 //! fn left_after(state: &mut State, event: &Event) -> Result<Option<i64>, AllocError>
 //!     requires changes { state.old.changes < 2 ^ 62 }
 //!     requires sessions { state.old.last_session < 2 ^ 62 }
-//!     ensures { IfOk result (λ left. IfSome left (λ n. n ≡ unreserved (step state.old event.now).state 0 7)) }
+//!     ensures state { OnOk result (state.new ≡ (step state.old event.now).state) }
+//!     ensures left { IfOk result (λ left. IfSome left (λ n. n ≡ unreserved state.new.te.links state.new.base.paths 0 7)) }
 //! {
 //!     let _reply = state.step(event)?;
 //!     Ok(state.unreserved(0, Priority::capped(7)))
