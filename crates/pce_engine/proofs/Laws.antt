@@ -1,0 +1,191 @@
+-- The machine that takes a script byte by byte writes what the script's lines print.
+use Rattle.std.proofs.Common.{◌≡◌, ℕ, ◌+◌, ◌<◌, ◌==◌, suc, Bool, true, false, List, [], ◌∷◌, ◌++◌, length, take, drop, get_or, drop-cons, take-append-drop, Option, Some, None, Result, Ok, Err, fold, refl, sym, ap, ◌∙◌, append_assoc}
+use Rattle.std.proofs.lemmas.List.{append-nil, take_more}
+use Rattle.std.specs.Io.KnownBytes.{Appends}
+use Rattle.pce_engine.specs.declared.fault.ScriptFault.{ScriptFault}
+use Rattle.pce_engine.specs.declared.fault.ScriptFault.TheVariants.{BadLine, Te, ReadFault, WriteFault, OutOfMemory, HistoryFull}
+use Rattle.pce_engine.specs.Script.{Cut, cut_at, cut, with_rest, lines_of, Stage, start, told, Outcome, ending, on_told, printed, script, text_of_lines}
+use Rattle.pce_engine.specs.Machine.{Machine, begun, Fed, after_line, took, fed_on, fed, Leads, LeadsPartly, Halts, Breaks, closed_with, completed_by, completed}
+
+-- the lines of what was cut, and of the bytes after it
+abbrev pub cut_on : Cut → List ℕ → List (List ℕ)
+cut_on c bytes = with_rest (fold cut_at c bytes).0 (fold cut_at c bytes).1
+
+cut_break : (ls : List (List ℕ)) (p : List ℕ) (b : ℕ) → (b == 10) ≡ true → cut_at (ls, p) b ≡ (ls ++ p ∷ [], [])
+cut_break ls p b e = rw e
+
+cut_other : (ls : List (List ℕ)) (p : List ℕ) (b : ℕ) → (b == 10) ≡ false → cut_at (ls, p) b ≡ (ls, p ++ b ∷ [])
+cut_other ls p b e = rw e
+
+took_break : (m : Machine) (b : ℕ) → (b == 10) ≡ true → took m b ≡ after_line (told m.stage m.pending)
+took_break m b e = rw e
+
+took_other : (m : Machine) (b : ℕ) → (b == 10) ≡ false → took m b ≡ Ok ([], record { stage = m.stage; pending = m.pending ++ b ∷ [] })
+took_other m b e = rw e
+
+abbrev Keeps_front : List ℕ → Type 0
+Keeps_front bytes = (ls : List (List ℕ)) (p : List ℕ) → (more : List (List ℕ)) × (cut_on (ls, p) bytes ≡ ls ++ more)
+
+front_at : (t : Bool) (b : ℕ) (bytes : List ℕ) → (b == 10) ≡ t → Keeps_front bytes → Keeps_front (b ∷ bytes)
+front_at true b bytes e ih ls p =
+    let h = ih (ls ++ p ∷ []) [] in
+    (p ∷ h.0, ap (λ (c : Cut). cut_on c bytes) (cut_break ls p b e) ∙ h.1 ∙ append_assoc ls (p ∷ []) h.0)
+front_at false b bytes e ih ls p =
+    let h = ih ls (p ++ b ∷ []) in
+    (h.0, ap (λ (c : Cut). cut_on c bytes) (cut_other ls p b e) ∙ h.1)
+
+-- whole lines stay in front of what follows
+front_of : (bytes : List ℕ) → Keeps_front bytes
+front_of [] ls [] = ([], sym (append-nil ls))
+front_of [] ls (b ∷ p) = ((b ∷ p) ∷ [], refl)
+front_of (b ∷ bytes) ls p = front_at (b == 10) b bytes refl (λ ls p. front_of bytes ls p) ls p
+
+-- after these lines the script goes on from this text and stage
+abbrev GoesOn : List (List ℕ) → List ℕ → Stage → Type 0
+GoesOn ls text s = (more : List (List ℕ)) → printed (ls ++ more) [] start ≡ printed more text s
+
+-- one line more
+goes_on : (ls : List (List ℕ)) (p text : List ℕ) (s : Stage) (r : List ℕ × Stage) → told s p ≡ Ok r → GoesOn ls text s → GoesOn (ls ++ p ∷ []) (text ++ r.0) r.1
+goes_on ls p text s r e goes more =
+    ap (λ (all : List (List ℕ)). printed all [] start) (append_assoc ls (p ∷ []) more) ∙ goes (p ∷ more) ∙ ap (λ t. on_told text t (printed more)) e
+
+abbrev Agrees : List ℕ → Type 0
+Agrees bytes = (ls : List (List ℕ)) (p text : List ℕ) (s : Stage) → GoesOn ls text s
+    → printed (cut_on (ls, p) bytes) [] start ≡ completed (fed bytes text (record { stage = s; pending = p }))
+
+agrees_told : (r : Result (List ℕ × Stage) ScriptFault) (bytes : List ℕ) (ls : List (List ℕ)) (p text : List ℕ) (s : Stage) → told s p ≡ r → Agrees bytes → GoesOn ls text s
+    → printed (cut_on (ls ++ p ∷ [], []) bytes) [] start ≡ completed (fed_on text (record { stage = s; pending = p }) (after_line r) (fed bytes))
+agrees_told (Ok r) bytes ls p text s e ih goes =
+    ih (ls ++ p ∷ []) [] (text ++ r.0) r.1 (goes_on ls p text s r e goes)
+agrees_told (Err fault) bytes ls p text s e ih goes =
+    let h = front_of bytes (ls ++ p ∷ []) [] in
+    ap (λ (all : List (List ℕ)). printed all [] start) (h.1 ∙ append_assoc ls (p ∷ []) h.0) ∙ goes (p ∷ h.0) ∙ ap (λ t. on_told text t (printed h.0)) e
+
+agrees_at : (t : Bool) (b : ℕ) (bytes : List ℕ) → (b == 10) ≡ t → Agrees bytes → Agrees (b ∷ bytes)
+agrees_at true b bytes e ih ls p text s goes =
+    let m : Machine = record { stage = s; pending = p } in
+    ap (λ (c : Cut). printed (cut_on c bytes) [] start) (cut_break ls p b e)
+    ∙ agrees_told (told s p) bytes ls p text s refl ih goes
+    ∙ sym (ap (λ t. completed (fed_on text m t (fed bytes))) (took_break m b e))
+agrees_at false b bytes e ih ls p text s goes =
+    let m : Machine = record { stage = s; pending = p } in
+    let n : Machine = record { stage = s; pending = p ++ b ∷ [] } in
+    ap (λ (c : Cut). printed (cut_on c bytes) [] start) (cut_other ls p b e)
+    ∙ ih ls (p ++ b ∷ []) text s goes
+    ∙ ap (λ (t : List ℕ). completed (fed bytes t n)) (sym (append-nil text))
+    ∙ sym (ap (λ t. completed (fed_on text m t (fed bytes))) (took_other m b e))
+
+agrees : (bytes : List ℕ) → Agrees bytes
+agrees [] ls [] text s goes = ap (λ (all : List (List ℕ)). printed all [] start) (sym (append-nil ls)) ∙ goes []
+agrees [] ls (b ∷ p) text s goes = goes ((b ∷ p) ∷ [])
+agrees (b ∷ bytes) ls p text s goes = agrees_at (b == 10) b bytes refl (λ ls p text s goes. agrees bytes ls p text s goes) ls p text s goes
+
+-- what is fed byte by byte and then completed is the script
+pub script_by_bytes : (bytes : List ℕ) → script bytes ≡ completed (fed bytes [] begun)
+script_by_bytes bytes = agrees bytes [] [] [] start (λ more. refl)
+
+-- ---- the whole lines of a front
+
+-- where no fault stops the bytes, their whole lines lead to the same text
+abbrev Prints : List ℕ → Type 0
+Prints bytes = (ls : List (List ℕ)) (p text : List ℕ) (s : Stage) (all : List ℕ) (n : Machine) → GoesOn ls text s → Leads bytes text (record { stage = s; pending = p }) all n
+    → (printed (fold cut_at (ls, p) bytes).0 [] start).text ≡ all
+
+prints_told : (r : Result (List ℕ × Stage) ScriptFault) (bytes : List ℕ) (ls : List (List ℕ)) (p text : List ℕ) (s : Stage) (all : List ℕ) (n : Machine) → told s p ≡ r → Prints bytes → GoesOn ls text s
+    → fed_on text (record { stage = s; pending = p }) (after_line r) (fed bytes) ≡ record { text = all; machine = n; fault = None } → (printed (fold cut_at (ls ++ p ∷ [], []) bytes).0 [] start).text ≡ all
+prints_told (Ok r) bytes ls p text s all n e ih goes h = ih (ls ++ p ∷ []) [] (text ++ r.0) r.1 all n (goes_on ls p text s r e goes) h
+prints_told (Err fault) bytes ls p text s all n e ih goes h = let bad : Some fault ≡ None = ap (λ (f : Fed). f.fault) h in cc
+
+prints_at : (t : Bool) (b : ℕ) (bytes : List ℕ) → (b == 10) ≡ t → Prints bytes → Prints (b ∷ bytes)
+prints_at true b bytes e ih ls p text s all n goes h =
+    let m : Machine = record { stage = s; pending = p } in
+    ap (λ (c : Cut). (printed (fold cut_at c bytes).0 [] start).text) (cut_break ls p b e)
+    ∙ prints_told (told s p) bytes ls p text s all n refl ih goes (sym (ap (λ t. fed_on text m t (fed bytes)) (took_break m b e)) ∙ h)
+prints_at false b bytes e ih ls p text s all n goes h =
+    let m : Machine = record { stage = s; pending = p } in
+    let k : Machine = record { stage = s; pending = p ++ b ∷ [] } in
+    ap (λ (c : Cut). (printed (fold cut_at c bytes).0 [] start).text) (cut_other ls p b e)
+    ∙ ih ls (p ++ b ∷ []) text s all n goes (ap (λ (t : List ℕ). fed bytes t k) (sym (append-nil text)) ∙ sym (ap (λ t. fed_on text m t (fed bytes)) (took_other m b e)) ∙ h)
+
+prints : (bytes : List ℕ) → Prints bytes
+prints [] ls p text s all n goes h =
+    ap (λ (all : List (List ℕ)). (printed all [] start).text) (sym (append-nil ls)) ∙ ap (λ (o : Outcome). o.text) (goes []) ∙ ap (λ (f : Fed). f.text) h
+prints (b ∷ bytes) ls p text s all n goes h = prints_at (b == 10) b bytes refl (λ ls p text s all n goes h. prints bytes ls p text s all n goes h) ls p text s all n goes h
+
+pub text_of_front : (front text : List ℕ) (m : Machine) → Leads front [] begun text m → text_of_lines front ≡ text
+text_of_front front text m h = prints front [] [] [] start text m (λ more. refl) h
+
+-- ---- pieces
+
+abbrev Splits : List ℕ → Type 0
+Splits a = (b text : List ℕ) (m : Machine) (t : List ℕ) (n : Machine) → Leads a text m t n → fed (a ++ b) text m ≡ fed b t n
+
+splits_at : (r : Result (List ℕ × Machine) ScriptFault) (a b text : List ℕ) (m : Machine) (t : List ℕ) (n : Machine) → Splits a
+    → fed_on text m r (fed a) ≡ record { text = t; machine = n; fault = None } → fed_on text m r (fed (a ++ b)) ≡ fed b t n
+splits_at (Ok r) a b text m t n ih e = ih b (text ++ r.0) r.1 t n e
+splits_at (Err fault) a b text m t n ih e = let bad : Some fault ≡ None = ap (λ (f : Fed). f.fault) e in cc
+
+-- a second piece goes on where the first one ended
+pub fed_append : (a : List ℕ) → Splits a
+fed_append [] b text m t n e = sym (ap (λ (f : Fed). fed b f.text f.machine) (sym e))
+fed_append (x ∷ a) b text m t n e = splits_at (took m x) a b text m t n (λ b text m t n e. fed_append a b text m t n e) e
+
+-- one byte more
+pub leads_more : (bytes : List ℕ) (i : ℕ) (old : List ℕ) (m : Machine) (text : List ℕ) (n : Machine) (line new : List ℕ) (k : Machine) → i < length bytes
+    → Leads (take i bytes) old m text n → took n (get_or bytes i 0) ≡ Ok (line, k) → new ≡ text ++ line → Leads (take (i + 1) bytes) old m new k
+leads_more bytes i old m text n line new k within so_far e more =
+    ap (λ (front : List ℕ). fed front old m) (take_more bytes i 0 within)
+    ∙ fed_append (take i bytes) (get_or bytes i 0 ∷ []) old m text n so_far
+    ∙ ap (λ t. fed_on text n t (fed [])) e
+    ∙ ap (λ (t : List ℕ). record { text = t; machine = k; fault = None }) (sym more)
+
+-- a byte that meets a fault
+halted : (bytes : List ℕ) (i : ℕ) (old : List ℕ) (m : Machine) (text : List ℕ) (n : Machine) (e : ScriptFault) → i < length bytes
+    → Leads (take i bytes) old m text n → took n (get_or bytes i 0) ≡ Err e → fed bytes old m ≡ record { text = text; machine = n; fault = Some e }
+halted bytes i old m text n e within so_far is =
+    ap (λ (all : List ℕ). fed all old m) (sym (take-append-drop i bytes))
+    ∙ fed_append (take i bytes) (drop i bytes) old m text n so_far
+    ∙ ap (λ (rest : List ℕ). fed rest text n) (drop-cons bytes i 0 within)
+    ∙ ap (λ t. fed_on text n t (fed (drop (suc i) bytes))) is
+
+halted_as : (bytes : List ℕ) (i : ℕ) (old : List ℕ) (m : Machine) (text : List ℕ) (n : Machine) (new : List ℕ) (e : ScriptFault) → i < length bytes
+    → Leads (take i bytes) old m text n → took n (get_or bytes i 0) ≡ Err e → new ≡ text → ((fed bytes old m).text ≡ new) × ((fed bytes old m).fault ≡ Some e)
+halted_as bytes i old m text n new e within so_far is same =
+    let h = halted bytes i old m text n e within so_far is in (ap (λ (f : Fed). f.text) h ∙ sym same, ap (λ (f : Fed). f.fault) h)
+
+pub breaks : (e : ScriptFault) (bytes : List ℕ) (i : ℕ) (old : List ℕ) (m : Machine) (text : List ℕ) (n : Machine) (new : List ℕ) → i < length bytes
+    → Leads (take i bytes) old m text n → Halts e (took n (get_or bytes i 0)) text new → Breaks e bytes old m new
+breaks OutOfMemory bytes i old m text n new within so_far h = record {
+  front = take i bytes;
+  rest = drop i bytes;
+  machine = n;
+  whole = sym (take-append-drop i bytes);
+  leads = so_far ∙ ap (λ (t : List ℕ). record { text = t; machine = n; fault = None }) (sym h);
+}
+breaks ReadFault bytes i old m text n new within so_far h = absurd h
+breaks WriteFault bytes i old m text n new within so_far h = absurd h
+breaks (BadLine k) bytes i old m text n new within so_far h = halted_as bytes i old m text n new (BadLine k) within so_far h.0 h.1
+breaks (Te f) bytes i old m text n new within so_far h = halted_as bytes i old m text n new (Te f) within so_far h.0 h.1
+breaks HistoryFull bytes i old m text n new within so_far h = halted_as bytes i old m text n new HistoryFull within so_far h.0 h.1
+
+-- text that was written before stays in front
+abbrev pub after : List ℕ → Fed → Fed
+after front f = record { text = front ++ f.text; machine = f.machine; fault = f.fault }
+
+abbrev Fronts : List ℕ → Type 0
+Fronts bytes = (front text : List ℕ) (m : Machine) → fed bytes (front ++ text) m ≡ after front (fed bytes text m)
+
+fronts_at : (r : Result (List ℕ × Machine) ScriptFault) (bytes front text : List ℕ) (m : Machine) → Fronts bytes
+    → fed_on (front ++ text) m r (fed bytes) ≡ after front (fed_on text m r (fed bytes))
+fronts_at (Ok r) bytes front text m ih = ap (λ (t : List ℕ). fed bytes t r.1) (append_assoc front text r.0) ∙ ih front (text ++ r.0) r.1
+fronts_at (Err fault) bytes front text m ih = refl
+
+pub fed_front : (bytes : List ℕ) → Fronts bytes
+fed_front [] front text m = refl
+fed_front (b ∷ bytes) front text m = fronts_at (took m b) bytes front text m (λ front text m. fed_front bytes front text m)
+
+pub appends_more : (a b c : Option (List ℕ)) (x y : List ℕ) → Appends a b x → Appends b c y → Appends a c (x ++ y)
+appends_more None b c x y h k = tt
+appends_more (Some xs) None c x y h k = absurd h
+appends_more (Some xs) (Some ys) None x y h k = absurd k
+appends_more (Some xs) (Some ys) (Some zs) x y h k = k ∙ ap (λ (all : List ℕ). all ++ y) h ∙ append_assoc xs x y

@@ -1,0 +1,10 @@
+pub mod Faults
+pub mod Words
+pub mod Orders
+pub mod Texts
+pub mod Submits
+pub mod Script
+pub mod Machine
+pub mod MachineOf
+pub mod Ends
+pub mod Runs

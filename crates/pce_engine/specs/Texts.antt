@@ -1,0 +1,73 @@
+-- What a line prints.
+use Rattle.std.specs.Prelude.{ℕ, ◌+◌, ℤ, Bool, true, false, List, [], ◌∷◌, ◌++◌, codes}
+use Rattle.std.specs.Fmt.{decimal, signed_decimal}
+use Rattle.te_base.specs.declared.network.Link.{Link}
+use Rattle.lsp_base.specs.Whys.{number_of}
+use Rattle.lsp_base.specs.declared.why.Why.{Why}
+use Rattle.lsp_base.specs.Shares.{unreserved}
+use Rattle.step_core.specs.States.{State}
+use Rattle.step_core.specs.declared.event.Event.{Event}
+use Rattle.step_core.specs.declared.event.Event.TheVariants as event
+use Rattle.step_core.specs.declared.event.Reply.{Reply}
+use Rattle.step_core.specs.declared.event.Reply.TheVariants as reply
+use Rattle.history_core.specs.declared.step.Brief.{Brief}
+use Rattle.history_core.specs.declared.step.Brief.TheVariants as brief
+use Rattle.history_core.specs.declared.step.Step.{Step}
+
+abbrev pub booked_text : Bool → List ℕ
+booked_text false = codes "booked"
+booked_text true = codes "booked wants"
+
+abbrev pub refused_text : Why → List ℕ
+refused_text why = codes "refused " ++ decimal (number_of why)
+
+abbrev pub reply_text : Reply → List ℕ
+reply_text reply.Done = codes "done"
+reply_text (reply.Booked wants) = booked_text wants
+reply_text (reply.Refused why) = refused_text why
+
+abbrev pub brief_text : Brief → List ℕ
+brief_text brief.Done = codes "done"
+brief_text (brief.Booked wants) = booked_text wants
+brief_text (brief.Refused why) = refused_text why
+
+abbrev pub event_text : Event → List ℕ
+event_text (event.Up peer capabilities) = codes "up"
+event_text (event.Report peer report) = codes "report"
+event_text (event.Marker peer) = codes "marker"
+event_text (event.Down peer) = codes "down"
+event_text (event.Expire peer) = codes "expire"
+
+abbrev pub step_line : ℕ → Step → List ℕ
+step_line number step = codes "step " ++ decimal number ++ codes " " ++ event_text step.event ++ codes " " ++ brief_text step.brief ++ codes "\n"
+
+-- a line for each step, from the one with this number on
+abbrev pub steps_from : ℕ → List Step → List ℕ
+steps_from number [] = []
+steps_from number (step ∷ steps) = step_line number step ++ steps_from (number + 1) steps
+
+abbrev pub history_text : List Step → List ℕ
+history_text steps = steps_from 0 steps
+
+-- what is unreserved on a link at a priority
+abbrev pub left_at : State → ℕ → ℕ → ℤ
+left_at s link priority = unreserved s.te.links s.base.paths link priority
+
+abbrev pub amounts_text : State → ℕ → List ℕ → List ℕ
+amounts_text s link [] = []
+amounts_text s link (priority ∷ priorities) = codes " " ++ signed_decimal (left_at s link priority) ++ amounts_text s link priorities
+
+-- the eight priorities, the best first
+abbrev pub priorities : List ℕ
+priorities = 0 ∷ 1 ∷ 2 ∷ 3 ∷ 4 ∷ 5 ∷ 6 ∷ 7 ∷ []
+
+abbrev pub link_line : State → ℕ → List ℕ
+link_line s link = codes "link " ++ decimal link ++ amounts_text s link priorities ++ codes "\n"
+
+-- a line for each link, from the one with this number on
+abbrev pub book_from : State → ℕ → List Link → List ℕ
+book_from s number [] = []
+book_from s number (link ∷ links) = link_line s number ++ book_from s (number + 1) links
+
+abbrev pub book_text : State → List ℕ
+book_text s = book_from s 0 (s.te).links

@@ -1,0 +1,136 @@
+//! A script, from a reader to a writer.
+
+ghost use Rattle.std.specs.Prelude.{◌≡◌, ◌<◌, ◌≤◌, ◌+◌, ◌^◌, List, ℕ, [], length, Some};
+ghost use Rattle.pce_engine.specs.Script.{ending};
+ghost use Rattle.pce_engine.specs.Runs.{Chunk};
+ghost use Rattle.pce_engine.specs.Ends.{EndsAs, Closes, ClosesAt};
+ghost use Rattle.pce_engine.specs.Machine.{Takes, took, Feeds, closed_with, stage_of};
+ghost use Rattle.pce_engine.specs.MachineOf.{machine_of};
+
+use crate::fault::ScriptFault;
+use crate::stage::{Stage, tell};
+use std::alloc::Global;
+use std::io::{Read, Write};
+
+/// The reader is asked this often at most.
+const MAX_TURNS: u64 = 1 << 32;
+
+/// Where a script is, with the bytes of a line that hasn't ended.
+#[derive(Drop)]
+struct Script {
+    stage: Stage,
+    pending: Vec<u8>,
+}
+
+fn take_byte(
+    alloc: Global,
+    script: &mut Script,
+    byte: u8,
+    out: &mut Vec<u8>,
+) -> Result<(), ScriptFault>
+    requires { script.old.stage.number < 2 ^ 63 }
+    ensures took { Takes result (took (machine_of script.old) byte) out.old.items out.new.items (machine_of script.new) }
+    ensures number { script.new.stage.number ≤ script.old.stage.number + 1 }
+{
+    if byte != b'\n' {
+        script.pending.push(byte)?;
+        return Ok(());
+    }
+    let text = tell(alloc, &mut script.stage, &script.pending)?;
+    out.extend_from_slice(text.as_bytes())?;
+    script.pending.clear();
+    Ok(())
+}
+
+fn feed(
+    alloc: Global,
+    script: &mut Script,
+    bytes: &[u8],
+    out: &mut Vec<u8>,
+) -> Result<(), ScriptFault>
+    requires { script.old.stage.number + length bytes.now < 2 ^ 63 }
+    ensures fed { Feeds result bytes.now out.old.items (machine_of script.old) out.new.items (machine_of script.new) }
+    ensures number { script.new.stage.number ≤ script.old.stage.number + length bytes.now }
+{
+    for byte in bytes {
+        take_byte(alloc, script, *byte, out)?;
+    }
+    Ok(())
+}
+
+/// Takes a piece of the input, and writes what it prints, also where a fault comes after it.
+fn take_chunk<W: Write>(
+    alloc: Global,
+    script: &mut Script,
+    bytes: &[u8],
+    writer: &mut W,
+) -> Result<(), ScriptFault>
+    requires { script.old.stage.number + length bytes.now < 2 ^ 63 }
+    ensures chunk { Chunk result bytes.now (machine_of script.old) (W.contents writer.old) (W.contents writer.new) (machine_of script.new) }
+    ensures number { script.new.stage.number ≤ script.old.stage.number + length bytes.now }
+{
+    let mut out = Vec::new(alloc);
+    let outcome = feed(alloc, script, bytes, &mut out);
+    if writer.write_all(&out).is_err() {
+        return Err(ScriptFault::WriteFault);
+    }
+    outcome
+}
+
+fn close<W: Write>(stage: &Stage, writer: &mut W) -> Result<(), ScriptFault>
+    ensures { ClosesAt result (W.contents writer.old) (W.contents writer.new) (record { text = []; fault = ending stage.now.number stage.now.database }) }
+{
+    if stage.database.is_none() {
+        return Err(ScriptFault::BadLine(stage.number));
+    }
+    if writer.flush().is_err() {
+        return Err(ScriptFault::WriteFault);
+    }
+    Ok(())
+}
+
+fn finish<W: Write>(alloc: Global, script: &mut Script, writer: &mut W) -> Result<(), ScriptFault>
+    requires { script.old.stage.number < 2 ^ 63 }
+    ensures { Closes result (W.contents writer.old) (W.contents writer.new) (closed_with [] (stage_of script.old.stage) script.old.pending.items) }
+{
+    if script.pending.is_empty() {
+        return close(&script.stage, writer);
+    }
+    let text = tell(alloc, &mut script.stage, &script.pending)?;
+    if writer.write_all(text.as_bytes()).is_err() {
+        return Err(ScriptFault::WriteFault);
+    }
+    close(&script.stage, writer)
+}
+
+/// Reads a link text, a line `---` and lines, and writes what they print (docs/FORMAT.md has them all).
+///
+/// `BadLine`, `Te` and `HistoryFull` come where the script has them, after the output of all lines
+/// before. After `ReadFault` the output of all lines that were read stands, after `OutOfMemory` that of
+/// whole lines; after `WriteFault` how much went out is not said. The reader is asked 2^32 times at most.
+pub fn run_script<R: Read, W: Write>(
+    alloc: Global,
+    reader: &mut R,
+    writer: &mut W,
+) -> Result<(), ScriptFault>
+    ensures { (input : List ℕ) → R.remaining reader.old ≡ Some input
+        → EndsAs result (W.contents writer.old) (W.contents writer.new) (R.remaining reader.new) input }
+{
+    let mut script = Script {
+        stage: Stage {
+            number: 1,
+            header: Vec::new(alloc),
+            database: None,
+        },
+        pending: Vec::new(alloc),
+    };
+    let mut chunk = [0u8; 4096];
+    for _ in 0..MAX_TURNS {
+        match reader.read(&mut chunk) {
+            Err(_) => return Err(ScriptFault::ReadFault),
+            Ok(0) => return finish(alloc, &mut script, writer),
+            Ok(n) => take_chunk(alloc, &mut script, &chunk[..n], writer)?,
+        }
+    }
+    Err(ScriptFault::ReadFault)
+}

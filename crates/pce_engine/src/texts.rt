@@ -1,0 +1,124 @@
+//! What lines print.
+
+ghost use Rattle.std.specs.Prelude.{◌≡◌, ◌++◌, ◌<◌, ◌≤◌, IfOk, OnOk, All, length, string_bytes};
+ghost use Rattle.pce_engine.specs.Texts.{booked_text, refused_text, reply_text, brief_text, event_text, step_line, history_text, left_at, amounts_text, link_line, book_text};
+
+use history_core::{Brief, Database, Event, Reply, Step, Why};
+use pcep_word::Priority;
+use std::alloc::{AllocError, Global};
+use std::fmt::Write;
+use te_base::LinkNumber;
+
+fn booked_word(wants_path: bool) -> &'static str
+    ensures { result.now ≡ booked_text wants_path }
+{
+    if wants_path { "booked wants" } else { "booked" }
+}
+
+fn add_refusal(text: &mut String, why: Why) -> Result<(), AllocError>
+    ensures { OnOk result (string_bytes text.new ≡ string_bytes text.old ++ refused_text why) }
+{
+    let number = why.number();
+    write!(text, "refused {number}")
+}
+
+/// A reply, without a line break.
+pub(crate) fn add_reply(text: &mut String, reply: &Reply) -> Result<(), AllocError>
+    ensures { OnOk result (string_bytes text.new ≡ string_bytes text.old ++ reply_text reply.now) }
+{
+    match reply {
+        Reply::Done => text.push_str("done"),
+        Reply::Booked { wants_path } => text.push_str(booked_word(*wants_path)),
+        Reply::Refused(why) => add_refusal(text, *why),
+    }
+}
+
+fn add_brief(text: &mut String, brief: Brief) -> Result<(), AllocError>
+    ensures { OnOk result (string_bytes text.new ≡ string_bytes text.old ++ brief_text brief) }
+{
+    match brief {
+        Brief::Done => text.push_str("done"),
+        Brief::Booked { wants_path } => text.push_str(booked_word(wants_path)),
+        Brief::Refused(why) => add_refusal(text, why),
+    }
+}
+
+fn event_word(event: &Event) -> &'static str
+    ensures { result.now ≡ event_text event.now }
+{
+    match event {
+        Event::Up { .. } => "up",
+        Event::Report { .. } => "report",
+        Event::Marker { .. } => "marker",
+        Event::Down { .. } => "down",
+        Event::Expire { .. } => "expire",
+    }
+}
+
+fn add_step(text: &mut String, number: usize, step: &Step) -> Result<(), AllocError>
+    ensures { OnOk result (string_bytes text.new ≡ string_bytes text.old ++ step_line number step.now) }
+{
+    let word = event_word(&step.event);
+    write!(text, "step {number} {word} ")?;
+    add_brief(text, step.brief)?;
+    text.push_str("\n")
+}
+
+/// A line for each kept step.
+pub(crate) fn history_text(alloc: Global, steps: &[Step]) -> Result<String, AllocError>
+    ensures { IfOk result (λ s. string_bytes s ≡ history_text steps.now) }
+{
+    let mut text = String::new(alloc);
+    for (number, step) in steps.iter().enumerate() {
+        add_step(&mut text, number, step)?;
+    }
+    Ok(text)
+}
+
+fn left_on(database: &Database, link: LinkNumber, priority: u8) -> i64
+    requires link { link < length database.now.state.te.links }
+    requires priority { priority ≤ 7 }
+    ensures { result ≡ left_at database.now.state link priority }
+{
+    database
+        .unreserved(link, Priority::capped(priority))
+        .unwrap()
+}
+
+fn add_amounts(
+    text: &mut String,
+    database: &Database,
+    link: LinkNumber,
+    priorities: &[u8],
+) -> Result<(), AllocError>
+    requires link { link < length database.now.state.te.links }
+    requires priorities { All (λ p. p ≤ 7) priorities.now }
+    ensures { OnOk result (string_bytes text.new ≡ string_bytes text.old ++ amounts_text database.now.state link priorities.now) }
+{
+    for priority in priorities {
+        let left = left_on(database, link, *priority);
+        write!(text, " {left}")?;
+    }
+    Ok(())
+}
+
+fn add_link(text: &mut String, database: &Database, link: LinkNumber) -> Result<(), AllocError>
+    requires { link < length database.now.state.te.links }
+    ensures { OnOk result (string_bytes text.new ≡ string_bytes text.old ++ link_line database.now.state link) }
+{
+    write!(text, "link {link}")?;
+    add_amounts(text, database, link, &[0, 1, 2, 3, 4, 5, 6, 7])?;
+    text.push_str("\n")
+}
+
+/// A line for each link, with what is unreserved at each priority.
+pub(crate) fn book_text(alloc: Global, database: &Database) -> Result<String, AllocError>
+    ensures { IfOk result (λ s. string_bytes s ≡ book_text database.now.state) }
+{
+    let links = database.te_base().links();
+    let mut text = String::new(alloc);
+    for (number, _link) in links.iter().enumerate() {
+        add_link(&mut text, database, number)?;
+    }
+    Ok(text)
+}
