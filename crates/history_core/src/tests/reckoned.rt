@@ -1,5 +1,5 @@
 //! A thousand reports against a plain sum of what was sent.
-ghost use Rattle.std.specs.Prelude.{◌<◌};
+ghost use Rattle.std.specs.Prelude.{◌<◌, ◌≤◌, ◌+◌};
 
 use super::*;
 
@@ -76,52 +76,120 @@ const WORDS: [(u32, i64); 4] = [
     (W1M, 1_000_000),
 ];
 
-/// One report or removal of a random LSP, told and reckoned. An LSP has the slots 5 n to 5 n + 4, by its
-/// LSP IDs, with 0 for the path of zeros alone.
+/// One report or removal of a random LSP.
+#[derive(Clone, Copy)]
+struct Chosen {
+    peer: u32,
+    plsp: u32,
+    lsp: u32,
+    removes: bool,
+    sent: Sent,
+    setup: u32,
+    word: u32,
+}
+
+fn sent_at_random(random: &mut Random, peer: u32, bandwidth: i64) -> Sent {
+    Sent {
+        peer,
+        tunnel: random.below(3),
+        hold: random.below(8),
+        bandwidth,
+        by_c: random.below(2) == 0,
+        up: random.below(8) != 0,
+    }
+}
+
+fn chosen_at_random(random: &mut Random) -> Chosen
+    ensures peer { (1 ≤ result.peer) × (result.peer ≤ 2) }
+    ensures plsp { (1 ≤ result.plsp) × (result.plsp ≤ 3) }
+    ensures lsp { result.lsp < 5 }
+{
+    let peer = 1 + random.below(2);
+    let (word, bandwidth) = WORDS[random.below(4) as usize];
+    let sent = sent_at_random(random, peer, bandwidth);
+    Chosen {
+        peer,
+        plsp: 1 + random.below(3),
+        lsp: random.below(5),
+        removes: random.below(4) == 0,
+        sent,
+        setup: random.below(8),
+        word,
+    }
+}
+
+/// The first slot of an LSP: it has five, by its LSP IDs, with 0 for the path of zeros alone.
+fn first_slot(peer: u32, plsp: u32) -> usize
+    requires peer { (1 ≤ peer) × (peer ≤ 2) }
+    requires plsp { (1 ≤ plsp) × (plsp ≤ 3) }
+    ensures { result + 5 ≤ 30 }
+{
+    (((peer - 1) * 3 + plsp - 1) * 5) as usize
+}
+
+/// What the report or removal takes away.
+fn forget(sent: &mut [Option<Sent>; 30], first: usize, lsp: u32, removes: bool)
+    requires { first + 5 ≤ 30 }
+{
+    for other in 0..5u32 {
+        if lsp == 0 || other == lsp || (other == 0 && !removes) {
+            sent[first + other as usize] = None;
+        }
+    }
+}
+
+fn told_of(chosen: &Chosen) -> Told {
+    let identifiers = if chosen.lsp == 0 {
+        None
+    } else {
+        Some((chosen.lsp, chosen.sent.tunnel))
+    };
+    Told {
+        plsp: chosen.plsp,
+        flags: if chosen.sent.up { 0x18 } else { 8 },
+        identifiers,
+        by_c: chosen.sent.by_c,
+        setup: chosen.setup,
+        hold: chosen.sent.hold,
+        word: chosen.word,
+    }
+}
+
+/// What the report leaves. A path of zeros alone starts nowhere, so it has no link.
+fn kept_of(chosen: &Chosen) -> Sent {
+    let mut sent = chosen.sent;
+    sent.hold = sent.hold.min(chosen.setup);
+    sent.up = sent.up && chosen.lsp != 0;
+    sent
+}
+
+/// Reckons the report or removal.
+fn reckon(sent: &mut [Option<Sent>; 30], chosen: &Chosen)
+    requires peer { (1 ≤ chosen.now.peer) × (chosen.now.peer ≤ 2) }
+    requires plsp { (1 ≤ chosen.now.plsp) × (chosen.now.plsp ≤ 3) }
+    requires lsp { chosen.now.lsp < 5 }
+{
+    let first = first_slot(chosen.peer, chosen.plsp);
+    forget(sent, first, chosen.lsp, chosen.removes);
+    if !chosen.removes {
+        sent[first + chosen.lsp as usize] = Some(kept_of(chosen));
+    }
+}
+
 fn turn(
     alloc: Global,
     database: &mut Database,
     sent: &mut [Option<Sent>; 30],
     random: &mut Random,
 ) -> Result<Reply, Fail> {
-    let peer = 1 + random.below(2);
-    let plsp = 1 + random.below(3);
-    let lsp = random.below(5);
-    let (setup, hold) = (random.below(8), random.below(8));
-    let (word, bandwidth) = WORDS[random.below(4) as usize];
-    let by_c = random.below(2) == 0;
-    let up = random.below(8) != 0;
-    let tunnel = random.below(3);
-    let first = (((peer - 1) * 3 + plsp - 1) * 5) as usize;
-    let removes = random.below(4) == 0;
-    for other in 0..5 {
-        let goes = lsp == 0 || other == lsp || (other == 0 && !removes);
-        if goes {
-            sent[first + other as usize] = None;
-        }
+    let chosen = chosen_at_random(random);
+    reckon(sent, &chosen);
+    let told = told_of(&chosen);
+    if chosen.removes {
+        withdraw(alloc, database, chosen.peer, told)
+    } else {
+        tell(alloc, database, chosen.peer, told)
     }
-    let told = Told {
-        plsp,
-        flags: if up { 0x18 } else { 8 },
-        identifiers: if lsp == 0 { None } else { Some((lsp, tunnel)) },
-        by_c,
-        setup,
-        hold,
-        word,
-    };
-    if removes {
-        return withdraw(alloc, database, peer, told);
-    }
-    sent[first + lsp as usize] = Some(Sent {
-        peer,
-        tunnel,
-        hold: hold.min(setup),
-        bandwidth,
-        by_c,
-        // a path of zeros alone starts nowhere, so it has no link
-        up: up && lsp != 0,
-    });
-    tell(alloc, database, peer, told)
 }
 
 #[test]
