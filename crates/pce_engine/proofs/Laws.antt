@@ -4,8 +4,8 @@ use Rattle.std.proofs.lemmas.List.{append-nil, take_more}
 use Rattle.std.specs.Io.KnownBytes.{Appends}
 use Rattle.pce_engine.specs.declared.fault.ScriptFault.{ScriptFault}
 use Rattle.pce_engine.specs.declared.fault.ScriptFault.TheVariants.{BadLine, Te, ReadFault, WriteFault, OutOfMemory, HistoryFull}
-use Rattle.pce_engine.specs.Script.{Cut, cut_at, cut, with_rest, lines_of, Stage, start, told, Outcome, ending, on_told, printed, script, text_of_lines}
-use Rattle.pce_engine.specs.Machine.{Machine, begun, Fed, after_line, took, fed_on, fed, Leads, LeadsPartly, Halts, Breaks, closed_with, completed_by, completed}
+use Rattle.pce_engine.specs.Script.{Cut, cut_at, with_rest, Stage, start, told, Outcome, on_told, printed, script, text_of_lines}
+use Rattle.pce_engine.specs.Machine.{Machine, begun, Fed, after_line, took, fed_on, fed, Leads, Halts, Breaks, completed}
 
 -- the lines of what was cut, and of the bytes after it
 abbrev pub cut_on : Cut → List ℕ → List (List ℕ)

@@ -1,5 +1,5 @@
 -- What a line asks for once the link text has ended.
-use Rattle.std.specs.Prelude.{ℕ, List, Option, Some, None, option_and_then, Result, Ok, Err, codes, if◌then◌else◌}
+use Rattle.std.specs.Prelude.{ℕ, List, Option, Some, None, option_and_then, Result, Ok, codes, if◌then◌else◌}
 use Rattle.std.specs.Str.{bytes_eq, is_utf8}
 use Rattle.pcep_messages.specs.Messages.{message_in}
 use Rattle.pcep_messages.specs.declared.fault.MessageFault.{MessageFault}

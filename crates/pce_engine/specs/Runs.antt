@@ -1,8 +1,8 @@
 -- A run over a reader and a writer whose bytes are known.
-use Rattle.std.specs.Prelude.{◌≡◌, ℕ, List, [], ◌++◌, Option, Some, None, Result, Ok, Err}
+use Rattle.std.specs.Prelude.{◌≡◌, ℕ, List, [], ◌++◌, Option, Some, Result, Ok, Err}
 use Rattle.std.specs.Io.KnownBytes.{Appends}
 use Rattle.pce_engine.specs.declared.fault.ScriptFault.{ScriptFault}
-use Rattle.pce_engine.specs.declared.fault.ScriptFault.TheVariants.{BadLine, Te, ReadFault, WriteFault, OutOfMemory, HistoryFull}
+use Rattle.pce_engine.specs.declared.fault.ScriptFault.TheVariants.{ReadFault, WriteFault, OutOfMemory}
 use Rattle.pce_engine.specs.Machine.{Machine, begun, fed, Leads, LeadsPartly}
 
 -- A fault stopped it, and what it printed before was written.

@@ -1,5 +1,5 @@
 -- What the events of a line do to the database.
-use Rattle.std.specs.Prelude.{◌≡◌, ℕ, ◌==◌, Bool, true, false, List, [], ◌∷◌, ◌++◌, length, codes, Option, Some, None, Result, Ok, Err, if◌then◌else◌}
+use Rattle.std.specs.Prelude.{◌≡◌, ℕ, ◌==◌, true, List, [], ◌∷◌, ◌++◌, length, codes, Some, Result, Ok, Err, if◌then◌else◌}
 use Rattle.pcep_messages.specs.declared.message.StateReport.{StateReport}
 use Rattle.step_core.specs.States.{is_up}
 use Rattle.step_core.specs.Steps.{step}
@@ -11,7 +11,7 @@ use Rattle.step_core.specs.declared.event.Event.TheVariants as event
 use Rattle.step_core.specs.declared.event.Reply.{Reply}
 use Rattle.pce_engine.specs.Texts.{reply_text}
 use Rattle.pce_engine.specs.declared.fault.ScriptFault.{ScriptFault}
-use Rattle.pce_engine.specs.declared.fault.ScriptFault.TheVariants.{BadLine, Te, ReadFault, WriteFault, OutOfMemory, HistoryFull}
+use Rattle.pce_engine.specs.declared.fault.ScriptFault.TheVariants.{ReadFault, WriteFault, OutOfMemory, HistoryFull}
 
 infixl 10 ◌>>=◌
 abbrev pub ◌>>=◌ : {A B : Type 0} → Result A ScriptFault → (A → Result B ScriptFault) → Result B ScriptFault

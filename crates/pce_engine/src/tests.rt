@@ -303,6 +303,25 @@ fn a_failing_read(rt: HostRuntime) -> Result<(), Fail> {
     Ok(())
 }
 
+/// Run it with each of its allocations refused in turn (`rt try --test --fail-alloc N`): it passes wherever
+/// the refused one lies in `run_script`.
+#[test]
+fn whole_lines_stand_without_memory(rt: HostRuntime) -> Result<(), Fail> {
+    let input = script(rt.alloc(), DIAMOND, &[REPORT, "history"])?;
+    let history = "booked\nstep 0 up done\nstep 1 marker done\nstep 2 report booked\n";
+    let mut written = Vec::with_capacity(rt.alloc(), 4096)?;
+    let mut reader = input.as_slice();
+    match run_script(rt.alloc(), &mut reader, &mut written) {
+        Ok(()) => assert_eq!(rt; str::from_utf8(&written)?, history),
+        Err(fault) => {
+            assert_eq!(rt; fault, ScriptFault::OutOfMemory);
+            let text = str::from_utf8(&written)?;
+            assert!(rt; text.is_empty() || text == "booked\n");
+        }
+    }
+    Ok(())
+}
+
 /// Takes as many bytes as there is room, and then fails.
 #[derive(Drop)]
 struct Full {

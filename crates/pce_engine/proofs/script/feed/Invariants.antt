@@ -1,4 +1,4 @@
-use Rattle.std.proofs.Common.{◌≡◌, ◌≤◌, ◌+◌, take}
+use Rattle.std.proofs.Common.{◌≤◌, ◌+◌, take}
 use Rattle.pce_engine.specs.Machine.{Leads}
 use Rattle.pce_engine.specs.MachineOf.{machine_of}
 use Rattle.pce_engine.proofs.script.feed.Given as goal

@@ -1,4 +1,4 @@
-use Rattle.std.proofs.Common.{◌≡◌, ◌==◌, true, false, slice_index, sym, ◌∙◌}
+use Rattle.std.proofs.Common.{sym, ◌∙◌}
 use Rattle.pce_engine.proofs.Numbers.{plus_is_none, by_parse}
 use Rattle.pce_engine.proofs.words.number_in.Goals as goal
 
