@@ -1,21 +1,19 @@
 -- Each effect drops and adds paths of its own peer alone.
-use Rattle.std.proofs.Common.{◌≡◌, ◌==◌, ◌&&◌, ◌||◌, ℕ, Bool, true, false, cond, List, [], ◌∷◌, refl, sym, ◌∙◌, ap, map, subst}
-use Rattle.std.specs.Prelude.{filter, not, nat_lt, length, Option, Some, None, Result, Ok, Err, if◌then◌else◌}
-use Rattle.std.specs.List.{list_any}
+use Rattle.std.proofs.Common.{◌≡◌, ◌==◌, ◌&&◌, ◌||◌, ℕ, Bool, true, false, List, [], refl, map, subst}
+use Rattle.std.specs.Prelude.{filter, not, Option, Some, None, Ok, Err, if◌then◌else◌}
 use Rattle.pcep_objects.specs.declared.object.Capabilities.{Capabilities}
 use Rattle.pcep_messages.specs.declared.message.StateReport.{StateReport}
 use Rattle.te_base.specs.Base.{Base}
 use Rattle.lsp_base.specs.Base.{Lsps, dropping, is_path_of}
 use Rattle.lsp_base.specs.declared.path.Path.{Path}
 use Rattle.lsp_base.specs.declared.effect.Effect.{Effect}
-use Rattle.lsp_base.specs.declared.why.Why.{Why}
 use Rattle.lsp_base.specs.declared.why.Why.TheVariants.{BadReport, TooManyPaths}
 use Rattle.sync_rules.specs.Peers.{is_stale_of, is_of_peer, marker_effect, up_effect, down_effect, expire_effect}
-use Rattle.lsp_base.specs.Grants.{has_grant, is_grant_of, is_unbound_grant, has_srp}
+use Rattle.lsp_base.specs.Grants.{has_grant}
 use Rattle.lsp_base.specs.declared.lsp.Lsp.{Lsp}
 use Rattle.delegate_rules.specs.Reports.{identifiers_of, are_zero, reported_path}
-use Rattle.delegate_rules.specs.Grants.{is_grant_met, is_grant_kept, is_grant_settled, is_grant_bound, moved_grant, moved_grants, bound_grant}
-use Rattle.delegate_rules.specs.Effects.{is_replaced, is_replaced_part, goes_by_report, report_effect_by, is_removed, is_reported_as, goes_by_removal, bound_grants, removal_effect_by, told_effect, is_reserved, is_too_many, allowed, report_result}
+use Rattle.delegate_rules.specs.Grants.{is_grant_met, is_grant_kept, is_grant_settled, is_grant_bound, moved_grant, bound_grant}
+use Rattle.delegate_rules.specs.Effects.{is_replaced, goes_by_report, report_effect_by, is_removed, goes_by_removal, removal_effect_by, told_effect, is_reserved, is_too_many, allowed, report_result}
 use Rattle.step_core.proofs.Others.{same_number, first_of_both, AllOwn, AllOwn-filter, AllOwn-map, IsOwn}
 
 -- paths of the peer that a test chooses go

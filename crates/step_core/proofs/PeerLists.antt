@@ -1,5 +1,5 @@
 -- Peers in a list, at the place of a number.
-use Rattle.std.proofs.Common.{◌≡◌, ◌==◌, ℕ, ◌+◌, ◌<◌, List, [], ◌∷◌, ◌++◌, length, take, drop, set, get_or, sym, ◌∙◌, ap, true, cond, add-one}
+use Rattle.std.proofs.Common.{◌≡◌, ◌==◌, ℕ, ◌+◌, ◌<◌, List, ◌∷◌, ◌++◌, length, take, drop, set, get_or, sym, ◌∙◌, ap, true, cond, add-one}
 use Rattle.std.proofs.lemmas.List.{drop_more, set_split}
 use Rattle.step_core.specs.States.{put_peer}
 use Rattle.step_core.specs.declared.peer.Peer.{Peer}

@@ -1,10 +1,9 @@
 -- What the layers above use of the step.
-use Rattle.std.proofs.Common.{◌≡◌, ◌==◌, ◌∙◌, ℕ, ◌+◌, ◌≤◌, Bool, true, false, cond, List, refl, sym, ap, subst, arith}
-use Rattle.std.specs.Prelude.{Option, Some, None, Result, Ok, Err, OnOk, OnErr, if◌then◌else◌, not, filter}
+use Rattle.std.proofs.Common.{◌≡◌, ◌∙◌, ℕ, ◌+◌, ◌≤◌, Bool, true, false, cond, List, refl, sym, subst, arith}
+use Rattle.std.specs.Prelude.{Option, Some, None, Result, Ok, Err, OnOk, OnErr}
 use Rattle.std.specs.declared.alloc.AllocError.{AllocError}
 use Rattle.pcep_objects.specs.declared.object.Capabilities.{Capabilities}
-use Rattle.pcep_messages.specs.declared.message.StateReport.{StateReport}
-use Rattle.lsp_base.specs.Base.{changed, with_stale}
+use Rattle.lsp_base.specs.Base.{changed}
 use Rattle.lsp_base.specs.declared.effect.Effect.{Effect}
 use Rattle.lsp_base.specs.declared.why.Why.{Why}
 use Rattle.sync_rules.specs.Peers.{up_effect, marker_effect, down_effect, expire_effect}
@@ -12,12 +11,12 @@ use Rattle.delegate_rules.specs.Effects.{report_result}
 use Rattle.step_core.specs.declared.event.Event.{Event}
 use Rattle.step_core.specs.declared.event.Event.TheVariants.{Up, Report, Marker, Down, Expire}
 use Rattle.step_core.specs.declared.event.Reply.{Reply}
-use Rattle.step_core.specs.declared.event.Reply.TheVariants.{Done, Booked, Refused}
-use Rattle.step_core.specs.States.{State, affected, moves_paths, peer_at, put_peer, in_session, is_peer, is_up}
-use Rattle.step_core.specs.Steps.{Outcome, decided, done, step, up_step, marker_step, down_step, expire_step, report_step, booked, wants, ◌⨟◌, must_be_up, must_be_down, must_be_known, may_be_known, after_up, after_marker, after_down, after_expire}
+use Rattle.step_core.specs.declared.event.Reply.TheVariants.{Refused}
+use Rattle.step_core.specs.States.{State, affected, moves_paths, peer_at, in_session}
+use Rattle.step_core.specs.Steps.{Outcome, decided, done, step, booked, ◌⨟◌, must_be_up, must_be_down, must_be_known, may_be_known, after_up, after_marker, after_down, after_expire}
 use Rattle.step_core.specs.Laws.{peer_of, OthersStay, CountsRise}
 use Rattle.step_core.specs.declared.peer.Peer.{Peer}
-use Rattle.step_core.proofs.Others.{IsOwn, other_paths, other_records, other_peers, changed-paths, changed-records, with_stale-paths, with_stale-records, peer_at-number, put_peer-others, forget-others}
+use Rattle.step_core.proofs.Others.{IsOwn, other_peers, changed-paths, changed-records, with_stale-paths, with_stale-records, peer_at-number, put_peer-others, forget-others}
 use Rattle.step_core.proofs.Effects.{up-own, marker-own, down-own, expire-own, report-own}
 
 -- what holds of the state, and of what follows where no test fails, holds after

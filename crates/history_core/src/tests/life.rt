@@ -127,3 +127,29 @@ fn at_most_64_peers_are_known(rt: HostRuntime) -> Result<(), Fail> {
     assert_eq!(rt; up(&mut database, 63, None)?, Reply::Done);
     Ok(())
 }
+
+#[test]
+fn at_most_16384_paths_stand(rt: HostRuntime) -> Result<(), Fail> {
+    let alloc = rt.alloc();
+    let mut database = opened(&rt, alloc)?;
+    for lsp in 1..16_385 {
+        let told = Told {
+            identifiers: Some((lsp, 1)),
+            ..FIRST
+        };
+        assert_eq!(rt;
+            tell(alloc, &mut database, 1, told)?,
+            booked(),
+            "LSP ID {lsp}"
+        );
+    }
+    let one_more = Told {
+        identifiers: Some((16_385, 1)),
+        ..FIRST
+    };
+    let reply = tell(alloc, &mut database, 1, one_more)?;
+    assert_eq!(rt; reply, Reply::Refused(Why::TooManyPaths));
+    // a report of a path that stands takes its place
+    assert_eq!(rt; tell(alloc, &mut database, 1, FIRST)?, booked());
+    Ok(())
+}

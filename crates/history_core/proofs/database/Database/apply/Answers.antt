@@ -1,5 +1,4 @@
 use Rattle.std.proofs.Common.{◌≡◌, [], ◌∷◌, ◌++◌, ap, refl, ◌∙◌, arith, length-append}
-use Rattle.history_core.specs.declared.step.Brief.{Brief}
 use Rattle.history_core.specs.declared.step.Step.{Step}
 use Rattle.history_core.specs.Histories.{Content, kept_step}
 use Rattle.history_core.proofs.Replaying.{changes_le, sessions_le, Replays-applied, refused-applied}
