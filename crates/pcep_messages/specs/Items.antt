@@ -34,7 +34,7 @@ abbrev pub after_srp : Srp → Bool → Items → Items
 after_srp srp true behind = record { front = no_objects; items = joins srp behind.front behind.items; lsp_first = false }
 after_srp srp false behind = record { front = no_objects; items = record behind.front { srp = Some srp } ∷ behind.items; lsp_first = false }
 
--- An object in front of others. Of several of one class in an item the first counts, of BANDWIDTHs of
+-- An object in front of others; one that no report names is skipped. Of several of one class in an item the first counts, of BANDWIDTHs of
 -- either type the greatest.
 abbrev pub in_front : Object → Items → Items
 in_front (objects.Srp srp) behind = after_srp srp behind.lsp_first behind
@@ -44,6 +44,7 @@ in_front (objects.Rro hops) behind = record { front = record behind.front { rro 
 in_front (objects.Lspa lspa) behind = record { front = record behind.front { lspa = Some lspa }; items = behind.items; lsp_first = false }
 in_front (objects.Bandwidth kind bandwidth) behind =
     record { front = record behind.front { bandwidth = Some (greatest bandwidth behind.front.bandwidth) }; items = behind.items; lsp_first = false }
+in_front object behind = behind
 
 abbrev pub items_of : List Object → Items
 items_of objects = from_end in_front no_items objects

@@ -88,6 +88,7 @@ fn put(
         Object::Bandwidth(_, bandwidth) => {
             front.bandwidth = Some(greater(bandwidth, front.bandwidth));
         }
+        _ => return Ok(lsp_first),
     }
     Ok(false)
 }

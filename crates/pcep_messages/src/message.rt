@@ -1,7 +1,9 @@
 //! What messages say.
 
-use pcep_objects::{Colours, Hop, Identifiers, Operational, Plsp};
-use pcep_word::{Bandwidth, Priority};
+use pcep_objects::{
+    Colours, Hop, Identifiers, MetricValue, NoPathVector, Open, Operational, PcepError, Plsp,
+};
+use pcep_word::{Bandwidth, Ipv4, Priority};
 use sequence::{PlainData, Sequence};
 use std::alloc::AllocError;
 
@@ -41,11 +43,155 @@ pub struct StateReport {
     pub colours: Colours,
 }
 
+/// A metric that a path is to have least of (RFC 5440 section 7.8).
+#[derive(Clone, Copy, Debug, PartialEq, Eq)]
+pub enum MetricType {
+    Igp,
+    Te,
+    Hops,
+}
+
+/// The least bound that a request sets on each metric; None: it sets none.
+#[derive(Clone, Copy, Debug, PartialEq, Eq)]
+pub struct Bounds {
+    pub igp: Option<u64>,
+    pub te: Option<u64>,
+    pub hops: Option<u64>,
+}
+
+/// A request for a path (RFC 5440 section 6.4).
+#[derive(Clone, Copy, Debug, PartialEq, Eq)]
+pub struct PathRequest {
+    /// The Request-ID.
+    pub request: u32,
+    /// The LSP that the path is for, where the request has an LSP (RFC 8231 section 6.4).
+    pub plsp: Option<Plsp>,
+    pub source: Ipv4,
+    pub destination: Ipv4,
+    /// The bandwidth that is asked for, in bytes per second; 0 where the request has none.
+    pub bandwidth: Bandwidth,
+    /// The setup priority; 7 where the request has no LSPA.
+    pub setup: Priority,
+    /// The holding priority in force: of the setup and the holding priority the better one.
+    pub hold: Priority,
+    /// The link colours that bind the path; none where the request has no LSPA.
+    pub colours: Colours,
+    /// What the path is to have least of: the TE metric where the request names none.
+    pub minimise: MetricType,
+    pub bounds: Bounds,
+}
+
+/// The cost of a path.
+#[derive(Clone, Copy, Debug, PartialEq, Eq)]
+pub struct Cost {
+    /// The metric's type T (RFC 5440 section 7.8): 1 IGP, 2 TE, 3 hops.
+    pub kind: u8,
+    pub value: MetricValue,
+}
+
+/// What a reply says of the path that was asked for.
+#[derive(Debug, Drop)]
+pub enum Answer {
+    /// A path, and its cost where the reply has it.
+    Found(Sequence<Hop>, Option<Cost>),
+    /// There is none, and why, where the reply says it.
+    NoPath(Option<NoPathVector>),
+}
+
+/// The answer to a request (RFC 5440 section 6.5).
+#[derive(Debug, Drop)]
+pub struct Reply {
+    /// The Request-ID.
+    pub request: u32,
+    pub answer: Answer,
+}
+
+/// Errors, and the requests that they are about (RFC 5440 section 6.7, RFC 8231 section 6.3).
+#[derive(Debug, Drop)]
+pub struct Errors {
+    /// Request-IDs.
+    pub requests: Sequence<u32>,
+    /// SRP-IDs.
+    pub srps: Sequence<u32>,
+    pub errors: Sequence<PcepError>,
+}
+
+/// What an LSPA asks of a path.
+#[derive(Clone, Copy, Debug, PartialEq, Eq)]
+pub struct Attributes {
+    pub colours: Colours,
+    pub setup: Priority,
+    /// The holding priority in force: of the setup and the holding priority the better one.
+    pub hold: Priority,
+}
+
+/// A change of an LSP that the PCE asks for (RFC 8231 section 6.2).
+#[derive(Debug, Drop)]
+pub struct Update {
+    /// The SRP-ID.
+    pub srp: u32,
+    pub plsp: Plsp,
+    /// The delegation stands (flag D).
+    pub delegate: bool,
+    /// The LSP is to be active (flag A).
+    pub admin: bool,
+    pub ero: Sequence<Hop>,
+    pub attributes: Option<Attributes>,
+    /// In bytes per second.
+    pub bandwidth: Option<Bandwidth>,
+}
+
+/// A new LSP that the PCE asks for (RFC 8281 section 5.3).
+#[derive(Debug, Drop)]
+pub struct Create {
+    /// The SRP-ID.
+    pub srp: u32,
+    /// The symbolic path name; empty where the message has none.
+    pub name: Sequence<u8>,
+    pub source: Ipv4,
+    pub destination: Ipv4,
+    pub ero: Sequence<Hop>,
+    pub attributes: Option<Attributes>,
+    /// In bytes per second.
+    pub bandwidth: Option<Bandwidth>,
+}
+
+/// What the PCE asks of a peer about LSPs of its own making (RFC 8281 sections 5.3 and 5.4).
+#[derive(Debug, Drop)]
+pub enum Initiate {
+    /// To set an LSP up.
+    Create(Create),
+    /// To take this LSP away.
+    Remove {
+        /// The SRP-ID.
+        srp: u32,
+        plsp: Plsp,
+    },
+}
+
 /// A message of PCEP.
 #[derive(Debug, Drop)]
 pub enum Message {
-    /// A state report, PCRpt (RFC 8231 section 6.1): the reports in the order of the message.
+    /// Open (RFC 5440 section 6.2).
+    Opening(Open),
+    /// Keepalive (RFC 5440 section 6.3).
+    Keepalive,
+    /// PCReq: the requests in the order of the message (RFC 5440 section 6.4).
+    Request(Sequence<PathRequest>),
+    /// PCRep (RFC 5440 section 6.5).
+    Reply(Reply),
+    /// PCNtf, which is ignored (RFC 5440 section 6.6).
+    Notify,
+    /// PCErr (RFC 5440 section 6.7).
+    Error(Errors),
+    /// Close, with its reason (RFC 5440 section 6.8); 1, no explanation, where the message has none.
+    Close(u8),
+    /// PCRpt: the reports in the order of the message (RFC 8231 section 6.1).
     Report(Sequence<StateReport>),
+    /// PCUpd (RFC 8231 section 6.2).
+    Update(Update),
+    /// PCInitiate (RFC 8281 section 5.1).
+    Initiate(Initiate),
     /// A message of a type that is not read, by its type. Its body was not looked at.
     Unknown(u8),
 }
@@ -76,8 +222,91 @@ impl PlainData for StateReport {
 impl PlainData for Message {
     fn copy(&self) -> Result<Message, AllocError> {
         match self {
+            Message::Opening(opening) => Ok(Message::Opening(*opening)),
+            Message::Keepalive => Ok(Message::Keepalive),
+            Message::Request(requests) => Ok(Message::Request(requests.copy()?)),
+            Message::Reply(reply) => Ok(Message::Reply(reply.copy()?)),
+            Message::Notify => Ok(Message::Notify),
+            Message::Error(errors) => Ok(Message::Error(errors.copy()?)),
+            Message::Close(reason) => Ok(Message::Close(*reason)),
             Message::Report(reports) => Ok(Message::Report(reports.copy()?)),
+            Message::Update(update) => Ok(Message::Update(update.copy()?)),
+            Message::Initiate(initiate) => Ok(Message::Initiate(initiate.copy()?)),
             Message::Unknown(kind) => Ok(Message::Unknown(*kind)),
+        }
+    }
+}
+
+impl PlainData for PathRequest {
+    fn copy(&self) -> Result<PathRequest, AllocError> {
+        Ok(*self)
+    }
+}
+
+impl PlainData for Answer {
+    fn copy(&self) -> Result<Answer, AllocError> {
+        match self {
+            Answer::Found(hops, cost) => Ok(Answer::Found(hops.copy()?, *cost)),
+            Answer::NoPath(vector) => Ok(Answer::NoPath(*vector)),
+        }
+    }
+}
+
+impl PlainData for Reply {
+    fn copy(&self) -> Result<Reply, AllocError> {
+        Ok(Reply {
+            request: self.request,
+            answer: self.answer.copy()?,
+        })
+    }
+}
+
+impl PlainData for Errors {
+    fn copy(&self) -> Result<Errors, AllocError> {
+        Ok(Errors {
+            requests: self.requests.copy()?,
+            srps: self.srps.copy()?,
+            errors: self.errors.copy()?,
+        })
+    }
+}
+
+impl PlainData for Update {
+    fn copy(&self) -> Result<Update, AllocError> {
+        Ok(Update {
+            srp: self.srp,
+            plsp: self.plsp,
+            delegate: self.delegate,
+            admin: self.admin,
+            ero: self.ero.copy()?,
+            attributes: self.attributes,
+            bandwidth: self.bandwidth,
+        })
+    }
+}
+
+impl PlainData for Create {
+    fn copy(&self) -> Result<Create, AllocError> {
+        Ok(Create {
+            srp: self.srp,
+            name: self.name.copy()?,
+            source: self.source,
+            destination: self.destination,
+            ero: self.ero.copy()?,
+            attributes: self.attributes,
+            bandwidth: self.bandwidth,
+        })
+    }
+}
+
+impl PlainData for Initiate {
+    fn copy(&self) -> Result<Initiate, AllocError> {
+        match self {
+            Initiate::Create(create) => Ok(Initiate::Create(create.copy()?)),
+            Initiate::Remove { srp, plsp } => Ok(Initiate::Remove {
+                srp: *srp,
+                plsp: *plsp,
+            }),
         }
     }
 }

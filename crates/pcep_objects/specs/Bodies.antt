@@ -1,5 +1,5 @@
 -- The bodies of objects, class by class. Reserved bits and flags without a name are ignored.
-use Rattle.std.specs.Prelude.{ℕ, ◌/◌, ◌%◌, ◌^◌, min, true, false, not, List, length, drop, slice_index, Option, Some, None, Result, Ok, Err, nat_lt, ◌==◌, if◌then◌else◌}
+use Rattle.std.specs.Prelude.{ℕ, Bool, ◌/◌, ◌%◌, ◌^◌, min, true, false, not, List, length, drop, slice_index, Option, Some, None, Result, Ok, Err, nat_lt, ◌==◌, if◌then◌else◌}
 use Rattle.pcep_word.specs.Word.{bandwidth_of}
 use Rattle.pcep_objects.specs.Steps.{◌>>=◌, field, has}
 use Rattle.pcep_objects.specs.Tlvs.{lsp_tlvs}
@@ -10,8 +10,9 @@ use Rattle.pcep_objects.specs.declared.fault.BodyFault.TheVariants.{BadLength, B
 use Rattle.pcep_objects.specs.declared.object.BandwidthType.{BandwidthType}
 use Rattle.pcep_objects.specs.declared.object.Operational.{Operational}
 use Rattle.pcep_objects.specs.declared.object.Operational.TheVariants.{Down, Up, Active, GoingDown, GoingUp}
+use Rattle.pcep_objects.specs.declared.object.KeptClass.{KeptClass}
 use Rattle.pcep_objects.specs.declared.object.Object.{Object}
-use Rattle.pcep_objects.specs.declared.object.Object.TheVariants.{Bandwidth, Ero, Rro, Lspa, Lsp, Srp}
+use Rattle.pcep_objects.specs.declared.object.Object.TheVariants.{Bandwidth, Ero, Rro, Lspa, Kept, Lsp, Srp}
 
 -- BANDWIDTH (RFC 5440 section 7.7): one word, rounded up to whole bytes per second
 abbrev pub bandwidth_or_bad : BandwidthType → Option ℕ → Result Object BodyFault
@@ -45,6 +46,10 @@ lspa_body body =
         hold = min (slice_index body 13) 7;
         local_protection = has (slice_index body 14) 0x01;
       })))
+
+-- IRO, SVEC and LOAD-BALANCING (RFC 5440 sections 7.12, 7.13 and 7.16) are kept as bytes
+abbrev pub kept : KeptClass → Bool → List ℕ → Object
+kept class p body = Kept (record { class = class; p = p; body = body })
 
 -- the O field of an LSP (RFC 8231 section 7.3): the values 5 to 7 count as UP
 abbrev pub operational_of : ℕ → Operational

@@ -1,16 +1,19 @@
 //! The bodies of objects, class by class.
 
-ghost use Rattle.std.specs.Prelude.{◌≡◌};
+ghost use Rattle.std.specs.Prelude.{◌≡◌, Ok};
 ghost use Rattle.pcep_objects.specs.Steps.{Gives};
-ghost use Rattle.pcep_objects.specs.Bodies.{operational_of, bandwidth_body, ero_body, rro_body, lspa_body, lsp_body, srp_body};
+ghost use Rattle.pcep_objects.specs.Bodies.{operational_of, bandwidth_body, ero_body, rro_body, lspa_body, kept, lsp_body, srp_body};
 
 use crate::fault::BodyFault;
-use crate::object::{BandwidthType, Colours, LspObject, Lspa, Object, Operational, Plsp, Srp};
+use crate::object::{
+    BandwidthType, Colours, Kept, KeptClass, LspObject, Lspa, Object, Operational, Plsp, Srp,
+};
 use crate::routes::read_hops;
 use crate::tlvs::read_lsp_tlvs;
 use crate::word_tlvs::skip_any_tlvs;
 use byteorder::{BigEndian, ByteOrder};
 use pcep_word::{Bandwidth, Priority};
+use sequence::Sequence;
 use std::alloc::Global;
 
 /// BANDWIDTH (RFC 5440 section 7.7).
@@ -61,6 +64,17 @@ pub fn read_lspa(alloc: Global, body: &[u8]) -> Result<Object, BodyFault>
         setup: Priority::capped(body[12]),
         hold: Priority::capped(body[13]),
         local_protection: body[14] & 1 != 0,
+    }))
+}
+
+/// IRO, SVEC or LOAD-BALANCING.
+pub fn read_kept(alloc: Global, class: KeptClass, p: bool, body: &[u8]) -> Result<Object, BodyFault>
+    ensures { Gives (λ x. x) result (Ok (kept class p body.now)) }
+{
+    Ok(Object::Kept(Kept {
+        class,
+        p,
+        body: Sequence::from_vec(Vec::from_slice(alloc, body)?),
     }))
 }
 

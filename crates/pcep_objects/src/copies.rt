@@ -1,8 +1,9 @@
 //! Copies of objects and of their parts.
 
 use crate::object::{
-    Capabilities, Colours, Hop, Identifiers, LspObject, Lspa, Object, Operational, Plsp, Srp,
+    Capabilities, Colours, Hop, Identifiers, Kept, LspObject, Lspa, Object, Operational, Plsp, Srp,
 };
+use crate::session_objects::PcepError;
 use sequence::PlainData;
 use std::alloc::AllocError;
 
@@ -57,6 +58,22 @@ impl PlainData for Hop {
     }
 }
 
+impl PlainData for PcepError {
+    fn copy(&self) -> Result<PcepError, AllocError> {
+        Ok(*self)
+    }
+}
+
+impl PlainData for Kept {
+    fn copy(&self) -> Result<Kept, AllocError> {
+        Ok(Kept {
+            class: self.class,
+            p: self.p,
+            body: self.body.copy()?,
+        })
+    }
+}
+
 impl PlainData for LspObject {
     fn copy(&self) -> Result<LspObject, AllocError> {
         Ok(LspObject {
@@ -76,10 +93,19 @@ impl PlainData for LspObject {
 impl PlainData for Object {
     fn copy(&self) -> Result<Object, AllocError> {
         match self {
-            Object::Bandwidth(which, bandwidth) => Ok(Object::Bandwidth(*which, *bandwidth)),
+            Object::Open(open) => Ok(Object::Open(*open)),
+            Object::Rp(rp) => Ok(Object::Rp(*rp)),
+            Object::NoPath(no_path) => Ok(Object::NoPath(*no_path)),
+            Object::EndPoints(end_points) => Ok(Object::EndPoints(*end_points)),
+            Object::Bandwidth(kind, bandwidth) => Ok(Object::Bandwidth(*kind, *bandwidth)),
+            Object::Metric(metric) => Ok(Object::Metric(*metric)),
             Object::Ero(hops) => Ok(Object::Ero(hops.copy()?)),
             Object::Rro(hops) => Ok(Object::Rro(hops.copy()?)),
             Object::Lspa(lspa) => Ok(Object::Lspa(*lspa)),
+            Object::Kept(kept) => Ok(Object::Kept(kept.copy()?)),
+            Object::Notification(notification) => Ok(Object::Notification(*notification)),
+            Object::Error(error) => Ok(Object::Error(*error)),
+            Object::Close(close) => Ok(Object::Close(*close)),
             Object::Lsp(lsp) => Ok(Object::Lsp(lsp.copy()?)),
             Object::Srp(srp) => Ok(Object::Srp(*srp)),
         }

@@ -26,25 +26,29 @@ mod bodies;
 mod copies;
 mod fault;
 mod header;
+mod kind;
+mod metric;
 mod object;
 mod pieces;
+mod putting;
 mod reading;
 mod request_objects;
 mod routes;
 mod session_objects;
+mod sizes;
 mod tlvs;
 mod word_tlvs;
 mod writing;
 
-pub use fault::ObjectFault;
+pub use fault::{ObjectFault, WriteFault};
 pub use object::{
-    BandwidthType, Capabilities, Colours, Hop, Identifiers, LspObject, Lspa, Object, Operational,
-    Plsp, Srp,
+    BandwidthType, Capabilities, Colours, Hop, Identifiers, Kept, KeptClass, LspObject, Lspa,
+    Metric, MetricValue, Object, Operational, Plsp, Srp,
 };
 pub use reading::{objects_are_read_or_faulty, read_object};
 pub use request_objects::{EndPoints, NoPath, NoPathVector, Rp};
 pub use session_objects::{Close, Notification, Open, PcepError};
-pub use writing::{ero_is_read_again, srp_is_read_again};
+pub use writing::{objects_are_read_again, put_object, write_object};
 
 #[cfg(test)]
 mod tests;

@@ -2,6 +2,8 @@
 
 ghost use Rattle.std.specs.Prelude.{◌≡◌, ◌<◌, ◌^◌};
 
+use crate::request_objects::{EndPoints, NoPath, Rp};
+use crate::session_objects::{Close, Notification, Open, PcepError};
 use pcep_word::{Bandwidth, Ipv4, Priority};
 use sequence::Sequence;
 use std::marker::Model;
@@ -167,17 +169,104 @@ pub enum BandwidthType {
     Current,
 }
 
+/// The number of a METRIC, from 0 to 2^48 - 1: a word is rounded down to it, and 2^48 - 1 stands for every
+/// greater value too.
+#[derive(Clone, Copy, Debug, PartialEq, Eq, PartialOrd, Ord)]
+pub struct MetricValue {
+    value: u64,
+}
+
+impl Model for MetricValue {
+    ghost use Rattle.std.specs.Prelude.{ℕ, ◌<◌, ◌^◌};
+
+    ghost Value = { ℕ };
+
+    ghost view = { λ m. m.value };
+
+    ghost invariant = { λ m. m.value < 2 ^ 48 };
+
+    ghost inverse = { λ n. record { value = n } };
+}
+
+impl MetricValue {
+    /// The metric of this value, which has to be below 2^48.
+    pub fn new(value: u64) -> MetricValue
+        requires { value < 2 ^ 48 }
+        ensures { result ≡ value }
+    {
+        MetricValue { value }
+    }
+
+    /// The value, below 2^48.
+    pub fn value(self) -> u64
+        ensures value { result ≡ self }
+        ensures small { result < 2 ^ 48 }
+    {
+        self.value
+    }
+}
+
+/// METRIC (RFC 5440 section 7.8).
+#[derive(Clone, Copy, Debug, PartialEq, Eq)]
+pub struct Metric {
+    /// The value is a bound for the path (flag B).
+    pub bound: bool,
+    /// The value is that of a computed path, or it is asked for (flag C).
+    pub computed: bool,
+    /// The metric's type T: 1 IGP, 2 TE, 3 hops; any other is free.
+    pub kind: u8,
+    pub value: MetricValue,
+}
+
+/// The classes of objects that are kept as bytes.
+#[derive(Clone, Copy, Debug, PartialEq, Eq)]
+pub enum KeptClass {
+    /// IRO, nodes that a path has to pass (RFC 5440 section 7.12).
+    Iro,
+    /// SVEC, requests that belong together (RFC 5440 section 7.13).
+    Svec,
+    /// LOAD-BALANCING, several paths for one request (RFC 5440 section 7.16).
+    LoadBalancing,
+}
+
+/// An object that is kept as the bytes of its body.
+#[derive(Debug, Drop)]
+pub struct Kept {
+    pub class: KeptClass,
+    /// The P flag of the object's header: the object has to be taken into account.
+    pub p: bool,
+    pub body: Sequence<u8>,
+}
+
 /// An object of PCEP.
 #[derive(Debug, Drop)]
 pub enum Object {
+    /// OPEN, what a peer asks of a session (RFC 5440 section 7.3).
+    Open(Open),
+    /// RP, the number of a request (RFC 5440 section 7.4).
+    Rp(Rp),
+    /// NO-PATH, a request that no path meets (RFC 5440 section 7.5).
+    NoPath(NoPath),
+    /// END-POINTS, the ends of a path (RFC 5440 section 7.6).
+    EndPoints(EndPoints),
     /// BANDWIDTH, in bytes per second (RFC 5440 section 7.7).
     Bandwidth(BandwidthType, Bandwidth),
+    /// METRIC, a bound or a cost of a path (RFC 5440 section 7.8).
+    Metric(Metric),
     /// ERO, the route that a path is to take (RFC 5440 section 7.9).
     Ero(Sequence<Hop>),
     /// RRO, the route that a path takes (RFC 5440 section 7.10).
     Rro(Sequence<Hop>),
     /// LSPA, the attributes of an LSP (RFC 5440 section 7.11).
     Lspa(Lspa),
+    /// IRO, SVEC or LOAD-BALANCING (RFC 5440 sections 7.12, 7.13 and 7.16).
+    Kept(Kept),
+    /// NOTIFICATION (RFC 5440 section 7.14).
+    Notification(Notification),
+    /// PCEP-ERROR (RFC 5440 section 7.15).
+    Error(PcepError),
+    /// CLOSE, why a session ends (RFC 5440 section 7.17).
+    Close(Close),
     /// LSP (RFC 8231 section 7.3).
     Lsp(LspObject),
     /// SRP (RFC 8231 section 7.2).

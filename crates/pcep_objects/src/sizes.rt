@@ -1,0 +1,133 @@
+//! The lengths of objects as they are written, before anything is.
+
+ghost use Rattle.std.specs.Prelude.{◌≡◌, ◌^◌, ◌-◌, min, length, Some};
+ghost use Rattle.pcep_objects.specs.Spelling.{hop_fits, hop_written, hops_fit, hops_written, parts_fit, fits, name_written, identifiers_written, lsp_written, body_written};
+ghost use Rattle.pcep_objects.specs.SessionObjects.{capabilities_after};
+ghost use Rattle.pcep_objects.specs.RequestObjects.{vector_after};
+
+use crate::object::{Capabilities, Hop, Identifiers, LspObject, Object};
+use crate::request_objects::NoPathVector;
+use sequence::Sequence;
+
+fn hop_fits(hop: &Hop) -> bool
+    ensures { result ≡ hop_fits hop.now }
+{
+    match hop {
+        Hop::Host(..) => true,
+        Hop::Other(_, bytes) => bytes.as_slice().len() < 254,
+    }
+}
+
+#[tactic(auto, unfolding(crate::specs::Spelling::hops_fit))]
+fn hops_fit(hops: &[Hop]) -> bool
+    ensures { result ≡ hops_fit hops.now }
+{
+    for hop in hops {
+        if !hop_fits(hop) {
+            return false;
+        }
+    }
+    true
+}
+
+/// Whether each part of the object has a length that fits its field.
+fn parts_fit(object: &Object) -> bool
+    ensures { result ≡ parts_fit object.now }
+{
+    match object {
+        Object::Ero(hops) => hops_fit(hops.as_slice()),
+        Object::Rro(hops) => hops_fit(hops.as_slice()),
+        _ => true,
+    }
+}
+
+/// The length of a subobject, or the greatest number where it is greater.
+fn hop_size(hop: &Hop) -> usize
+    ensures { result ≡ min (length (hop_written hop.now)) (2 ^ 64 - 1) }
+{
+    match hop {
+        Hop::Host(..) => 8,
+        Hop::Other(_, bytes) => bytes.as_slice().len().saturating_add(2),
+    }
+}
+
+/// The length of a route, or the greatest number where it is greater.
+fn hops_size(hops: &[Hop]) -> usize
+    ensures { result ≡ min (length (hops_written hops.now)) (2 ^ 64 - 1) }
+{
+    let mut size = 0usize;
+    for hop in hops {
+        size = size.saturating_add(hop_size(hop));
+    }
+    size
+}
+
+/// The length of a name's TLV, or the greatest number where it is greater.
+fn name_size(name: &Option<Sequence<u8>>) -> usize
+    ensures { result ≡ min (length (name_written name.now)) (2 ^ 64 - 1) }
+{
+    match name {
+        Some(name) => (name.as_slice().len().saturating_add(3) / 4 * 4).saturating_add(4),
+        None => 0,
+    }
+}
+
+fn identifiers_size(identifiers: Option<Identifiers>) -> usize
+    ensures { result ≡ length (identifiers_written identifiers) }
+{
+    match identifiers {
+        Some(_) => 20,
+        None => 0,
+    }
+}
+
+/// The length of an LSP, or the greatest number where it is greater.
+fn lsp_size(lsp: &LspObject) -> usize
+    ensures { result ≡ min (length (lsp_written lsp.now)) (2 ^ 64 - 1) }
+{
+    let identifiers = identifiers_size(lsp.identifiers);
+    name_size(&lsp.name).saturating_add(4 + identifiers)
+}
+
+fn capabilities_size(capabilities: Option<Capabilities>) -> usize
+    ensures { result ≡ length (capabilities_after capabilities) }
+{
+    match capabilities {
+        Some(_) => 8,
+        None => 0,
+    }
+}
+
+fn vector_size(vector: Option<NoPathVector>) -> usize
+    ensures { result ≡ length (vector_after vector) }
+{
+    match vector {
+        Some(_) => 8,
+        None => 0,
+    }
+}
+
+/// The length of an object without its header, or the greatest number where it is greater.
+pub fn body_size(object: &Object) -> usize
+    ensures { result ≡ min (length (body_written object.now)) (2 ^ 64 - 1) }
+{
+    match object {
+        Object::Open(open) => 4 + capabilities_size(open.capabilities),
+        Object::NoPath(no_path) => 4 + vector_size(no_path.vector),
+        Object::Ero(hops) => hops_size(hops.as_slice()),
+        Object::Rro(hops) => hops_size(hops.as_slice()),
+        Object::Kept(kept) => kept.body.as_slice().len(),
+        Object::Lsp(lsp) => lsp_size(lsp),
+        Object::Lspa(_) => 16,
+        Object::Rp(_) | Object::EndPoints(_) | Object::Metric(_) | Object::Srp(_) => 8,
+        Object::Bandwidth(..) => 4,
+        Object::Notification(_) | Object::Error(_) | Object::Close(_) => 4,
+    }
+}
+
+/// Whether each length in the object fits its field: a subobject's is below 2^8, the object's below 2^16.
+pub fn fits(object: &Object) -> bool
+    ensures { result ≡ fits object.now }
+{
+    parts_fit(object) && body_size(object) < 0xfffc
+}
