@@ -1,14 +1,15 @@
-//! The objects of PCEP as values, and their reading from bytes.
+//! The objects of PCEP as values, read from bytes and written as bytes.
 //!
 //! An object is a header of four bytes and a body by its class and type (RFC 5440 section 7, RFC 8231
 //! section 7). `read_object` gives the object at the front of some bytes with its length, or the first
-//! fault; the layer above may rely on it that the answer is exactly the one of the definitions, for every
-//! list of bytes, and that bytes never both read and have a fault. The classes that it reads are SRP, LSP
-//! with its two TLVs, ERO, RRO, LSPA and BANDWIDTH; any other is answered by `UnknownClass`, with its length.
+//! fault; `write_object` appends an object's one spelling. The layer above may rely on it that the answer is
+//! exactly the one of the definitions, for every list of bytes, that bytes never both read and have a fault,
+//! and that what is spelled is read again.
 //!
-//! The definitions stand in `specs/`: `Tlvs` and `Routes` cut an object's lists into pieces, `Bodies` has
-//! the layout of each class, `Objects` the header, the table of classes and `Reads` and `IsFaulty`,
-//! `Spelling` the one spelling of an object, which is read again.
+//! The definitions stand in `specs/`: `Kinds` has the classes and types, `Tlvs`, `WordTlvs` and `Routes` cut
+//! an object's lists into pieces, `Bodies`, `SessionObjects`, `RequestObjects` and `Metrics` have the layout
+//! of each class, `Objects` the header, `Reads` and `IsFaulty`, `Spelling` the spelling of each object, the
+//! lengths that fit and the objects that are normal.
 //!
 //! ```
 //! // The first object of a message's body, and the bytes after it.
@@ -18,8 +19,8 @@
 //! }
 //! ```
 //!
-//! The modules, lowest first: `object`, `copies`, `fault`, `pieces`, `tlvs`, `word_tlvs`, `routes`, `bodies`,
-//! `session_objects`, `request_objects`, `header`, `reading`, `writing`.
+//! The modules, lowest first: `object` with `session_objects`, `request_objects` and `metric`, `kind`, `copies`,
+//! `fault`, `pieces`, `tlvs`, `word_tlvs`, `routes`, `bodies`, `header`, `reading`, `sizes`, `putting`, `writing`.
 #![tactic(auto)]
 
 mod bodies;
@@ -50,5 +51,7 @@ pub use request_objects::{EndPoints, NoPath, NoPathVector, Rp};
 pub use session_objects::{Close, Notification, Open, PcepError};
 pub use writing::{objects_are_read_again, put_object, write_object};
 
+#[cfg(test)]
+mod spelling_tests;
 #[cfg(test)]
 mod tests;

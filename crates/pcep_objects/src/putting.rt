@@ -144,10 +144,7 @@ fn put_value(out: &mut Vec<u8>, identifiers: &Identifiers) -> Result<(), AllocEr
     put_u32(out, identifiers.endpoint.0)
 }
 
-fn put_identifiers(
-    out: &mut Vec<u8>,
-    identifiers: &Option<Identifiers>,
-) -> Result<(), AllocError>
+fn put_identifiers(out: &mut Vec<u8>, identifiers: &Option<Identifiers>) -> Result<(), AllocError>
     ensures { OnOk result (out.new.items ≡ out.old.items ++ identifiers_written identifiers.now) }
 {
     match identifiers {

@@ -16,7 +16,7 @@ fn nibble(c: u8) -> u8
 }
 
 /// The bytes of hexadecimal digits, between which there may be spaces.
-fn bytes_of(rt: &HostRuntime, text: &str) -> Result<Vec<u8>, Fail> {
+pub(crate) fn bytes_of(rt: &HostRuntime, text: &str) -> Result<Vec<u8>, Fail> {
     let mut bytes = Vec::new(rt.alloc());
     let mut high = None;
     for c in text.as_bytes() {
@@ -31,7 +31,7 @@ fn bytes_of(rt: &HostRuntime, text: &str) -> Result<Vec<u8>, Fail> {
 }
 
 /// The one object of a text, all of whose bytes it has.
-fn object_of(rt: &HostRuntime, text: &str) -> Result<Object, Fail> {
+pub(crate) fn object_of(rt: &HostRuntime, text: &str) -> Result<Object, Fail> {
     let bytes = bytes_of(rt, text)?;
     let (object, size) = read_object(rt.alloc(), bytes.as_slice())?;
     if size == bytes.len() {
@@ -109,6 +109,24 @@ fn faults(rt: HostRuntime) -> Result<(), Fail> {
         ("63100004", 5),
         ("05300004", 6),
         ("20200004", 6),
+        ("07200004", 6),
+        // a word of a METRIC that is no number
+        ("0610000c 00000102 7f800000", 4),
+        ("0610000c 00000102 c1200000", 4),
+        // bodies of the objects of sessions, requests and replies that are too short or too long
+        ("01100004", 2),
+        ("02100008 00000000", 2),
+        ("03100004", 2),
+        ("04120008 0a000001", 2),
+        ("04120010 0a000001 0a000004 00000000", 2),
+        ("06100008 00000102", 2),
+        ("06100010 00000102 41a00000 00000000", 2),
+        ("0c100004", 2),
+        ("0d100004", 2),
+        ("0f100004", 2),
+        // capabilities and a NO-PATH-VECTOR of another length
+        ("01100014 201e7800 00100008 00000005 00000000", 3),
+        ("03100010 00000000 00010002 00020000", 3),
     ];
     for (text, number) in table {
         let bytes = bytes_of(&rt, text)?;
