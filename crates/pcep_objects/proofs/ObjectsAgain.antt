@@ -19,7 +19,7 @@ use Rattle.pcep_objects.specs.RequestObjects.{vector_after}
 use Rattle.pcep_objects.specs.SessionObjects.{capabilities_after}
 use Rattle.pcep_objects.specs.Kinds.{kind_at, class_number, type_number}
 use Rattle.pcep_objects.specs.Objects.{body_of, Reads}
-use Rattle.pcep_objects.specs.Spelling.{name_written, identifiers_written, lsp_written, bandwidth_kind, kept_kind, kind_of, p_written, body_written, written, fits, IsKept, IsNormal}
+use Rattle.pcep_objects.specs.Spelling.{colours_written, name_written, identifiers_written, lsp_written, bandwidth_kind, kept_kind, kind_of, p_written, body_written, written, fits, IsKept, IsNormal}
 use Rattle.pcep_objects.proofs.Again.{object_again, srp_again, ero_again, rro_again, fours}
 use Rattle.pcep_objects.proofs.SessionAgain.{open_again, close_again, notification_again, error_again}
 use Rattle.pcep_objects.proofs.RequestAgain.{rp_again, no_path_again, end_points_again}
@@ -86,6 +86,7 @@ identifiers_fours None = refl
 identifiers_fours (Some identifiers) = refl
 
 body_fours : (object : Object) → IsNormal object → length (body_written object) % 4 ≡ 0
+unfolding colours_written
 body_fours (objects.Open object) normal = let e = capabilities_fours object.capabilities in omega arith
 body_fours (objects.Rp object) normal = refl
 body_fours (objects.NoPath object) normal = let e = vector_fours object.vector in omega arith
@@ -107,16 +108,14 @@ body_fours (objects.Srp object) normal = refl
 
 -- ---- bodies
 
-kept_again : (object : Kept) → IsKept object → body_of (kept_kind object.class) false object.body ≡ Ok (objects.Kept object)
-kept_again object normal = rw (← normal.p) (go object)
-  where
-    go : (object : Kept) → body_of (kept_kind object.class) object.p object.body ≡ Ok (objects.Kept object)
-    go object = of_class object.class object.p object.body
+of_class : (class : KeptClass) (p : Bool) (body : List ℕ) → body_of (kept_kind class) p body ≡ Ok (objects.Kept (record { class = class; p = p; body = body }))
+of_class Iro p body = refl
+of_class Svec p body = refl
+of_class LoadBalancing p body = refl
 
-    of_class : (class : KeptClass) (p : Bool) (body : List ℕ) → body_of (kept_kind class) p body ≡ Ok (objects.Kept (record { class = class; p = p; body = body }))
-    of_class Iro p body = refl
-    of_class Svec p body = refl
-    of_class LoadBalancing p body = refl
+kept_again : (object : Kept) → IsKept object → body_of (kept_kind object.class) false object.body ≡ Ok (objects.Kept object)
+kept_again object normal =
+    ap (λ (p : Bool). body_of (kept_kind object.class) p object.body) (sym normal.p) ∙ of_class object.class object.p object.body
 
 bandwidth_body_again : (kind : BandwidthType) (bandwidth : ℕ) → IsNormal (objects.Bandwidth kind bandwidth) → body_of (bandwidth_kind kind) false (body_written (objects.Bandwidth kind bandwidth)) ≡ Ok (objects.Bandwidth kind bandwidth)
 bandwidth_body_again Requested bandwidth normal = bandwidth_again Requested bandwidth normal
@@ -146,7 +145,7 @@ pub again : (object : Object) (rest : List ℕ) → IsNormal object → fits obj
 again object rest normal fit =
     let kind = kind_of object in
     let body = body_written object in
-    let len : length body + 4 < 2 ^ 16 = ltb-true _ _ (and_parts _ _ fit).1 in
     let whole : length (written object) ≡ length body + 4 = omega arith in
+    let len : length body + 4 < 2 ^ 16 = ltb-true _ _ (and_parts _ _ fit).1 in
     object_again (class_number kind) (type_number kind) (p_written object) body rest (type_small kind) len (body_fours object normal)
     ∙ rw (kind_again kind, body_again object normal len, whole) refl

@@ -1,5 +1,6 @@
 -- The bodies of BANDWIDTH, METRIC, LSPA and LSP are read again from their spelling.
-use Rattle.std.proofs.Common.{◌≡◌, ℕ, ◌+◌, ◌*◌, ◌/◌, ◌%◌, ◌^◌, ◌≤◌, ◌<◌, Bool, true, false, cond, List, [], ◌∷◌, ◌++◌, length, min, Option, Some, None, Result, Ok, refl, sym, ap, ◌∙◌, arith}
+use Rattle.std.proofs.Common.{◌≡◌, ℕ, ◌+◌, ◌*◌, ◌/◌, ◌%◌, ◌^◌, ◌≤◌, ◌<◌, Bool, true, false, cond, ltb, List, [], ◌∷◌, ◌++◌, length, min, Option, Some, None, Result, Ok, refl, sym, ap, ◌∙◌, arith}
+use Rattle.std.proofs.lemmas.Bool.{le-ltb}
 use Rattle.byteorder.specs.Endian.{big_bytes}
 use Rattle.byteorder.specs.Numbers.{big_number-reads_back}
 use Rattle.pcep_word.specs.Word.{bandwidth_of, bound_of, word_of, IsBandwidth}
@@ -19,7 +20,7 @@ use Rattle.pcep_objects.specs.Steps.{field, has, cut}
 use Rattle.pcep_objects.specs.WordTlvs.{skipped_tlvs}
 use Rattle.pcep_objects.specs.Metrics.{metric_of, metric_written, IsMetric}
 use Rattle.pcep_objects.specs.Bodies.{bandwidth_body, lspa_body, lsp_body, operational_of}
-use Rattle.pcep_objects.specs.Spelling.{bandwidth_written, lspa_written, IsLspa, operational_number, lsp_word, name_written, identifiers_written, lsp_written, IsLsp}
+use Rattle.pcep_objects.specs.Spelling.{bandwidth_written, colours_written, lspa_written, IsLspa, operational_number, lsp_word, name_written, identifiers_written, lsp_written, IsLsp}
 use Rattle.pcep_objects.proofs.Flags.{bit_small, weight, has_bit}
 use Rattle.pcep_objects.proofs.TlvAgain.{tlvs_again}
 
@@ -37,23 +38,20 @@ bandwidth_again kind bandwidth good =
 measured : Bool → Bool → ℕ → ℕ → Metric
 measured bound computed kind value = record { bound = bound; computed = computed; kind = kind; value = value }
 
-metric_flags_again : (bound computed : Bool) (kind value : ℕ) → IsMetric (measured bound computed kind value) → metric_of (metric_written (measured bound computed kind value)) ≡ Ok (measured bound computed kind value)
+spelled_metric : (bound computed : Bool) (kind value : ℕ) → field 0 4 (big_bytes 4 (word_of value)) ≡ word_of value → bound_of (word_of value) ≡ Some value
+    → metric_of (metric_written (measured bound computed kind value)) ≡ Ok (measured bound computed kind value)
 unfolding metric_of measured
-metric_flags_again bound computed kind value good =
-    let small = word.word_fits value (word.bound_small good.word value good.reads) in
-    let w : field 0 4 (big_bytes 4 (word_of value)) ≡ word_of value = big_number-reads_back 4 (word_of value) [] (omega (arith, small)) in
-    let again = word.bound_written good.word value good.reads in
-    go bound computed
-  where
-    go : (b c : Bool) → metric_of (metric_written (measured b c kind value)) ≡ Ok (measured b c kind value)
-    go true true = rw (w, again) refl
-    go true false = rw (w, again) refl
-    go false true = rw (w, again) refl
-    go false false = rw (w, again) refl
+spelled_metric true true kind value w again = rw (w, again) refl
+spelled_metric true false kind value w again = rw (w, again) refl
+spelled_metric false true kind value w again = rw (w, again) refl
+spelled_metric false false kind value w again = rw (w, again) refl
 
 pub metric_again : (metric : Metric) → IsMetric metric → metric_of (metric_written metric) ≡ Ok metric
 unfolding measured
-metric_again metric good = metric_flags_again metric.bound metric.computed metric.kind metric.value good
+metric_again metric good =
+    let small = word.word_fits metric.value (word.bound_small good.word metric.value good.reads) in
+    let w : field 0 4 (big_bytes 4 (word_of metric.value)) ≡ word_of metric.value = big_number-reads_back 4 (word_of metric.value) [] (omega (arith, small)) in
+    spelled_metric metric.bound metric.computed metric.kind metric.value w (word.bound_written good.word metric.value good.reads)
 
 -- ---- LSPA
 
@@ -70,7 +68,7 @@ protection_again true = refl
 protection_again false = refl
 
 pub lspa_again : (lspa : Lspa) → IsLspa lspa → lspa_body (lspa_written lspa) ≡ Ok (objects.Lspa lspa)
-unfolding lspa_body skipped_tlvs cut attributes
+unfolding lspa_body skipped_tlvs cut attributes colours_written
 lspa_again lspa good =
     let colours = lspa.colours in
     let ends = lspa.setup ∷ lspa.hold ∷ cond lspa.local_protection 1 0 ∷ 0 ∷ [] in
@@ -156,4 +154,5 @@ pub lsp_again : (lsp : LspObject) → IsLsp lsp → length (name_written lsp.nam
 unfolding lsp_body known
 lsp_again lsp good fits =
     let w : field 0 4 (lsp_written lsp) ≡ lsp_word lsp = big_number-reads_back 4 (lsp_word lsp) (name_written lsp.name ++ identifiers_written lsp.identifiers) (word_small lsp good.plsp) in
-    rw (w, tlvs_again lsp.name lsp.identifiers fits good.identifiers) (flags_again lsp.plsp lsp.delegate lsp.sync lsp.remove lsp.admin lsp.created lsp.operational lsp.name lsp.identifiers (lsp_word lsp) refl)
+    let four : ltb (length (lsp_written lsp)) 4 ≡ false = le-ltb _ _ (omega arith) in
+    rw (four, w, tlvs_again lsp.name lsp.identifiers fits good.identifiers) (flags_again lsp.plsp lsp.delegate lsp.sync lsp.remove lsp.admin lsp.created lsp.operational lsp.name lsp.identifiers (lsp_word lsp) refl)

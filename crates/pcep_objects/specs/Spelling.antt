@@ -13,6 +13,7 @@ use Rattle.pcep_objects.specs.declared.kind.Kind.{Kind}
 use Rattle.pcep_objects.specs.declared.kind.Kind.TheVariants as kinds
 use Rattle.pcep_objects.specs.declared.object.BandwidthType.{BandwidthType}
 use Rattle.pcep_objects.specs.declared.object.BandwidthType.TheVariants.{Requested, Current}
+use Rattle.pcep_objects.specs.declared.object.Colours.{Colours}
 use Rattle.pcep_objects.specs.declared.object.Hop.{Hop}
 use Rattle.pcep_objects.specs.declared.object.Hop.TheVariants.{Host, Other}
 use Rattle.pcep_objects.specs.declared.object.Identifiers.{Identifiers}
@@ -41,10 +42,12 @@ hop_written (Other kind bytes) = kind ∷ (length bytes + 2) ∷ bytes
 abbrev pub hops_written : List Hop → List ℕ
 hops_written hops = flat_map hop_written hops
 
+unfoldable pub colours_written : Colours → List ℕ
+colours_written colours = big_bytes 4 colours.exclude_any ++ big_bytes 4 colours.include_any ++ big_bytes 4 colours.include_all
+
 abbrev pub lspa_written : Lspa → List ℕ
 lspa_written lspa =
-    big_bytes 4 lspa.colours.exclude_any ++ big_bytes 4 lspa.colours.include_any ++ big_bytes 4 lspa.colours.include_all
-    ++ (lspa.setup ∷ lspa.hold ∷ (if lspa.local_protection then 1 else 0) ∷ 0 ∷ [])
+    colours_written lspa.colours ++ (lspa.setup ∷ lspa.hold ∷ (if lspa.local_protection then 1 else 0) ∷ 0 ∷ [])
 
 abbrev pub operational_number : Operational → ℕ
 operational_number Down = 0

@@ -2,7 +2,7 @@
 
 ghost use Rattle.std.specs.Prelude.{◌≡◌, ◌++◌, ◌<◌, ◌^◌, length, replicate, true, OnOk};
 ghost use Rattle.byteorder.specs.Endian.{big_bytes};
-ghost use Rattle.pcep_objects.specs.Spelling.{bandwidth_written, hop_written, hops_written, lspa_written, operational_number, lsp_word, tlv_written, name_written, identifiers_value, identifiers_written, lsp_written, srp_written, hops_fit, hop_fits};
+ghost use Rattle.pcep_objects.specs.Spelling.{bandwidth_written, hop_written, hops_written, colours_written, lspa_written, operational_number, lsp_word, tlv_written, name_written, identifiers_value, identifiers_written, lsp_written, srp_written, hops_fit, hop_fits};
 
 use crate::object::{Colours, Hop, Identifiers, LspObject, Lspa, Operational, Srp};
 use pcep_word::Bandwidth;
@@ -48,6 +48,7 @@ fn put_hop(out: &mut Vec<u8>, hop: &Hop) -> Result<(), AllocError>
 }
 
 /// Appends the body of an ERO or an RRO.
+#[tactic(auto, unfolding(crate::specs::Spelling::hops_fit))]
 pub fn put_hops(out: &mut Vec<u8>, hops: &[Hop]) -> Result<(), AllocError>
     requires { hops_fit hops.now ≡ true }
     ensures { OnOk result (out.new.items ≡ out.old.items ++ hops_written hops.now) }
@@ -58,8 +59,9 @@ pub fn put_hops(out: &mut Vec<u8>, hops: &[Hop]) -> Result<(), AllocError>
     Ok(())
 }
 
+#[tactic(auto, unfolding(crate::specs::Spelling::colours_written))]
 fn put_colours(out: &mut Vec<u8>, colours: Colours) -> Result<(), AllocError>
-    ensures { OnOk result (out.new.items ≡ out.old.items ++ big_bytes 4 colours.exclude_any ++ big_bytes 4 colours.include_any ++ big_bytes 4 colours.include_all) }
+    ensures { OnOk result (out.new.items ≡ out.old.items ++ colours_written colours) }
 {
     put_u32(out, colours.exclude_any)?;
     put_u32(out, colours.include_any)?;

@@ -108,6 +108,7 @@ fn vector_size(vector: Option<NoPathVector>) -> usize
 }
 
 /// The length of an object without its header, or the greatest number where it is greater.
+#[tactic(auto, unfolding(crate::specs::Spelling::colours_written))]
 pub fn body_size(object: &Object) -> usize
     ensures { result ≡ min (length (body_written object.now)) (2 ^ 64 - 1) }
 {

@@ -129,7 +129,7 @@ pub fn write_object(object: &Object, out: &mut Vec<u8>) -> Result<(), WriteFault
     ensures written { OnOk result (out.new.items ≡ out.old.items ++ written object.now) }
     ensures fits { IfOk result (λ _. fits object.now ≡ true) }
     ensures too_long { IfErr result (λ e. e ≡ TooLong → fits object.now ≡ false) }
-    ensures unchanged { OnErr result (out.new ≡ out.old) }
+    ensures unchanged { OnErr result (out.new.items ≡ out.old.items) }
 {
     let mut spelled = Vec::new(*out.allocator());
     put_object(object, &mut spelled)?;
