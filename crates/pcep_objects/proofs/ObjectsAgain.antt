@@ -1,8 +1,7 @@
 -- Objects of every kind are read again from their spelling.
-use Rattle.std.proofs.Common.{◌≡◌, ℕ, ◌+◌, ◌*◌, ◌%◌, ◌^◌, ◌≤◌, ◌<◌, Bool, true, false, ◌&&◌, ltb, List, [], ◌∷◌, ◌++◌, length, Option, Some, None, Result, Ok, refl, sym, ap, ◌∙◌, arith}
+use Rattle.std.proofs.Common.{◌≡◌, ℕ, ◌+◌, ◌%◌, ◌^◌, ◌<◌, Bool, true, false, List, ◌++◌, length, Option, Some, None, Ok, refl, sym, ap, ◌∙◌, arith}
 use Rattle.std.proofs.lemmas.Bool.{and_parts, ltb-true}
 use Rattle.std.proofs.lemmas.List.{length-append}
-use Rattle.byteorder.specs.Endian.{big_bytes}
 use Rattle.pcep_objects.specs.declared.kind.Kind.{Kind}
 use Rattle.pcep_objects.specs.declared.kind.Kind.TheVariants as kinds
 use Rattle.pcep_objects.specs.declared.object.BandwidthType.{BandwidthType}
@@ -19,7 +18,7 @@ use Rattle.pcep_objects.specs.RequestObjects.{vector_after}
 use Rattle.pcep_objects.specs.SessionObjects.{capabilities_after}
 use Rattle.pcep_objects.specs.Kinds.{kind_at, class_number, type_number}
 use Rattle.pcep_objects.specs.Objects.{body_of, Reads}
-use Rattle.pcep_objects.specs.Spelling.{colours_written, name_written, identifiers_written, lsp_written, bandwidth_kind, kept_kind, kind_of, p_written, body_written, written, fits, IsKept, IsNormal}
+use Rattle.pcep_objects.specs.Spelling.{colours_written, name_written, identifiers_written, bandwidth_kind, kept_kind, kind_of, p_written, body_written, written, fits, IsKept, IsNormal}
 use Rattle.pcep_objects.proofs.Again.{object_again, srp_again, ero_again, rro_again, fours}
 use Rattle.pcep_objects.proofs.SessionAgain.{open_again, close_again, notification_again, error_again}
 use Rattle.pcep_objects.proofs.RequestAgain.{rp_again, no_path_again, end_points_again}

@@ -1,13 +1,12 @@
 -- The bodies of BANDWIDTH, METRIC, LSPA and LSP are read again from their spelling.
-use Rattle.std.proofs.Common.{◌≡◌, ℕ, ◌+◌, ◌*◌, ◌/◌, ◌%◌, ◌^◌, ◌≤◌, ◌<◌, Bool, true, false, cond, ltb, List, [], ◌∷◌, ◌++◌, length, min, Option, Some, None, Result, Ok, refl, sym, ap, ◌∙◌, arith}
+use Rattle.std.proofs.Common.{◌≡◌, ℕ, ◌+◌, ◌*◌, ◌/◌, ◌%◌, ◌^◌, ◌≤◌, ◌<◌, Bool, true, false, cond, ltb, List, [], ◌∷◌, ◌++◌, length, min, Option, Some, Result, Ok, refl, ap, ◌∙◌, arith}
 use Rattle.std.proofs.lemmas.Bool.{le-ltb}
 use Rattle.byteorder.specs.Endian.{big_bytes}
 use Rattle.byteorder.specs.Numbers.{big_number-reads_back}
-use Rattle.pcep_word.specs.Word.{bandwidth_of, bound_of, word_of, IsBandwidth}
+use Rattle.pcep_word.specs.Word.{bound_of, word_of, IsBandwidth}
 use Rattle.pcep_word.proofs.Reading as word
 use Rattle.pcep_objects.specs.declared.fault.BodyFault.{BodyFault}
 use Rattle.pcep_objects.specs.declared.object.BandwidthType.{BandwidthType}
-use Rattle.pcep_objects.specs.declared.object.Colours.{Colours}
 use Rattle.pcep_objects.specs.declared.object.Identifiers.{Identifiers}
 use Rattle.pcep_objects.specs.declared.object.LspObject.{LspObject}
 use Rattle.pcep_objects.specs.declared.object.Lspa.{Lspa}
