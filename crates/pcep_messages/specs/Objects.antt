@@ -1,5 +1,5 @@
 -- The objects of a message, from first to last.
-use Rattle.std.specs.Prelude.{◌≡◌, ℕ, ◌≤◌, zero, suc, ◌-◌, List, [], ◌∷◌, Option, Some, None, Result, Ok, Err}
+use Rattle.std.specs.Prelude.{◌≡◌, ℕ, ◌≤◌, zero, suc, ◌-◌, Bool, true, false, ◌&&◌, List, [], ◌∷◌, Option, Some, None, Result, Ok, Err, if◌then◌else◌}
 use Rattle.pcep_objects.specs.Objects.{object_at}
 use Rattle.pcep_objects.specs.declared.fault.ObjectFault.{ObjectFault}
 use Rattle.pcep_objects.specs.declared.fault.ObjectFault.TheVariants.{UnknownClass, UnknownType}
@@ -12,12 +12,12 @@ pub record Found : Type 0 where
   pub objects : List Object
   pub fault : Option ObjectFault
 
--- an object of an unknown class or type is skipped
-abbrev pub next_of : Result (Object × ℕ) ObjectFault → Next
-next_of (Ok x) = next.Object x.0 x.1
-next_of (Err (UnknownClass p n)) = next.Skipped n
-next_of (Err (UnknownType p n)) = next.Skipped n
-next_of (Err fault) = next.Bad fault
+-- An object of an unknown class or type is skipped. In a message that heeds their P flag, one that has to be processed is a fault.
+abbrev pub next_of : Bool → Result (Object × ℕ) ObjectFault → Next
+next_of heeds_p (Ok x) = next.Object x.0 x.1
+next_of heeds_p (Err (UnknownClass p n)) = if heeds_p && p then next.Bad (UnknownClass p n) else next.Skipped n
+next_of heeds_p (Err (UnknownType p n)) = if heeds_p && p then next.Bad (UnknownType p n) else next.Skipped n
+next_of heeds_p (Err fault) = next.Bad fault
 
 -- what stands at the front, and the rest behind its bytes
 abbrev pub followed_by : Next → (ℕ → Found) → Found
@@ -26,13 +26,20 @@ followed_by (next.Skipped n) rest = rest n
 followed_by (next.Bad fault) rest = record { objects = []; fault = Some fault }
 
 -- skip counts the bytes of an object that was read and are still to pass
-unfoldable pub found_from : ℕ → List ℕ → Found
-found_from skip [] = record { objects = []; fault = None }
-found_from (suc skip) (b ∷ bytes) = found_from skip bytes
-found_from zero (b ∷ bytes) = followed_by (next_of (object_at (b ∷ bytes))) (λ n. found_from (n - 1) bytes)
+unfoldable pub found_from : Bool → ℕ → List ℕ → Found
+found_from heeds_p skip [] = record { objects = []; fault = None }
+found_from heeds_p (suc skip) (b ∷ bytes) = found_from heeds_p skip bytes
+found_from heeds_p zero (b ∷ bytes) = followed_by (next_of heeds_p (object_at (b ∷ bytes))) (λ n. found_from heeds_p (n - 1) bytes)
 
+abbrev pub found_by : Bool → List ℕ → Found
+found_by heeds_p bytes = found_from heeds_p 0 bytes
+
+-- P counts in a request alone (RFC 5440 section 7.2)
 abbrev pub found_in : List ℕ → Found
-found_in bytes = found_from 0 bytes
+found_in bytes = found_by false bytes
+
+abbrev pub found_in_request : List ℕ → Found
+found_in_request bytes = found_by true bytes
 
 abbrev pub IsFound : Found → List Object → Option ObjectFault → Type 0
 IsFound found objects fault = found ≡ record { objects = objects; fault = fault }

@@ -2,7 +2,7 @@
 
 ghost use Rattle.std.specs.Prelude.{◌≡◌, ◌≤◌, length, IfOk};
 ghost use Rattle.pcep_objects.specs.Objects.{object_at};
-ghost use Rattle.pcep_messages.specs.Objects.{next_of, found_in, SizeWithin, IsFound};
+ghost use Rattle.pcep_messages.specs.Objects.{next_of, found_by, found_in, found_in_request, SizeWithin, IsFound};
 
 use pcep_objects::{Object, ObjectFault, read_object};
 use std::alloc::{AllocError, Global};
@@ -12,20 +12,28 @@ use std::alloc::{AllocError, Global};
 pub enum Next {
     /// An object, and its length.
     Object(Object, usize),
-    /// An object of an unknown class or type, by its length.
+    /// An object of an unknown class or type that is skipped, by its length.
     Skipped(usize),
     /// An object with a fault of its own.
     Bad(ObjectFault),
 }
 
-fn next_object(alloc: Global, bytes: &[u8]) -> Result<Next, AllocError>
-    ensures next { IfOk result (λ x. x ≡ next_of (object_at bytes.now)) }
+fn next_object(alloc: Global, bytes: &[u8], heeds_p: bool) -> Result<Next, AllocError>
+    ensures next { IfOk result (λ x. x ≡ next_of heeds_p (object_at bytes.now)) }
     ensures size { IfOk result (SizeWithin (length bytes.now)) }
 {
     match read_object(alloc, bytes) {
         Ok((object, size)) => Ok(Next::Object(object, size)),
-        Err(ObjectFault::UnknownClass { size, .. }) => Ok(Next::Skipped(size)),
-        Err(ObjectFault::UnknownType { size, .. }) => Ok(Next::Skipped(size)),
+        Err(ObjectFault::UnknownClass { p, size }) => Ok(if heeds_p && p {
+            Next::Bad(ObjectFault::UnknownClass { p, size })
+        } else {
+            Next::Skipped(size)
+        }),
+        Err(ObjectFault::UnknownType { p, size }) => Ok(if heeds_p && p {
+            Next::Bad(ObjectFault::UnknownType { p, size })
+        } else {
+            Next::Skipped(size)
+        }),
         Err(ObjectFault::OutOfMemory) => Err(AllocError),
         Err(ObjectFault::Short) => Ok(Next::Bad(ObjectFault::Short)),
         Err(ObjectFault::BadLength) => Ok(Next::Bad(ObjectFault::BadLength)),
@@ -34,17 +42,17 @@ fn next_object(alloc: Global, bytes: &[u8]) -> Result<Next, AllocError>
     }
 }
 
-/// The objects up to the first that has a fault of its own, and that fault.
-pub fn objects_in(
+fn objects_by(
     alloc: Global,
     bytes: &[u8],
+    heeds_p: bool,
 ) -> Result<(Vec<Object>, Option<ObjectFault>), AllocError>
-    ensures { IfOk result (λ x. IsFound (found_in bytes.now) x.0.items x.1) }
+    ensures { IfOk result (λ x. IsFound (found_by heeds_p bytes.now) x.0.items x.1) }
 {
     let mut objects = Vec::new(alloc);
     let mut rest = bytes;
     while !rest.is_empty() {
-        match next_object(alloc, rest)? {
+        match next_object(alloc, rest, heeds_p)? {
             Next::Object(object, size) => {
                 objects.push(object)?;
                 let (_, after) = rest.split_at(size);
@@ -58,4 +66,26 @@ pub fn objects_in(
         }
     }
     Ok((objects, None))
+}
+
+/// The objects up to the first that has a fault of its own, and that fault. Those of unknown classes and
+/// types are skipped.
+pub fn objects_in(
+    alloc: Global,
+    bytes: &[u8],
+) -> Result<(Vec<Object>, Option<ObjectFault>), AllocError>
+    ensures { IfOk result (λ x. IsFound (found_in bytes.now) x.0.items x.1) }
+{
+    objects_by(alloc, bytes, false)
+}
+
+/// The same of a request, where an object of an unknown class or type with the P flag is a fault
+/// (RFC 5440 section 7.2).
+pub fn request_objects_in(
+    alloc: Global,
+    bytes: &[u8],
+) -> Result<(Vec<Object>, Option<ObjectFault>), AllocError>
+    ensures { IfOk result (λ x. IsFound (found_in_request bytes.now) x.0.items x.1) }
+{
+    objects_by(alloc, bytes, true)
 }

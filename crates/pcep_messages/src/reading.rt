@@ -1,15 +1,19 @@
 //! Whole messages.
 
 ghost use Rattle.std.specs.Prelude.{◌≡◌, ◌≢◌, ℕ, List, IfOk, IfErr};
+ghost use Rattle.pcep_messages.specs.Objects.{found_in};
 ghost use Rattle.pcep_messages.specs.Reports.{names_nothing, report_body};
-ghost use Rattle.pcep_messages.specs.Messages.{Gives, has_header, message_of, message_in, Reads, IsFaulty, ReadsOrIsFaulty};
+ghost use Rattle.pcep_messages.specs.Requests.{request_body};
+ghost use Rattle.pcep_messages.specs.Messages.{Gives, has_header, unless_faulty, message_of, message_in, Reads, IsFaulty, ReadsOrIsFaulty};
 ghost use Rattle.pcep_messages.specs.declared.fault.MessageFault.TheVariants.{OutOfMemory};
+ghost use Rattle.pcep_messages.specs.declared.message.Message.TheVariants as messages;
 
 use crate::fault::{About, MessageFault};
 use crate::items::{Item, items_of};
-use crate::message::{Message, StateReport};
-use crate::objects::objects_in;
+use crate::message::{Message, PathRequest, StateReport};
+use crate::objects::{objects_in, request_objects_in};
 use crate::reports::reports_before;
+use crate::requests::requests_in;
 use byteorder::{BigEndian, ByteOrder};
 use sequence::Sequence;
 use std::alloc::Global;
@@ -33,6 +37,25 @@ fn read_report(alloc: Global, body: &[u8]) -> Result<Vec<StateReport>, MessageFa
     reports_before(alloc, items, fault)
 }
 
+/// The body of a PCReq.
+#[tactic(auto, unfolding(crate::specs::Requests::request_body))]
+fn read_request(alloc: Global, body: &[u8]) -> Result<Vec<PathRequest>, MessageFault>
+    ensures { Gives (λ v. v.items) result (request_body body.now) }
+{
+    let (objects, fault) = request_objects_in(alloc, body)?;
+    requests_in(alloc, &objects, fault)
+}
+
+/// The body of a PCNtf.
+fn read_notification(alloc: Global, body: &[u8]) -> Result<Message, MessageFault>
+    ensures { Gives (λ x. x) result (unless_faulty messages.Notify (found_in body.now).fault) }
+{
+    match objects_in(alloc, body)? {
+        (_, None) => Ok(Message::Notify),
+        (_, Some(fault)) => Err(MessageFault::BadObject(fault, About::Nothing)),
+    }
+}
+
 fn has_header(bytes: &[u8]) -> bool
     ensures { result ≡ has_header bytes.now }
 {
@@ -45,11 +68,18 @@ fn has_header(bytes: &[u8]) -> bool
 fn read_body(alloc: Global, kind: u8, body: &[u8]) -> Result<Message, MessageFault>
     ensures { Gives (λ x. x) result (message_of kind body.now) }
 {
-    if kind != 10 {
-        return Ok(Message::Unknown(kind));
+    match kind {
+        3 => {
+            let requests = read_request(alloc, body)?;
+            Ok(Message::Request(Sequence::from_vec(requests)))
+        }
+        5 => read_notification(alloc, body),
+        10 => {
+            let reports = read_report(alloc, body)?;
+            Ok(Message::Report(Sequence::from_vec(reports)))
+        }
+        _ => Ok(Message::Unknown(kind)),
     }
-    let reports = read_report(alloc, body)?;
-    Ok(Message::Report(Sequence::from_vec(reports)))
 }
 
 #[tactic(auto, unfolding(crate::specs::Messages::message_in))]
@@ -65,9 +95,9 @@ fn read(alloc: Global, bytes: &[u8]) -> Result<Message, MessageFault>
 /// Reads the bytes of one whole message.
 ///
 /// Objects are read from first to last, and the first fault refuses the whole message. At one object its
-/// own fault comes first, then what the item that it ends lacks, then its place or its missing identifiers.
-/// Objects of unknown classes and types, and those that an item doesn't name, are skipped. `OutOfMemory`
-/// comes where a growth was refused.
+/// own fault comes first, then what the item that it ends lacks, then its P flag, its place or its missing
+/// identifiers. Objects that an item doesn't name are skipped, and so are those of unknown classes and
+/// types, but for those of a PCReq that have P set. `OutOfMemory` comes where a growth was refused.
 pub fn read_message(alloc: Global, bytes: &[u8]) -> Result<Message, MessageFault>
     ensures reads { IfOk result (Reads bytes.now) }
     ensures first_fault { IfErr result (λ e. e ≢ OutOfMemory → IsFaulty bytes.now e) }

@@ -48,7 +48,8 @@ fn in_force(setup: Priority, hold: Priority) -> Priority
     }
 }
 
-fn priorities(lspa: Option<Lspa>) -> (Priority, Priority)
+/// The setup priority and the holding priority in force.
+pub fn priorities(lspa: Option<Lspa>) -> (Priority, Priority)
     ensures setup { result.0 ≡ setup_of lspa }
     ensures hold { result.1 ≡ hold_of lspa }
 {
@@ -58,7 +59,7 @@ fn priorities(lspa: Option<Lspa>) -> (Priority, Priority)
     }
 }
 
-fn colours_of(lspa: Option<Lspa>) -> Colours
+pub fn colours_of(lspa: Option<Lspa>) -> Colours
     ensures { result ≡ colours_of lspa }
 {
     match lspa {
