@@ -1,15 +1,13 @@
 -- Messages of PCEP in bytes: what the bytes read as, or the first fault.
-use Rattle.std.specs.Prelude.{◌≡◌, ℕ, ◌/◌, ◌%◌, ◌^◌, Bool, not, ◌&&◌, List, length, drop, slice_index, Option, Some, None, Result, Ok, Err, nat_lt, ◌==◌, if◌then◌else◌}
+use Rattle.std.specs.Prelude.{◌≡◌, ℕ, ◌/◌, ◌%◌, ◌^◌, Bool, not, ◌&&◌, List, length, drop, slice_index, Result, Ok, Err, nat_lt, ◌==◌, if◌then◌else◌}
 use Rattle.pcep_objects.specs.Steps.{◌>>=◌, field, HasOneAnswer}
-use Rattle.pcep_objects.specs.declared.fault.ObjectFault.{ObjectFault}
-use Rattle.pcep_messages.specs.Objects.{found_in}
+use Rattle.pcep_messages.specs.Notifications.{notification_body}
 use Rattle.pcep_messages.specs.Reports.{report_body}
 use Rattle.pcep_messages.specs.Requests.{request_body}
-use Rattle.pcep_messages.specs.declared.fault.About.TheVariants as about
 use Rattle.pcep_messages.specs.declared.fault.MessageFault.{MessageFault}
 use Rattle.pcep_messages.specs.declared.fault.MessageFault.TheVariants.{BadHeader, BadObject, Missing, MissingIdentifiers, BadP, Refused, OutOfMemory}
 use Rattle.pcep_messages.specs.declared.message.Message.{Message}
-use Rattle.pcep_messages.specs.declared.message.Message.TheVariants.{Request, Notify, Report, Unknown}
+use Rattle.pcep_messages.specs.declared.message.Message.TheVariants.{Report, Unknown}
 
 abbrev pub fault_number : MessageFault → ℕ
 fault_number BadHeader = 1
@@ -26,16 +24,11 @@ abbrev pub has_header : List ℕ → Bool
 has_header bytes =
     not (nat_lt (length bytes) 4) && slice_index bytes 0 / 2 ^ 5 == 1 && field 2 2 bytes == length bytes && length bytes % 4 == 0
 
--- a message of which nothing is used: an object's own fault still counts
-abbrev pub unless_faulty : Message → Option ObjectFault → Result Message MessageFault
-unless_faulty message None = Ok message
-unless_faulty message (Some fault) = Err (BadObject fault about.Nothing)
-
 -- The types of messages (RFC 5440 section 6.1, RFC 8231 section 6.1): 3 PCReq, 5 PCNtf, 10 PCRpt.
 abbrev pub message_of : ℕ → List ℕ → Result Message MessageFault
 message_of kind body =
-    if kind == 3 then (request_body body >>= λ requests. Ok (Request requests))
-    else (if kind == 5 then unless_faulty Notify (found_in body).fault
+    if kind == 3 then request_body body
+    else (if kind == 5 then notification_body body
     else (if kind == 10 then (report_body body >>= λ reports. Ok (Report reports))
     else Ok (Unknown kind)))
 

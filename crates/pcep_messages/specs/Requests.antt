@@ -16,6 +16,8 @@ use Rattle.pcep_messages.specs.declared.fault.About.{About}
 use Rattle.pcep_messages.specs.declared.fault.About.TheVariants as about
 use Rattle.pcep_messages.specs.declared.fault.MessageFault.{MessageFault}
 use Rattle.pcep_messages.specs.declared.fault.MessageFault.TheVariants.{BadObject, BadP, Refused}
+use Rattle.pcep_messages.specs.declared.message.Message.{Message}
+use Rattle.pcep_messages.specs.declared.message.Message.TheVariants as messages
 use Rattle.pcep_messages.specs.declared.message.PathRequest.{PathRequest}
 
 -- a fault of a request is about its RP
@@ -111,6 +113,6 @@ requests_behind None objects own = if list_any is_rp objects then requests_of ob
 abbrev pub requests_in : List Object → Option ObjectFault → Result (List PathRequest) MessageFault
 requests_in objects own = requests_behind (first_of fault_in_front (up_to_rp objects)) objects own
 
--- the body of a request
-unfoldable pub request_body : List ℕ → Result (List PathRequest) MessageFault
-request_body body = requests_in (found_in_request body).objects (found_in_request body).fault
+-- the body of a PCReq
+unfoldable pub request_body : List ℕ → Result Message MessageFault
+request_body body = requests_in (found_in_request body).objects (found_in_request body).fault >>= λ requests. Ok (messages.Request requests)

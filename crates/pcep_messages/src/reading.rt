@@ -1,19 +1,17 @@
 //! Whole messages.
 
 ghost use Rattle.std.specs.Prelude.{◌≡◌, ◌≢◌, ℕ, List, IfOk, IfErr};
-ghost use Rattle.pcep_messages.specs.Objects.{found_in};
 ghost use Rattle.pcep_messages.specs.Reports.{names_nothing, report_body};
-ghost use Rattle.pcep_messages.specs.Requests.{request_body};
-ghost use Rattle.pcep_messages.specs.Messages.{Gives, has_header, unless_faulty, message_of, message_in, Reads, IsFaulty, ReadsOrIsFaulty};
+ghost use Rattle.pcep_messages.specs.Messages.{Gives, has_header, message_of, message_in, Reads, IsFaulty, ReadsOrIsFaulty};
 ghost use Rattle.pcep_messages.specs.declared.fault.MessageFault.TheVariants.{OutOfMemory};
-ghost use Rattle.pcep_messages.specs.declared.message.Message.TheVariants as messages;
 
 use crate::fault::{About, MessageFault};
 use crate::items::{Item, items_of};
-use crate::message::{Message, PathRequest, StateReport};
-use crate::objects::{objects_in, request_objects_in};
+use crate::message::{Message, StateReport};
+use crate::notifications::read_notification;
+use crate::objects::objects_in;
 use crate::reports::reports_before;
-use crate::requests::requests_in;
+use crate::requests::read_requests;
 use byteorder::{BigEndian, ByteOrder};
 use sequence::Sequence;
 use std::alloc::Global;
@@ -37,25 +35,6 @@ fn read_report(alloc: Global, body: &[u8]) -> Result<Vec<StateReport>, MessageFa
     reports_before(alloc, items, fault)
 }
 
-/// The body of a PCReq.
-#[tactic(auto, unfolding(crate::specs::Requests::request_body))]
-fn read_request(alloc: Global, body: &[u8]) -> Result<Vec<PathRequest>, MessageFault>
-    ensures { Gives (λ v. v.items) result (request_body body.now) }
-{
-    let (objects, fault) = request_objects_in(alloc, body)?;
-    requests_in(alloc, &objects, fault)
-}
-
-/// The body of a PCNtf.
-fn read_notification(alloc: Global, body: &[u8]) -> Result<Message, MessageFault>
-    ensures { Gives (λ x. x) result (unless_faulty messages.Notify (found_in body.now).fault) }
-{
-    match objects_in(alloc, body)? {
-        (_, None) => Ok(Message::Notify),
-        (_, Some(fault)) => Err(MessageFault::BadObject(fault, About::Nothing)),
-    }
-}
-
 fn has_header(bytes: &[u8]) -> bool
     ensures { result ≡ has_header bytes.now }
 {
@@ -69,10 +48,7 @@ fn read_body(alloc: Global, kind: u8, body: &[u8]) -> Result<Message, MessageFau
     ensures { Gives (λ x. x) result (message_of kind body.now) }
 {
     match kind {
-        3 => {
-            let requests = read_request(alloc, body)?;
-            Ok(Message::Request(Sequence::from_vec(requests)))
-        }
+        3 => read_requests(alloc, body),
         5 => read_notification(alloc, body),
         10 => {
             let reports = read_report(alloc, body)?;

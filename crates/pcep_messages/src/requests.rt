@@ -1,9 +1,9 @@
 //! The requests of a PCReq.
 
-ghost use Rattle.std.specs.Prelude.{◌≡◌};
+ghost use Rattle.std.specs.Prelude.{◌≡◌, ℕ, List, false};
 ghost use Rattle.std.specs.List.{list_any};
 ghost use Rattle.pcep_messages.specs.Constraints.{first_of};
-ghost use Rattle.pcep_messages.specs.Requests.{is_rp, up_to_rp, fault_in_place, lacks_rro, request_with, request_of, own_fault, requests_of, fault_of_kept, fault_in_front, no_request, requests_in};
+ghost use Rattle.pcep_messages.specs.Requests.{is_rp, up_to_rp, fault_in_place, lacks_rro, request_with, request_of, own_fault, requests_of, fault_of_kept, fault_in_front, no_request, requests_in, request_body};
 ghost use Rattle.pcep_messages.specs.Messages.{Gives};
 
 use crate::constraints::{
@@ -11,9 +11,11 @@ use crate::constraints::{
     has_rro, minimised,
 };
 use crate::fault::{About, MessageFault};
-use crate::message::PathRequest;
+use crate::message::{Message, PathRequest};
+use crate::objects::request_objects_in;
 use crate::reports::{colours_of, priorities};
 use pcep_objects::{EndPoints, KeptClass, Object, ObjectFault, Rp};
+use sequence::Sequence;
 use std::alloc::Global;
 
 fn is_rp(object: &Object) -> bool
@@ -32,10 +34,11 @@ fn has_rp(objects: &[Object]) -> bool
 fn up_to_rp(objects: &[Object]) -> &[Object]
     ensures { result.now ≡ up_to_rp objects.now }
 {
-    match objects.iter().position(is_rp) {
-        Some(index) => &objects[..index],
-        None => objects,
+    let mut len = 0;
+    while len < objects.len() && !is_rp(&objects[len]) {
+        len += 1;
     }
+    &objects[..len]
 }
 
 /// The first fault at a place among the objects of a request.
@@ -67,19 +70,23 @@ fn lacks_rro(rp: Rp, objects: &[Object]) -> bool
 fn request_with(rp: Rp, objects: &[Object], ends: EndPoints) -> PathRequest
     ensures { result ≡ request_with rp objects.now ends }
 {
-    let lspa = first_lspa(objects);
-    let (setup, hold) = priorities(lspa);
+    let (setup, hold) = priorities(first_lspa(objects));
+    let colours = colours_of(first_lspa(objects));
+    let plsp = first_plsp(objects);
+    let bandwidth = greatest_requested(objects);
+    let minimise = minimised(objects);
+    let bounds = bounds_of(objects);
     PathRequest {
         request: rp.id,
-        plsp: first_plsp(objects),
+        plsp,
         source: ends.source,
         destination: ends.destination,
-        bandwidth: greatest_requested(objects),
+        bandwidth,
         setup,
         hold,
-        colours: colours_of(lspa),
-        minimise: minimised(objects),
-        bounds: bounds_of(objects),
+        colours,
+        minimise,
+        bounds,
     }
 }
 
@@ -128,11 +135,11 @@ fn each_request(
     let mut found = Vec::new(alloc);
     let mut rest = objects;
     while let Some((object, behind)) = rest.split_first() {
+        rest = behind;
         if let Object::Rp(rp) = object {
             let request = request_of(*rp, up_to_rp(behind), own_fault(behind, fault))?;
             found.push(request)?;
         }
-        rest = behind;
     }
     Ok(found)
 }
@@ -181,7 +188,7 @@ fn no_request(fault: Option<ObjectFault>) -> MessageFault
 }
 
 /// The requests of a message's objects. An object with a fault of its own may stand behind those.
-pub fn requests_in(
+fn requests_in(
     alloc: Global,
     objects: &[Object],
     own: Option<ObjectFault>,
@@ -195,4 +202,14 @@ pub fn requests_in(
         return Err(no_request(own));
     }
     each_request(alloc, objects, own)
+}
+
+/// The body of a PCReq.
+#[tactic(auto, unfolding(crate::specs::Requests::request_body))]
+pub fn read_requests(alloc: Global, body: &[u8]) -> Result<Message, MessageFault>
+    ensures { Gives (λ x. x) result (request_body body.now) }
+{
+    let (objects, fault) = request_objects_in(alloc, body)?;
+    let requests = requests_in(alloc, &objects, fault)?;
+    Ok(Message::Request(Sequence::from_vec(requests)))
 }

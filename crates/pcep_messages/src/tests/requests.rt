@@ -99,16 +99,10 @@ fn plain_request(request: u32, destination: u32) -> Result<PathRequest, Fail> {
 
 #[test]
 fn one_request(rt: HostRuntime) -> Result<(), Fail> {
-    let bytes = bytes_of(
-        &rt,
-        "2003001c 0212000c 00000000 00000007 0412000c 0a000001 0a090909",
-    )?;
+    let bytes = bytes_of(&rt, REQUEST)?;
     let found = only_request(&rt, bytes.as_slice())?;
     assert_eq!(rt; found, plain_request(7, 0x0a090909)?);
-    let bytes = bytes_of(
-        &rt,
-        "20030024 0212000c 00000000 00000008 0412000c 0a000001 0a000004 05120008 49127c00",
-    )?;
+    let bytes = bytes_of(&rt, LARGE_REQUEST)?;
     let found = only_request(&rt, bytes.as_slice())?;
     let expected = PathRequest {
         bandwidth: bandwidth(0x49127c00)?,

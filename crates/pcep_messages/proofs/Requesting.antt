@@ -1,0 +1,61 @@
+-- Requests that are read one after the other, as a loop does.
+use Rattle.std.proofs.Common.{◌≡◌, ℕ, ◌+◌, ◌<◌, false, true, List, [], ◌∷◌, ◌++◌, length, get_or, drop, Some, None, Option, Result, Ok, Err, refl, sym, ap, ◌∙◌, arith, add-one, drop-cons}
+use Rattle.std.proofs.lemmas.List.{append-nil}
+use Rattle.std.specs.List.{position_or_len}
+use Rattle.pcep_objects.specs.Steps.{◌>>=◌}
+use Rattle.pcep_objects.specs.declared.fault.ObjectFault.{ObjectFault}
+use Rattle.pcep_objects.specs.declared.object.Object.{Object}
+use Rattle.pcep_objects.specs.declared.object.Object.TheVariants as objects
+use Rattle.pcep_objects.specs.declared.request_objects.Rp.{Rp}
+use Rattle.pcep_messages.proofs.Reporting.{with_front, regroup, fails_from}
+use Rattle.pcep_messages.specs.declared.fault.MessageFault.{MessageFault}
+use Rattle.pcep_messages.specs.declared.message.PathRequest.{PathRequest}
+use Rattle.pcep_messages.specs.Messages.{Fails}
+use Rattle.pcep_messages.specs.Requests.{is_rp, up_to_rp, own_fault, request_of, requests_of}
+
+-- an object in front that is no RP
+pub passes : (object : Object) (behind : List Object) (fault : Option ObjectFault) → is_rp object ≡ false → requests_of (object ∷ behind) fault ≡ requests_of behind fault
+unfolding requests_of
+passes (objects.Open x) behind fault none = refl
+passes (objects.Rp x) behind fault none = absurd (cc)
+passes (objects.NoPath x) behind fault none = refl
+passes (objects.EndPoints x) behind fault none = refl
+passes (objects.Bandwidth k x) behind fault none = refl
+passes (objects.Metric x) behind fault none = refl
+passes (objects.Ero x) behind fault none = refl
+passes (objects.Rro x) behind fault none = refl
+passes (objects.Lspa x) behind fault none = refl
+passes (objects.Kept x) behind fault none = refl
+passes (objects.Notification x) behind fault none = refl
+passes (objects.Error x) behind fault none = refl
+passes (objects.Close x) behind fault none = refl
+passes (objects.Lsp x) behind fault none = refl
+passes (objects.Srp x) behind fault none = refl
+
+pub goes_on : (front : List PathRequest) (rp : Rp) (behind : List Object) (fault : Option ObjectFault) (request : PathRequest) (total : Result (List PathRequest) MessageFault)
+    → request_of rp (up_to_rp behind) (own_fault behind fault) ≡ Ok request
+    → with_front front (requests_of (objects.Rp rp ∷ behind) fault) ≡ total → with_front (front ++ request ∷ []) (requests_of behind fault) ≡ total
+unfolding requests_of
+goes_on front rp behind fault request total given so_far =
+    let one : requests_of (objects.Rp rp ∷ behind) fault ≡ (requests_of behind fault >>= λ rs. Ok (request ∷ rs)) = rw given refl in
+    sym (regroup front request (requests_of behind fault)) ∙ ap (with_front front) (sym one) ∙ so_far
+
+pub ends : (e : MessageFault) (front : List PathRequest) (rp : Rp) (behind : List Object) (fault : Option ObjectFault) (total : Result (List PathRequest) MessageFault)
+    → Fails e (request_of rp (up_to_rp behind) (own_fault behind fault))
+    → with_front front (requests_of (objects.Rp rp ∷ behind) fault) ≡ total → Fails e total
+unfolding requests_of
+ends e front rp behind fault total h so_far =
+    fails_from e (requests_of (objects.Rp rp ∷ behind) fault) (λ xs. Ok (front ++ xs)) total (fails_from e (request_of rp (up_to_rp behind) (own_fault behind fault)) (λ r. requests_of behind fault >>= λ rs. Ok (r ∷ rs)) (requests_of (objects.Rp rp ∷ behind) fault) h refl) so_far
+
+pub is_done : (front : List PathRequest) (rest : List Object) (fault : Option ObjectFault) (total : Result (List PathRequest) MessageFault) → length rest ≡ 0 → with_front front (requests_of rest fault) ≡ total → total ≡ Ok front
+unfolding requests_of
+is_done front [] fault total none so_far = sym so_far ∙ ap (λ ys. Ok ys) (append-nil front)
+is_done front (object ∷ behind) fault total none so_far = absurd (omega arith)
+
+-- how far the first RP is
+pub is_further : (objects : List Object) (i : ℕ) (d : Object) → i < length objects → is_rp (get_or objects i d) ≡ false
+    → (i + 1) + position_or_len is_rp (drop (i + 1) objects) ≡ i + position_or_len is_rp (drop i objects)
+is_further objects i d within none = rw (add-one, drop-cons objects i d) (rw none (omega arith))
+
+pub is_here : (objects : List Object) (i : ℕ) (d : Object) → i < length objects → is_rp (get_or objects i d) ≡ true → position_or_len is_rp (drop i objects) ≡ 0
+is_here objects i d within here = rw (drop-cons objects i d) (rw here refl)
