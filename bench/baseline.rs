@@ -3,6 +3,8 @@
 //!
 //! `baseline COUNT [NAME]` reads and writes each message COUNT times, or only the one of that name.
 
+#![allow(dead_code)]
+
 use std::hint::black_box;
 use std::time::Instant;
 
@@ -449,7 +451,7 @@ fn requests(mut rest: &[u8]) -> Result<Vec<PathRequest>, Fault> {
                 let found = lsp(object.body)?.plsp;
                 last.plsp.get_or_insert(found);
             }
-            (1..=15 | 32 | 33, 1) => {}
+            (1..=15 | 33, 1) => {}
             _ if object.p => return Err(Fault::Header),
             _ => {}
         }
