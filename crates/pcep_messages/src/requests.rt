@@ -136,10 +136,11 @@ fn each_request(
     let mut rest = objects;
     while let Some((object, behind)) = rest.split_first() {
         rest = behind;
-        if let Object::Rp(rp) = object {
-            let request = request_of(*rp, up_to_rp(behind), own_fault(behind, fault))?;
-            found.push(request)?;
-        }
+        let Object::Rp(rp) = object else {
+            continue;
+        };
+        let request = request_of(*rp, up_to_rp(behind), own_fault(behind, fault))?;
+        found.push(request)?;
     }
     Ok(found)
 }
