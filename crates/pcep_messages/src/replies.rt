@@ -1,0 +1,65 @@
+//! What a PCRep says.
+
+ghost use Rattle.std.specs.Prelude.{◌≡◌};
+ghost use Rattle.std.specs.Option.{option_map};
+ghost use Rattle.pcep_messages.specs.Replies.{about_rp, cost_of, answer_or_missing, reply_of, reply_body};
+ghost use Rattle.pcep_messages.specs.Messages.{Gives};
+
+use crate::fault::{About, MessageFault};
+use crate::message::{Answer, Cost, Message, Reply};
+use crate::parts::{Parts, parts_in};
+use pcep_objects::{Metric, Rp};
+use std::alloc::Global;
+
+fn about_rp(rp: Option<Rp>) -> About
+    ensures { result ≡ about_rp rp }
+{
+    match rp {
+        Some(rp) => About::Request(rp.id),
+        None => About::Nothing,
+    }
+}
+
+fn cost_of(metric: Option<Metric>) -> Option<Cost>
+    ensures { result ≡ option_map cost_of metric }
+{
+    match metric {
+        Some(metric) => Some(Cost {
+            kind: metric.kind,
+            value: metric.value,
+        }),
+        None => None,
+    }
+}
+
+/// The reply of the parts that are there.
+fn reply_of(parts: Parts) -> Result<Message, MessageFault>
+    ensures { Gives (λ x. x) result (reply_of parts) }
+{
+    let Some(rp) = parts.rp else {
+        return Err(MessageFault::Missing(2, About::Nothing));
+    };
+    let request = rp.id;
+    if let Some(no_path) = parts.no_path {
+        let answer = Answer::NoPath(no_path.vector);
+        return Ok(Message::Reply(Reply { request, answer }));
+    }
+    let cost = cost_of(parts.metric);
+    let Some(hops) = parts.ero else {
+        return Err(MessageFault::Missing(7, About::Request(request)));
+    };
+    let answer = Answer::Found(hops, cost);
+    Ok(Message::Reply(Reply { request, answer }))
+}
+
+/// The body of a PCRep.
+#[tactic(auto, unfolding(crate::specs::Replies::reply_body))]
+pub fn read_reply(alloc: Global, body: &[u8]) -> Result<Message, MessageFault>
+    ensures { Gives (λ x. x) result (reply_body body.now) }
+{
+    let (parts, fault) = parts_in(alloc, body)?;
+    if let Some(fault) = fault {
+        return Err(MessageFault::BadObject(fault, about_rp(parts.rp)));
+    }
+    reply_of(parts)
+}
