@@ -1,6 +1,7 @@
 -- What a PCUpd (RFC 8231 section 6.2) and a PCInitiate (RFC 8281 section 5.1) ask for, or the first fault.
 use Rattle.std.specs.Prelude.{ℕ, min, not, ◌&&◌, List, [], Option, Some, None, is_none, Result, Ok, Err, if◌then◌else◌}
 use Rattle.std.specs.Option.{option_map}
+use Rattle.pcep_objects.specs.declared.object.Hop.{Hop}
 use Rattle.pcep_objects.specs.declared.object.LspObject.{LspObject}
 use Rattle.pcep_objects.specs.declared.object.Lspa.{Lspa}
 use Rattle.pcep_objects.specs.declared.object.Srp.{Srp}
@@ -60,29 +61,29 @@ update_body body = read_parts about_parts update_of (found_in body)
 
 -- ---- PCInitiate
 
-abbrev pub create_with : Srp → LspObject → EndPoints → Parts → Create
-create_with srp lsp end_points parts = record {
+abbrev pub create_with : Srp → LspObject → EndPoints → List Hop → Parts → Create
+create_with srp lsp end_points hops parts = record {
   srp = srp.id;
   name = name_or_none lsp.name;
   source = end_points.source;
   destination = end_points.destination;
-  ero = hops_or_none parts.ero;
+  ero = hops;
   attributes = option_map attributes_of parts.lspa;
   bandwidth = parts.bandwidth;
 }
 
 -- a new LSP also has to have END-POINTS, class 4, and ERO, class 7
-abbrev pub create_or_missing : Srp → LspObject → Parts → Option EndPoints → Result Message MessageFault
-create_or_missing srp lsp parts None = Err (Missing 4 (about_parts parts))
-create_or_missing srp lsp parts (Some end_points) =
-    if is_none parts.ero then Err (Missing 7 (about_parts parts)) else Ok (messages.Initiate (initiates.Create (create_with srp lsp end_points parts)))
+abbrev pub create_or_missing : Srp → LspObject → Parts → Option EndPoints → Option (List Hop) → Result Message MessageFault
+create_or_missing srp lsp parts None ero = Err (Missing 4 (about_parts parts))
+create_or_missing srp lsp parts (Some end_points) None = Err (Missing 7 (about_parts parts))
+create_or_missing srp lsp parts (Some end_points) (Some hops) = Ok (messages.Initiate (initiates.Create (create_with srp lsp end_points hops parts)))
 
 -- SRP, class 33, and LSP, class 32, have to be there; with R of SRP set they are enough, and the LSP is to go
 abbrev pub initiate_or_missing : Parts → Option Srp → Option LspObject → Result Message MessageFault
 initiate_or_missing parts None lsp = Err (Missing 33 (about_parts parts))
 initiate_or_missing parts (Some srp) None = Err (Missing 32 (about_parts parts))
 initiate_or_missing parts (Some srp) (Some lsp) =
-    if srp.remove then Ok (messages.Initiate (initiates.Remove srp.id lsp.plsp)) else create_or_missing srp lsp parts parts.end_points
+    if srp.remove then Ok (messages.Initiate (initiates.Remove srp.id lsp.plsp)) else create_or_missing srp lsp parts parts.end_points parts.ero
 
 abbrev pub initiate_of : Parts → Result Message MessageFault
 initiate_of parts = initiate_or_missing parts parts.srp parts.lsp

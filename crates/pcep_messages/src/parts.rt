@@ -82,10 +82,7 @@ fn take_in(parts: &mut Parts, object: Object)
 }
 
 /// The parts of the objects up to the first that has a fault of its own, and that fault.
-pub fn parts_in(
-    alloc: Global,
-    bytes: &[u8],
-) -> Result<(Parts, Option<ObjectFault>), AllocError>
+pub fn parts_in(alloc: Global, bytes: &[u8]) -> Result<(Parts, Option<ObjectFault>), AllocError>
     ensures { IfOk result (λ x. ArePartsOf (found_in bytes.now) x.0 x.1) }
 {
     let mut parts = no_parts();

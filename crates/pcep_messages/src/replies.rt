@@ -4,11 +4,13 @@ ghost use Rattle.std.specs.Prelude.{◌≡◌};
 ghost use Rattle.std.specs.Option.{option_map};
 ghost use Rattle.pcep_messages.specs.Replies.{about_rp, cost_of, answer_or_missing, reply_of, reply_body};
 ghost use Rattle.pcep_messages.specs.Messages.{Gives};
+ghost use Rattle.pcep_messages.specs.declared.fault.About.TheVariants.{Request};
 
 use crate::fault::{About, MessageFault};
 use crate::message::{Answer, Cost, Message, Reply};
 use crate::parts::{Parts, parts_in};
-use pcep_objects::{Metric, Rp};
+use pcep_objects::{Hop, Metric, NoPath, Rp};
+use sequence::Sequence;
 use std::alloc::Global;
 
 fn about_rp(rp: Option<Rp>) -> About
@@ -32,24 +34,36 @@ fn cost_of(metric: Option<Metric>) -> Option<Cost>
     }
 }
 
+/// What the reply to a request says of its path.
+fn answer_of(
+    request: u32,
+    no_path: Option<NoPath>,
+    ero: Option<Sequence<Hop>>,
+    metric: Option<Metric>,
+) -> Result<Answer, MessageFault>
+    ensures { Gives (λ x. x) result (answer_or_missing (Request request) no_path ero metric) }
+{
+    if let Some(no_path) = no_path {
+        return Ok(Answer::NoPath(no_path.vector));
+    }
+    match ero {
+        Some(hops) => Ok(Answer::Found(hops, cost_of(metric))),
+        None => Err(MessageFault::Missing(7, About::Request(request))),
+    }
+}
+
 /// The reply of the parts that are there.
-fn reply_of(parts: Parts) -> Result<Message, MessageFault>
+fn reply_of(mut parts: Parts) -> Result<Message, MessageFault>
     ensures { Gives (λ x. x) result (reply_of parts) }
 {
     let Some(rp) = parts.rp else {
         return Err(MessageFault::Missing(2, About::Nothing));
     };
-    let request = rp.id;
-    if let Some(no_path) = parts.no_path {
-        let answer = Answer::NoPath(no_path.vector);
-        return Ok(Message::Reply(Reply { request, answer }));
-    }
-    let cost = cost_of(parts.metric);
-    let Some(hops) = parts.ero else {
-        return Err(MessageFault::Missing(7, About::Request(request)));
-    };
-    let answer = Answer::Found(hops, cost);
-    Ok(Message::Reply(Reply { request, answer }))
+    let answer = answer_of(rp.id, parts.no_path, parts.ero.take(), parts.metric)?;
+    Ok(Message::Reply(Reply {
+        request: rp.id,
+        answer,
+    }))
 }
 
 /// The body of a PCRep.

@@ -9,7 +9,7 @@ use crate::fault::MessageFault;
 use crate::message::{Attributes, Create, Initiate, Message, Update};
 use crate::parts::{Parts, parts_in};
 use crate::reports::{about_srp, hops_or_none, in_force, srp_id};
-use pcep_objects::{EndPoints, LspObject, Lspa, Srp};
+use pcep_objects::{EndPoints, Hop, LspObject, Lspa, Srp};
 use sequence::Sequence;
 use std::alloc::Global;
 
@@ -85,9 +85,10 @@ fn create_with(
     srp: Srp,
     lsp: LspObject,
     end_points: EndPoints,
+    hops: Sequence<Hop>,
     parts: Parts,
 ) -> Create
-    ensures { result ≡ create_with srp lsp end_points parts }
+    ensures { result ≡ create_with srp lsp end_points hops parts }
 {
     let attributes = attributes_of(parts.lspa);
     Create {
@@ -95,7 +96,7 @@ fn create_with(
         name: name_or_none(alloc, lsp.name),
         source: end_points.source,
         destination: end_points.destination,
-        ero: hops_or_none(alloc, parts.ero),
+        ero: hops,
         attributes,
         bandwidth: parts.bandwidth,
     }
@@ -106,18 +107,18 @@ fn create_of(
     alloc: Global,
     srp: Srp,
     lsp: LspObject,
-    parts: Parts,
+    mut parts: Parts,
 ) -> Result<Message, MessageFault>
-    ensures { Gives (λ x. x) result (create_or_missing srp lsp parts parts.end_points) }
+    ensures { Gives (λ x. x) result (create_or_missing srp lsp parts parts.end_points parts.ero) }
 {
     let about = about_srp(srp_id(parts.srp));
     let Some(end_points) = parts.end_points else {
         return Err(MessageFault::Missing(4, about));
     };
-    if parts.ero.is_none() {
+    let Some(hops) = parts.ero.take() else {
         return Err(MessageFault::Missing(7, about));
-    }
-    let create = create_with(alloc, srp, lsp, end_points, parts);
+    };
+    let create = create_with(alloc, srp, lsp, end_points, hops, parts);
     Ok(Message::Initiate(Initiate::Create(create)))
 }
 
