@@ -49,6 +49,7 @@ fn lsp_object(plsp: Plsp, delegate: bool, admin: bool) -> LspObject
     }
 }
 
+#[tactic(auto, unfolding(pcep_objects::specs::Spelling::colours_written))]
 fn put_attributes(attributes: Option<Attributes>, out: &mut Vec<u8>) -> Result<(), AllocError>
     ensures { OnOk result (out.new.items ≡ out.old.items ++ objects_spelled (attributes_objects attributes)) }
 {
