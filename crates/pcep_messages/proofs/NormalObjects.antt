@@ -82,8 +82,9 @@ normal_objects (messages.Request rs) normal = tt
 normal_objects (messages.Reply reply) normal = (record { priority = omega arith; id = normal.request }, answer reply.answer normal.answer)
 normal_objects messages.Notify normal = tt
 normal_objects (messages.Error es) normal =
-    both (map (rp_object false) es.requests) (map (srp_object false) es.srps ++ map (λ error. objects.Error error) es.errors) (requests es.requests normal.requests)
-    (both (map (srp_object false) es.srps) (map (λ error. objects.Error error) es.errors) (srps es.srps normal.srps) (errors es.errors))
+    let rps = map (rp_object false) es.requests in
+    let named = map (srp_object false) es.srps in
+    both (rps ++ named) (map (λ error. objects.Error error) es.errors) (both rps named (requests es.requests normal.requests) (srps es.srps normal.srps)) (errors es.errors)
 normal_objects (messages.Close reason) normal = (tt, tt)
 normal_objects (messages.Report reports) normal = tt
 normal_objects (messages.Update u) normal = update u normal

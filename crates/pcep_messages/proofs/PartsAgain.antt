@@ -37,23 +37,30 @@ left_out : {X Y Z : Type 0} (h : X → Option Y) (f : Z → X) → ((z : Z) → 
 left_out h f each [] = refl
 left_out h f each (z ∷ zs) = rw (each z) (left_out h f each zs)
 
-in_three : {Y : Type 0} (h : Object → Option Y) (xs ys zs : List Object) → filter_map h (xs ++ ys ++ zs) ≡ filter_map h xs ++ filter_map h ys ++ filter_map h zs
-in_three h xs ys zs = filter_map-append h xs (ys ++ zs) ∙ ap (λ w. filter_map h xs ++ w) (filter_map-append h ys zs)
+in_three : {Y : Type 0} (h : Object → Option Y) (xs ys zs : List Object) → filter_map h ((xs ++ ys) ++ zs) ≡ (filter_map h xs ++ filter_map h ys) ++ filter_map h zs
+in_three h xs ys zs = filter_map-append h (xs ++ ys) zs ∙ ap (λ w. w ++ filter_map h zs) (filter_map-append h xs ys)
 
-error_object : PcepError → Object
-error_object error = objects.Error error
+-- an error's objects, by what each names
+named : {Y : Type 0} (h : Object → Option Y) (errors : Errors) → filter_map h (error_objects errors)
+    ≡ (filter_map h (map (rp_object false) errors.requests) ++ filter_map h (map (srp_object false) errors.srps)) ++ filter_map h (map (λ error. objects.Error error) errors.errors)
+named h errors = in_three h (map (rp_object false) errors.requests) (map (srp_object false) errors.srps) (map (λ error. objects.Error error) errors.errors)
 
 requests_again : (errors : Errors) → filter_map named_request (error_objects errors) ≡ errors.requests
 requests_again errors =
-    in_three named_request _ _ _ ∙ rw (kept named_request (rp_object false) (λ y. refl) errors.requests, left_out named_request (srp_object false) (λ z. refl) errors.srps, left_out named_request (λ error. objects.Error error) (λ z. refl) errors.errors) (append-nil errors.requests)
+    named named_request errors
+    ∙ rw (kept named_request (rp_object false) (λ y. refl) errors.requests, left_out named_request (srp_object false) (λ z. refl) errors.srps, left_out named_request (λ (error : PcepError). objects.Error error) (λ z. refl) errors.errors)
+    (append-nil (errors.requests ++ []) ∙ append-nil errors.requests)
 
 srps_again : (errors : Errors) → filter_map named_srp (error_objects errors) ≡ errors.srps
 srps_again errors =
-    in_three named_srp _ _ _ ∙ rw (left_out named_srp (rp_object false) (λ z. refl) errors.requests, kept named_srp (srp_object false) (λ y. refl) errors.srps, left_out named_srp (λ error. objects.Error error) (λ z. refl) errors.errors) (append-nil errors.srps)
+    named named_srp errors
+    ∙ rw (left_out named_srp (rp_object false) (λ z. refl) errors.requests, kept named_srp (srp_object false) (λ y. refl) errors.srps, left_out named_srp (λ (error : PcepError). objects.Error error) (λ z. refl) errors.errors)
+    (append-nil errors.srps)
 
 each_again : (errors : Errors) → filter_map named_error (error_objects errors) ≡ errors.errors
 each_again errors =
-    in_three named_error _ _ _ ∙ rw (left_out named_error (rp_object false) (λ z. refl) errors.requests, left_out named_error (srp_object false) (λ z. refl) errors.srps, kept named_error (λ error. objects.Error error) (λ y. refl) errors.errors) refl
+    named named_error errors
+    ∙ rw (left_out named_error (rp_object false) (λ z. refl) errors.requests, left_out named_error (srp_object false) (λ z. refl) errors.srps, kept named_error (λ (error : PcepError). objects.Error error) (λ y. refl) errors.errors) refl
 
 abbrev listed : List ℕ → List ℕ → List PcepError → Errors
 listed requests srps errors = record { requests = requests; srps = srps; errors = errors }

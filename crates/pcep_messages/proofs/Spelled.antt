@@ -11,7 +11,7 @@ use Rattle.pcep_objects.specs.declared.object.Object.{Object}
 use Rattle.pcep_objects.proofs.ObjectsAgain.{again, body_fours}
 use Rattle.pcep_messages.specs.Objects.{Found, found_from, found_in}
 use Rattle.pcep_messages.specs.Messages.{has_header, message_of, message_in}
-use Rattle.pcep_messages.specs.Spelling.{objects_spelled, objects_fit, message_spelled}
+use Rattle.pcep_messages.specs.Spelling.{object_spelled, object_fits, objects_spelled, objects_fit, message_spelled}
 use Rattle.pcep_messages.proofs.Finding.{step, passed}
 
 -- ---- objects
@@ -20,9 +20,10 @@ abbrev pub Good : Object → Type 0
 Good object = spelling.IsNormal object × (spelling.fits object ≡ true)
 
 pub all_good : (objects : List Object) → AllByRecursion spelling.IsNormal objects → objects_fit objects ≡ true → AllByRecursion Good objects
+unfolding object_fits
 all_good [] normal fit = tt
 all_good (object ∷ objects) normal fit =
-    let both = and_parts (spelling.fits object) (objects_fit objects) fit in
+    let both = and_parts (object_fits object) (objects_fit objects) fit in
     ((normal.0, both.0), all_good objects normal.1 both.1)
 
 object_first : (rest : List ℕ) (object : Object) (n : ℕ) → 0 < length rest → 0 < n → object_at rest ≡ Ok (object, n)
@@ -36,13 +37,14 @@ one_more bytes more object objects pos e found =
     object_first (bytes ++ more) object (length bytes) (omega (arith, length-append bytes more)) pos e ∙ rw (drop_at bytes more (length bytes) refl, found) refl
 
 pub found_again : (objects : List Object) → AllByRecursion Good objects → found_in (objects_spelled objects) ≡ record { objects = objects; fault = None }
-unfolding found_from
+unfolding found_from object_spelled
 found_again [] good = refl
 found_again (object ∷ objects) good =
     let some : 0 < length (spelling.written object) = omega arith in
     one_more (spelling.written object) (objects_spelled objects) object objects some (again object (objects_spelled objects) good.0.0 good.0.1) (found_again objects good.1)
 
 pub whole : (objects : List Object) → AllByRecursion spelling.IsNormal objects → length (objects_spelled objects) % 4 ≡ 0
+unfolding object_spelled
 whole [] normal = refl
 whole (object ∷ objects) normal =
     let body = body_fours object normal.0 in

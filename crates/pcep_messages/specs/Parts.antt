@@ -3,7 +3,8 @@ use Rattle.std.specs.Prelude.{◌≡◌, ℕ, List, Option, Some, None, Result, 
 use Rattle.std.specs.List.{fold}
 use Rattle.std.specs.Option.{option_or}
 use Rattle.pcep_objects.specs.declared.fault.ObjectFault.{ObjectFault}
-use Rattle.pcep_objects.specs.declared.object.BandwidthType.TheVariants.{Requested}
+use Rattle.pcep_objects.specs.declared.object.BandwidthType.{BandwidthType}
+use Rattle.pcep_objects.specs.declared.object.BandwidthType.TheVariants.{Requested, Current}
 use Rattle.pcep_objects.specs.declared.object.Object.{Object}
 use Rattle.pcep_objects.specs.declared.object.Object.TheVariants as objects
 use Rattle.pcep_messages.specs.Objects.{Found, found_in}
@@ -28,6 +29,11 @@ no_parts = record {
   srp = None;
 }
 
+-- the greater of the bandwidths that are asked for (type 1)
+abbrev pub requested : BandwidthType → ℕ → Option ℕ → Option ℕ
+requested Requested bandwidth other = Some (greatest bandwidth other)
+requested Current bandwidth other = other
+
 -- One more object: it counts where none of its class stands in front of it; of BANDWIDTHs of type 1 the
 -- greatest counts. An object of any other class is skipped.
 abbrev pub and_then : Parts → Object → Parts
@@ -35,7 +41,7 @@ and_then parts (objects.Open object) = record parts { opening = option_or parts.
 and_then parts (objects.Rp object) = record parts { rp = option_or parts.rp (Some object) }
 and_then parts (objects.NoPath object) = record parts { no_path = option_or parts.no_path (Some object) }
 and_then parts (objects.EndPoints object) = record parts { end_points = option_or parts.end_points (Some object) }
-and_then parts (objects.Bandwidth Requested bandwidth) = record parts { bandwidth = Some (greatest bandwidth parts.bandwidth) }
+and_then parts (objects.Bandwidth kind bandwidth) = record parts { bandwidth = requested kind bandwidth parts.bandwidth }
 and_then parts (objects.Metric object) = record parts { metric = option_or parts.metric (Some object) }
 and_then parts (objects.Ero hops) = record parts { ero = option_or parts.ero (Some hops) }
 and_then parts (objects.Lspa object) = record parts { lspa = option_or parts.lspa (Some object) }

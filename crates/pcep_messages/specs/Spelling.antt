@@ -9,6 +9,7 @@ use Rattle.pcep_objects.specs.declared.object.LspObject.{LspObject}
 use Rattle.pcep_objects.specs.declared.object.Object.{Object}
 use Rattle.pcep_objects.specs.declared.object.Object.TheVariants as objects
 use Rattle.pcep_objects.specs.declared.object.Operational.TheVariants.{Down}
+use Rattle.pcep_objects.specs.declared.request_objects.NoPathVector.{NoPathVector}
 use Rattle.pcep_messages.specs.declared.message.Answer.{Answer}
 use Rattle.pcep_messages.specs.declared.message.Answer.TheVariants as answers
 use Rattle.pcep_messages.specs.declared.message.Attributes.{Attributes}
@@ -45,6 +46,14 @@ lsp_object plsp delegate admin name = record {
   identifiers = None;
 }
 
+-- END-POINTS are written with P set
+abbrev pub end_points_object : ℕ → ℕ → Object
+end_points_object source destination = objects.EndPoints (record { p = true; source = source; destination = destination })
+
+-- NO-PATH with nature 0 and C clear
+abbrev pub no_path_object : Option NoPathVector → Object
+no_path_object vector = objects.NoPath (record { nature = 0; constraints = false; vector = vector })
+
 -- LSPA with L clear
 abbrev pub attributes_objects : Option Attributes → List Object
 attributes_objects None = []
@@ -54,6 +63,9 @@ attributes_objects (Some attributes) =
 abbrev pub bandwidth_objects : Option ℕ → List Object
 bandwidth_objects None = []
 bandwidth_objects (Some bandwidth) = objects.Bandwidth Requested bandwidth ∷ []
+
+abbrev pub constraint_objects : Option Attributes → Option ℕ → List Object
+constraint_objects attributes bandwidth = attributes_objects attributes ++ bandwidth_objects bandwidth
 
 -- METRIC with C set
 abbrev pub cost_objects : Option Cost → List Object
@@ -66,10 +78,9 @@ cost_objects (Some cost) = objects.Metric (record { bound = false; computed = tr
 abbrev pub error_objects : Errors → List Object
 error_objects errors = map (rp_object false) errors.requests ++ map (srp_object false) errors.srps ++ map (λ error. objects.Error error) errors.errors
 
--- a NO-PATH has nature 0 and C clear
 abbrev pub answer_objects : Answer → List Object
 answer_objects (answers.Found ero cost) = objects.Ero ero ∷ cost_objects cost
-answer_objects (answers.NoPath vector) = objects.NoPath (record { nature = 0; constraints = false; vector = vector }) ∷ []
+answer_objects (answers.NoPath vector) = no_path_object vector ∷ []
 
 -- a PCRep: RP with P set, and its answer
 abbrev pub reply_objects : Reply → List Object
@@ -78,14 +89,14 @@ reply_objects reply = rp_object true reply.request ∷ answer_objects reply.answ
 abbrev pub update_objects : Update → List Object
 update_objects update =
     srp_object false update.srp ∷ objects.Lsp (lsp_object update.plsp update.delegate update.admin None) ∷ objects.Ero update.ero
-    ∷ (attributes_objects update.attributes ++ bandwidth_objects update.bandwidth)
+    ∷ constraint_objects update.attributes update.bandwidth
 
 -- a new LSP has PLSP-ID 0, and flags D and A
 abbrev pub create_objects : Create → List Object
 create_objects create =
     srp_object false create.srp ∷ objects.Lsp (lsp_object 0 true true (Some create.name))
-    ∷ objects.EndPoints (record { p = true; source = create.source; destination = create.destination }) ∷ objects.Ero create.ero
-    ∷ (attributes_objects create.attributes ++ bandwidth_objects create.bandwidth)
+    ∷ end_points_object create.source create.destination ∷ objects.Ero create.ero
+    ∷ constraint_objects create.attributes create.bandwidth
 
 -- a deletion: SRP with R set, LSP with flag D alone
 abbrev pub remove_objects : ℕ → ℕ → List Object
@@ -128,8 +139,15 @@ kind_number (messages.Unknown kind) = kind
 
 -- ---- bytes
 
+-- an object's bytes, and whether its lengths fit
+unfoldable pub object_spelled : Object → List ℕ
+object_spelled object = spelling.written object
+
+unfoldable pub object_fits : Object → Bool
+object_fits object = spelling.fits object
+
 abbrev pub objects_spelled : List Object → List ℕ
-objects_spelled objects = flat_map spelling.written objects
+objects_spelled objects = flat_map object_spelled objects
 
 -- a body behind its header: version 1 and no flags, the type, the length with the header's
 abbrev pub message_spelled : ℕ → List ℕ → List ℕ
@@ -140,7 +158,7 @@ written message = message_spelled (kind_number message) (objects_spelled (object
 
 -- each object fits, and the message has fewer than 2 ^ 16 bytes
 abbrev pub objects_fit : List Object → Bool
-objects_fit objects = list_all spelling.fits objects
+objects_fit objects = list_all object_fits objects
 
 abbrev pub fits : Message → Bool
 fits message = objects_fit (objects_written message) && nat_lt (length (objects_spelled (objects_written message)) + 4) (2 ^ 16)

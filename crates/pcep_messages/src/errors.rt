@@ -39,23 +39,39 @@ fn named_error(object: &Object) -> Option<PcepError>
     }
 }
 
+fn requests_in(alloc: Global, objects: &[Object]) -> Result<Vec<u32>, AllocError>
+    ensures { IfOk result (λ v. v.items ≡ filter_map named_request objects.now) }
+{
+    objects
+        .iter()
+        .filter_map(|object| named_request(object))
+        .collect(alloc)
+}
+
+fn srps_in(alloc: Global, objects: &[Object]) -> Result<Vec<u32>, AllocError>
+    ensures { IfOk result (λ v. v.items ≡ filter_map named_srp objects.now) }
+{
+    objects
+        .iter()
+        .filter_map(|object| named_srp(object))
+        .collect(alloc)
+}
+
+fn errors_in(alloc: Global, objects: &[Object]) -> Result<Vec<PcepError>, AllocError>
+    ensures { IfOk result (λ v. v.items ≡ filter_map named_error objects.now) }
+{
+    objects
+        .iter()
+        .filter_map(|object| named_error(object))
+        .collect(alloc)
+}
+
 fn errors_of(alloc: Global, objects: &[Object]) -> Result<Errors, AllocError>
     ensures { IfOk result (λ errors. errors ≡ errors_of objects.now) }
 {
-    let mut requests = Vec::new(alloc);
-    let mut srps = Vec::new(alloc);
-    let mut errors = Vec::new(alloc);
-    for object in objects {
-        if let Some(request) = named_request(object) {
-            requests.push(request)?;
-        }
-        if let Some(srp) = named_srp(object) {
-            srps.push(srp)?;
-        }
-        if let Some(error) = named_error(object) {
-            errors.push(error)?;
-        }
-    }
+    let requests = requests_in(alloc, objects)?;
+    let srps = srps_in(alloc, objects)?;
+    let errors = errors_in(alloc, objects)?;
     Ok(Errors {
         requests: Sequence::from_vec(requests),
         srps: Sequence::from_vec(srps),

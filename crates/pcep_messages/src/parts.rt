@@ -3,7 +3,7 @@
 ghost use Rattle.std.specs.Prelude.{◌≡◌, Some, IfOk};
 ghost use Rattle.std.specs.Option.{option_or};
 ghost use Rattle.pcep_messages.specs.Objects.{found_in};
-ghost use Rattle.pcep_messages.specs.Parts.{no_parts, and_then, ArePartsOf};
+ghost use Rattle.pcep_messages.specs.Parts.{no_parts, requested, and_then, ArePartsOf};
 
 use crate::items::greater;
 use crate::objects::{Next, next_object};
@@ -59,6 +59,20 @@ fn keep_first<T: Drop>(first: &mut Option<T>, next: T)
     }
 }
 
+/// The greater of the bandwidths that are asked for.
+fn requested(
+    kind: BandwidthType,
+    bandwidth: Bandwidth,
+    other: Option<Bandwidth>,
+) -> Option<Bandwidth>
+    ensures { result ≡ requested kind bandwidth other }
+{
+    match kind {
+        BandwidthType::Requested => Some(greater(bandwidth, other)),
+        BandwidthType::Current => other,
+    }
+}
+
 /// Takes one more object in.
 fn take_in(parts: &mut Parts, object: Object)
     ensures { parts.new ≡ and_then parts.old object }
@@ -68,8 +82,8 @@ fn take_in(parts: &mut Parts, object: Object)
         Object::Rp(rp) => keep_first(&mut parts.rp, rp),
         Object::NoPath(no_path) => keep_first(&mut parts.no_path, no_path),
         Object::EndPoints(end_points) => keep_first(&mut parts.end_points, end_points),
-        Object::Bandwidth(BandwidthType::Requested, bandwidth) => {
-            parts.bandwidth = Some(greater(bandwidth, parts.bandwidth));
+        Object::Bandwidth(kind, bandwidth) => {
+            parts.bandwidth = requested(kind, bandwidth, parts.bandwidth);
         }
         Object::Metric(metric) => keep_first(&mut parts.metric, metric),
         Object::Ero(hops) => keep_first(&mut parts.ero, hops),

@@ -112,10 +112,11 @@ fn create_of(
     ensures { Gives (λ x. x) result (create_or_missing srp lsp parts parts.end_points parts.ero) }
 {
     let about = about_srp(srp_id(parts.srp));
+    let ero = parts.ero.take();
     let Some(end_points) = parts.end_points else {
         return Err(MessageFault::Missing(4, about));
     };
-    let Some(hops) = parts.ero.take() else {
+    let Some(hops) = ero else {
         return Err(MessageFault::Missing(7, about));
     };
     let create = create_with(alloc, srp, lsp, end_points, hops, parts);

@@ -7,8 +7,8 @@ ghost use Rattle.pcep_messages.specs.Spelling.{is_written, kind_number, written,
 ghost use Rattle.pcep_messages.specs.declared.message.Message.{Message};
 ghost use Rattle.pcep_objects.specs.declared.fault.WriteFault.TheVariants.{TooLong};
 
+use crate::bodies::put_body;
 use crate::message::Message;
-use crate::putting::put_objects;
 use pcep_objects::WriteFault;
 
 impl Message {
@@ -59,7 +59,7 @@ pub fn write_message(message: &Message, out: &mut Vec<u8>) -> Result<(), WriteFa
 {
     let mut spelled = Vec::with_capacity(*out.allocator(), 128)?;
     spelled.extend_from_slice(&[0x20, kind_number(message), 0, 0])?;
-    put_objects(message, &mut spelled)?;
+    put_body(message, &mut spelled)?;
     if spelled.len() >= 0x10000 {
         return Err(WriteFault::TooLong);
     }

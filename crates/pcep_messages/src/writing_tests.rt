@@ -85,7 +85,7 @@ fn updates_are_written_again(rt: HostRuntime) -> Result<(), Fail> {
 fn errors_are_written_in_order(rt: HostRuntime) -> Result<(), Fail> {
     let bytes = bytes_of(
         &rt,
-        "2006004c 0d100008 00000603 0212000c 00000000 00000007 2110000c 00000000 00000002 2110000c 00000000 00000000 0210000c 0000003f ffffffff 0d100008 00000a01",
+        "20060044 0d100008 00000603 0212000c 00000000 00000007 2110000c 00000000 00000002 2110000c 00000000 00000000 0210000c 0000003f ffffffff 0d100008 00000a01",
     )?;
     let Message::Error(errors) = read_message(rt.alloc(), bytes.as_slice())? else {
         return Err(Fail::new("another message"));
@@ -104,7 +104,7 @@ fn errors_are_written_in_order(rt: HostRuntime) -> Result<(), Fail> {
     write_message(&Message::Error(errors), &mut out)?;
     let written = bytes_of(
         &rt,
-        "2006004c 0210000c 00000000 00000007 0210000c 00000000 ffffffff 2110000c 00000000 00000002 2110000c 00000000 00000000 0d100008 00000603 0d100008 00000a01",
+        "20060044 0210000c 00000000 00000007 0210000c 00000000 ffffffff 2110000c 00000000 00000002 2110000c 00000000 00000000 0d100008 00000603 0d100008 00000a01",
     )?;
     assert_eq!(rt; out.as_slice(), written.as_slice());
     Ok(())
