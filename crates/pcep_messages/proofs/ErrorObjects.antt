@@ -1,5 +1,5 @@
 -- The objects of a PCErr fit, and are spelled one list after the other.
-use Rattle.std.proofs.Common.{◌≡◌, ℕ, true, false, List, [], ◌∷◌, ◌++◌, map, refl, ap, ◌∙◌}
+use Rattle.std.proofs.Common.{◌≡◌, ℕ, true, false, List, [], ◌∷◌, ◌++◌, map, refl, ap, ◌∙◌, append_assoc}
 use Rattle.std.specs.List.{flat_map}
 use Rattle.std.proofs.lemmas.List.Concat.{flat_map-append}
 use Rattle.std.proofs.lemmas.List.Folds.{list_all-append}
@@ -25,6 +25,11 @@ errors_spelled errors =
     let each = map (λ (error : PcepError). objects.Error error) errors.errors in
     flat_map-append object_spelled (rps ++ srps) each ∙ ap (λ (bytes : List ℕ). bytes ++ objects_spelled each) (flat_map-append object_spelled rps srps)
     ∙ rw (spelled_map (rp_object false) errors.requests, spelled_map (srp_object false) errors.srps, spelled_map (λ (error : PcepError). objects.Error error) errors.errors) refl
+
+pub errors_put : (errors : Errors) (old one two new : List ℕ) → one ≡ old ++ each_spelled (rp_object false) errors.requests → two ≡ one ++ each_spelled (srp_object false) errors.srps
+    → new ≡ two ++ each_spelled (λ error. objects.Error error) errors.errors → new ≡ old ++ objects_spelled (error_objects errors)
+errors_put errors old one two new a b c =
+    c ∙ rw (b, a, errors_spelled errors) (simp append_assoc)
 
 rps_fit : (ids : List ℕ) → objects_fit (map (rp_object false) ids) ≡ true
 unfolding object_fits

@@ -45,14 +45,16 @@ fn put_each_error(errors: &[PcepError], out: &mut Vec<u8>) -> Result<(), AllocEr
 }
 
 /// The body of a PCErr.
-#[tactic(auto, using(crate::proofs::ErrorObjects::errors_spelled, crate::proofs::ErrorObjects::errors_fit))]
-fn put_errors(errors: &Errors, out: &mut Vec<u8>) -> Result<(), AllocError>
+#[tactic(auto, using(crate::proofs::ErrorObjects::errors_put, crate::proofs::ErrorObjects::errors_fit))]
+fn put_errors(errors: &Errors, out: &mut Vec<u8>) -> Result<(), WriteFault>
     ensures written { OnOk result (out.new.items ≡ out.old.items ++ objects_spelled (error_objects errors.now)) }
-    ensures fits { objects_fit (error_objects errors.now) ≡ true }
+    ensures fits { IfOk result (λ _. objects_fit (error_objects errors.now) ≡ true) }
+    ensures too_long { IfErr result (λ e. e ≡ TooLong → objects_fit (error_objects errors.now) ≡ false) }
 {
     put_requests(errors.requests.as_slice(), out)?;
     put_srps(errors.srps.as_slice(), out)?;
-    put_each_error(errors.errors.as_slice(), out)
+    put_each_error(errors.errors.as_slice(), out)?;
+    Ok(())
 }
 
 fn put_answer(answer: &Answer, out: &mut Vec<u8>) -> Result<(), WriteFault>
@@ -160,10 +162,7 @@ pub fn put_body(message: &Message, out: &mut Vec<u8>) -> Result<(), WriteFault>
     match message {
         Message::Opening(opening) => put_opening(*opening, out),
         Message::Reply(reply) => put_reply(reply, out),
-        Message::Error(errors) => {
-            put_errors(errors, out)?;
-            Ok(())
-        }
+        Message::Error(errors) => put_errors(errors, out),
         Message::Close(reason) => put_close(*reason, out),
         Message::Update(update) => put_update(update, out),
         Message::Initiate(initiate) => put_initiate(initiate, out),

@@ -112,8 +112,8 @@ fn create_of(
     ensures { Gives (λ x. x) result (create_or_missing srp lsp parts parts.end_points parts.ero) }
 {
     let about = about_srp(srp_id(parts.srp));
-    let ero = parts.ero.take();
-    let Some(end_points) = parts.end_points else {
+    let (end_points, ero) = (parts.end_points, parts.ero.take());
+    let Some(end_points) = end_points else {
         return Err(MessageFault::Missing(4, about));
     };
     let Some(hops) = ero else {
