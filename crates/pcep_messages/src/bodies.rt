@@ -45,7 +45,7 @@ fn put_each_error(errors: &[PcepError], out: &mut Vec<u8>) -> Result<(), AllocEr
 }
 
 /// The body of a PCErr.
-#[tactic(auto, using(crate::proofs::ErrorObjects::errors_put, crate::proofs::ErrorObjects::errors_fit))]
+#[tactic(auto, using(crate::proofs::ErrorObjects::errors_fit))]
 fn put_errors(errors: &Errors, out: &mut Vec<u8>) -> Result<(), WriteFault>
     ensures written { OnOk result (out.new.items ≡ out.old.items ++ objects_spelled (error_objects errors.now)) }
     ensures fits { IfOk result (λ _. objects_fit (error_objects errors.now) ≡ true) }

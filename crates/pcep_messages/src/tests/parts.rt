@@ -1,6 +1,8 @@
-use super::*;
-use crate::tests::{bytes_of, check, put_hex};
-use crate::writing_tests::{CREATE, DELETION, OPEN, PATH, UPDATE};
+//! What counts of the objects of a message that has one item, and what it lacks.
+
+use super::writing::{CREATE, DELETION, OPEN, PATH, UPDATE};
+use super::{bytes_of, check, put_hex};
+use crate::{About, Answer, Initiate, Message, MessageFault, read_message};
 use pcep_objects::ObjectFault;
 use std::test::*;
 

@@ -1,5 +1,7 @@
-use super::*;
-use crate::tests::{bytes_of, check};
+//! Messages that are read and written again.
+
+use super::{bytes_of, check};
+use crate::{Answer, Attributes, Cost, Initiate, Message, Reply, read_message, write_message};
 use pcep_objects::{
     Capabilities, Colours, Hop, MetricValue, NoPathVector, Open, PcepError, WriteFault,
 };
@@ -7,31 +9,30 @@ use pcep_word::{Bandwidth, Ipv4, Priority};
 use sequence::{PlainData, Sequence};
 use std::test::*;
 
-pub(crate) const OPEN: &str = "20010014 01100010 201e7800 00100004 00000005";
+pub const OPEN: &str = "20010014 01100010 201e7800 00100004 00000005";
 
-pub(crate) const KEEPALIVE: &str = "20020004";
+pub const KEEPALIVE: &str = "20020004";
 
-pub(crate) const CLOSE: &str = "2007000c 0f100008 00000003";
+pub const CLOSE: &str = "2007000c 0f100008 00000003";
 
 /// A new LSP with a name, a route, attributes and a bandwidth.
-pub(crate) const CREATE: &str =
+pub const CREATE: &str =
     "200c005c 2110000c 00000000 00000001 20100010 00000009 00110002 74310000 0412000c 0a000001 0a000004 07100014 01080a01 00022000 01080a02 00022000 09100014 00000000 00000000 00000000 07000000 05100008 48f42400";
 
-pub(crate) const DELETION: &str = "200c0018 2110000c 00000001 00000002 20100008 00005001";
+pub const DELETION: &str = "200c0018 2110000c 00000001 00000002 20100008 00005001";
 
-pub(crate) const NO_PATH: &str =
-    "20040020 0212000c 00000000 00000007 03100010 00000000 00010004 00000002";
+pub const NO_PATH: &str = "20040020 0212000c 00000000 00000007 03100010 00000000 00010004 00000002";
 
 /// A path and its cost.
-pub(crate) const PATH: &str =
+pub const PATH: &str =
     "20040030 0212000c 00000000 00000008 07100014 01080a01 00022000 01080a02 00022000 0610000c 00000202 41a00000";
 
-pub(crate) const ERROR: &str = "20060018 2110000c 00000000 00000001 0d100008 00001801";
+pub const ERROR: &str = "20060018 2110000c 00000000 00000001 0d100008 00001801";
 
 /// The delegation of an LSP is returned.
-pub(crate) const RETURN: &str = "200b001c 2110000c 00000000 00000001 20100008 00001008 07100004";
+pub const RETURN: &str = "200b001c 2110000c 00000000 00000001 20100008 00001008 07100004";
 
-pub(crate) const UPDATE: &str =
+pub const UPDATE: &str =
     "200b0048 2110000c 00000000 00000001 20100008 00001009 07100014 01080a03 00022000 01080a04 00022000 09100014 00000000 00000000 00000000 05020000 05100008 48f42400";
 
 fn message_of(rt: &HostRuntime, text: &str) -> Result<Message, Fail> {
