@@ -4,6 +4,11 @@ use Rattle.pcep_objects.specs.Steps.{◌>>=◌, field, HasOneAnswer}
 use Rattle.pcep_messages.specs.Notifications.{notification_body}
 use Rattle.pcep_messages.specs.Reports.{report_body}
 use Rattle.pcep_messages.specs.Requests.{request_body}
+use Rattle.pcep_messages.specs.Sessions.{opening_body, keepalive_body, close_body}
+use Rattle.pcep_messages.specs.Replies.{reply_body}
+use Rattle.pcep_messages.specs.Errors.{errors_body}
+use Rattle.pcep_messages.specs.Reports.{report_body}
+use Rattle.pcep_messages.specs.Updates.{update_body, initiate_body}
 use Rattle.pcep_messages.specs.declared.fault.MessageFault.{MessageFault}
 use Rattle.pcep_messages.specs.declared.fault.MessageFault.TheVariants.{BadHeader, BadObject, Missing, MissingIdentifiers, BadP, Refused, OutOfMemory}
 use Rattle.pcep_messages.specs.declared.message.Message.{Message}
@@ -24,13 +29,25 @@ abbrev pub has_header : List ℕ → Bool
 has_header bytes =
     not (nat_lt (length bytes) 4) && slice_index bytes 0 / 2 ^ 5 == 1 && field 2 2 bytes == length bytes && length bytes % 4 == 0
 
--- The types of messages (RFC 5440 section 6.1, RFC 8231 section 6.1): 3 PCReq, 5 PCNtf, 10 PCRpt.
+-- a state report
+abbrev pub report_message : List ℕ → Result Message MessageFault
+report_message body = report_body body >>= λ reports. Ok (Report reports)
+
+-- The types of messages (RFC 5440 section 6, RFC 8231 section 6, RFC 8281 section 5). The body of any other
+-- type isn't read.
 abbrev pub message_of : ℕ → List ℕ → Result Message MessageFault
 message_of kind body =
-    if kind == 3 then request_body body
+    if kind == 1 then opening_body body
+    else (if kind == 2 then keepalive_body body
+    else (if kind == 3 then request_body body
+    else (if kind == 4 then reply_body body
     else (if kind == 5 then notification_body body
-    else (if kind == 10 then (report_body body >>= λ reports. Ok (Report reports))
-    else Ok (Unknown kind)))
+    else (if kind == 6 then errors_body body
+    else (if kind == 7 then close_body body
+    else (if kind == 10 then report_message body
+    else (if kind == 11 then update_body body
+    else (if kind == 12 then initiate_body body
+    else Ok (Unknown kind))))))))))
 
 unfoldable pub message_in : List ℕ → Result Message MessageFault
 message_in bytes = if has_header bytes then message_of (slice_index bytes 1) (drop 4 bytes) else Err BadHeader

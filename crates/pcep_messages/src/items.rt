@@ -35,7 +35,7 @@ fn no_objects() -> Item
     }
 }
 
-fn greater(bandwidth: Bandwidth, other: Option<Bandwidth>) -> Bandwidth
+pub fn greater(bandwidth: Bandwidth, other: Option<Bandwidth>) -> Bandwidth
     ensures { result ≡ greatest bandwidth other }
 {
     match other {

@@ -18,7 +18,7 @@ pub enum Next {
     Bad(ObjectFault),
 }
 
-fn next_object(alloc: Global, bytes: &[u8], heeds_p: bool) -> Result<Next, AllocError>
+pub fn next_object(alloc: Global, bytes: &[u8], heeds_p: bool) -> Result<Next, AllocError>
     ensures next { IfOk result (λ x. x ≡ next_of heeds_p (object_at bytes.now)) }
     ensures size { IfOk result (SizeWithin (length bytes.now)) }
 {

@@ -2,16 +2,20 @@
 
 ghost use Rattle.std.specs.Prelude.{◌≡◌, ◌≢◌, ℕ, List, IfOk, IfErr};
 ghost use Rattle.pcep_messages.specs.Reports.{names_nothing, report_body};
-ghost use Rattle.pcep_messages.specs.Messages.{Gives, has_header, message_of, message_in, Reads, IsFaulty, ReadsOrIsFaulty};
+ghost use Rattle.pcep_messages.specs.Messages.{Gives, has_header, report_message, message_of, message_in, Reads, IsFaulty, ReadsOrIsFaulty};
 ghost use Rattle.pcep_messages.specs.declared.fault.MessageFault.TheVariants.{OutOfMemory};
 
+use crate::errors::read_errors;
 use crate::fault::{About, MessageFault};
 use crate::items::{Item, items_of};
 use crate::message::{Message, StateReport};
 use crate::notifications::read_notification;
 use crate::objects::objects_in;
+use crate::replies::read_reply;
 use crate::reports::reports_before;
 use crate::requests::read_requests;
+use crate::sessions::{read_close, read_keepalive, read_opening};
+use crate::updates::{read_initiate, read_update};
 use byteorder::{BigEndian, ByteOrder};
 use sequence::Sequence;
 use std::alloc::Global;
@@ -22,7 +26,7 @@ fn names_nothing(front: &Item) -> bool
     front.ero.is_none() && front.rro.is_none() && front.lspa.is_none() && front.bandwidth.is_none()
 }
 
-/// The body of a PCRpt.
+/// The reports of a PCRpt.
 #[tactic(auto, unfolding(crate::specs::Reports::report_body))]
 fn read_report(alloc: Global, body: &[u8]) -> Result<Vec<StateReport>, MessageFault>
     ensures { Gives (λ v. v.items) result (report_body body.now) }
@@ -33,6 +37,14 @@ fn read_report(alloc: Global, body: &[u8]) -> Result<Vec<StateReport>, MessageFa
         return Err(MessageFault::Refused(6, 8, About::Nothing));
     }
     reports_before(alloc, items, fault)
+}
+
+/// The body of a PCRpt.
+fn read_reports(alloc: Global, body: &[u8]) -> Result<Message, MessageFault>
+    ensures { Gives (λ x. x) result (report_message body.now) }
+{
+    let reports = read_report(alloc, body)?;
+    Ok(Message::Report(Sequence::from_vec(reports)))
 }
 
 fn has_header(bytes: &[u8]) -> bool
@@ -48,12 +60,16 @@ fn read_body(alloc: Global, kind: u8, body: &[u8]) -> Result<Message, MessageFau
     ensures { Gives (λ x. x) result (message_of kind body.now) }
 {
     match kind {
+        1 => read_opening(alloc, body),
+        2 => read_keepalive(alloc, body),
         3 => read_requests(alloc, body),
+        4 => read_reply(alloc, body),
         5 => read_notification(alloc, body),
-        10 => {
-            let reports = read_report(alloc, body)?;
-            Ok(Message::Report(Sequence::from_vec(reports)))
-        }
+        6 => read_errors(alloc, body),
+        7 => read_close(alloc, body),
+        10 => read_reports(alloc, body),
+        11 => read_update(alloc, body),
+        12 => read_initiate(alloc, body),
         _ => Ok(Message::Unknown(kind)),
     }
 }
@@ -73,7 +89,9 @@ fn read(alloc: Global, bytes: &[u8]) -> Result<Message, MessageFault>
 /// Objects are read from first to last, and the first fault refuses the whole message. At one object its
 /// own fault comes first, then what the item that it ends lacks, then its P flag, its place or its missing
 /// identifiers. Objects that an item doesn't name are skipped, and so are those of unknown classes and
-/// types, but for those of a PCReq that have P set. `OutOfMemory` comes where a growth was refused.
+/// types, but for those of a PCReq that have P set. In a message of one item the first object of each class
+/// counts (of BANDWIDTHs the greatest), and what it lacks is told in the order in which the message is
+/// written. `OutOfMemory` comes where a growth was refused.
 pub fn read_message(alloc: Global, bytes: &[u8]) -> Result<Message, MessageFault>
     ensures reads { IfOk result (Reads bytes.now) }
     ensures first_fault { IfErr result (λ e. e ≢ OutOfMemory → IsFaulty bytes.now e) }

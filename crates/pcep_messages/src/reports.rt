@@ -13,7 +13,7 @@ use sequence::Sequence;
 use std::alloc::Global;
 use std::collections::VecDeque;
 
-fn srp_id(srp: Option<Srp>) -> Option<u32>
+pub fn srp_id(srp: Option<Srp>) -> Option<u32>
     ensures { result ≡ srp_id srp }
 {
     match srp {
@@ -22,7 +22,7 @@ fn srp_id(srp: Option<Srp>) -> Option<u32>
     }
 }
 
-fn about_srp(srp: Option<u32>) -> About
+pub fn about_srp(srp: Option<u32>) -> About
     ensures { result ≡ about_srp srp }
 {
     match srp {
@@ -38,7 +38,7 @@ fn lacks_identifiers(lsp: &LspObject) -> bool
 }
 
 /// The better of the two priorities.
-fn in_force(setup: Priority, hold: Priority) -> Priority
+pub fn in_force(setup: Priority, hold: Priority) -> Priority
     ensures { result ≡ min setup hold }
 {
     if setup.number() < hold.number() {
@@ -81,7 +81,7 @@ fn bandwidth_or_none(bandwidth: Option<Bandwidth>) -> Bandwidth
     }
 }
 
-fn hops_or_none(alloc: Global, ero: Option<Sequence<Hop>>) -> Sequence<Hop>
+pub fn hops_or_none(alloc: Global, ero: Option<Sequence<Hop>>) -> Sequence<Hop>
     ensures { result ≡ hops_or_none ero }
 {
     match ero {

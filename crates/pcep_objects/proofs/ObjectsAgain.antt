@@ -84,7 +84,7 @@ identifiers_fours : (identifiers : Option Identifiers) → length (identifiers_w
 identifiers_fours None = refl
 identifiers_fours (Some identifiers) = refl
 
-body_fours : (object : Object) → IsNormal object → length (body_written object) % 4 ≡ 0
+pub body_fours : (object : Object) → IsNormal object → length (body_written object) % 4 ≡ 0
 unfolding colours_written
 body_fours (objects.Open object) normal = let e = capabilities_fours object.capabilities in omega arith
 body_fours (objects.Rp object) normal = refl

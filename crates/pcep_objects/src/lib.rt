@@ -20,10 +20,12 @@
 //! ```
 //!
 //! The modules, lowest first: `object` with `session_objects`, `request_objects` and `metric`, `kind`, `copies`,
-//! `fault`, `pieces`, `tlvs`, `word_tlvs`, `routes`, `bodies`, `header`, `reading`, `sizes`, `putting`, `writing`.
+//! `fault`, `pieces`, `tlvs`, `word_tlvs`, `routes`, `bodies`, `header`, `reading`, `sizes`, `putting`, `writing`,
+//! `borrowed`.
 #![tactic(auto)]
 
 mod bodies;
+mod borrowed;
 mod copies;
 mod fault;
 mod header;
@@ -41,6 +43,7 @@ mod tlvs;
 mod word_tlvs;
 mod writing;
 
+pub use borrowed::{put_ero, put_named_lsp};
 pub use fault::{ObjectFault, WriteFault};
 pub use object::{
     BandwidthType, Capabilities, Colours, Hop, Identifiers, Kept, KeptClass, LspObject, Lspa,
@@ -49,7 +52,7 @@ pub use object::{
 pub use reading::{objects_are_read_or_faulty, read_object};
 pub use request_objects::{EndPoints, NoPath, NoPathVector, Rp};
 pub use session_objects::{Close, Notification, Open, PcepError};
-pub use writing::{objects_are_read_again, put_object, write_object};
+pub use writing::{objects_are_read_again, put_fitting, put_object, write_object};
 
 #[cfg(test)]
 mod spelling_tests;

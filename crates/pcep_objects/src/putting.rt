@@ -15,7 +15,7 @@ fn put_u16(out: &mut Vec<u8>, number: u16) -> Result<(), AllocError>
     out.extend_from_slice(&number.to_be_bytes())
 }
 
-fn put_u32(out: &mut Vec<u8>, number: u32) -> Result<(), AllocError>
+pub fn put_u32(out: &mut Vec<u8>, number: u32) -> Result<(), AllocError>
     ensures { OnOk result (out.new.items ≡ out.old.items ++ big_bytes 4 number) }
 {
     out.extend_from_slice(&number.to_be_bytes())
@@ -89,7 +89,7 @@ fn operational_number(operational: Operational) -> u32
     }
 }
 
-fn lsp_word(lsp: &LspObject) -> u32
+pub fn lsp_word(lsp: &LspObject) -> u32
     ensures { result ≡ lsp_word lsp.now }
 {
     (lsp.plsp.number() << 12)
@@ -115,7 +115,7 @@ fn put_zeros(out: &mut Vec<u8>, count: usize) -> Result<(), AllocError>
 }
 
 /// Appends a TLV of less than 2^16 bytes, with its padding.
-fn put_tlv(out: &mut Vec<u8>, kind: u16, value: &[u8]) -> Result<(), AllocError>
+pub fn put_tlv(out: &mut Vec<u8>, kind: u16, value: &[u8]) -> Result<(), AllocError>
     requires { length value.now < 2 ^ 16 }
     ensures { OnOk result (out.new.items ≡ out.old.items ++ tlv_written kind value.now) }
 {
@@ -146,7 +146,10 @@ fn put_value(out: &mut Vec<u8>, identifiers: &Identifiers) -> Result<(), AllocEr
     put_u32(out, identifiers.endpoint.0)
 }
 
-fn put_identifiers(out: &mut Vec<u8>, identifiers: &Option<Identifiers>) -> Result<(), AllocError>
+pub fn put_identifiers(
+    out: &mut Vec<u8>,
+    identifiers: &Option<Identifiers>,
+) -> Result<(), AllocError>
     ensures { OnOk result (out.new.items ≡ out.old.items ++ identifiers_written identifiers.now) }
 {
     match identifiers {

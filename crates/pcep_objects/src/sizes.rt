@@ -19,7 +19,7 @@ fn hop_fits(hop: &Hop) -> bool
 }
 
 #[tactic(auto, unfolding(crate::specs::Spelling::hops_fit))]
-fn hops_fit(hops: &[Hop]) -> bool
+pub fn hops_fit(hops: &[Hop]) -> bool
     ensures { result ≡ hops_fit hops.now }
 {
     for hop in hops {
@@ -52,7 +52,7 @@ fn hop_size(hop: &Hop) -> usize
 }
 
 /// The length of a route, or the greatest number where it is greater.
-fn hops_size(hops: &[Hop]) -> usize
+pub fn hops_size(hops: &[Hop]) -> usize
     ensures { result ≡ min (length (hops_written hops.now)) (2 ^ 64 - 1) }
 {
     let mut size = 0usize;
@@ -72,7 +72,7 @@ fn name_size(name: &Option<Sequence<u8>>) -> usize
     }
 }
 
-fn identifiers_size(identifiers: Option<Identifiers>) -> usize
+pub fn identifiers_size(identifiers: Option<Identifiers>) -> usize
     ensures { result ≡ length (identifiers_written identifiers) }
 {
     match identifiers {

@@ -70,7 +70,7 @@ fn p_written(object: &Object) -> bool
     }
 }
 
-fn put_header(out: &mut Vec<u8>, kind: Kind, p: bool, size: u16) -> Result<(), AllocError>
+pub fn put_header(out: &mut Vec<u8>, kind: Kind, p: bool, size: u16) -> Result<(), AllocError>
     ensures { OnOk result (out.new.items ≡ out.old.items ++ (class_number kind ∷ (type_number kind * 16 + (if p then 2 else 0)) ∷ []) ++ big_bytes 2 size) }
 {
     let flags = type_number(kind) * 16 + 2 * u8::from(p);
@@ -101,6 +101,16 @@ fn put_body(out: &mut Vec<u8>, object: &Object) -> Result<(), AllocError>
     }
 }
 
+/// Appends an object whose lengths fit. After an `Err` the vector may have a part of it.
+pub fn put_fitting(object: &Object, out: &mut Vec<u8>) -> Result<(), AllocError>
+    requires { fits object.now ≡ true }
+    ensures { OnOk result (out.new.items ≡ out.old.items ++ written object.now) }
+{
+    let size = body_size(object) + 4;
+    put_header(out, kind_of(object), p_written(object), size as u16)?;
+    put_body(out, object)
+}
+
 /// Appends an object. After an `Err` the vector may have a part of it; `write_object` leaves none.
 ///
 /// `TooLong` comes exactly where a length doesn't fit its field: a subobject of a route has 2^8 bytes or
@@ -113,9 +123,7 @@ pub fn put_object(object: &Object, out: &mut Vec<u8>) -> Result<(), WriteFault>
     if !fits(object) {
         return Err(WriteFault::TooLong);
     }
-    let size = body_size(object) + 4;
-    put_header(out, kind_of(object), p_written(object), size as u16)?;
-    put_body(out, object)?;
+    put_fitting(object, out)?;
     Ok(())
 }
 

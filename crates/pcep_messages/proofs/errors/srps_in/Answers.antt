@@ -1,0 +1,9 @@
+use Rattle.std.proofs.Common.{rules, tests}
+use Rattle.std.proofs.lemmas.Iterator.{items_from_collect, YieldsList-from_slice}
+use Rattle.std.proofs.lemmas.Iterator.Consumers.{YieldsList-from_filter_map}
+use Rattle.pcep_messages.specs.Errors.{named_srp}
+use Rattle.pcep_messages.proofs.errors.srps_in.Goals as goal
+
+pub returns : goal.returns
+returns c =
+    items_from_collect _ c.collect.ensures.ran (YieldsList-from_filter_map _ named_srp (YieldsList-from_slice c.args.objects.now cc) c.filter_map.ensures.closure (λ x r q k. search (rules, tests)))

@@ -1,0 +1,92 @@
+-- What a PCUpd (RFC 8231 section 6.2) and a PCInitiate (RFC 8281 section 5.1) ask for, or the first fault.
+use Rattle.std.specs.Prelude.{ℕ, min, not, ◌&&◌, List, [], Option, Some, None, is_none, Result, Ok, Err, if◌then◌else◌}
+use Rattle.std.specs.Option.{option_map}
+use Rattle.pcep_objects.specs.declared.object.Hop.{Hop}
+use Rattle.pcep_objects.specs.declared.object.LspObject.{LspObject}
+use Rattle.pcep_objects.specs.declared.object.Lspa.{Lspa}
+use Rattle.pcep_objects.specs.declared.object.Srp.{Srp}
+use Rattle.pcep_objects.specs.declared.request_objects.EndPoints.{EndPoints}
+use Rattle.pcep_messages.specs.Objects.{found_in}
+use Rattle.pcep_messages.specs.Parts.{read_parts}
+use Rattle.pcep_messages.specs.Reports.{srp_id, about_srp, hops_or_none}
+use Rattle.pcep_messages.specs.declared.fault.About.{About}
+use Rattle.pcep_messages.specs.declared.fault.MessageFault.{MessageFault}
+use Rattle.pcep_messages.specs.declared.fault.MessageFault.TheVariants.{Missing}
+use Rattle.pcep_messages.specs.declared.message.Attributes.{Attributes}
+use Rattle.pcep_messages.specs.declared.message.Create.{Create}
+use Rattle.pcep_messages.specs.declared.message.Initiate.TheVariants as initiates
+use Rattle.pcep_messages.specs.declared.message.Message.{Message}
+use Rattle.pcep_messages.specs.declared.message.Message.TheVariants as messages
+use Rattle.pcep_messages.specs.declared.message.Update.{Update}
+use Rattle.pcep_messages.specs.declared.parts.Parts.{Parts}
+
+-- a fault is about the request's SRP
+abbrev pub about_parts : Parts → About
+about_parts parts = about_srp (srp_id parts.srp)
+
+-- the holding priority in force is never above the setup priority
+abbrev pub attributes_of : Lspa → Attributes
+attributes_of lspa = record { colours = lspa.colours; setup = lspa.setup; hold = min lspa.setup lspa.hold }
+
+-- without SYMBOLIC-PATH-NAME the name is empty
+abbrev pub name_or_none : Option (List ℕ) → List ℕ
+name_or_none None = []
+name_or_none (Some name) = name
+
+-- ---- PCUpd
+
+abbrev pub update_with : Srp → LspObject → Parts → Update
+update_with srp lsp parts = record {
+  srp = srp.id;
+  plsp = lsp.plsp;
+  delegate = lsp.delegate;
+  admin = lsp.admin;
+  ero = hops_or_none parts.ero;
+  attributes = option_map attributes_of parts.lspa;
+  bandwidth = parts.bandwidth;
+}
+
+-- SRP, class 33, LSP, class 32, and ERO, class 7, have to be there; with R of SRP set no ERO has to
+abbrev pub update_or_missing : Parts → Option Srp → Option LspObject → Result Message MessageFault
+update_or_missing parts None lsp = Err (Missing 33 (about_parts parts))
+update_or_missing parts (Some srp) None = Err (Missing 32 (about_parts parts))
+update_or_missing parts (Some srp) (Some lsp) =
+    if is_none parts.ero && not srp.remove then Err (Missing 7 (about_parts parts)) else Ok (messages.Update (update_with srp lsp parts))
+
+abbrev pub update_of : Parts → Result Message MessageFault
+update_of parts = update_or_missing parts parts.srp parts.lsp
+
+unfoldable pub update_body : List ℕ → Result Message MessageFault
+update_body body = read_parts about_parts update_of (found_in body)
+
+-- ---- PCInitiate
+
+abbrev pub create_with : Srp → LspObject → EndPoints → List Hop → Parts → Create
+create_with srp lsp end_points hops parts = record {
+  srp = srp.id;
+  name = name_or_none lsp.name;
+  source = end_points.source;
+  destination = end_points.destination;
+  ero = hops;
+  attributes = option_map attributes_of parts.lspa;
+  bandwidth = parts.bandwidth;
+}
+
+-- a new LSP also has to have END-POINTS, class 4, and ERO, class 7
+abbrev pub create_or_missing : Srp → LspObject → Parts → Option EndPoints → Option (List Hop) → Result Message MessageFault
+create_or_missing srp lsp parts None ero = Err (Missing 4 (about_parts parts))
+create_or_missing srp lsp parts (Some end_points) None = Err (Missing 7 (about_parts parts))
+create_or_missing srp lsp parts (Some end_points) (Some hops) = Ok (messages.Initiate (initiates.Create (create_with srp lsp end_points hops parts)))
+
+-- SRP, class 33, and LSP, class 32, have to be there; with R of SRP set they are enough, and the LSP is to go
+abbrev pub initiate_or_missing : Parts → Option Srp → Option LspObject → Result Message MessageFault
+initiate_or_missing parts None lsp = Err (Missing 33 (about_parts parts))
+initiate_or_missing parts (Some srp) None = Err (Missing 32 (about_parts parts))
+initiate_or_missing parts (Some srp) (Some lsp) =
+    if srp.remove then Ok (messages.Initiate (initiates.Remove srp.id lsp.plsp)) else create_or_missing srp lsp parts parts.end_points parts.ero
+
+abbrev pub initiate_of : Parts → Result Message MessageFault
+initiate_of parts = initiate_or_missing parts parts.srp parts.lsp
+
+unfoldable pub initiate_body : List ℕ → Result Message MessageFault
+initiate_body body = read_parts about_parts initiate_of (found_in body)

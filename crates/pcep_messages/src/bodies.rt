@@ -1,0 +1,171 @@
+//! The bodies of written messages: their objects in order. What is borrowed isn't copied.
+
+ghost use Rattle.std.specs.Prelude.{◌≡◌, ◌++◌, ◌∷◌, [], true, false, IfOk, IfErr, OnOk};
+ghost use Rattle.std.specs.List.{flat_map};
+ghost use Rattle.pcep_messages.specs.Spelling.{rp_object, srp_object, error_objects, answer_objects, reply_objects, update_objects, create_objects, remove_objects, initiate_objects, objects_written, object_spelled, objects_spelled, objects_fit};
+ghost use Rattle.pcep_objects.specs.declared.fault.WriteFault.TheVariants.{TooLong};
+ghost use Rattle.pcep_objects.specs.declared.object.Object.TheVariants as objects;
+
+use crate::message::{Answer, Create, Errors, Initiate, Message, Reply, Update};
+use crate::putting::{
+    put_constraints, put_cost, put_end_points, put_error, put_lsp, put_new_lsp, put_no_path,
+    put_route, put_rp, put_srp,
+};
+use pcep_objects::{Close, Object, Open, PcepError, Plsp, WriteFault, put_object};
+use std::alloc::AllocError;
+
+/// The RPs of a PCErr, with P clear.
+fn put_requests(requests: &[u32], out: &mut Vec<u8>) -> Result<(), AllocError>
+    ensures { OnOk result (out.new.items ≡ out.old.items ++ flat_map (λ id. object_spelled (rp_object false id)) requests.now) }
+{
+    for request in requests {
+        put_rp(false, *request, out)?;
+    }
+    Ok(())
+}
+
+/// The SRPs of a PCErr.
+fn put_srps(srps: &[u32], out: &mut Vec<u8>) -> Result<(), AllocError>
+    ensures { OnOk result (out.new.items ≡ out.old.items ++ flat_map (λ id. object_spelled (srp_object false id)) srps.now) }
+{
+    for srp in srps {
+        put_srp(false, *srp, out)?;
+    }
+    Ok(())
+}
+
+/// The PCEP-ERRORs of a PCErr.
+fn put_each_error(errors: &[PcepError], out: &mut Vec<u8>) -> Result<(), AllocError>
+    ensures { OnOk result (out.new.items ≡ out.old.items ++ flat_map (λ error. object_spelled (objects.Error error)) errors.now) }
+{
+    for error in errors {
+        put_error(*error, out)?;
+    }
+    Ok(())
+}
+
+/// The body of a PCErr.
+#[tactic(auto, using(crate::proofs::ErrorObjects::errors_fit))]
+fn put_errors(errors: &Errors, out: &mut Vec<u8>) -> Result<(), WriteFault>
+    ensures written { OnOk result (out.new.items ≡ out.old.items ++ objects_spelled (error_objects errors.now)) }
+    ensures fits { IfOk result (λ _. objects_fit (error_objects errors.now) ≡ true) }
+    ensures too_long { IfErr result (λ e. e ≡ TooLong → objects_fit (error_objects errors.now) ≡ false) }
+{
+    put_requests(errors.requests.as_slice(), out)?;
+    put_srps(errors.srps.as_slice(), out)?;
+    put_each_error(errors.errors.as_slice(), out)?;
+    Ok(())
+}
+
+fn put_answer(answer: &Answer, out: &mut Vec<u8>) -> Result<(), WriteFault>
+    ensures written { OnOk result (out.new.items ≡ out.old.items ++ objects_spelled (answer_objects answer.now)) }
+    ensures fits { IfOk result (λ _. objects_fit (answer_objects answer.now) ≡ true) }
+    ensures too_long { IfErr result (λ e. e ≡ TooLong → objects_fit (answer_objects answer.now) ≡ false) }
+{
+    match answer {
+        Answer::Found(hops, cost) => {
+            put_route(hops.as_slice(), out)?;
+            put_cost(*cost, out)?;
+            Ok(())
+        }
+        Answer::NoPath(vector) => put_no_path(*vector, out),
+    }
+}
+
+/// The body of a PCRep.
+fn put_reply(reply: &Reply, out: &mut Vec<u8>) -> Result<(), WriteFault>
+    ensures written { OnOk result (out.new.items ≡ out.old.items ++ objects_spelled (reply_objects reply.now)) }
+    ensures fits { IfOk result (λ _. objects_fit (reply_objects reply.now) ≡ true) }
+    ensures too_long { IfErr result (λ e. e ≡ TooLong → objects_fit (reply_objects reply.now) ≡ false) }
+{
+    put_rp(true, reply.request, out)?;
+    put_answer(&reply.answer, out)
+}
+
+/// The body of a PCUpd.
+fn put_update(update: &Update, out: &mut Vec<u8>) -> Result<(), WriteFault>
+    ensures written { OnOk result (out.new.items ≡ out.old.items ++ objects_spelled (update_objects update.now)) }
+    ensures fits { IfOk result (λ _. objects_fit (update_objects update.now) ≡ true) }
+    ensures too_long { IfErr result (λ e. e ≡ TooLong → objects_fit (update_objects update.now) ≡ false) }
+{
+    put_srp(false, update.srp, out)?;
+    put_lsp(update.plsp, update.delegate, update.admin, out)?;
+    put_route(update.ero.as_slice(), out)?;
+    put_constraints(update.attributes, update.bandwidth, out)?;
+    Ok(())
+}
+
+/// The body of a PCInitiate for a new LSP.
+fn put_create(create: &Create, out: &mut Vec<u8>) -> Result<(), WriteFault>
+    ensures written { OnOk result (out.new.items ≡ out.old.items ++ objects_spelled (create_objects create.now)) }
+    ensures fits { IfOk result (λ _. objects_fit (create_objects create.now) ≡ true) }
+    ensures too_long { IfErr result (λ e. e ≡ TooLong → objects_fit (create_objects create.now) ≡ false) }
+{
+    put_srp(false, create.srp, out)?;
+    put_new_lsp(create.name.as_slice(), out)?;
+    put_end_points(create.source, create.destination, out)?;
+    put_route(create.ero.as_slice(), out)?;
+    put_constraints(create.attributes, create.bandwidth, out)?;
+    Ok(())
+}
+
+/// The body of a PCInitiate that deletes an LSP.
+fn put_remove(srp: u32, plsp: Plsp, out: &mut Vec<u8>) -> Result<(), AllocError>
+    ensures written { OnOk result (out.new.items ≡ out.old.items ++ objects_spelled (remove_objects srp plsp)) }
+    ensures fits { IfOk result (λ _. objects_fit (remove_objects srp plsp) ≡ true) }
+{
+    put_srp(true, srp, out)?;
+    put_lsp(plsp, true, false, out)
+}
+
+/// The body of a PCInitiate.
+fn put_initiate(initiate: &Initiate, out: &mut Vec<u8>) -> Result<(), WriteFault>
+    ensures written { OnOk result (out.new.items ≡ out.old.items ++ objects_spelled (initiate_objects initiate.now)) }
+    ensures fits { IfOk result (λ _. objects_fit (initiate_objects initiate.now) ≡ true) }
+    ensures too_long { IfErr result (λ e. e ≡ TooLong → objects_fit (initiate_objects initiate.now) ≡ false) }
+{
+    match initiate {
+        Initiate::Create(create) => put_create(create, out),
+        Initiate::Remove { srp, plsp } => {
+            put_remove(*srp, *plsp, out)?;
+            Ok(())
+        }
+    }
+}
+
+/// The body of an Open.
+#[tactic(auto, unfolding(crate::specs::Spelling::object_spelled, crate::specs::Spelling::object_fits))]
+fn put_opening(opening: Open, out: &mut Vec<u8>) -> Result<(), WriteFault>
+    ensures written { OnOk result (out.new.items ≡ out.old.items ++ objects_spelled (objects.Open opening ∷ [])) }
+    ensures fits { IfOk result (λ _. objects_fit (objects.Open opening ∷ []) ≡ true) }
+    ensures too_long { IfErr result (λ e. e ≡ TooLong → objects_fit (objects.Open opening ∷ []) ≡ false) }
+{
+    put_object(&Object::Open(opening), out)
+}
+
+/// The body of a Close.
+#[tactic(auto, unfolding(crate::specs::Spelling::object_spelled, crate::specs::Spelling::object_fits))]
+fn put_close(reason: u8, out: &mut Vec<u8>) -> Result<(), WriteFault>
+    ensures written { OnOk result (out.new.items ≡ out.old.items ++ objects_spelled (objects.Close (record { reason = reason }) ∷ [])) }
+    ensures fits { IfOk result (λ _. objects_fit (objects.Close (record { reason = reason }) ∷ []) ≡ true) }
+    ensures too_long { IfErr result (λ e. e ≡ TooLong → objects_fit (objects.Close (record { reason = reason }) ∷ []) ≡ false) }
+{
+    put_object(&Object::Close(Close { reason }), out)
+}
+
+/// Appends the body of a message of a kind that is written. After an `Err` the vector may have a part of it.
+pub fn put_body(message: &Message, out: &mut Vec<u8>) -> Result<(), WriteFault>
+    ensures written { OnOk result (out.new.items ≡ out.old.items ++ objects_spelled (objects_written message.now)) }
+    ensures fits { IfOk result (λ _. objects_fit (objects_written message.now) ≡ true) }
+    ensures too_long { IfErr result (λ e. e ≡ TooLong → objects_fit (objects_written message.now) ≡ false) }
+{
+    match message {
+        Message::Opening(opening) => put_opening(*opening, out),
+        Message::Reply(reply) => put_reply(reply, out),
+        Message::Error(errors) => put_errors(errors, out),
+        Message::Close(reason) => put_close(*reason, out),
+        Message::Update(update) => put_update(update, out),
+        Message::Initiate(initiate) => put_initiate(initiate, out),
+        _ => Ok(()),
+    }
+}

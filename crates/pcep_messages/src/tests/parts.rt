@@ -1,0 +1,283 @@
+//! What counts of the objects of a message that has one item, and what it lacks.
+
+use super::writing::{CREATE, DELETION, OPEN, PATH, UPDATE};
+use super::{bytes_of, check, put_hex};
+use crate::{About, Answer, Initiate, Message, MessageFault, read_message};
+use pcep_objects::ObjectFault;
+use std::test::*;
+
+const RP: &str = "0212000c 00000000 00000007";
+
+const SRP: &str = "2110000c 00000000 00000001";
+
+const SRP_ZERO: &str = "2110000c 00000000 00000000";
+
+/// An SRP with flag R.
+const SRP_REMOVE: &str = "2110000c 00000001 00000003";
+
+const LSP: &str = "20100008 00001009";
+
+const END_POINTS: &str = "0412000c 0a000001 0a000004";
+
+const ERO: &str = "0710000c 01080a01 00022000";
+
+const EMPTY_ERO: &str = "07100004";
+
+const NO_PATH: &str = "03100008 00000000";
+
+const BANDWIDTH: &str = "05100008 48742400";
+
+const GREATER: &str = "05100008 48f42400";
+
+const CURRENT: &str = "05200008 49127c00";
+
+const METRIC: &str = "0610000c 00000001 41a00000";
+
+const OTHER_METRIC: &str = "0610000c 00000202 00000000";
+
+const LSPA: &str = "09100014 00000000 00000000 00000000 02050000";
+
+const OTHER_LSPA: &str = "09100014 00000000 00000000 00000000 07000000";
+
+const UNKNOWN: &str = "63100008 00000000";
+
+const BAD: &str = "05100008 7f800000";
+
+/// A message of this type and these objects.
+fn bytes_with(rt: &HostRuntime, kind: u8, objects: &[&str]) -> Result<Vec<u8>, Fail> {
+    let mut body = Vec::new(rt.alloc());
+    for object in objects {
+        put_hex(&mut body, object)?;
+    }
+    let mut bytes = Vec::new(rt.alloc());
+    bytes.extend_from_slice(&[0x20, kind])?;
+    let len = (body.len().min(60000) + 4) as u16;
+    bytes.extend_from_slice(&len.to_be_bytes())?;
+    bytes.extend_from_slice(body.as_slice())?;
+    Ok(bytes)
+}
+
+fn fault_of(rt: &HostRuntime, kind: u8, objects: &[&str]) -> Result<Option<MessageFault>, Fail> {
+    let bytes = bytes_with(rt, kind, objects)?;
+    Ok(read_message(rt.alloc(), bytes.as_slice()).err())
+}
+
+fn bad_number(about: About) -> Option<MessageFault> {
+    Some(MessageFault::BadObject(ObjectFault::BadNumber, about))
+}
+
+fn missing(class: u8, about: About) -> Option<MessageFault> {
+    Some(MessageFault::Missing(class, about))
+}
+
+#[test]
+fn faults_of_session_messages(rt: HostRuntime) -> Result<(), Fail> {
+    let nothing = About::Nothing;
+    let table = [
+        (1, UNKNOWN, missing(1, nothing)),
+        (1, BAD, bad_number(nothing)),
+        (2, BANDWIDTH, None),
+        (2, BAD, bad_number(nothing)),
+        (6, UNKNOWN, None),
+        (6, BAD, bad_number(nothing)),
+        (7, UNKNOWN, None),
+        (7, BAD, bad_number(nothing)),
+    ];
+    for (kind, object, fault) in table {
+        assert_eq!(rt; fault_of(&rt, kind, &[object])?, fault, "{kind} {object}");
+    }
+    Ok(())
+}
+
+#[test]
+fn a_close_without_object_has_reason_1(rt: HostRuntime) -> Result<(), Fail> {
+    let close = "0f100008 00000003";
+    let other = "0f100008 00000002";
+    for (objects, reason) in [([UNKNOWN, ERO], 1), ([close, other], 3)] {
+        let bytes = bytes_with(&rt, 7, &objects)?;
+        let message = read_message(rt.alloc(), bytes.as_slice())?;
+        assert!(rt; matches!(message, Message::Close(found) if found == reason));
+    }
+    Ok(())
+}
+
+#[test]
+fn what_a_reply_lacks(rt: HostRuntime) -> Result<(), Fail> {
+    let nothing = About::Nothing;
+    let seven = About::Request(7);
+    let table = [
+        ([ERO, METRIC, UNKNOWN], missing(2, nothing)),
+        ([RP, METRIC, LSP], missing(7, seven)),
+        ([RP, NO_PATH, UNKNOWN], None),
+        ([METRIC, ERO, RP], None),
+        ([METRIC, BAD, RP], bad_number(nothing)),
+        ([RP, BAD, ERO], bad_number(seven)),
+    ];
+    for (objects, fault) in table {
+        assert_eq!(rt; fault_of(&rt, 4, &objects)?, fault, "{objects:?}");
+    }
+    Ok(())
+}
+
+#[test]
+fn what_an_update_lacks(rt: HostRuntime) -> Result<(), Fail> {
+    let nothing = About::Nothing;
+    let one = About::Srp(1);
+    let table = [
+        ([LSP, ERO, UNKNOWN], missing(33, nothing)),
+        ([SRP, ERO, UNKNOWN], missing(32, one)),
+        ([SRP, LSP, UNKNOWN], missing(7, one)),
+        ([SRP_ZERO, LSP, UNKNOWN], missing(7, nothing)),
+        ([UNKNOWN, UNKNOWN, UNKNOWN], missing(33, nothing)),
+        ([SRP, LSP, EMPTY_ERO], None),
+        ([EMPTY_ERO, LSP, SRP], None),
+        ([SRP_REMOVE, LSP, UNKNOWN], None),
+        ([LSP, BAD, SRP], bad_number(nothing)),
+        ([SRP, BAD, LSP], bad_number(one)),
+    ];
+    for (objects, fault) in table {
+        assert_eq!(rt; fault_of(&rt, 11, &objects)?, fault, "{objects:?}");
+    }
+    Ok(())
+}
+
+#[test]
+fn what_an_initiate_lacks(rt: HostRuntime) -> Result<(), Fail> {
+    let nothing = About::Nothing;
+    let one = About::Srp(1);
+    let table = [
+        ([LSP, END_POINTS, ERO, UNKNOWN], missing(33, nothing)),
+        ([SRP, END_POINTS, ERO, UNKNOWN], missing(32, one)),
+        ([SRP, LSP, ERO, UNKNOWN], missing(4, one)),
+        ([SRP, LSP, UNKNOWN, UNKNOWN], missing(4, one)),
+        ([SRP, LSP, END_POINTS, UNKNOWN], missing(7, one)),
+        ([SRP, LSP, END_POINTS, EMPTY_ERO], None),
+        ([SRP_REMOVE, LSP, UNKNOWN, UNKNOWN], None),
+        (
+            [SRP_REMOVE, ERO, UNKNOWN, UNKNOWN],
+            missing(32, About::Srp(3)),
+        ),
+        ([SRP, LSP, END_POINTS, BAD], bad_number(one)),
+    ];
+    for (objects, fault) in table {
+        assert_eq!(rt; fault_of(&rt, 12, &objects)?, fault, "{objects:?}");
+    }
+    Ok(())
+}
+
+/// The first of each class counts, and of the bandwidths that are asked for the greatest.
+#[test]
+fn what_counts_in_an_update(rt: HostRuntime) -> Result<(), Fail> {
+    let objects = [
+        BANDWIDTH, SRP, SRP_ZERO, UNKNOWN, LSP, CURRENT, ERO, EMPTY_ERO, LSPA, OTHER_LSPA, GREATER,
+        BANDWIDTH,
+    ];
+    let bytes = bytes_with(&rt, 11, &objects)?;
+    let Message::Update(update) = read_message(rt.alloc(), bytes.as_slice())? else {
+        return Err(Fail::new("another message"));
+    };
+    check(update.srp == 1, "srp")?;
+    check(update.ero.as_slice().len() == 1, "route")?;
+    let Some(bandwidth) = update.bandwidth else {
+        return Err(Fail::new("no bandwidth"));
+    };
+    check(bandwidth.value() == 500000, "bandwidth")?;
+    let Some(attributes) = update.attributes else {
+        return Err(Fail::new("no attributes"));
+    };
+    // A holding priority above the setup priority is not in force.
+    check(attributes.setup.number() == 2, "setup")?;
+    check(attributes.hold.number() == 2, "hold")
+}
+
+/// The first METRIC is the cost, and a NO-PATH counts before an ERO.
+#[test]
+fn what_counts_in_a_reply(rt: HostRuntime) -> Result<(), Fail> {
+    let bytes = bytes_with(&rt, 4, &[RP, METRIC, OTHER_METRIC, ERO])?;
+    let Message::Reply(reply) = read_message(rt.alloc(), bytes.as_slice())? else {
+        return Err(Fail::new("another message"));
+    };
+    let Answer::Found(_, Some(cost)) = reply.answer else {
+        return Err(Fail::new("no cost"));
+    };
+    check(cost.kind == 1 && cost.value.value() == 20, "cost")?;
+    let bytes = bytes_with(&rt, 4, &[RP, ERO, NO_PATH, METRIC])?;
+    let Message::Reply(reply) = read_message(rt.alloc(), bytes.as_slice())? else {
+        return Err(Fail::new("another message"));
+    };
+    check(matches!(reply.answer, Answer::NoPath(None)), "no path")
+}
+
+/// A new LSP without a name has an empty one.
+#[test]
+fn an_initiate_without_a_name(rt: HostRuntime) -> Result<(), Fail> {
+    let bytes = bytes_with(&rt, 12, &[SRP, LSP, END_POINTS, ERO])?;
+    let Message::Initiate(Initiate::Create(create)) = read_message(rt.alloc(), bytes.as_slice())?
+    else {
+        return Err(Fail::new("another message"));
+    };
+    check(create.name.as_slice().is_empty(), "name")?;
+    check(create.attributes.is_none(), "attributes")?;
+    check(create.bandwidth.is_none(), "bandwidth")
+}
+
+/// A message cut short, with its length as it was.
+#[test]
+fn messages_that_are_cut(rt: HostRuntime) -> Result<(), Fail> {
+    for text in [OPEN, DELETION, PATH, UPDATE] {
+        let bytes = bytes_of(&rt, text)?;
+        for len in 4..bytes.len() {
+            let (cut, _) = bytes.split_at(len);
+            let found = read_message(rt.alloc(), cut).err();
+            assert_eq!(rt; found, Some(MessageFault::BadHeader), "{text} at {len}");
+        }
+    }
+    Ok(())
+}
+
+/// The fault of the first bytes of a message, with the length of what is left.
+fn fault_of_cut(rt: &HostRuntime, text: &str, len: u8) -> Result<Option<MessageFault>, Fail> {
+    let bytes = bytes_of(rt, text)?;
+    let mut cut = Vec::new(rt.alloc());
+    for (place, byte) in bytes.iter().enumerate() {
+        if place < len as usize {
+            cut.push(if place == 3 { len } else { *byte })?;
+        }
+    }
+    Ok(read_message(rt.alloc(), cut.as_slice()).err())
+}
+
+#[test]
+fn cut_messages_with_their_length(rt: HostRuntime) -> Result<(), Fail> {
+    let nothing = About::Nothing;
+    let one = About::Srp(1);
+    let bad = MessageFault::BadObject(ObjectFault::BadLength, one);
+    let table = [
+        (UPDATE, 4, missing(33, nothing)),
+        (
+            UPDATE,
+            12,
+            Some(MessageFault::BadObject(ObjectFault::BadLength, nothing)),
+        ),
+        (UPDATE, 16, missing(32, one)),
+        (UPDATE, 20, Some(bad)),
+        (UPDATE, 24, missing(7, one)),
+        (UPDATE, 40, Some(bad)),
+        (UPDATE, 44, None),
+        (UPDATE, 60, Some(bad)),
+        (UPDATE, 64, None),
+        (UPDATE, 68, Some(bad)),
+        (CREATE, 16, missing(32, one)),
+        (CREATE, 32, missing(4, one)),
+        (CREATE, 44, missing(7, one)),
+        (CREATE, 64, None),
+        (PATH, 4, missing(2, nothing)),
+        (PATH, 16, missing(7, About::Request(8))),
+        (PATH, 36, None),
+        (OPEN, 4, missing(1, nothing)),
+    ];
+    for (text, len, fault) in table {
+        assert_eq!(rt; fault_of_cut(&rt, text, len)?, fault, "{text} at {len}");
+    }
+    Ok(())
+}

@@ -1,0 +1,157 @@
+//! What a PCUpd and a PCInitiate ask for.
+
+ghost use Rattle.std.specs.Prelude.{◌≡◌};
+ghost use Rattle.std.specs.Option.{option_map};
+ghost use Rattle.pcep_messages.specs.Updates.{attributes_of, name_or_none, update_with, update_of, update_body, create_with, create_or_missing, initiate_of, initiate_body};
+ghost use Rattle.pcep_messages.specs.Messages.{Gives};
+
+use crate::fault::MessageFault;
+use crate::message::{Attributes, Create, Initiate, Message, Update};
+use crate::parts::{Parts, parts_in};
+use crate::reports::{about_srp, hops_or_none, in_force, srp_id};
+use pcep_objects::{EndPoints, Hop, LspObject, Lspa, Srp};
+use sequence::Sequence;
+use std::alloc::Global;
+
+fn attributes_of(lspa: Option<Lspa>) -> Option<Attributes>
+    ensures { result ≡ option_map attributes_of lspa }
+{
+    match lspa {
+        Some(lspa) => Some(Attributes {
+            colours: lspa.colours,
+            setup: lspa.setup,
+            hold: in_force(lspa.setup, lspa.hold),
+        }),
+        None => None,
+    }
+}
+
+fn name_or_none(alloc: Global, name: Option<Sequence<u8>>) -> Sequence<u8>
+    ensures { result ≡ name_or_none name }
+{
+    match name {
+        Some(name) => name,
+        None => Sequence::from_vec(Vec::new(alloc)),
+    }
+}
+
+fn update_with(alloc: Global, srp: Srp, lsp: &LspObject, parts: Parts) -> Update
+    ensures { result ≡ update_with srp lsp.now parts }
+{
+    let attributes = attributes_of(parts.lspa);
+    Update {
+        srp: srp.id,
+        plsp: lsp.plsp,
+        delegate: lsp.delegate,
+        admin: lsp.admin,
+        ero: hops_or_none(alloc, parts.ero),
+        attributes,
+        bandwidth: parts.bandwidth,
+    }
+}
+
+/// The update of the parts that are there.
+fn update_of(alloc: Global, mut parts: Parts) -> Result<Message, MessageFault>
+    ensures { Gives (λ x. x) result (update_of parts) }
+{
+    let about = about_srp(srp_id(parts.srp));
+    let Some(srp) = parts.srp else {
+        return Err(MessageFault::Missing(33, about));
+    };
+    let Some(lsp) = parts.lsp.take() else {
+        return Err(MessageFault::Missing(32, about));
+    };
+    if parts.ero.is_none() && !srp.remove {
+        return Err(MessageFault::Missing(7, about));
+    }
+    Ok(Message::Update(update_with(alloc, srp, &lsp, parts)))
+}
+
+/// The body of a PCUpd.
+#[tactic(auto, unfolding(crate::specs::Updates::update_body))]
+pub fn read_update(alloc: Global, body: &[u8]) -> Result<Message, MessageFault>
+    ensures { Gives (λ x. x) result (update_body body.now) }
+{
+    let (parts, fault) = parts_in(alloc, body)?;
+    if let Some(fault) = fault {
+        let about = about_srp(srp_id(parts.srp));
+        return Err(MessageFault::BadObject(fault, about));
+    }
+    update_of(alloc, parts)
+}
+
+fn create_with(
+    alloc: Global,
+    srp: Srp,
+    lsp: LspObject,
+    end_points: EndPoints,
+    hops: Sequence<Hop>,
+    parts: Parts,
+) -> Create
+    ensures { result ≡ create_with srp lsp end_points hops parts }
+{
+    let attributes = attributes_of(parts.lspa);
+    Create {
+        srp: srp.id,
+        name: name_or_none(alloc, lsp.name),
+        source: end_points.source,
+        destination: end_points.destination,
+        ero: hops,
+        attributes,
+        bandwidth: parts.bandwidth,
+    }
+}
+
+/// The new LSP of the parts that are there.
+fn create_of(
+    alloc: Global,
+    srp: Srp,
+    lsp: LspObject,
+    mut parts: Parts,
+) -> Result<Message, MessageFault>
+    ensures { Gives (λ x. x) result (create_or_missing srp lsp parts parts.end_points parts.ero) }
+{
+    let about = about_srp(srp_id(parts.srp));
+    let (end_points, ero) = (parts.end_points, parts.ero.take());
+    let Some(end_points) = end_points else {
+        return Err(MessageFault::Missing(4, about));
+    };
+    let Some(hops) = ero else {
+        return Err(MessageFault::Missing(7, about));
+    };
+    let create = create_with(alloc, srp, lsp, end_points, hops, parts);
+    Ok(Message::Initiate(Initiate::Create(create)))
+}
+
+/// What the parts that are there ask for.
+fn initiate_of(alloc: Global, mut parts: Parts) -> Result<Message, MessageFault>
+    ensures { Gives (λ x. x) result (initiate_of parts) }
+{
+    let about = about_srp(srp_id(parts.srp));
+    let Some(srp) = parts.srp else {
+        return Err(MessageFault::Missing(33, about));
+    };
+    let Some(lsp) = parts.lsp.take() else {
+        return Err(MessageFault::Missing(32, about));
+    };
+    if srp.remove {
+        return Ok(Message::Initiate(Initiate::Remove {
+            srp: srp.id,
+            plsp: lsp.plsp,
+        }));
+    }
+    create_of(alloc, srp, lsp, parts)
+}
+
+/// The body of a PCInitiate.
+#[tactic(auto, unfolding(crate::specs::Updates::initiate_body))]
+pub fn read_initiate(alloc: Global, body: &[u8]) -> Result<Message, MessageFault>
+    ensures { Gives (λ x. x) result (initiate_body body.now) }
+{
+    let (parts, fault) = parts_in(alloc, body)?;
+    if let Some(fault) = fault {
+        let about = about_srp(srp_id(parts.srp));
+        return Err(MessageFault::BadObject(fault, about));
+    }
+    initiate_of(alloc, parts)
+}

@@ -1,0 +1,77 @@
+//! Messages as bytes: the one spelling, which is read again.
+
+ghost use Rattle.std.specs.Prelude.{◌≡◌, ◌++◌, true, false, IfOk, IfErr, OnOk, OnErr};
+ghost use Rattle.pcep_messages.specs.Messages.{Reads};
+ghost use Rattle.pcep_messages.specs.Normal.{IsNormal};
+ghost use Rattle.pcep_messages.specs.Spelling.{is_written, kind_number, written, fits};
+ghost use Rattle.pcep_messages.specs.declared.message.Message.{Message};
+ghost use Rattle.pcep_objects.specs.declared.fault.WriteFault.TheVariants.{TooLong};
+
+use crate::bodies::put_body;
+use crate::message::Message;
+use pcep_objects::WriteFault;
+
+impl Message {
+    /// Whether `write_message` takes the message: all but PCReq, PCNtf, PCRpt and what is `Unknown`.
+    pub fn is_written(&self) -> bool
+        ensures { result ≡ is_written self.now }
+    {
+        match self {
+            Message::Request(_) | Message::Notify | Message::Report(_) | Message::Unknown(_) => {
+                false
+            }
+            _ => true,
+        }
+    }
+}
+
+/// The message's type (RFC 5440 section 6.1).
+fn kind_number(message: &Message) -> u8
+    ensures { result ≡ kind_number message.now }
+{
+    match message {
+        Message::Opening(_) => 1,
+        Message::Keepalive => 2,
+        Message::Request(_) => 3,
+        Message::Reply(_) => 4,
+        Message::Notify => 5,
+        Message::Error(_) => 6,
+        Message::Close(_) => 7,
+        Message::Report(_) => 10,
+        Message::Update(_) => 11,
+        Message::Initiate(_) => 12,
+        Message::Unknown(kind) => *kind,
+    }
+}
+
+/// Appends the one spelling of a message (RFC 5440 section 6, RFC 8231 section 6, RFC 8281 section 5). P is
+/// set in the RP of a PCRep and clear in those of a PCErr.
+///
+/// `TooLong` comes exactly where a length doesn't fit its field: a subobject of a route has 2^8 bytes or
+/// more, or an object or the message 2^16 or more. `OutOfMemory` comes where a growth was refused. After
+/// either the vector is as before.
+pub fn write_message(message: &Message, out: &mut Vec<u8>) -> Result<(), WriteFault>
+    requires { is_written message.now ≡ true }
+    ensures written { OnOk result (out.new.items ≡ out.old.items ++ written message.now) }
+    ensures fits { IfOk result (λ _. fits message.now ≡ true) }
+    ensures too_long { IfErr result (λ e. e ≡ TooLong → fits message.now ≡ false) }
+    ensures unchanged { OnErr result (out.new.items ≡ out.old.items) }
+{
+    let mut spelled = Vec::with_capacity(*out.allocator(), 128)?;
+    spelled.extend_from_slice(&[0x20, kind_number(message), 0, 0])?;
+    put_body(message, &mut spelled)?;
+    if spelled.len() >= 0x10000 {
+        return Err(WriteFault::TooLong);
+    }
+    let [high, low] = (spelled.len() as u16).to_be_bytes();
+    spelled[2] = high;
+    spelled[3] = low;
+    out.extend_from_slice(&spelled)?;
+    Ok(())
+}
+
+/// The spelling of a message whose fields are in their ranges and whose lengths fit reads as it.
+pub fn messages_are_read_again()
+    ensures { (message : Message) → is_written message ≡ true → IsNormal message → fits message ≡ true
+        → Reads (written message) message }
+{}
