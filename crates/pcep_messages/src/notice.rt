@@ -1,0 +1,75 @@
+//! The messages that a session sends by itself.
+
+ghost use Rattle.std.specs.Prelude.{◌≡◌, ◌++◌, OnOk, OnErr};
+ghost use Rattle.pcep_messages.specs.Notices.{numbered_text, error_text, notice_text};
+
+use crate::fault::About;
+use std::alloc::AllocError;
+
+/// A PCErr with one error, and with the request that it is about, where that is known (RFC 5440
+/// section 6.7, RFC 8231 section 6.3).
+#[derive(Clone, Copy, Debug, PartialEq, Eq)]
+pub struct PcError {
+    pub about: About,
+    /// Error-Type (RFC 5440 section 7.15).
+    pub kind: u8,
+    /// Error-value.
+    pub value: u8,
+}
+
+/// A message that a session sends by itself. It has 4 to 24 bytes, so that writing it can only lack memory.
+#[derive(Clone, Copy, Debug, PartialEq, Eq)]
+pub enum Notice {
+    /// Keepalive (RFC 5440 section 6.3).
+    Keepalive,
+    /// PCErr (RFC 5440 section 6.7).
+    Error(PcError),
+    /// Close, with its reason (RFC 5440 section 6.8).
+    Close(u8),
+}
+
+/// A PCErr behind an object of this class that names a request.
+fn put_numbered(
+    out: &mut Vec<u8>,
+    class: u8,
+    id: u32,
+    kind: u8,
+    value: u8,
+) -> Result<(), AllocError>
+    ensures ok { OnOk result (out.new.items ≡ out.old.items ++ numbered_text class id kind value) }
+    ensures err { OnErr result (out.new.items ≡ out.old.items) }
+{
+    let [a, b, c, d] = id.to_be_bytes();
+    out.extend_from_slice(&[
+        0x20, 6, 0, 24, class, 0x10, 0, 12, 0, 0, 0, 0, a, b, c, d, 13, 0x10, 0, 8, 0, 0, kind,
+        value,
+    ])
+}
+
+fn put_error(out: &mut Vec<u8>, error: PcError) -> Result<(), AllocError>
+    ensures ok { OnOk result (out.new.items ≡ out.old.items ++ error_text error) }
+    ensures err { OnErr result (out.new.items ≡ out.old.items) }
+{
+    let PcError { about, kind, value } = error;
+    match about {
+        About::Nothing => {
+            out.extend_from_slice(&[0x20, 6, 0, 12, 13, 0x10, 0, 8, 0, 0, kind, value])
+        }
+        About::Request(id) => put_numbered(out, 2, id, kind, value),
+        About::Srp(id) => put_numbered(out, 33, id, kind, value),
+    }
+}
+
+/// Appends the bytes of a notice. Where memory is lacking, nothing is appended.
+pub fn put_notice(out: &mut Vec<u8>, notice: Notice) -> Result<(), AllocError>
+    ensures ok { OnOk result (out.new.items ≡ out.old.items ++ notice_text notice) }
+    ensures err { OnErr result (out.new.items ≡ out.old.items) }
+{
+    match notice {
+        Notice::Keepalive => out.extend_from_slice(&[0x20, 2, 0, 4]),
+        Notice::Error(error) => put_error(out, error),
+        Notice::Close(reason) => {
+            out.extend_from_slice(&[0x20, 7, 0, 12, 15, 0x10, 0, 8, 0, 0, 0, reason])
+        }
+    }
+}
