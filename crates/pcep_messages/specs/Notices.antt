@@ -4,6 +4,8 @@ use Rattle.std.specs.Prelude.{ℕ, List, [], ◌∷◌, ◌++◌}
 use Rattle.byteorder.specs.Endian.{big_bytes}
 use Rattle.pcep_messages.specs.declared.fault.About.{About}
 use Rattle.pcep_messages.specs.declared.fault.About.TheVariants as about
+use Rattle.pcep_messages.specs.declared.message.Message.{Message}
+use Rattle.pcep_messages.specs.declared.message.Message.TheVariants as messages
 use Rattle.pcep_messages.specs.declared.notice.PcError.{PcError}
 use Rattle.pcep_messages.specs.declared.notice.Notice.{Notice}
 use Rattle.pcep_messages.specs.declared.notice.Notice.TheVariants.{Keepalive, Error, Close}
@@ -36,3 +38,21 @@ abbrev pub notice_text : Notice → List ℕ
 notice_text Keepalive = header_text 2 4
 notice_text (Error error) = error_text error
 notice_text (Close reason) = header_text 7 12 ++ 15 ∷ 0x10 ∷ 0 ∷ 8 ∷ 0 ∷ 0 ∷ 0 ∷ reason ∷ []
+
+-- the message that a notice is
+abbrev pub requests_about : About → List ℕ
+requests_about (about.Request id) = id ∷ []
+requests_about a = []
+
+abbrev pub srps_about : About → List ℕ
+srps_about (about.Srp id) = id ∷ []
+srps_about a = []
+
+abbrev pub message_of_notice : Notice → Message
+message_of_notice Keepalive = messages.Keepalive
+message_of_notice (Error error) = messages.Error (record {
+  requests = requests_about error.about;
+  srps = srps_about error.about;
+  errors = record { kind = error.kind; value = error.value } ∷ [];
+})
+message_of_notice (Close reason) = messages.Close reason

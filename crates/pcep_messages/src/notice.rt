@@ -1,7 +1,9 @@
 //! The messages that a session sends by itself.
 
 ghost use Rattle.std.specs.Prelude.{◌≡◌, ◌++◌, OnOk, OnErr};
-ghost use Rattle.pcep_messages.specs.Notices.{numbered_text, error_text, notice_text};
+ghost use Rattle.pcep_messages.specs.Spelling.{written};
+ghost use Rattle.pcep_messages.specs.Notices.{numbered_text, error_text, notice_text, message_of_notice};
+ghost use Rattle.pcep_messages.specs.declared.notice.Notice.{Notice};
 
 use crate::fault::About;
 use std::alloc::AllocError;
@@ -73,3 +75,8 @@ pub fn put_notice(out: &mut Vec<u8>, notice: Notice) -> Result<(), AllocError>
         }
     }
 }
+
+/// The bytes of a notice are the spelling of the message that it is.
+pub fn notices_are_messages()
+    ensures { (notice : Notice) → notice_text notice ≡ written (message_of_notice notice) }
+{}

@@ -1,4 +1,4 @@
-use Rattle.std.proofs.Common.{◌≡◌, ◌<◌, length, rules, arith, refl, sym, ◌∙◌}
+use Rattle.std.proofs.Common.{◌≡◌, false, ◌<◌, length, rules, arith, refl, sym, ◌∙◌}
 use Rattle.pcep_objects.specs.Objects.{object_at}
 use Rattle.pcep_messages.specs.declared.objects.Next.TheVariants as next
 use Rattle.pcep_messages.specs.Objects.{found_in, next_of}
