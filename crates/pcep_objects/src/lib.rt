@@ -55,6 +55,8 @@ pub use session_objects::{Close, Notification, Open, PcepError};
 pub use writing::{objects_are_read_again, put_fitting, put_object, write_object};
 
 #[cfg(test)]
+mod borrowed_tests;
+#[cfg(test)]
 mod spelling_tests;
 #[cfg(test)]
 mod tests;

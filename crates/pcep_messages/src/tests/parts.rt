@@ -1,9 +1,10 @@
 //! What counts of the objects of a message that has one item, and what it lacks.
 
-use super::writing::{CREATE, DELETION, OPEN, PATH, UPDATE};
+use super::writing::{CREATE, DELETION, OPEN, PATH, UPDATE, attributes, is_no_path, is_path};
 use super::{bytes_of, check, put_hex};
-use crate::{About, Answer, Initiate, Message, MessageFault, read_message};
-use pcep_objects::ObjectFault;
+use crate::{About, Cost, Create, Initiate, Message, MessageFault, Update, read_message};
+use pcep_objects::{MetricValue, ObjectFault};
+use pcep_word::Bandwidth;
 use std::test::*;
 
 const RP: &str = "0212000c 00000000 00000007";
@@ -165,6 +166,20 @@ fn what_an_initiate_lacks(rt: HostRuntime) -> Result<(), Fail> {
     Ok(())
 }
 
+fn message_with(rt: &HostRuntime, kind: u8, objects: &[&str]) -> Result<Message, Fail> {
+    let bytes = bytes_with(rt, kind, objects)?;
+    let message = read_message(rt.alloc(), bytes.as_slice())?;
+    Ok(message)
+}
+
+/// Whether an update has what counts: a holding priority above the setup priority isn't in force.
+fn has_what_counts(update: &Update) -> bool {
+    update.srp == 1
+        && update.ero.as_slice().len() == 1
+        && update.bandwidth == Bandwidth::at_least(500000)
+        && update.attributes == Some(attributes(2, 2))
+}
+
 /// The first of each class counts, and of the bandwidths that are asked for the greatest.
 #[test]
 fn what_counts_in_an_update(rt: HostRuntime) -> Result<(), Fail> {
@@ -172,53 +187,44 @@ fn what_counts_in_an_update(rt: HostRuntime) -> Result<(), Fail> {
         BANDWIDTH, SRP, SRP_ZERO, UNKNOWN, LSP, CURRENT, ERO, EMPTY_ERO, LSPA, OTHER_LSPA, GREATER,
         BANDWIDTH,
     ];
-    let bytes = bytes_with(&rt, 11, &objects)?;
-    let Message::Update(update) = read_message(rt.alloc(), bytes.as_slice())? else {
-        return Err(Fail::new("another message"));
-    };
-    check(update.srp == 1, "srp")?;
-    check(update.ero.as_slice().len() == 1, "route")?;
-    let Some(bandwidth) = update.bandwidth else {
-        return Err(Fail::new("no bandwidth"));
-    };
-    check(bandwidth.value() == 500000, "bandwidth")?;
-    let Some(attributes) = update.attributes else {
-        return Err(Fail::new("no attributes"));
-    };
-    // A holding priority above the setup priority is not in force.
-    check(attributes.setup.number() == 2, "setup")?;
-    check(attributes.hold.number() == 2, "hold")
+    match message_with(&rt, 11, &objects)? {
+        Message::Update(update) => check(has_what_counts(&update), "update"),
+        _ => Err(Fail::new("another message")),
+    }
 }
 
-/// The first METRIC is the cost, and a NO-PATH counts before an ERO.
+/// The first METRIC is the cost.
 #[test]
 fn what_counts_in_a_reply(rt: HostRuntime) -> Result<(), Fail> {
-    let bytes = bytes_with(&rt, 4, &[RP, METRIC, OTHER_METRIC, ERO])?;
-    let Message::Reply(reply) = read_message(rt.alloc(), bytes.as_slice())? else {
-        return Err(Fail::new("another message"));
+    let cost = Cost {
+        kind: 1,
+        value: MetricValue::new(20),
     };
-    let Answer::Found(_, Some(cost)) = reply.answer else {
-        return Err(Fail::new("no cost"));
-    };
-    check(cost.kind == 1 && cost.value.value() == 20, "cost")?;
-    let bytes = bytes_with(&rt, 4, &[RP, ERO, NO_PATH, METRIC])?;
-    let Message::Reply(reply) = read_message(rt.alloc(), bytes.as_slice())? else {
-        return Err(Fail::new("another message"));
-    };
-    check(matches!(reply.answer, Answer::NoPath(None)), "no path")
+    match message_with(&rt, 4, &[RP, METRIC, OTHER_METRIC, ERO])? {
+        Message::Reply(reply) => check(is_path(&reply.answer, &[0x0a010002], cost), "path"),
+        _ => Err(Fail::new("another message")),
+    }
+}
+
+#[test]
+fn a_no_path_counts_before_an_ero(rt: HostRuntime) -> Result<(), Fail> {
+    match message_with(&rt, 4, &[RP, ERO, NO_PATH, METRIC])? {
+        Message::Reply(reply) => check(is_no_path(&reply.answer, None), "no path"),
+        _ => Err(Fail::new("another message")),
+    }
+}
+
+fn is_bare(create: &Create) -> bool {
+    create.name.as_slice().is_empty() && create.attributes.is_none() && create.bandwidth.is_none()
 }
 
 /// A new LSP without a name has an empty one.
 #[test]
 fn an_initiate_without_a_name(rt: HostRuntime) -> Result<(), Fail> {
-    let bytes = bytes_with(&rt, 12, &[SRP, LSP, END_POINTS, ERO])?;
-    let Message::Initiate(Initiate::Create(create)) = read_message(rt.alloc(), bytes.as_slice())?
-    else {
-        return Err(Fail::new("another message"));
-    };
-    check(create.name.as_slice().is_empty(), "name")?;
-    check(create.attributes.is_none(), "attributes")?;
-    check(create.bandwidth.is_none(), "bandwidth")
+    match message_with(&rt, 12, &[SRP, LSP, END_POINTS, ERO])? {
+        Message::Initiate(Initiate::Create(create)) => check(is_bare(&create), "new LSP"),
+        _ => Err(Fail::new("another message")),
+    }
 }
 
 /// A message cut short, with its length as it was.

@@ -1,7 +1,9 @@
 //! Messages that are read and written again.
 
 use super::{bytes_of, check};
-use crate::{Answer, Attributes, Cost, Initiate, Message, Reply, read_message, write_message};
+use crate::{
+    Answer, Attributes, Cost, Create, Initiate, Message, Reply, Update, read_message, write_message,
+};
 use pcep_objects::{
     Capabilities, Colours, Hop, MetricValue, NoPathVector, Open, PcepError, WriteFault,
 };
@@ -124,7 +126,7 @@ fn kinds_that_are_written(rt: HostRuntime) -> Result<(), Fail> {
 }
 
 /// A reply with this many hops.
-fn reply_of(rt: &HostRuntime, count: usize) -> Result<Message, Fail> {
+fn reply_with(rt: &HostRuntime, count: usize) -> Result<Message, Fail> {
     let mut hops = Vec::new(rt.alloc());
     for _ in 0..count {
         hops.push(Hop::Host(Ipv4(1), false))?;
@@ -144,9 +146,10 @@ fn messages_that_do_not_fit_are_refused(rt: HostRuntime) -> Result<(), Fail> {
         (8192, Some(WriteFault::TooLong), 1),
     ];
     for (count, fault, len) in table {
-        let message = reply_of(&rt, count)?;
+        let message = reply_with(&rt, count)?;
         let mut out = Vec::new(rt.alloc());
         out.push(7)?;
+        assert!(rt; message.is_written());
         let found = write_message(&message, &mut out).err();
         assert_eq!(rt; found, fault, "{count}");
         assert_eq!(rt; out.len(), len, "{count}");
@@ -184,7 +187,7 @@ fn what_an_open_says(rt: HostRuntime) -> Result<(), Fail> {
     Ok(())
 }
 
-fn are_hosts(hops: &[Hop], addresses: &[u32]) -> bool {
+pub fn are_hosts(hops: &[Hop], addresses: &[u32]) -> bool {
     if hops.len() != addresses.len() {
         return false;
     }
@@ -196,7 +199,7 @@ fn are_hosts(hops: &[Hop], addresses: &[u32]) -> bool {
     true
 }
 
-fn attributes(setup: u8, hold: u8) -> Attributes {
+pub fn attributes(setup: u8, hold: u8) -> Attributes {
     Attributes {
         colours: Colours {
             exclude_any: 0,
@@ -208,11 +211,17 @@ fn attributes(setup: u8, hold: u8) -> Attributes {
     }
 }
 
+fn create_of(rt: &HostRuntime, text: &str) -> Result<Create, Fail> {
+    match message_of(rt, text)? {
+        Message::Initiate(Initiate::Create(create)) => Ok(create),
+        _ => Err(Fail::new("another message")),
+    }
+}
+
 #[test]
-fn what_an_initiate_says(rt: HostRuntime) -> Result<(), Fail> {
-    let Message::Initiate(Initiate::Create(create)) = message_of(&rt, CREATE)? else {
-        return Err(Fail::new("another message"));
-    };
+fn what_a_new_lsp_says(rt: HostRuntime) -> Result<(), Fail> {
+    let create = create_of(&rt, CREATE)?;
+    let create = &create;
     check(create.srp == 1, "srp")?;
     check(create.name.as_slice() == b"t1".as_slice(), "name")?;
     check(create.source == Ipv4(0x0a000001), "source")?;
@@ -220,63 +229,103 @@ fn what_an_initiate_says(rt: HostRuntime) -> Result<(), Fail> {
     let route = [0x0a010002, 0x0a020002];
     check(are_hosts(create.ero.as_slice(), &route), "route")?;
     check(create.attributes == Some(attributes(7, 0)), "attributes")?;
-    check(create.bandwidth == Bandwidth::at_least(500000), "bandwidth")?;
-    let Message::Initiate(Initiate::Remove { srp, plsp }) = message_of(&rt, DELETION)? else {
-        return Err(Fail::new("another message"));
-    };
-    check(srp == 2 && plsp.number() == 5, "deletion")
+    check(create.bandwidth == Bandwidth::at_least(500000), "bandwidth")
+}
+
+/// Whether the message deletes this LSP.
+fn is_deletion(message: &Message, request: u32, lsp: u32) -> bool {
+    match message {
+        Message::Initiate(initiate) => match initiate {
+            Initiate::Remove { srp, plsp } => *srp == request && plsp.number() == lsp,
+            Initiate::Create(_) => false,
+        },
+        _ => false,
+    }
+}
+
+#[test]
+fn what_a_deletion_says(rt: HostRuntime) -> Result<(), Fail> {
+    let message = message_of(&rt, DELETION)?;
+    check(is_deletion(&message, 2, 5), "deletion")
+}
+
+fn update_of(rt: &HostRuntime, text: &str) -> Result<Update, Fail> {
+    match message_of(rt, text)? {
+        Message::Update(update) => Ok(update),
+        _ => Err(Fail::new("another message")),
+    }
 }
 
 #[test]
 fn what_an_update_says(rt: HostRuntime) -> Result<(), Fail> {
-    let Message::Update(update) = message_of(&rt, UPDATE)? else {
-        return Err(Fail::new("another message"));
-    };
-    check(update.srp == 1 && update.plsp.number() == 1, "numbers")?;
-    check(update.delegate && update.admin, "flags")?;
+    let update = update_of(&rt, UPDATE)?;
+    let update = &update;
+    check(update.srp == 1, "srp")?;
+    check(update.plsp.number() == 1, "plsp")?;
+    check(update.delegate, "delegate")?;
+    check(update.admin, "admin")?;
     let route = [0x0a030002, 0x0a040002];
     check(are_hosts(update.ero.as_slice(), &route), "route")?;
     check(update.attributes == Some(attributes(5, 2)), "attributes")?;
-    check(update.bandwidth == Bandwidth::at_least(500000), "bandwidth")?;
-    let Message::Update(update) = message_of(&rt, RETURN)? else {
-        return Err(Fail::new("another message"));
-    };
-    check(update.srp == 1 && update.plsp.number() == 1, "numbers")?;
-    check(!update.delegate && update.admin, "flags")?;
+    check(update.bandwidth == Bandwidth::at_least(500000), "bandwidth")
+}
+
+#[test]
+fn what_a_return_says(rt: HostRuntime) -> Result<(), Fail> {
+    let update = update_of(&rt, RETURN)?;
+    let update = &update;
+    check(update.srp == 1, "srp")?;
+    check(update.plsp.number() == 1, "plsp")?;
+    check(!update.delegate, "delegate")?;
+    check(update.admin, "admin")?;
     check(update.ero.as_slice().is_empty(), "route")?;
     check(update.attributes.is_none(), "attributes")?;
     check(update.bandwidth.is_none(), "bandwidth")
 }
 
+fn reply_of(rt: &HostRuntime, text: &str) -> Result<Reply, Fail> {
+    match message_of(rt, text)? {
+        Message::Reply(reply) => Ok(reply),
+        _ => Err(Fail::new("another message")),
+    }
+}
+
+pub fn is_path(answer: &Answer, addresses: &[u32], expected: Cost) -> bool {
+    match answer {
+        Answer::Found(hops, cost) => {
+            are_hosts(hops.as_slice(), addresses) && *cost == Some(expected)
+        }
+        Answer::NoPath(_) => false,
+    }
+}
+
+pub fn is_no_path(answer: &Answer, expected: Option<NoPathVector>) -> bool {
+    match answer {
+        Answer::Found(..) => false,
+        Answer::NoPath(vector) => *vector == expected,
+    }
+}
+
 #[test]
-fn what_a_reply_says(rt: HostRuntime) -> Result<(), Fail> {
-    let Message::Reply(reply) = message_of(&rt, PATH)? else {
-        return Err(Fail::new("another message"));
-    };
-    check(reply.request == 8, "request")?;
-    let Answer::Found(hops, cost) = reply.answer else {
-        return Err(Fail::new("no path"));
-    };
-    check(
-        are_hosts(hops.as_slice(), &[0x0a010002, 0x0a020002]),
-        "route",
-    )?;
-    let expected = Cost {
+fn what_a_reply_with_a_path_says(rt: HostRuntime) -> Result<(), Fail> {
+    let reply = reply_of(&rt, PATH)?;
+    let cost = Cost {
         kind: 2,
         value: MetricValue::new(20),
     };
-    check(cost == Some(expected), "cost")?;
-    let Message::Reply(reply) = message_of(&rt, NO_PATH)? else {
-        return Err(Fail::new("another message"));
-    };
+    check(reply.request == 8, "request")?;
+    let route = [0x0a010002, 0x0a020002];
+    check(is_path(&reply.answer, &route, cost), "path")
+}
+
+#[test]
+fn what_a_reply_without_a_path_says(rt: HostRuntime) -> Result<(), Fail> {
+    let reply = reply_of(&rt, NO_PATH)?;
     let vector = NoPathVector {
         pce_unavailable: false,
         unknown_destination: true,
         unknown_source: false,
     };
     check(reply.request == 7, "request")?;
-    check(
-        matches!(&reply.answer, Answer::NoPath(Some(found)) if *found == vector),
-        "no path",
-    )
+    check(is_no_path(&reply.answer, Some(vector)), "no path")
 }
