@@ -1,0 +1,5 @@
+mod Exchanges
+mod Pieces
+mod Outputs
+pub mod Cuts
+pub mod Calling

@@ -1,0 +1,26 @@
+-- What stands at the front of the bytes that a session has received (RFC 5440 section 6.1).
+use Rattle.std.specs.Prelude.{ℕ, ◌/◌, ◌%◌, ◌^◌, ◌≤◌, Bool, not, ◌||◌, List, length, slice_index, nat_lt, ◌==◌, if◌then◌else◌}
+use Rattle.pcep_objects.specs.Steps.{field}
+use Rattle.pcep_session.specs.declared.framing.Front.{Front}
+use Rattle.pcep_session.specs.declared.framing.Front.TheVariants.{Waiting, Bad, Whole}
+
+-- the length of the message, header included
+abbrev pub message_length : List ℕ → ℕ
+message_length bytes = field 2 2 bytes
+
+-- a version that is not 1, or a length that no message has
+abbrev pub is_bad : List ℕ → Bool
+is_bad bytes = not (slice_index bytes 0 / 2 ^ 5 == 1) || nat_lt (message_length bytes) 4 || not (message_length bytes % 4 == 0)
+
+-- A bad header is told by its four bytes. Of a message that isn't whole nothing else is looked at.
+unfoldable pub front_of : List ℕ → Front
+front_of bytes =
+    if nat_lt (length bytes) 4 then Waiting
+    else (if is_bad bytes then Bad
+    else (if nat_lt (length bytes) (message_length bytes) then Waiting
+    else Whole (message_length bytes)))
+
+-- a whole message is within the bytes
+abbrev pub FitsIn : ℕ → Front → Type 0
+FitsIn len (Whole size) = (4 ≤ size) × (size ≤ len)
+FitsIn len front = Unit {0}

@@ -1,0 +1,106 @@
+-- How a session reacts to what comes, state by state (RFC 5440 sections 6.2 to 6.9 and appendix A).
+use Rattle.std.specs.Prelude.{ℕ, Bool, true, false, Option, Some, None, ◌==◌, if◌then◌else◌}
+use Rattle.pcep_objects.specs.declared.fault.ObjectFault.{ObjectFault}
+use Rattle.pcep_objects.specs.declared.fault.ObjectFault.TheVariants.{UnknownClass, UnknownType}
+use Rattle.pcep_objects.specs.declared.object.Capabilities.{Capabilities}
+use Rattle.pcep_messages.specs.declared.fault.About.{About}
+use Rattle.pcep_messages.specs.declared.fault.About.TheVariants as about
+use Rattle.pcep_messages.specs.declared.fault.MessageFault.{MessageFault}
+use Rattle.pcep_messages.specs.declared.fault.MessageFault.TheVariants as faults
+use Rattle.pcep_messages.specs.declared.message.Message.{Message}
+use Rattle.pcep_messages.specs.declared.message.Message.TheVariants as messages
+use Rattle.pcep_messages.specs.declared.notice.Notice.{Notice}
+use Rattle.pcep_messages.specs.declared.notice.Notice.TheVariants.{Keepalive, Error, Close}
+use Rattle.pcep_session.specs.declared.table.Arrival.{Arrival}
+use Rattle.pcep_session.specs.declared.table.Arrival.TheVariants.{BadHeader, Unrecognized, UnannouncedReport, Read, Faulty}
+use Rattle.pcep_session.specs.declared.table.Input.TheVariants as input
+use Rattle.pcep_session.specs.declared.table.Notices.{Notices}
+use Rattle.pcep_session.specs.declared.table.Notices.TheVariants.{Nothing, One, Two}
+use Rattle.pcep_session.specs.declared.table.Reaction.{Reaction}
+use Rattle.pcep_session.specs.declared.table.State.{State}
+use Rattle.pcep_session.specs.declared.table.State.TheVariants.{OpenWait, KeepWait, Up, Closed}
+
+-- the session goes on, and its caller gets nothing
+abbrev pub goes_on : State → Notices → Reaction
+goes_on state notices = record { notices = notices; state = state; input = input.Handled }
+
+-- the session ends
+abbrev pub closes : Notices → Reaction
+closes notices = record { notices = notices; state = Closed; input = input.Down }
+
+-- the caller gets the message
+abbrev pub gives : Message → Reaction
+gives message = record { notices = Nothing; state = Up; input = input.Message message }
+
+-- a PCErr, by what it is about, Error-Type and Error-value (RFC 5440 section 7.15)
+abbrev pub error_about : About → ℕ → ℕ → Notice
+error_about a kind value = Error (record { about = a; kind = kind; value = value })
+
+abbrev pub error : ℕ → ℕ → Notice
+error kind value = error_about about.Nothing kind value
+
+-- OpenWait: an Open and nothing else
+abbrev pub in_open_wait : Arrival → Reaction
+in_open_wait (Read (messages.Opening open_)) = goes_on KeepWait (One Keepalive)
+in_open_wait arrival = closes (One (error 1 1))
+
+-- KeepWait: a Keepalive brings the session up, with the capabilities that the peer announced
+abbrev pub in_keep_wait : Option Capabilities → Arrival → Reaction
+in_keep_wait announced (Read messages.Keepalive) = record { notices = Nothing; state = Up; input = input.Up announced }
+in_keep_wait announced (Read (messages.Error errors)) = closes (One (error 1 6))
+in_keep_wait announced (Read (messages.Close reason)) = closes Nothing
+in_keep_wait announced arrival = closes (One (error 1 1))
+
+-- Up: an object with a fault of its own
+abbrev pub on_object : About → ObjectFault → Reaction
+on_object a (UnknownClass p size) = goes_on Up (One (error_about a 3 1))
+on_object a (UnknownType p size) = goes_on Up (One (error_about a 3 2))
+on_object a fault = closes (One (Close 3))
+
+-- the Error-value of type 6, a mandatory object is missing (RFC 5440 section 7.15, RFC 8231 section 8.5):
+-- RP 1, END-POINTS 3, LSP 8, SRP 10, else that of an ERO, 9
+abbrev pub missing_value : ℕ → ℕ
+missing_value class =
+    if class == 2 then 1 else (if class == 4 then 3 else (if class == 32 then 8 else (if class == 33 then 10 else 9)))
+
+-- Up: a message that is refused
+abbrev pub on_fault : MessageFault → Reaction
+on_fault (faults.BadObject fault a) = on_object a fault
+on_fault (faults.Missing class a) = goes_on Up (One (error_about a 6 (missing_value class)))
+on_fault (faults.BadP a) = goes_on Up (One (error_about a 10 1))
+on_fault (faults.Refused kind value a) = goes_on Up (One (error_about a kind value))
+on_fault (faults.MissingIdentifiers a) = closes (Two (error_about a 6 11) (Close 3))
+on_fault fault = closes (One (Close 3))
+
+-- Up: a message that is accepted
+abbrev pub on_message : Message → Reaction
+on_message (messages.Close reason) = closes Nothing
+on_message messages.Keepalive = goes_on Up Nothing
+on_message message = gives message
+
+-- Up: an unrecognized message ends the session where it is the fifth within a minute
+abbrev pub on_unrecognized : Bool → Reaction
+on_unrecognized false = goes_on Up (One (error 2 0))
+on_unrecognized true = closes (Two (error 2 0) (Close 5))
+
+abbrev pub in_up : Bool → Arrival → Reaction
+in_up fifth BadHeader = closes (One (Close 3))
+in_up fifth Unrecognized = on_unrecognized fifth
+in_up fifth UnannouncedReport = closes (Two (error 19 5) (Close 1))
+in_up fifth (Read message) = on_message message
+in_up fifth (Faulty fault) = on_fault fault
+
+abbrev pub reaction : State → Option Capabilities → Bool → Arrival → Reaction
+reaction OpenWait announced fifth arrival = in_open_wait arrival
+reaction KeepWait announced fifth arrival = in_keep_wait announced arrival
+reaction Up announced fifth arrival = in_up fifth arrival
+reaction Closed announced fifth arrival = closes Nothing
+
+-- The timers. Waited: the minute of OpenWait or KeepWait is over (OpenWait and KeepWait timers). Silent: nothing
+-- was received for the peer's DeadTimer. Quiet: nothing was sent for the session's Keepalive, 30 s.
+abbrev pub due : State → (waited silent quiet : Bool) → Option Reaction
+due OpenWait true silent quiet = Some (closes (One (error 1 2)))
+due KeepWait true silent quiet = Some (closes (One (error 1 7)))
+due Up waited true quiet = Some (closes (One (Close 2)))
+due Up waited false true = Some (goes_on Up (One Keepalive))
+due state waited silent quiet = None

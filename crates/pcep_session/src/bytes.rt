@@ -1,0 +1,139 @@
+//! Bytes that come at the end and go at the front.
+
+ghost use Rattle.std.specs.Prelude.{◌≡◌, ◌≤◌, [], ◌++◌, length, drop, OnOk, OnErr, IfErr, true, false};
+ghost use Rattle.pcep_messages.specs.Spelling.{is_written, fits, written};
+ghost use Rattle.pcep_objects.specs.declared.fault.WriteFault.TheVariants.{TooLong};
+
+use pcep_messages::{Message, write_message};
+use pcep_objects::WriteFault;
+use std::alloc::{AllocError, Global};
+use std::marker::Model;
+use std::mem;
+
+/// Bytes that were received and not handled yet.
+#[derive(Debug, Drop)]
+pub struct Pending {
+    items: Vec<u8>,
+    /// How many of the items are handled.
+    start: usize,
+}
+
+impl Model for Pending {
+    ghost use Rattle.std.specs.Prelude.{List, ℕ, drop, length, ◌≤◌};
+
+    ghost Value = { List ℕ };
+
+    ghost view = { λ p. drop p.start p.items.items };
+
+    ghost invariant = { λ p. p.start ≤ length p.items.items };
+}
+
+fn remove_front(items: &mut Vec<u8>, count: usize)
+    requires { count ≤ length items.old.items }
+    ensures { items.new.items ≡ drop count items.old.items }
+{
+    let len = items.len();
+    items.copy_within(count..len, 0);
+    items.truncate(len - count);
+}
+
+impl Pending {
+    pub fn new(alloc: Global) -> Pending
+        ensures { result ≡ [] }
+    {
+        Pending {
+            items: Vec::new(alloc),
+            start: 0,
+        }
+    }
+
+    pub fn as_slice(&self) -> &[u8]
+        ensures { result.now ≡ self.now }
+    {
+        &self.items[self.start..]
+    }
+
+    /// Moves the bytes to the front where the handled ones are at least as many. So each handled byte pays for
+    /// one that is moved, and the moves are linear in the bytes handled.
+    fn compact(&mut self)
+        ensures { self.new ≡ self.old }
+    {
+        if self.start >= self.items.len() - self.start {
+            remove_front(&mut self.items, self.start);
+            self.start = 0;
+        }
+    }
+
+    pub fn append(&mut self, piece: &[u8]) -> Result<(), AllocError>
+        ensures ok { OnOk result (self.new ≡ self.old ++ piece.now) }
+        ensures err { OnErr result (self.new ≡ self.old) }
+    {
+        self.compact();
+        self.items.extend_from_slice(piece)
+    }
+
+    pub fn skip(&mut self, count: usize)
+        requires { count ≤ length self.old }
+        ensures { self.new ≡ drop count self.old }
+    {
+        self.start += count;
+    }
+
+    pub fn clear(&mut self)
+        ensures { self.new ≡ [] }
+    {
+        self.items.clear();
+        self.start = 0;
+    }
+}
+
+/// Bytes to be sent.
+#[derive(Debug, Drop)]
+pub struct Output {
+    items: Vec<u8>,
+}
+
+impl Model for Output {
+    ghost use Rattle.std.specs.Prelude.{List, ℕ};
+
+    ghost Value = { List ℕ };
+
+    ghost view = { λ o. o.items.items };
+}
+
+impl Output {
+    pub fn new(alloc: Global) -> Output
+        ensures { result ≡ [] }
+    {
+        Output {
+            items: Vec::new(alloc),
+        }
+    }
+
+    pub fn append(&mut self, bytes: &[u8]) -> Result<(), AllocError>
+        ensures ok { OnOk result (self.new ≡ self.old ++ bytes.now) }
+        ensures err { OnErr result (self.new ≡ self.old) }
+    {
+        self.items.extend_from_slice(bytes)
+    }
+
+    /// Appends the spelling of a message.
+    pub fn write(&mut self, message: &Message) -> Result<(), WriteFault>
+        requires { is_written message.now ≡ true }
+        ensures fits { OnOk result (fits message.now ≡ true) }
+        ensures written { OnOk result (self.new ≡ self.old ++ written message.now) }
+        ensures too_long { IfErr result (λ e. e ≡ TooLong → fits message.now ≡ false) }
+        ensures err { OnErr result (self.new ≡ self.old) }
+    {
+        write_message(message, &mut self.items)
+    }
+
+    /// Hands out the bytes. Takes no memory.
+    pub fn take(&mut self) -> Vec<u8>
+        ensures taken { result.items ≡ self.old }
+        ensures empty { self.new ≡ [] }
+    {
+        let alloc = *self.items.allocator();
+        mem::replace(&mut self.items, Vec::new(alloc))
+    }
+}

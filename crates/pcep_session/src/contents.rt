@@ -1,0 +1,28 @@
+//! What a session is made of.
+
+use crate::bytes::{Output, Pending};
+use crate::table::State;
+use pcep_objects::Open;
+use sequence::Sequence;
+
+/// What a session is made of. All moments are in milliseconds, of one clock of the caller's.
+#[derive(Debug, Drop)]
+pub struct Contents {
+    pub state: State,
+    /// Received bytes that were not handled yet.
+    pub bytes: Pending,
+    /// The greatest moment so far.
+    pub moment_ms: u64,
+    /// When the last message was handled, at first when the session began.
+    pub received_ms: u64,
+    /// When something last went into the output.
+    pub sent_ms: u64,
+    /// When unrecognized messages came, of the last minute before the last of them.
+    pub unrecognized: Sequence<u64>,
+    /// The peer's Open, once it came.
+    pub peer: Option<Open>,
+    /// The caller ended the session, and was not given its Down yet.
+    pub down_pending: bool,
+    /// Bytes to be sent that were not taken yet.
+    pub output: Output,
+}

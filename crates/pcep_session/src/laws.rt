@@ -1,0 +1,16 @@
+//! What holds of every run.
+
+ghost use Rattle.pcep_session.specs.Runs.{CallsAreARun};
+ghost use Rattle.pcep_session.specs.Cuts.{CutAnyWay};
+
+/// A list of calls, each of which did what its contract says, is a run: the inputs, the output taken and the
+/// session after it are those of the definitions. Calls that found no memory don't count.
+pub fn calls_are_a_run()
+    ensures { CallsAreARun }
+{}
+
+/// The same bytes at the same moments give the same inputs and the same session, with the same output, however
+/// they are cut into pieces, where `next` is called to None after each piece and no timer is due then.
+pub fn cut_any_way()
+    ensures { CutAnyWay }
+{}

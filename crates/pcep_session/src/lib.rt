@@ -1,0 +1,49 @@
+//! One PCEP session as a machine over bytes and moments (RFC 5440 section 6, RFC 8231 section 5).
+//!
+//! Bytes of a peer and moments go in, inputs for the layer above and bytes for the peer come out; the crate
+//! touches no clock and no socket. The layer above may rely on it that each call is exactly one step of the
+//! definitions, so that a list of calls is a run of them; that a refused call changes nothing; and that the
+//! same bytes at the same moments give the same inputs and the same output however they are cut into pieces.
+//!
+//! The definitions stand in `specs/`: `Table` has the reaction to what comes, state by state, and the timers;
+//! `Framing` tells a whole message, a bad header and a part of a message apart; `Turns` is `next`, `Calls` are
+//! the other calls, `Runs` lists of calls, `Cuts` the law of pieces.
+//!
+//! ```
+//! // All inputs of a piece, and the bytes to be sent.
+//! fn serve(session: &mut Session, piece: &[u8], now_ms: u64) -> Result<Vec<u8>, SessionFault> {
+//!     session.feed(piece, now_ms)?;
+//!     for _ in 0..=piece.len() {
+//!         match session.next()? {
+//!             Some(Input::Message(message)) => handle(message),
+//!             Some(_) => {}
+//!             None => break,
+//!         }
+//!     }
+//!     Ok(session.take_output())
+//! }
+//! ```
+//!
+//! The modules, lowest first: `bytes`, `fault`, `table`, `contents`, `framing`, `reactions`, `arrivals`,
+//! `turns`, `calls`, `session`, `laws`.
+#![tactic(auto)]
+
+mod arrivals;
+mod bytes;
+mod calls;
+mod contents;
+mod fault;
+mod framing;
+mod laws;
+mod reactions;
+mod session;
+mod table;
+mod turns;
+
+pub use fault::SessionFault;
+pub use laws::{calls_are_a_run, cut_any_way};
+pub use session::Session;
+pub use table::{Input, State};
+
+#[cfg(test)]
+mod tests;

@@ -1,0 +1,182 @@
+//! How a session reacts to what comes, state by state.
+
+ghost use Rattle.std.specs.Prelude.{◌≡◌};
+ghost use Rattle.pcep_session.specs.Table.{goes_on, closes, error_about, error, in_open_wait, in_keep_wait, on_object, missing_value, on_fault, on_message, on_unrecognized, in_up, reaction, due};
+
+use crate::table::{Arrival, Input, Notices, Reaction, State};
+use pcep_messages::{About, Message, MessageFault, Notice, PcError};
+use pcep_objects::{Capabilities, ObjectFault};
+
+/// The session goes on, and its caller gets nothing.
+fn goes_on(state: State, notices: Notices) -> Reaction
+    ensures { result ≡ goes_on state notices }
+{
+    Reaction {
+        notices,
+        state,
+        input: Input::Handled,
+    }
+}
+
+/// The session ends.
+fn closes(notices: Notices) -> Reaction
+    ensures { result ≡ closes notices }
+{
+    Reaction {
+        notices,
+        state: State::Closed,
+        input: Input::Down,
+    }
+}
+
+fn error_about(about: About, kind: u8, value: u8) -> Notice
+    ensures { result ≡ error_about about kind value }
+{
+    Notice::Error(PcError { about, kind, value })
+}
+
+fn error(kind: u8, value: u8) -> Notice
+    ensures { result ≡ error kind value }
+{
+    error_about(About::Nothing, kind, value)
+}
+
+fn in_open_wait(arrival: Arrival) -> Reaction
+    ensures { result ≡ in_open_wait arrival }
+{
+    match arrival {
+        Arrival::Read(Message::Opening(_)) => {
+            goes_on(State::KeepWait, Notices::One(Notice::Keepalive))
+        }
+        _ => closes(Notices::One(error(1, 1))),
+    }
+}
+
+fn in_keep_wait(announced: Option<Capabilities>, arrival: Arrival) -> Reaction
+    ensures { result ≡ in_keep_wait announced arrival }
+{
+    match arrival {
+        Arrival::Read(Message::Keepalive) => Reaction {
+            notices: Notices::Nothing,
+            state: State::Up,
+            input: Input::Up(announced),
+        },
+        Arrival::Read(Message::Error(_)) => closes(Notices::One(error(1, 6))),
+        Arrival::Read(Message::Close(_)) => closes(Notices::Nothing),
+        _ => closes(Notices::One(error(1, 1))),
+    }
+}
+
+fn on_object(about: About, fault: ObjectFault) -> Reaction
+    ensures { result ≡ on_object about fault }
+{
+    match fault {
+        ObjectFault::UnknownClass { .. } => {
+            goes_on(State::Up, Notices::One(error_about(about, 3, 1)))
+        }
+        ObjectFault::UnknownType { .. } => {
+            goes_on(State::Up, Notices::One(error_about(about, 3, 2)))
+        }
+        _ => closes(Notices::One(Notice::Close(3))),
+    }
+}
+
+fn missing_value(class: u8) -> u8
+    ensures { result ≡ missing_value class }
+{
+    match class {
+        2 => 1,
+        4 => 3,
+        32 => 8,
+        33 => 10,
+        _ => 9,
+    }
+}
+
+fn on_fault(fault: MessageFault) -> Reaction
+    ensures { result ≡ on_fault fault }
+{
+    match fault {
+        MessageFault::BadObject(fault, about) => on_object(about, fault),
+        MessageFault::Missing(class, about) => {
+            let value = missing_value(class);
+            goes_on(State::Up, Notices::One(error_about(about, 6, value)))
+        }
+        MessageFault::BadP(about) => { goes_on(State::Up, Notices::One(error_about(about, 10, 1))) }
+        MessageFault::Refused(kind, value, about) => {
+            goes_on(State::Up, Notices::One(error_about(about, kind, value)))
+        }
+        MessageFault::MissingIdentifiers(about) => {
+            closes(Notices::Two(error_about(about, 6, 11), Notice::Close(3)))
+        }
+        _ => closes(Notices::One(Notice::Close(3))),
+    }
+}
+
+fn on_message(message: Message) -> Reaction
+    ensures { result ≡ on_message message }
+{
+    match message {
+        Message::Close(_) => closes(Notices::Nothing),
+        Message::Keepalive => goes_on(State::Up, Notices::Nothing),
+        message => Reaction {
+            notices: Notices::Nothing,
+            state: State::Up,
+            input: Input::Message(message),
+        },
+    }
+}
+
+fn on_unrecognized(fifth: bool) -> Reaction
+    ensures { result ≡ on_unrecognized fifth }
+{
+    if fifth {
+        closes(Notices::Two(error(2, 0), Notice::Close(5)))
+    } else {
+        goes_on(State::Up, Notices::One(error(2, 0)))
+    }
+}
+
+fn in_up(fifth: bool, arrival: Arrival) -> Reaction
+    ensures { result ≡ in_up fifth arrival }
+{
+    match arrival {
+        Arrival::BadHeader => closes(Notices::One(Notice::Close(3))),
+        Arrival::Unrecognized => on_unrecognized(fifth),
+        Arrival::UnannouncedReport => closes(Notices::Two(error(19, 5), Notice::Close(1))),
+        Arrival::Read(message) => on_message(message),
+        Arrival::Faulty(fault) => on_fault(fault),
+    }
+}
+
+/// How a session in this state reacts to what comes. `announced`: the capabilities of the peer's Open.
+/// `fifth`: an unrecognized message is the fifth within a minute.
+pub fn reaction(
+    state: State,
+    announced: Option<Capabilities>,
+    fifth: bool,
+    arrival: Arrival,
+) -> Reaction
+    ensures { result ≡ reaction state announced fifth arrival }
+{
+    match state {
+        State::OpenWait => in_open_wait(arrival),
+        State::KeepWait => in_keep_wait(announced, arrival),
+        State::Up => in_up(fifth, arrival),
+        State::Closed => closes(Notices::Nothing),
+    }
+}
+
+/// What the timers do. `waited`: the minute of OpenWait or KeepWait is over. `silent`: nothing was received for
+/// the peer's DeadTimer. `quiet`: nothing was sent for 30 s.
+pub fn due(state: State, waited: bool, silent: bool, quiet: bool) -> Option<Reaction>
+    ensures { result ≡ due state waited silent quiet }
+{
+    match state {
+        State::OpenWait if waited => Some(closes(Notices::One(error(1, 2)))),
+        State::KeepWait if waited => Some(closes(Notices::One(error(1, 7)))),
+        State::Up if silent => Some(closes(Notices::One(Notice::Close(2)))),
+        State::Up if quiet => Some(goes_on(State::Up, Notices::One(Notice::Keepalive))),
+        _ => None,
+    }
+}

@@ -1,0 +1,116 @@
+//! A session and its calls.
+
+ghost use Rattle.std.specs.Prelude.{◌≡◌, true, false, None, IsOk, IfOk, IfErr, OnErr};
+ghost use Rattle.pcep_session.specs.Turns.{is_closed, next, IsTurn};
+ghost use Rattle.pcep_session.specs.Calls.{begun, ticked, fed_by, sent, error_reported, ended_by, output_taken, Does};
+ghost use Rattle.pcep_session.specs.declared.fault.SessionFault.TheVariants.{OutOfMemory};
+
+use crate::contents::Contents;
+use crate::fault::SessionFault;
+use crate::table::{Input, State};
+use crate::{calls, turns};
+use pcep_messages::{Message, PcError};
+use std::alloc::Global;
+use std::marker::Model;
+
+/// One session of PCEP with a peer, as the side that accepted the connection (RFC 5440 section 6). It reads no
+/// clock and no socket: bytes and moments go in by `feed` and `tick`, `next` says what they mean, and bytes
+/// for the peer come out by `take_output`. Moments are milliseconds of one clock of the caller's.
+///
+/// Contracts see a session as its `Contents`. Each call is one step on them, in `specs/Calls` and
+/// `specs/Turns`; a call that is refused leaves the session as it was.
+#[derive(Debug, Drop)]
+pub struct Session {
+    alloc: Global,
+    contents: Contents,
+}
+
+impl Model for Session {
+    ghost use Rattle.pcep_session.specs.declared.contents.Contents.{Contents};
+
+    ghost Value = { Contents };
+
+    ghost view = { λ s. s.contents };
+}
+
+impl Session {
+    /// A session that begins at this moment, with its Open in the output: Keepalive 30 s, DeadTimer 120 s,
+    /// SID 0, and the capabilities to update and to create LSPs. The refusal is `OutOfMemory`.
+    pub fn new(alloc: Global, now_ms: u64) -> Result<Session, SessionFault>
+        ensures begun { IfOk result (λ s. s ≡ begun now_ms) }
+        ensures only_memory { IfErr result (λ e. e ≡ OutOfMemory) }
+    {
+        let contents = calls::begin(alloc, now_ms)?;
+        Ok(Session { alloc, contents })
+    }
+
+    /// Stores bytes of the peer, and the moment at which they came. A moment that is smaller than an earlier
+    /// one is ignored. `Closed` where the session has ended; then neither is stored. Else `OutOfMemory`.
+    pub fn feed(&mut self, piece: &[u8], now_ms: u64) -> Result<(), SessionFault>
+        ensures step { Does result self.old self.new (fed_by piece.now now_ms self.old) }
+    {
+        calls::feed(&mut self.contents, piece, now_ms)
+    }
+
+    /// Stores the moment. One that is smaller than an earlier one is ignored.
+    pub fn tick(&mut self, now_ms: u64)
+        ensures step { self.new ≡ ticked now_ms self.old }
+    {
+        calls::tick(&mut self.contents, now_ms);
+    }
+
+    /// Handles the next whole message, else the timer that is due, else answers None. It may put bytes into
+    /// the output. The `next` that ends the session answers `Down`; after `end` the first one does. On a
+    /// session that has ended it then answers None, and takes no memory. The refusal is `OutOfMemory`.
+    pub fn next(&mut self) -> Result<Option<Input>, SessionFault>
+        ensures step { IfOk result (λ input. IsTurn (next self.old) input self.new) }
+        ensures unchanged_on_refusal { OnErr result (self.new ≡ self.old) }
+        ensures only_memory { IfErr result (λ e. e ≡ OutOfMemory) }
+        ensures no_memory_once_closed { is_closed self.old.state ≡ true → IsOk result }
+    {
+        let input = turns::next(self.alloc, &mut self.contents)?;
+        Ok(input)
+    }
+
+    /// Puts a message into the output. `Closed` where the session has ended; `NotUp` where it isn't up yet;
+    /// `TooLong` where a length doesn't fit its field, or for a kind that isn't written (PCReq, PCRpt, PCNtf
+    /// and unknown types); else `OutOfMemory`, which may come in place of `TooLong`.
+    pub fn send(&mut self, message: &Message) -> Result<(), SessionFault>
+        ensures step { Does result self.old self.new (sent message.now self.old) }
+    {
+        calls::send(&mut self.contents, message)
+    }
+
+    /// Puts a PCErr into the output, and the session goes on. `Closed` where the session has ended; `NotUp`
+    /// where it isn't up yet; else `OutOfMemory`.
+    pub fn report_error(&mut self, error: PcError) -> Result<(), SessionFault>
+        ensures step { Does result self.old self.new (error_reported error self.old) }
+    {
+        calls::report_error(self.alloc, &mut self.contents, error)
+    }
+
+    /// Puts a PCErr and a Close with this reason into the output, each where it is given, and ends the
+    /// session, in any state. `Closed` where the session has ended already; else `OutOfMemory`, but not where
+    /// neither is given.
+    pub fn end(&mut self, error: Option<PcError>, reason: Option<u8>) -> Result<(), SessionFault>
+        ensures step { Does result self.old self.new (ended_by error reason self.old) }
+        ensures no_memory_for_nothing { is_closed self.old.state ≡ false → error ≡ None → reason ≡ None → IsOk result }
+    {
+        calls::end(self.alloc, &mut self.contents, error, reason)
+    }
+
+    /// Hands out the bytes to be sent. Takes no memory.
+    pub fn take_output(&mut self) -> Vec<u8>
+        ensures output { result.items ≡ self.old.output }
+        ensures step { self.new ≡ output_taken self.old }
+    {
+        self.contents.output.take()
+    }
+
+    /// The state of the session.
+    pub fn state(&self) -> State
+        ensures { result ≡ self.now.state }
+    {
+        self.contents.state
+    }
+}

@@ -1,0 +1,62 @@
+//! The states of a session, what comes to it, and how it reacts.
+
+use pcep_messages::{Message, MessageFault, Notice};
+use pcep_objects::Capabilities;
+
+/// The state of a session (RFC 5440 section 6.2 and appendix A).
+#[derive(Clone, Copy, Debug, PartialEq, Eq)]
+pub enum State {
+    /// The session's Open is sent; the peer's Open is awaited, for 60 s.
+    OpenWait,
+    /// The peer's Open is accepted; its Keepalive is awaited, for 60 s.
+    KeepWait,
+    /// The session is up.
+    Up,
+    /// The session has ended.
+    Closed,
+}
+
+/// What a session gives to its caller.
+#[derive(Debug, Drop)]
+pub enum Input {
+    /// The session came up. The peer's STATEFUL-PCE-CAPABILITY, where its Open had it (RFC 8231 section
+    /// 7.1.1).
+    Up(Option<Capabilities>),
+    /// A message for the caller: a PCReq, PCNtf, PCErr or PCRpt of a session that is up.
+    Message(Message),
+    /// The session ended. It comes once.
+    Down,
+    /// A message or a timer was handled, and there is nothing for the caller.
+    Handled,
+}
+
+/// What comes to a session.
+#[derive(Debug, Drop)]
+pub enum Arrival {
+    /// A header that no message has.
+    BadHeader,
+    /// A message of a type that isn't read while the session is up.
+    Unrecognized,
+    /// A report to a session that is up, of a peer whose Open had no STATEFUL-PCE-CAPABILITY.
+    UnannouncedReport,
+    /// A message that is accepted.
+    Read(Message),
+    /// A message that is refused.
+    Faulty(MessageFault),
+}
+
+/// What a session sends by itself at one time, in order.
+#[derive(Clone, Copy, Debug, PartialEq, Eq)]
+pub enum Notices {
+    Nothing,
+    One(Notice),
+    Two(Notice, Notice),
+}
+
+/// How a session reacts to what comes: what it sends, the state that it goes to, and what its caller gets.
+#[derive(Debug, Drop)]
+pub struct Reaction {
+    pub notices: Notices,
+    pub state: State,
+    pub input: Input,
+}
