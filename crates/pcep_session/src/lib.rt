@@ -40,6 +40,7 @@ mod session;
 mod table;
 mod turns;
 
+pub use contents::Contents;
 pub use fault::SessionFault;
 pub use laws::{calls_are_a_run, cut_any_way};
 pub use session::Session;

@@ -96,13 +96,14 @@ fn room(rt: &HostRuntime) -> Result<Vec<u8>, Fail> {
     Err(Fail::new("refused three times"))
 }
 
-/// Run it with each of its allocations refused in turn (`rt try --test --fail-alloc N`): it passes wherever
-/// the refused one lies.
-#[test]
-fn a_call_may_be_made_again_after_want_of_memory(rt: HostRuntime) -> Result<(), Fail> {
-    let mut session = begun(&rt)?;
-    let mut waiting = room(&rt)?;
-    waiting.extend_from_slice(&OPEN_BYTES)?;
+/// All calls of a session. Where `taking`, the output is taken before each, so that what a call puts into it
+/// takes memory.
+fn make_all(
+    rt: &impl Abort,
+    session: &mut Session,
+    taking: bool,
+    waiting: &mut Vec<u8>,
+) -> Result<(), Fail> {
     let calls: [(Call, &[u8]); 13] = [
         (Call::Feed(&OPEN_BYTES), &[]),
         (Call::Next(b'H'), &KEEPALIVE_BYTES),
@@ -119,9 +120,26 @@ fn a_call_may_be_made_again_after_want_of_memory(rt: HostRuntime) -> Result<(), 
         (Call::Next(b'D'), &[]),
     ];
     for (call, added) in calls {
-        insist(&rt, &mut session, call, &mut waiting)?;
+        if taking {
+            assert_eq!(rt; session.take_output().as_slice(), waiting.as_slice());
+            waiting.clear();
+        }
+        insist(rt, session, call, waiting)?;
         waiting.extend_from_slice(added)?;
     }
     assert_eq!(rt; session.take_output().as_slice(), waiting.as_slice());
+    Ok(())
+}
+
+/// Run it with each of its allocations refused in turn (`rt try --test --fail-alloc N`): it passes wherever
+/// the refused one lies.
+#[test]
+fn a_call_may_be_made_again_after_want_of_memory(rt: HostRuntime) -> Result<(), Fail> {
+    for taking in [false, true] {
+        let mut session = begun(&rt)?;
+        let mut waiting = room(&rt)?;
+        waiting.extend_from_slice(&OPEN_BYTES)?;
+        make_all(&rt, &mut session, taking, &mut waiting)?;
+    }
     Ok(())
 }
