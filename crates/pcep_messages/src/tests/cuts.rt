@@ -2,7 +2,7 @@
 use super::*;
 
 /// A table of the first fault at each cut: up to this length, this fault; None: it is read.
-type Cuts = (usize, Option<MessageFault>);
+pub type Cuts = (usize, Option<MessageFault>);
 
 fn expected(cuts: &[Cuts], len: usize) -> Option<MessageFault> {
     for (last, fault) in cuts {
@@ -26,7 +26,8 @@ fn mended(rt: &HostRuntime, cut: &[u8]) -> Result<Vec<u8>, Fail> {
     Ok(bytes)
 }
 
-fn read_cuts(rt: &HostRuntime, text: &str, cuts: &[Cuts]) -> Result<(), Fail> {
+/// Reads each cut of a message, with the length left and with the length mended.
+pub fn read_cuts(rt: &HostRuntime, text: &str, cuts: &[Cuts]) -> Result<(), Fail> {
     let bytes = bytes_of(rt, text)?;
     for len in 4..bytes.len() {
         let (cut, _) = bytes.split_at(len);
@@ -41,7 +42,7 @@ fn read_cuts(rt: &HostRuntime, text: &str, cuts: &[Cuts]) -> Result<(), Fail> {
     Ok(())
 }
 
-fn bad_length(about: About) -> Option<MessageFault> {
+pub fn bad_length(about: About) -> Option<MessageFault> {
     Some(MessageFault::BadObject(ObjectFault::BadLength, about))
 }
 
