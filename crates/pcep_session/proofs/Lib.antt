@@ -1,4 +1,5 @@
 mod Exchanges
+pub mod OwnOpen
 mod Pieces
 mod Outputs
 pub mod Cuts

@@ -3,6 +3,7 @@ use Rattle.std.specs.Prelude.{◌≡◌, ℕ, max, true, false, ◌&&◌, List, 
 use Rattle.pcep_messages.specs.Notices.{error_text, notice_text}
 use Rattle.pcep_messages.specs.Spelling.{is_written, fits, written}
 use Rattle.pcep_messages.specs.declared.message.Message.{Message}
+use Rattle.pcep_messages.specs.declared.message.Message.TheVariants as messages
 use Rattle.pcep_messages.specs.declared.notice.PcError.{PcError}
 use Rattle.pcep_messages.specs.declared.notice.Notice.TheVariants.{Close}
 use Rattle.pcep_session.specs.Turns.{is_closed}
@@ -16,6 +17,10 @@ use Rattle.pcep_session.specs.declared.table.State.TheVariants.{OpenWait, Up, Cl
 -- STATEFUL-PCE-CAPABILITY with U and I (RFC 8231 section 7.1.1, RFC 8281 section 4.1).
 abbrev pub own_open : List ℕ
 own_open = 0x20 ∷ 1 ∷ 0 ∷ 20 ∷ 1 ∷ 0x10 ∷ 0 ∷ 16 ∷ 0x20 ∷ 30 ∷ 120 ∷ 0 ∷ 0 ∷ 16 ∷ 0 ∷ 4 ∷ 0 ∷ 0 ∷ 0 ∷ 5 ∷ []
+
+-- the same as a message
+abbrev pub own_opening : Message
+own_opening = messages.Opening (record { keepalive = 30; dead_timer = 120; session = 0; capabilities = Some (record { update = true; create = true }) })
 
 -- new
 abbrev pub begun : ℕ → Contents

@@ -1,5 +1,8 @@
 //! What holds of every run.
 
+ghost use Rattle.std.specs.Prelude.{◌≡◌};
+ghost use Rattle.pcep_messages.specs.Spelling.{written};
+ghost use Rattle.pcep_session.specs.Calls.{own_open, own_opening};
 ghost use Rattle.pcep_session.specs.Runs.{CallsAreARun};
 ghost use Rattle.pcep_session.specs.Cuts.{CutAnyWay};
 
@@ -13,4 +16,9 @@ pub fn calls_are_a_run()
 /// they are cut into pieces, where `next` is called to None after each piece and no timer is due then.
 pub fn cut_any_way()
     ensures { CutAnyWay }
+{}
+
+/// The bytes that a session begins with are the spelling of its Open.
+pub fn own_open_is_a_message()
+    ensures { own_open ≡ written own_opening }
 {}

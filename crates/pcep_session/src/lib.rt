@@ -42,7 +42,7 @@ mod turns;
 
 pub use contents::Contents;
 pub use fault::SessionFault;
-pub use laws::{calls_are_a_run, cut_any_way};
+pub use laws::{calls_are_a_run, cut_any_way, own_open_is_a_message};
 pub use session::Session;
 pub use table::{Input, State};
 
