@@ -1,7 +1,7 @@
 //! What counts of the objects of a message that has one item, and what it lacks.
 
-use super::writing::{CREATE, DELETION, OPEN, PATH, UPDATE, attributes, is_no_path, is_path};
-use super::{bytes_of, check, put_hex};
+use super::writing::{attributes, is_no_path, is_path};
+use super::{check, put_hex};
 use crate::{About, Cost, Create, Initiate, Message, MessageFault, Update, read_message};
 use pcep_objects::{MetricValue, ObjectFault};
 use pcep_word::Bandwidth;
@@ -225,65 +225,4 @@ fn an_initiate_without_a_name(rt: HostRuntime) -> Result<(), Fail> {
         Message::Initiate(Initiate::Create(create)) => check(is_bare(&create), "new LSP"),
         _ => Err(Fail::new("another message")),
     }
-}
-
-/// A message cut short, with its length as it was.
-#[test]
-fn messages_that_are_cut(rt: HostRuntime) -> Result<(), Fail> {
-    for text in [OPEN, DELETION, PATH, UPDATE] {
-        let bytes = bytes_of(&rt, text)?;
-        for len in 4..bytes.len() {
-            let (cut, _) = bytes.split_at(len);
-            let found = read_message(rt.alloc(), cut).err();
-            assert_eq!(rt; found, Some(MessageFault::BadHeader), "{text} at {len}");
-        }
-    }
-    Ok(())
-}
-
-/// The fault of the first bytes of a message, with the length of what is left.
-fn fault_of_cut(rt: &HostRuntime, text: &str, len: u8) -> Result<Option<MessageFault>, Fail> {
-    let bytes = bytes_of(rt, text)?;
-    let mut cut = Vec::new(rt.alloc());
-    for (place, byte) in bytes.iter().enumerate() {
-        if place < len as usize {
-            cut.push(if place == 3 { len } else { *byte })?;
-        }
-    }
-    Ok(read_message(rt.alloc(), cut.as_slice()).err())
-}
-
-#[test]
-fn cut_messages_with_their_length(rt: HostRuntime) -> Result<(), Fail> {
-    let nothing = About::Nothing;
-    let one = About::Srp(1);
-    let bad = MessageFault::BadObject(ObjectFault::BadLength, one);
-    let table = [
-        (UPDATE, 4, missing(33, nothing)),
-        (
-            UPDATE,
-            12,
-            Some(MessageFault::BadObject(ObjectFault::BadLength, nothing)),
-        ),
-        (UPDATE, 16, missing(32, one)),
-        (UPDATE, 20, Some(bad)),
-        (UPDATE, 24, missing(7, one)),
-        (UPDATE, 40, Some(bad)),
-        (UPDATE, 44, None),
-        (UPDATE, 60, Some(bad)),
-        (UPDATE, 64, None),
-        (UPDATE, 68, Some(bad)),
-        (CREATE, 16, missing(32, one)),
-        (CREATE, 32, missing(4, one)),
-        (CREATE, 44, missing(7, one)),
-        (CREATE, 64, None),
-        (PATH, 4, missing(2, nothing)),
-        (PATH, 16, missing(7, About::Request(8))),
-        (PATH, 36, None),
-        (OPEN, 4, missing(1, nothing)),
-    ];
-    for (text, len, fault) in table {
-        assert_eq!(rt; fault_of_cut(&rt, text, len)?, fault, "{text} at {len}");
-    }
-    Ok(())
 }
