@@ -1,5 +1,5 @@
 -- Histories: the steps that were taken from a state, and the state to which they lead.
-use Rattle.std.specs.Prelude.{◌≡◌, List, [], ◌∷◌, ◌++◌}
+use Rattle.std.specs.Prelude.{ℕ, ◌≡◌, List, [], ◌∷◌, ◌++◌}
 use Rattle.te_base.specs.Base.{Base}
 use Rattle.step_core.specs.declared.event.Event.{Event}
 use Rattle.step_core.specs.declared.event.Reply.{Reply}
@@ -17,6 +17,10 @@ replay s (x ∷ xs) = replay (step s x.event).state xs
 abbrev pub IsLegalFrom : State → List Step → Type 0
 IsLegalFrom s [] = Unit {0}
 IsLegalFrom s (x ∷ xs) = (x.brief ≡ brief_of (step s x.event).reply) × IsLegalFrom (step s x.event).state xs
+
+-- the greatest number of steps that are kept
+abbrev pub step_limit : ℕ
+step_limit = 1048576
 
 -- what a database is seen as: a state, with the steps that led to it
 pub record Content : Type 0 where

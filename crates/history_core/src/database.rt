@@ -1,10 +1,10 @@
 //! A state with its history.
-ghost use Rattle.std.specs.Prelude.{◌≡◌, ◌≤◌, ◌↔◌, length, IfOk, OnErr, IsNone, IfSome};
+ghost use Rattle.std.specs.Prelude.{◌≡◌, ◌≤◌, ◌+◌, ◌↔◌, [], ◌∷◌, ◌++◌, length, vec_len, vec_capacity, IfOk, OnErr, IsNone, IfSome};
 ghost use Rattle.lsp_base.specs.Shares.{unreserved};
 ghost use Rattle.step_core.specs.States.{is_up};
 ghost use Rattle.step_core.specs.Steps.{step};
 ghost use Rattle.step_core.specs.Laws.{peer_of, OthersStay};
-ghost use Rattle.history_core.specs.Histories.{Replays, nothing_happened, stepped};
+ghost use Rattle.history_core.specs.Histories.{Replays, nothing_happened, kept_step, stepped, step_limit};
 
 use crate::fault::Fault;
 use crate::step::{Step, shortened};
@@ -26,13 +26,22 @@ pub struct Database {
 
 impl Model for Database {
     ghost use Rattle.std.specs.Prelude.{◌≤◌, length};
-    ghost use Rattle.history_core.specs.Histories.{Content, Replays};
+    ghost use Rattle.history_core.specs.Histories.{Content, Replays, step_limit};
 
     ghost Value = { Content };
 
     ghost view = { λ d. record { state = d.state; history = d.history.items } };
 
-    ghost invariant = { λ d. Replays (record { state = d.state; history = d.history.items }) × (length d.history.items ≤ 1048576) };
+    ghost invariant = { λ d. Replays (record { state = d.state; history = d.history.items }) × (length d.history.items ≤ step_limit) };
+}
+
+/// Keeps the event with the brief of its reply, as the newest step, in room that is there.
+fn keep(history: &mut Vec<Step>, event: Event, reply: &Reply)
+    requires { vec_len history.old + 1 ≤ vec_capacity history.old }
+    ensures { history.new.items ≡ history.old.items ++ kept_step event reply.now ∷ [] }
+{
+    let brief = shortened(reply);
+    history.push_reserved(Step { event, brief });
 }
 
 impl Database {
@@ -54,7 +63,7 @@ impl Database {
     pub fn apply(&mut self, event: Event) -> Result<Reply, Fault>
         ensures step { IfOk result (λ reply. self.new ≡ stepped self.old event reply) }
         ensures reply { IfOk result (λ reply. reply ≡ (step self.old.state event).reply) }
-        ensures full { (result ≡ Err Fault.HistoryFull) ↔ (length self.old.history ≡ STEP_LIMIT) }
+        ensures full { (result ≡ Err Fault.HistoryFull) ↔ (length self.old.history ≡ step_limit) }
         ensures unchanged_on_fault { OnErr result (self.new ≡ self.old) }
         ensures unchanged_by_refused { (why : _) → result ≡ Ok (Reply.Refused why) → self.new.state ≡ self.old.state }
         ensures others_stay { OthersStay (peer_of event) self.old.state self.new.state }
@@ -65,8 +74,7 @@ impl Database {
         }
         self.history.reserve(1)?;
         let reply = self.state.step(&event)?;
-        let brief = shortened(&reply);
-        self.history.push_reserved(Step { event, brief });
+        keep(&mut self.history, event, &reply);
         Ok(reply)
     }
 

@@ -3,8 +3,7 @@ use Rattle.std.specs.Prelude.{◌≡◌, ℕ, ◌==◌, true, List, [], ◌∷�
 use Rattle.pcep_messages.specs.declared.message.StateReport.{StateReport}
 use Rattle.step_core.specs.States.{is_up}
 use Rattle.step_core.specs.Steps.{step}
-use Rattle.history_core.specs.Histories.{Content, stepped}
-use Rattle.history_core.specs.declared.database.TheConstants.{STEP_LIMIT}
+use Rattle.history_core.specs.Histories.{Content, stepped, step_limit}
 use Rattle.pcep_objects.specs.declared.object.Capabilities.{Capabilities}
 use Rattle.step_core.specs.declared.event.Event.{Event}
 use Rattle.step_core.specs.declared.event.Event.TheVariants as event
@@ -23,7 +22,7 @@ abbrev pub applied : Content → Event → Reply → Reply × Content
 applied d event reply = (reply, stepped d event reply)
 
 unfoldable pub submitted : Content → Event → Result (Reply × Content) ScriptFault
-submitted d event = if length d.history == STEP_LIMIT then Err HistoryFull else Ok (applied d event (step d.state event).reply)
+submitted d event = if length d.history == step_limit then Err HistoryFull else Ok (applied d event (step d.state event).reply)
 
 -- what a script's peer may take
 abbrev pub both : Capabilities

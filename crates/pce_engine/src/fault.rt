@@ -1,36 +1,49 @@
 //! Why a script ended early.
 
-ghost use Rattle.std.specs.Prelude.{◌≡◌};
+ghost use Rattle.std.specs.Prelude.{◌≡◌, Some};
 ghost use Rattle.pce_engine.specs.declared.fault.ScriptFault.TheVariants.{OutOfMemory};
-ghost use Rattle.pce_engine.specs.Faults.{fault_of};
+ghost use Rattle.pce_engine.specs.Faults.{fault_of, fault_text};
 
 use history_core::Fault;
 use std::alloc::{AllocError, AllocFailed};
+use std::{error, fmt};
 use te_base::TeFault;
-use thiserror::Error;
 
 /// Why a script ended early. `Display` gives the text for standard error.
-#[derive(Clone, Copy, Debug, PartialEq, Eq, Error)]
+#[derive(Clone, Copy, Debug, PartialEq, Eq)]
 pub enum ScriptFault {
     /// A line that is none of the script's, by its number from 1; without `---`, one past the last.
-    #[error("bad line {0}")]
     BadLine(u64),
     /// The link text has this fault.
-    #[error("te fault {}", .0.number())]
     Te(TeFault),
     /// A read failed, or the reader was asked 2^32 times.
-    #[error("device fault")]
     ReadFault,
     /// A write failed.
-    #[error("device fault")]
     WriteFault,
     /// A growth was refused.
-    #[error("out of memory")]
     OutOfMemory,
     /// As many steps are kept as a history holds.
-    #[error("history full")]
     HistoryFull,
 }
+
+impl fmt::Display for ScriptFault {
+    ghost output = { λ fault. Some (fault_text fault) };
+
+    fn fmt<W: fmt::Write>(&self, f: &mut fmt::Formatter<W>) -> fmt::Result {
+        match *self {
+            ScriptFault::BadLine(line) => write!(f, "bad line {line}"),
+            ScriptFault::Te(fault) => {
+                let number = fault.number();
+                write!(f, "te fault {number}")
+            }
+            ScriptFault::ReadFault | ScriptFault::WriteFault => f.write_str("device fault"),
+            ScriptFault::OutOfMemory => f.write_str("out of memory"),
+            ScriptFault::HistoryFull => f.write_str("history full"),
+        }
+    }
+}
+
+impl error::Error for ScriptFault {}
 
 impl From<AllocError> for ScriptFault {
     ghost from_gives = { λ _ e. e ≡ OutOfMemory };

@@ -1,6 +1,9 @@
 //! A script, from a reader to a writer.
 
-ghost use Rattle.std.specs.Prelude.{◌≡◌, ◌<◌, ◌≤◌, ◌+◌, ◌^◌, List, ℕ, [], length, Some};
+ghost use Rattle.std.specs.Prelude.{◌≡◌, ◌<◌, ◌≤◌, ◌+◌, ◌^◌, List, ℕ, [], length, Some, IfErr};
+ghost use Rattle.std.specs.Io.{ReadsAtMost};
+ghost use Rattle.std.specs.Io.KnownBytes.{ReadConsumes};
+ghost use Rattle.pce_engine.specs.declared.fault.ScriptFault.TheVariants.{ReadFault};
 ghost use Rattle.pce_engine.specs.Script.{ending};
 ghost use Rattle.pce_engine.specs.Runs.{Chunk};
 ghost use Rattle.pce_engine.specs.Ends.{EndsAs, Closes, ClosesAt};
@@ -103,6 +106,18 @@ fn finish<W: Write>(alloc: Global, script: &mut Script, writer: &mut W) -> Resul
     close(&script.stage, writer)
 }
 
+/// Fills the front of `piece` with the next bytes of the input, and says how many: 0 where it has ended.
+fn read_piece<R: Read>(reader: &mut R, piece: &mut [u8]) -> Result<usize, ScriptFault>
+    ensures bound { ReadsAtMost result piece.new }
+    ensures bytes { ReadConsumes (R.remaining reader.old) (R.remaining reader.new) result piece.new }
+    ensures fault { IfErr result (λ fault. fault ≡ ReadFault) }
+{
+    match reader.read(piece) {
+        Ok(n) => Ok(n),
+        Err(_) => Err(ScriptFault::ReadFault),
+    }
+}
+
 /// Reads a link text, a line `---` and lines, and writes what they print (docs/FORMAT.md has them all).
 ///
 /// `BadLine`, `Te` and `HistoryFull` come where the script has them, after the output of all lines
@@ -126,8 +141,8 @@ pub fn run_script<R: Read, W: Write>(
     };
     let mut chunk = [0u8; 4096];
     for _ in 0..MAX_TURNS {
-        match reader.read(&mut chunk) {
-            Err(_) => return Err(ScriptFault::ReadFault),
+        match read_piece(reader, &mut chunk) {
+            Err(fault) => return Err(fault),
             Ok(0) => return finish(alloc, &mut script, writer),
             Ok(n) => take_chunk(alloc, &mut script, &chunk[..n], writer)?,
         }

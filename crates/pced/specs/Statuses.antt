@@ -1,5 +1,9 @@
 -- The exit status of a run that a fault ended: 2 for what was given, 3 for a device, 5 for room.
-use Rattle.std.specs.Prelude.{ℕ}
+use Rattle.std.specs.Prelude.{ℕ, Result, Ok, Err}
+use Rattle.std.specs.declared.io.ErrorKind as system
+use Rattle.std.specs.declared.io.ErrorKind.TheVariants as error
+use Rattle.clap.specs.declared.error.kind.ErrorKind as words
+use Rattle.clap.specs.declared.error.kind.ErrorKind.TheVariants as word
 use Rattle.pce_engine.specs.declared.fault.ScriptFault.{ScriptFault}
 use Rattle.pce_engine.specs.declared.fault.ScriptFault.TheVariants.{BadLine, Te, ReadFault, WriteFault, OutOfMemory, HistoryFull}
 
@@ -10,3 +14,20 @@ status_of ReadFault = 3
 status_of WriteFault = 3
 status_of OutOfMemory = 5
 status_of HistoryFull = 5
+
+-- the exit status of a script
+abbrev pub ended_status : {X : Type 0} → Result X ScriptFault → ℕ
+ended_status (Ok x) = 0
+ended_status (Err fault) = status_of fault
+
+-- the exit status of words that are no command: 0 where they ask for help or the version
+abbrev pub refused_status : words.ErrorKind → ℕ
+refused_status word.OutOfMemory = 5
+refused_status word.DisplayHelp = 0
+refused_status word.DisplayVersion = 0
+refused_status _ = 2
+
+-- the fault of a run that could not speak with its system
+abbrev pub failed_fault : system.ErrorKind → ScriptFault
+failed_fault error.OutOfMemory = OutOfMemory
+failed_fault _ = WriteFault

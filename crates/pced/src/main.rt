@@ -6,10 +6,14 @@
 
 mod status;
 
+ghost use Rattle.std.specs.Prelude.{◌≡◌, IfOk};
+ghost use Rattle.clap.specs.Values.{kind_of};
+ghost use Rattle.pced.specs.Statuses.{ended_status, refused_status};
+
 use clap::error::ErrorKind;
 use clap::{Command, Error};
 use pce_engine::{ScriptFault, run_script};
-use status::{DEVICE, MEMORY, status};
+use status::{failed, refused, status};
 use std::alloc::{AllocError, Global};
 use std::io;
 use std::process::ExitCode;
@@ -35,18 +39,29 @@ fn parse(alloc: Global, words: &[String]) -> Result<bool, Error> {
 }
 
 /// Help goes to standard output, a refusal of the words to standard error.
-fn refuse<R: Print + Eprint>(rt: &R, error: Error) -> io::Result<u8> {
-    if error.kind() == ErrorKind::OutOfMemory {
-        return end(rt, ScriptFault::OutOfMemory);
+fn refuse<R: Print + Eprint>(rt: &R, error: Error) -> io::Result<u8>
+    ensures { IfOk result (λ given. given ≡ refused_status (kind_of error)) }
+{
+    match error.kind() {
+        ErrorKind::OutOfMemory => end(rt, Err(ScriptFault::OutOfMemory)),
+        kind => {
+            error.print(rt)?;
+            Ok(refused(kind))
+        }
     }
-    error.print(rt)?;
-    Ok(if error.use_stderr() { 2 } else { 0 })
 }
 
-/// The fault's text on standard error, and its status.
-fn end<R: Eprint>(rt: &R, fault: ScriptFault) -> io::Result<u8> {
-    eprintln!(rt; "{fault}")?;
-    Ok(status(fault))
+/// How a script ended: the text of a fault goes to standard error, and the status is given.
+fn end<R: Eprint>(rt: &R, outcome: Result<(), ScriptFault>) -> io::Result<u8>
+    ensures { IfOk result (λ given. given ≡ ended_status outcome) }
+{
+    match outcome {
+        Ok(()) => Ok(0),
+        Err(fault) => {
+            eprintln!(rt; "{fault}")?;
+            Ok(status(fault))
+        }
+    }
 }
 
 fn run<R: Runtime<A = Global>>(rt: &R) -> io::Result<u8> {
@@ -55,22 +70,17 @@ fn run<R: Runtime<A = Global>>(rt: &R) -> io::Result<u8> {
     if let Err(error) = parse(alloc, &words) {
         return refuse(rt, error);
     }
-    match run_script(alloc, &mut rt.reader(), &mut io::writer(rt)) {
-        Ok(()) => Ok(0),
-        Err(fault) => end(rt, fault),
-    }
+    let outcome = run_script(alloc, &mut rt.reader(), &mut io::writer(rt));
+    end(rt, outcome)
 }
 
 fn main(rt: HostRuntime) -> ExitCode {
     match run(&rt) {
         Ok(status) => ExitCode::from(status),
-        Err(e) if e.kind() == io::ErrorKind::OutOfMemory => {
-            let _ = eprintln!(rt; "out of memory");
-            ExitCode::from(MEMORY)
-        }
-        Err(_) => {
-            let _ = eprintln!(rt; "device fault");
-            ExitCode::from(DEVICE)
+        Err(error) => {
+            let fault = failed(&error);
+            let _ = eprintln!(rt; "{fault}");
+            ExitCode::from(status(fault))
         }
     }
 }

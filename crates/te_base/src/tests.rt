@@ -349,6 +349,25 @@ fn the_first_fault_of_a_link_is_told(rt: HostRuntime) -> Result<(), Fail> {
     Ok(())
 }
 
+/// Run it with each of its allocations refused in turn (`rt try --test --fail-alloc 1..`): in place of the
+/// network or the fault comes want of memory, and nothing else.
+#[test]
+fn want_of_memory_alone_takes_the_place_of_an_answer(rt: HostRuntime) {
+    let alloc = rt.alloc();
+    for (want, text) in [
+        (0u8, DIAMOND),
+        (1, "node ="),
+        (2, "node = [3]"),
+        (3, "node = [{name=\"A\",id=\"0.0.0.0\"}]"),
+    ] {
+        let got = fault_of(alloc, text);
+        assert!(rt;
+            got == want || got == TeFault::OutOfMemory.number(),
+            "{text}"
+        );
+    }
+}
+
 /// An array of so many empty tables.
 fn empty_tables(alloc: Global, key: &str, count: usize) -> Result<String, AllocError> {
     let mut text = String::from_str(alloc, key)?;

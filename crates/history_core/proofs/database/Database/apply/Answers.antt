@@ -13,10 +13,9 @@ step-requires-clause-sessions c = let d : Content = record { state = c.self.insi
 pub invariant_of-self-2 : goal.invariant_of-self-2
 invariant_of-self-2 c =
     let d : Content = record { state = c.self.inside.state; history = c.self.inside.history.items } in
-    let x : Step = record { event = c.args.event; brief = c.shortened-brief.result } in
-    let kept : x ≡ kept_step c.args.event c.in_ok-reply.reply = ap (λ b. record { event = c.args.event; brief = b }) c.shortened-brief.ensures in
-    let more : c.push_reserved.new.self.items ≡ d.history ++ x ∷ [] = c.push_reserved.ensures.items ∙ ap (λ h. h ++ x ∷ []) c.reserve.ensures.items in (
-      Replays-applied d c.args.event c.in_ok-reply.reply _ _ x c.self.invariant.0 c.in_ok-reply.ensures.reply c.in_ok-reply.ensures.state kept more,
+    let x : Step = kept_step c.args.event c.in_ok-reply.reply in
+    let more : c.keep.new.history.items ≡ d.history ++ x ∷ [] = c.keep.ensures ∙ ap (λ h. h ++ x ∷ []) c.reserve.ensures.items in (
+      Replays-applied d c.args.event c.in_ok-reply.reply _ _ x c.self.invariant.0 c.in_ok-reply.ensures.reply c.in_ok-reply.ensures.state refl more,
       rw more (omega (arith, length-append d.history (x ∷ []), c.self.invariant.1)),
     )
 
