@@ -8,7 +8,7 @@ ghost use Rattle.std.specs.Prelude.{◌<◌};
 use anyhow::{Result, bail};
 use pcep_session::{Input, Session, State};
 use std::alloc::Global;
-use std::rt::{Eprint, Runtime};
+use std::rt::Runtime;
 use std::time::{Duration, Instant};
 
 /// The peer's Open, with the capabilities to update and to create, and its Keepalive.
