@@ -38,15 +38,15 @@ answer_or_missing about (Some no_path) ero metric = Ok (answers.NoPath no_path.v
 answer_or_missing about None (Some hops) metric = Ok (answers.Found hops (option_map cost_of metric))
 answer_or_missing about None None metric = Err (Missing 7 about)
 
--- RP, class 2, has to be there
-abbrev pub reply_or_missing : Parts → Option Rp → Result Message MessageFault
-reply_or_missing parts None = Err (Missing 2 about.Nothing)
-reply_or_missing parts (Some rp) = do
-  answer ← answer_or_missing (about.Request rp.id) parts.no_path parts.ero parts.metric
-  Ok (messages.Reply (record { request = rp.id; answer = answer }))
+-- RP, class 2, has to be there too
+abbrev pub reply_or_missing : Answer → Option Rp → Result Message MessageFault
+reply_or_missing answer None = Err (Missing 2 about.Nothing)
+reply_or_missing answer (Some rp) = Ok (messages.Reply (record { request = rp.id; answer = answer }))
 
 abbrev pub reply_of : Parts → Result Message MessageFault
-reply_of parts = reply_or_missing parts parts.rp
+reply_of parts = do
+  answer ← answer_or_missing (about_reply parts) parts.no_path parts.ero parts.metric
+  reply_or_missing answer parts.rp
 
 unfoldable pub reply_body : List ℕ → Result Message MessageFault
 reply_body body = read_parts about_reply reply_of (found_in body)

@@ -72,18 +72,18 @@ create_with srp lsp end_points hops parts = record {
   bandwidth = parts.bandwidth;
 }
 
--- a new LSP also has to have END-POINTS, class 4, and ERO, class 7
-abbrev pub create_or_missing : Srp → LspObject → Parts → Option EndPoints → Option (List Hop) → Result Message MessageFault
-create_or_missing srp lsp parts None ero = Err (Missing 4 (about_parts parts))
-create_or_missing srp lsp parts (Some end_points) None = Err (Missing 7 (about_parts parts))
-create_or_missing srp lsp parts (Some end_points) (Some hops) = Ok (messages.Initiate (initiates.Create (create_with srp lsp end_points hops parts)))
+-- a new LSP also has to have ERO, class 7, and END-POINTS, class 4
+abbrev pub create_or_missing : Srp → LspObject → Parts → Option (List Hop) → Option EndPoints → Result Message MessageFault
+create_or_missing srp lsp parts None end_points = Err (Missing 7 (about_parts parts))
+create_or_missing srp lsp parts (Some hops) None = Err (Missing 4 (about_parts parts))
+create_or_missing srp lsp parts (Some hops) (Some end_points) = Ok (messages.Initiate (initiates.Create (create_with srp lsp end_points hops parts)))
 
 -- SRP, class 33, and LSP, class 32, have to be there; with R of SRP set they are enough, and the LSP is to go
 abbrev pub initiate_or_missing : Parts → Option Srp → Option LspObject → Result Message MessageFault
 initiate_or_missing parts None lsp = Err (Missing 33 (about_parts parts))
 initiate_or_missing parts (Some srp) None = Err (Missing 32 (about_parts parts))
 initiate_or_missing parts (Some srp) (Some lsp) =
-    if srp.remove then Ok (messages.Initiate (initiates.Remove srp.id lsp.plsp)) else create_or_missing srp lsp parts parts.end_points parts.ero
+    if srp.remove then Ok (messages.Initiate (initiates.Remove srp.id lsp.plsp)) else create_or_missing srp lsp parts parts.ero parts.end_points
 
 abbrev pub initiate_of : Parts → Result Message MessageFault
 initiate_of parts = initiate_or_missing parts parts.srp parts.lsp

@@ -49,7 +49,8 @@ fn objects_by(
 ) -> Result<(Vec<Object>, Option<ObjectFault>), AllocError>
     ensures { IfOk result (λ x. IsFound (found_by heeds_p bytes.now) x.0.items x.1) }
 {
-    let mut objects = Vec::new(alloc);
+    // Most messages have fewer.
+    let mut objects = Vec::with_capacity(alloc, 8)?;
     let mut rest = bytes;
     while !rest.is_empty() {
         match next_object(alloc, rest, heeds_p)? {

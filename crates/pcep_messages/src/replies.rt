@@ -4,7 +4,6 @@ ghost use Rattle.std.specs.Prelude.{◌≡◌};
 ghost use Rattle.std.specs.Option.{option_map};
 ghost use Rattle.pcep_messages.specs.Replies.{about_rp, cost_of, answer_or_missing, reply_of, reply_body};
 ghost use Rattle.pcep_messages.specs.Messages.{Gives};
-ghost use Rattle.pcep_messages.specs.declared.fault.About.TheVariants.{Request};
 
 use crate::fault::{About, MessageFault};
 use crate::message::{Answer, Cost, Message, Reply};
@@ -36,19 +35,19 @@ fn cost_of(metric: Option<Metric>) -> Option<Cost>
 
 /// What the reply to a request says of its path.
 fn answer_of(
-    request: u32,
+    about: About,
     no_path: Option<NoPath>,
     ero: Option<Sequence<Hop>>,
     metric: Option<Metric>,
 ) -> Result<Answer, MessageFault>
-    ensures { Gives (λ x. x) result (answer_or_missing (Request request) no_path ero metric) }
+    ensures { Gives (λ x. x) result (answer_or_missing about no_path ero metric) }
 {
     if let Some(no_path) = no_path {
         return Ok(Answer::NoPath(no_path.vector));
     }
     match ero {
         Some(hops) => Ok(Answer::Found(hops, cost_of(metric))),
-        None => Err(MessageFault::Missing(7, About::Request(request))),
+        None => Err(MessageFault::Missing(7, about)),
     }
 }
 
@@ -56,10 +55,11 @@ fn answer_of(
 fn reply_of(mut parts: Parts) -> Result<Message, MessageFault>
     ensures { Gives (λ x. x) result (reply_of parts) }
 {
+    let about = about_rp(parts.rp);
+    let answer = answer_of(about, parts.no_path, parts.ero.take(), parts.metric)?;
     let Some(rp) = parts.rp else {
         return Err(MessageFault::Missing(2, About::Nothing));
     };
-    let answer = answer_of(rp.id, parts.no_path, parts.ero.take(), parts.metric)?;
     Ok(Message::Reply(Reply {
         request: rp.id,
         answer,

@@ -109,15 +109,15 @@ fn create_of(
     lsp: LspObject,
     mut parts: Parts,
 ) -> Result<Message, MessageFault>
-    ensures { Gives (λ x. x) result (create_or_missing srp lsp parts parts.end_points parts.ero) }
+    ensures { Gives (λ x. x) result (create_or_missing srp lsp parts parts.ero parts.end_points) }
 {
     let about = about_srp(srp_id(parts.srp));
     let (end_points, ero) = (parts.end_points, parts.ero.take());
-    let Some(end_points) = end_points else {
-        return Err(MessageFault::Missing(4, about));
-    };
     let Some(hops) = ero else {
         return Err(MessageFault::Missing(7, about));
+    };
+    let Some(end_points) = end_points else {
+        return Err(MessageFault::Missing(4, about));
     };
     let create = create_with(alloc, srp, lsp, end_points, hops, parts);
     Ok(Message::Initiate(Initiate::Create(create)))

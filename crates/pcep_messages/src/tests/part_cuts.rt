@@ -28,7 +28,7 @@ fn cut_replies(rt: HostRuntime) -> Result<(), Fail> {
     let this = About::Request(7);
     // RP up to 16
     let cuts = [
-        (4, missing(2, nothing)),
+        (4, missing(7, nothing)),
         (12, bad_length(nothing)),
         (16, missing(7, this)),
         (28, bad_length(this)),
@@ -37,7 +37,7 @@ fn cut_replies(rt: HostRuntime) -> Result<(), Fail> {
     let this = About::Request(8);
     // RP up to 16, ERO up to 36
     let cuts = [
-        (4, missing(2, nothing)),
+        (4, missing(7, nothing)),
         (12, bad_length(nothing)),
         (16, missing(7, this)),
         (32, bad_length(this)),
@@ -57,7 +57,7 @@ fn cut_new_lsps(rt: HostRuntime) -> Result<(), Fail> {
         (12, bad_length(nothing)),
         (16, missing(32, this)),
         (28, bad_length(this)),
-        (32, missing(4, this)),
+        (32, missing(7, this)),
         (40, bad_length(this)),
         (44, missing(7, this)),
         (60, bad_length(this)),

@@ -150,7 +150,7 @@ fn what_an_initiate_lacks(rt: HostRuntime) -> Result<(), Fail> {
         ([LSP, END_POINTS, ERO, UNKNOWN], missing(33, nothing)),
         ([SRP, END_POINTS, ERO, UNKNOWN], missing(32, one)),
         ([SRP, LSP, ERO, UNKNOWN], missing(4, one)),
-        ([SRP, LSP, UNKNOWN, UNKNOWN], missing(4, one)),
+        ([SRP, LSP, UNKNOWN, UNKNOWN], missing(7, one)),
         ([SRP, LSP, END_POINTS, UNKNOWN], missing(7, one)),
         ([SRP, LSP, END_POINTS, EMPTY_ERO], None),
         ([SRP_REMOVE, LSP, UNKNOWN, UNKNOWN], None),
