@@ -6,3 +6,4 @@ pub mod Changes
 pub mod Calls
 pub mod Runs
 pub mod Cuts
+pub mod Ends

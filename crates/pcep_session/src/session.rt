@@ -2,6 +2,7 @@
 
 ghost use Rattle.std.specs.Prelude.{◌≡◌, true, false, None, IsOk, IfOk, IfErr, OnErr};
 ghost use Rattle.pcep_session.specs.Turns.{is_closed, next, IsTurn};
+ghost use Rattle.pcep_session.specs.Ends.{most_turns};
 ghost use Rattle.pcep_session.specs.Calls.{begun, ticked, fed_by, sent, error_reported, ended_by, output_taken, Does};
 ghost use Rattle.pcep_session.specs.declared.fault.SessionFault.TheVariants.{OutOfMemory};
 
@@ -105,6 +106,13 @@ impl Session {
         ensures step { self.new ≡ output_taken self.old }
     {
         self.contents.output.take()
+    }
+
+    /// How often `next` answers Some at most, until more bytes or a later moment come.
+    pub fn most_turns(&self) -> usize
+        ensures { result ≡ most_turns self.now }
+    {
+        self.contents.bytes.as_slice().len() + 2
     }
 
     /// The state of the session.
