@@ -11,6 +11,8 @@ use step_core::{Event, Reply, Why};
 pub enum Brief {
     Done,
     Booked { wants_path: bool },
+    /// So many messages were handed out to be sent.
+    Out { messages: u64 },
     Refused(Why),
 }
 
@@ -37,6 +39,9 @@ pub(crate) fn shortened(reply: &Reply) -> Brief
         Reply::Done => Brief::Done,
         Reply::Booked { wants_path } => Brief::Booked {
             wants_path: *wants_path,
+        },
+        Reply::Out(messages) => Brief::Out {
+            messages: messages.as_slice().len() as u64,
         },
         Reply::Refused(why) => Brief::Refused(*why),
     }

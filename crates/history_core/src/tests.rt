@@ -1,5 +1,6 @@
 //! Runs over four routers A, B, C and D, with links A-B, B-D, A-C and C-D of 1,000,000 bytes per second.
 use super::*;
+use crate::step::shortened;
 use pcep_messages::{Message, StateReport, read_message};
 use pcep_objects::Capabilities;
 use pcep_word::Priority;
@@ -56,6 +57,44 @@ const FIRST: Told = Told {
     hold: 0,
     word: W500K,
 };
+
+/// The second path of the same tunnel: LSP ID 2 with 250,000.
+const SECOND: Told = Told {
+    plsp: 1,
+    flags: 0x18,
+    identifiers: Some((2, 1)),
+    by_c: false,
+    setup: 7,
+    hold: 0,
+    word: W250K,
+};
+
+/// What happens to a peer, which is named first.
+#[derive(Clone, Copy)]
+enum Act {
+    Up(u32, Option<Capabilities>),
+    Tell(u32, Told),
+    /// A removal.
+    Withdraw(u32, Told),
+    /// A report of an LSP that is delegated, active and down, and has no route.
+    Wait(u32, Told),
+    Marker(u32),
+    Down(u32),
+    Expire(u32),
+    Drain(u32),
+}
+
+/// What happens, the brief of the reply, and what is left by B afterwards, at each priority.
+type Row = (Act, Brief, [i64; 8]);
+
+/// The brief of the reply to a report of an LSP that waits for no path.
+const BOOKED: Brief = Brief::Booked { wants_path: false };
+
+const FREE: [i64; 8] = [1_000_000; 8];
+
+const MOST: [i64; 8] = [750_000; 8];
+
+const HALF: [i64; 8] = [500_000; 8];
 
 /// The LSP object: from A to D.
 fn lsp_words(told: Told, flags: u32) -> [u32; 7] {
@@ -136,40 +175,41 @@ fn bare(alloc: Global, told: Told, flags: u32) -> Result<StateReport, Fail> {
     one_report(alloc, bytes.as_slice())
 }
 
-fn tell(alloc: Global, database: &mut Database, peer: u32, told: Told) -> Result<Reply, Fail> {
-    let report = report(alloc, told)?;
-    Ok(database.apply(Event::Report { peer, report })?)
+fn event_of(alloc: Global, act: Act) -> Result<Event, Fail> {
+    Ok(match act {
+        Act::Up(peer, capabilities) => Event::Up { peer, capabilities },
+        Act::Tell(peer, told) => Event::Report {
+            peer,
+            report: report(alloc, told)?,
+        },
+        Act::Withdraw(peer, told) => Event::Report {
+            peer,
+            report: bare(alloc, told, 4)?,
+        },
+        Act::Wait(peer, told) => Event::Report {
+            peer,
+            report: bare(alloc, told, 9)?,
+        },
+        Act::Marker(peer) => Event::Marker { peer },
+        Act::Down(peer) => Event::Down { peer },
+        Act::Expire(peer) => Event::Expire { peer },
+        Act::Drain(peer) => Event::Drain { peer },
+    })
 }
 
-fn withdraw(alloc: Global, database: &mut Database, peer: u32, told: Told) -> Result<Reply, Fail> {
-    let report = bare(alloc, told, 4)?;
-    Ok(database.apply(Event::Report { peer, report })?)
+fn take(alloc: Global, database: &mut Database, act: Act) -> Result<Brief, Fail> {
+    let event = event_of(alloc, act)?;
+    Ok(shortened(&database.apply(event)?))
 }
 
-fn diamond(alloc: Global) -> Result<Database, Fail> {
-    Ok(Database::new(alloc, TeBase::read(alloc, DIAMOND)?)?)
-}
-
-/// The diamond, with peer 1 up and synchronized.
-fn opened(rt: &impl Abort, alloc: Global) -> Result<Database, Fail> {
-    let mut database = diamond(alloc)?;
-    let up = Event::Up {
-        peer: 1,
-        capabilities: Some(BOTH),
-    };
-    assert_eq!(rt; database.apply(up)?, Reply::Done);
-    assert_eq!(rt; database.apply(Event::Marker { peer: 1 })?, Reply::Done);
-    Ok(database)
-}
-
-/// What is left by B and by C, at each priority.
-fn left(rt: &impl Abort, database: &Database, by_b: [i64; 8], by_c: [i64; 8]) {
+/// What is left by B, at each priority. By C nothing is reserved.
+fn left(rt: &impl Abort, database: &Database, by_b: [i64; 8]) {
     for p in 0..8u8 {
         for link in 0..4usize {
             let want = if link < 2 {
                 by_b[p as usize]
             } else {
-                by_c[p as usize]
+                1_000_000
             };
             let left = database.unreserved(link, Priority::capped(p));
             assert_eq!(rt; left, Some(want), "link {link} at priority {p}");
@@ -178,17 +218,28 @@ fn left(rt: &impl Abort, database: &Database, by_b: [i64; 8], by_c: [i64; 8]) {
     assert_eq!(rt; database.unreserved(4, Priority::capped(0)), None);
 }
 
-/// The answer to a report of an LSP that waits for no path.
-fn booked() -> Reply {
-    Reply::Booked { wants_path: false }
+/// Each row in its turn.
+fn run(rt: &impl Abort, alloc: Global, database: &mut Database, rows: &[Row]) -> Result<(), Fail> {
+    for (number, row) in rows.iter().enumerate() {
+        let brief = take(alloc, database, row.0)?;
+        assert_eq!(rt; brief, row.1, "row {number}");
+        left(rt, database, row.2);
+    }
+    Ok(())
 }
 
-const FREE: [i64; 8] = [1_000_000; 8];
+fn diamond(alloc: Global) -> Result<Database, Fail> {
+    Ok(Database::new(alloc, TeBase::read(alloc, DIAMOND)?)?)
+}
 
-fn up(
-    database: &mut Database,
-    peer: u32,
-    capabilities: Option<Capabilities>,
-) -> Result<Reply, Fail> {
-    Ok(database.apply(Event::Up { peer, capabilities })?)
+const OPENED: [Row; 2] = [
+    (Act::Up(1, Some(BOTH)), Brief::Done, FREE),
+    (Act::Marker(1), Brief::Done, FREE),
+];
+
+/// The diamond, with peer 1 up and synchronized.
+fn opened(rt: &impl Abort, alloc: Global) -> Result<Database, Fail> {
+    let mut database = diamond(alloc)?;
+    run(rt, alloc, &mut database, &OPENED)?;
+    Ok(database)
 }

@@ -1,5 +1,5 @@
 -- What a line prints.
-use Rattle.std.specs.Prelude.{ℕ, ◌+◌, ℤ, Bool, true, false, List, [], ◌∷◌, ◌++◌, codes}
+use Rattle.std.specs.Prelude.{ℕ, ◌+◌, ℤ, Bool, true, false, List, [], ◌∷◌, ◌++◌, length, codes}
 use Rattle.std.specs.Fmt.{decimal, signed_decimal}
 use Rattle.te_base.specs.declared.network.Link.{Link}
 use Rattle.lsp_base.specs.Whys.{number_of}
@@ -18,17 +18,23 @@ abbrev pub booked_text : Bool → List ℕ
 booked_text false = codes "booked"
 booked_text true = codes "booked wants"
 
+-- so many messages were handed out to be sent
+abbrev pub out_text : ℕ → List ℕ
+out_text messages = codes "out " ++ decimal messages
+
 abbrev pub refused_text : Why → List ℕ
 refused_text why = codes "refused " ++ decimal (number_of why)
 
 abbrev pub reply_text : Reply → List ℕ
 reply_text reply.Done = codes "done"
 reply_text (reply.Booked wants) = booked_text wants
+reply_text (reply.Out messages) = out_text (length messages)
 reply_text (reply.Refused why) = refused_text why
 
 abbrev pub brief_text : Brief → List ℕ
 brief_text brief.Done = codes "done"
 brief_text (brief.Booked wants) = booked_text wants
+brief_text (brief.Out messages) = out_text messages
 brief_text (brief.Refused why) = refused_text why
 
 abbrev pub event_text : Event → List ℕ
@@ -37,6 +43,7 @@ event_text (event.Report peer report) = codes "report"
 event_text (event.Marker peer) = codes "marker"
 event_text (event.Down peer) = codes "down"
 event_text (event.Expire peer) = codes "expire"
+event_text (event.Drain peer) = codes "drain"
 
 abbrev pub step_line : ℕ → Step → List ℕ
 step_line number step = codes "step " ++ decimal number ++ codes " " ++ event_text step.event ++ codes " " ++ brief_text step.brief ++ codes "\n"

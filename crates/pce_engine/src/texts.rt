@@ -1,7 +1,7 @@
 //! What lines print.
 
 ghost use Rattle.std.specs.Prelude.{◌≡◌, ◌++◌, ◌<◌, ◌≤◌, IfOk, OnOk, All, length, string_bytes};
-ghost use Rattle.pce_engine.specs.Texts.{booked_text, refused_text, reply_text, brief_text, event_text, step_line, history_text, left_at, amounts_text, link_line, book_text};
+ghost use Rattle.pce_engine.specs.Texts.{booked_text, out_text, refused_text, reply_text, brief_text, event_text, step_line, history_text, left_at, amounts_text, link_line, book_text};
 
 use history_core::{Brief, Database, Event, Reply, Step, Why};
 use pcep_word::Priority;
@@ -13,6 +13,12 @@ fn booked_word(wants_path: bool) -> &'static str
     ensures { result.now ≡ booked_text wants_path }
 {
     if wants_path { "booked wants" } else { "booked" }
+}
+
+fn add_out(text: &mut String, messages: u64) -> Result<(), AllocError>
+    ensures { OnOk result (string_bytes text.new ≡ string_bytes text.old ++ out_text messages) }
+{
+    write!(text, "out {messages}")
 }
 
 fn add_refusal(text: &mut String, why: Why) -> Result<(), AllocError>
@@ -29,6 +35,7 @@ pub(crate) fn add_reply(text: &mut String, reply: &Reply) -> Result<(), AllocErr
     match reply {
         Reply::Done => text.push_str("done"),
         Reply::Booked { wants_path } => text.push_str(booked_word(*wants_path)),
+        Reply::Out(messages) => add_out(text, messages.as_slice().len() as u64),
         Reply::Refused(why) => add_refusal(text, *why),
     }
 }
@@ -39,6 +46,7 @@ fn add_brief(text: &mut String, brief: Brief) -> Result<(), AllocError>
     match brief {
         Brief::Done => text.push_str("done"),
         Brief::Booked { wants_path } => text.push_str(booked_word(wants_path)),
+        Brief::Out { messages } => add_out(text, messages),
         Brief::Refused(why) => add_refusal(text, why),
     }
 }
@@ -52,6 +60,7 @@ fn event_word(event: &Event) -> &'static str
         Event::Marker { .. } => "marker",
         Event::Down { .. } => "down",
         Event::Expire { .. } => "expire",
+        Event::Drain { .. } => "drain",
     }
 }
 

@@ -9,11 +9,11 @@ use Rattle.lsp_base.specs.declared.why.Why.{Why}
 use Rattle.sync_rules.specs.Peers.{up_effect, marker_effect, down_effect, expire_effect}
 use Rattle.delegate_rules.specs.Effects.{report_result}
 use Rattle.step_core.specs.declared.event.Event.{Event}
-use Rattle.step_core.specs.declared.event.Event.TheVariants.{Up, Report, Marker, Down, Expire}
+use Rattle.step_core.specs.declared.event.Event.TheVariants.{Up, Report, Marker, Down, Expire, Drain}
 use Rattle.step_core.specs.declared.event.Reply.{Reply}
 use Rattle.step_core.specs.declared.event.Reply.TheVariants.{Refused}
 use Rattle.step_core.specs.States.{State, affected, moves_paths, peer_at, in_session}
-use Rattle.step_core.specs.Steps.{Outcome, decided, done, step, booked, ◌⨟◌, must_be_up, must_be_down, must_be_known, may_be_known, after_up, after_marker, after_down, after_expire}
+use Rattle.step_core.specs.Steps.{Outcome, decided, done, step, booked, ◌⨟◌, must_be_up, must_be_down, must_be_known, may_be_known, after_up, after_marker, after_down, after_expire, drained}
 use Rattle.step_core.specs.Laws.{peer_of, OthersStay, CountsRise}
 use Rattle.step_core.specs.declared.peer.Peer.{Peer}
 use Rattle.step_core.proofs.Others.{IsOwn, other_peers, changed-paths, changed-records, with_stale-paths, with_stale-records, peer_at-number, put_peer-others, forget-others}
@@ -38,6 +38,7 @@ te_stays s (Report n r) = decided-has (λ t. t.te ≡ s.te) s (must_be_up s n) (
 te_stays s (Marker n) = decided-has (λ t. t.te ≡ s.te) s (must_be_up s n) (done (after_marker s n)) refl refl
 te_stays s (Down n) = decided-has (λ t. t.te ≡ s.te) s (must_be_up s n) (done (after_down s n)) refl refl
 te_stays s (Expire n) = decided-has (λ t. t.te ≡ s.te) s (must_be_known s n ⨟ must_be_down s n) (done (after_expire s n)) refl refl
+te_stays s (Drain n) = decided-has (λ t. t.te ≡ s.te) s (must_be_up s n) (drained s n) refl refl
 
 -- ---- counts rise by one at most, and never fall
 
@@ -58,6 +59,7 @@ counts_rise s (Report n r) = decided-has (CountsRise s) s (must_be_up s n) (book
 counts_rise s (Marker n) = decided-has (CountsRise s) s (must_be_up s n) (done (after_marker s n)) (no_rise s) (affected_rise s n (marker_effect s.base n) _ s.last_session (omega arith) (omega arith))
 counts_rise s (Down n) = decided-has (CountsRise s) s (must_be_up s n) (done (after_down s n)) (no_rise s) (record { changes_kept = omega arith; changes_rise = omega arith; sessions_kept = omega arith; sessions_rise = omega arith })
 counts_rise s (Expire n) = decided-has (CountsRise s) s (must_be_known s n ⨟ must_be_down s n) (done (after_expire s n)) (no_rise s) (affected_rise s n (expire_effect s.base n) _ s.last_session (omega arith) (omega arith))
+counts_rise s (Drain n) = decided-has (CountsRise s) s (must_be_up s n) (drained s n) (no_rise s) (no_rise s)
 
 -- ---- an event changes what is of its own peer alone
 
@@ -90,6 +92,7 @@ others_stay s (Report n r) = decided-has (OthersStay n s) s (must_be_up s n) (bo
 others_stay s (Marker n) = decided-has (OthersStay n s) s (must_be_up s n) (done (after_marker s n)) (all_stay n s) (marker_others n s)
 others_stay s (Down n) = decided-has (OthersStay n s) s (must_be_up s n) (done (after_down s n)) (all_stay n s) (down_others n s)
 others_stay s (Expire n) = decided-has (OthersStay n s) s (must_be_known s n ⨟ must_be_down s n) (done (after_expire s n)) (all_stay n s) (expire_others n s)
+others_stay s (Drain n) = decided-has (OthersStay n s) s (must_be_up s n) (drained s n) (all_stay n s) (all_stay n s)
 
 -- ---- a refused event changes nothing
 
@@ -108,6 +111,7 @@ refused_stays s (Report n r) why is = refused_tests s (must_be_up s n) (booked s
 refused_stays s (Marker n) why is = refused_tests s (must_be_up s n) (done (after_marker s n)) why (λ no. absurd (cc (no))) is
 refused_stays s (Down n) why is = refused_tests s (must_be_up s n) (done (after_down s n)) why (λ no. absurd (cc (no))) is
 refused_stays s (Expire n) why is = refused_tests s (must_be_known s n ⨟ must_be_down s n) (done (after_expire s n)) why (λ no. absurd (cc (no))) is
+refused_stays s (Drain n) why is = refused_tests s (must_be_up s n) (drained s n) why (λ no. refl) is
 
 -- ---- the same of a call that takes the step, or leaves the state where memory is refused
 

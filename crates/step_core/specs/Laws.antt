@@ -1,7 +1,7 @@
 -- What holds of every step.
 use Rattle.std.specs.Prelude.{ℕ, ◌≡◌, ◌+◌, ◌≤◌, ◌==◌, not, filter}
 use Rattle.step_core.specs.declared.event.Event.{Event}
-use Rattle.step_core.specs.declared.event.Event.TheVariants.{Up, Report, Marker, Down, Expire}
+use Rattle.step_core.specs.declared.event.Event.TheVariants.{Up, Report, Marker, Down, Expire, Drain}
 use Rattle.step_core.specs.States.{State, is_peer}
 
 -- the peer that an event is of
@@ -11,6 +11,7 @@ peer_of (Report n r) = n
 peer_of (Marker n) = n
 peer_of (Down n) = n
 peer_of (Expire n) = n
+peer_of (Drain n) = n
 
 -- the paths, the records and the sessions of all other peers are as they were, in the same order
 pub record OthersStay (n : ℕ) (old new : State) : Type 0 where

@@ -2,6 +2,7 @@
 use Rattle.std.specs.Prelude.{ℕ, ◌+◌, Bool, true, false, ◌==◌, ◌&&◌, not, List, [], ◌∷◌, find, unwrap_or, Option, is_some, if◌then◌else◌}
 use Rattle.std.specs.List.{list_any}
 use Rattle.pcep_objects.specs.declared.object.Capabilities.{Capabilities}
+use Rattle.pcep_messages.specs.declared.message.Message.{Message}
 use Rattle.te_base.specs.Base.{Base}
 use Rattle.lsp_base.specs.Base.{Lsps, no_lsps, changed}
 use Rattle.lsp_base.specs.declared.path.Path.{Path}
@@ -50,6 +51,10 @@ put_peer (q ∷ ps) p = if is_peer p.number q then p ∷ ps else q ∷ put_peer 
 -- a peer in a new session; it synchronizes where it sent the capability (RFC 8231 section 5.6)
 abbrev pub in_session : Peer → ℕ → Option Capabilities → Peer
 in_session p session sent = record p { up = true; session = session; capabilities = unwrap_or sent no_capabilities; syncing = is_some sent }
+
+-- what waits for a peer to be sent: nothing is queued yet
+abbrev pub outgoing : State → ℕ → List Message
+outgoing s n = []
 
 -- ---- effects
 

@@ -9,10 +9,10 @@ use Rattle.lsp_base.specs.declared.why.Why.TheVariants.{UnknownPeer, PeerUp, Pee
 use Rattle.sync_rules.specs.Peers.{up_effect, marker_effect, down_effect, expire_effect}
 use Rattle.delegate_rules.specs.Effects.{report_result}
 use Rattle.step_core.specs.declared.event.Event.{Event}
-use Rattle.step_core.specs.declared.event.Event.TheVariants.{Up, Report, Marker, Down, Expire}
+use Rattle.step_core.specs.declared.event.Event.TheVariants.{Up, Report, Marker, Down, Expire, Drain}
 use Rattle.step_core.specs.declared.event.Reply.{Reply}
-use Rattle.step_core.specs.declared.event.Reply.TheVariants.{Done, Booked, Refused}
-use Rattle.step_core.specs.States.{State, is_known, peer_at, is_peer, put_peer, in_session, is_up, affected}
+use Rattle.step_core.specs.declared.event.Reply.TheVariants.{Done, Booked, Out, Refused}
+use Rattle.step_core.specs.States.{State, is_known, peer_at, is_peer, put_peer, in_session, is_up, outgoing, affected}
 
 pub record Outcome : Type 0 where
   pub state : State
@@ -81,6 +81,14 @@ after_expire s n = record (affected s n (expire_effect s.base n)) { peers = filt
 abbrev pub expire_step : State → ℕ → Outcome
 expire_step s n = decided s (must_be_known s n ⨟ must_be_down s n) (done (after_expire s n))
 
+-- ---- what waits for a peer that is up is handed out to be sent, and the state stays
+
+abbrev pub drained : State → ℕ → Outcome
+drained s n = record { state = s; reply = Out (outgoing s n) }
+
+abbrev pub drain_step : State → ℕ → Outcome
+drain_step s n = decided s (must_be_up s n) (drained s n)
+
 -- ---- an LSP is reported (RFC 8231 section 6.1)
 
 -- the LSP waits for a path, and the PCE may send the peer one (RFC 8231 section 5.8.3)
@@ -102,3 +110,4 @@ step s (Report n r) = report_step s n r
 step s (Marker n) = marker_step s n
 step s (Down n) = down_step s n
 step s (Expire n) = expire_step s n
+step s (Drain n) = drain_step s n

@@ -1,8 +1,8 @@
 //! Events, and what the database answers.
 use lsp_base::Why;
-use pcep_messages::StateReport;
+use pcep_messages::{Message, StateReport};
 use pcep_objects::Capabilities;
-use sequence::PlainData;
+use sequence::{PlainData, Sequence};
 use std::alloc::AllocError;
 
 /// What happens to the database. Every event is of one peer.
@@ -31,6 +31,10 @@ pub enum Event {
     Expire {
         peer: u32,
     },
+    /// What waits for the peer is to be sent.
+    Drain {
+        peer: u32,
+    },
 }
 
 impl PlainData for Event {
@@ -47,17 +51,21 @@ impl PlainData for Event {
             Event::Marker { peer } => Event::Marker { peer: *peer },
             Event::Down { peer } => Event::Down { peer: *peer },
             Event::Expire { peer } => Event::Expire { peer: *peer },
+            Event::Drain { peer } => Event::Drain { peer: *peer },
         })
     }
 }
 
 /// What the database answers to an event.
-#[derive(Debug, Drop, PartialEq, Eq)]
+#[derive(Debug, Drop)]
 pub enum Reply {
     Done,
     /// A report was booked. The LSP waits for a path that the PCE may give it: it is delegated and down,
     /// has no route, and its peer takes updates and isn't synchronizing.
     Booked { wants_path: bool },
+    /// The messages that wait for the peer, to be sent in this order. Nothing is queued yet, so the list is
+    /// empty.
+    Out(Sequence<Message>),
     /// The event changed nothing.
     Refused(Why),
 }
@@ -69,6 +77,7 @@ impl PlainData for Reply {
             Reply::Booked { wants_path } => Reply::Booked {
                 wants_path: *wants_path,
             },
+            Reply::Out(messages) => Reply::Out(messages.copy()?),
             Reply::Refused(why) => Reply::Refused(*why),
         })
     }

@@ -1,9 +1,9 @@
 //! What the database knows at one moment, and what one event does to it: sessions that come up and go
-//! down, the end of synchronization, state reports, and peers that expire. `State::step` is the
-//! definition `step` of `specs/Steps.antt` in full, the state after it and the reply; a refused event
-//! changes nothing, and where memory is refused nothing has changed. An event changes the paths, the
-//! records and the session of its own peer alone (`specs/Laws.antt`). What is left of a link is the share
-//! rule of `lsp_base` over the paths of the state.
+//! down, the end of synchronization, state reports, peers that expire, and the messages that wait for a
+//! peer, which are handed out to be sent. `State::step` is the definition `step` of `specs/Steps.antt` in
+//! full, the state after it and the reply; a refused event changes nothing, and where memory is refused
+//! nothing has changed. An event changes the paths, the records and the session of its own peer alone
+//! (`specs/Laws.antt`). What is left of a link is the share rule of `lsp_base` over the paths of the state.
 //!
 //! ```text
 //! fn left_after(state: &mut State, event: &Event) -> Result<Option<i64>, AllocError>

@@ -65,6 +65,7 @@ impl State {
             Event::Marker { peer } => self.marker(*peer),
             Event::Down { peer } => self.down(*peer),
             Event::Expire { peer } => self.expire(*peer),
+            Event::Drain { peer } => Ok(self.drain(*peer)),
         }
     }
 

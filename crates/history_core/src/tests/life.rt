@@ -1,131 +1,154 @@
 //! The life of a peer, refusals in their order, and limits.
 use super::*;
 
+const ENDED: [Row; 2] = [
+    (Act::Tell(1, FIRST), BOOKED, HALF),
+    (Act::Down(1), Brief::Done, HALF),
+];
+
+const COMES_AGAIN: [Row; 2] = [
+    (Act::Up(1, Some(BOTH)), Brief::Done, HALF),
+    (Act::Marker(1), Brief::Done, FREE),
+];
+
 #[test]
 fn paths_outlive_the_session(rt: HostRuntime) -> Result<(), Fail> {
     let alloc = rt.alloc();
     let mut database = opened(&rt, alloc)?;
-    assert_eq!(rt; tell(alloc, &mut database, 1, FIRST)?, booked());
-    assert_eq!(rt; database.apply(Event::Down { peer: 1 })?, Reply::Done);
+    run(&rt, alloc, &mut database, &ENDED)?;
     assert!(rt; !database.is_up(1));
-    left(&rt, &database, [500_000; 8], FREE);
-    assert_eq!(rt; up(&mut database, 1, Some(BOTH))?, Reply::Done);
-    left(&rt, &database, [500_000; 8], FREE);
-    assert_eq!(rt; database.apply(Event::Marker { peer: 1 })?, Reply::Done);
-    left(&rt, &database, FREE, FREE);
-    Ok(())
+    run(&rt, alloc, &mut database, &COMES_AGAIN)
 }
+
+const WITHOUT_THE_CAPABILITY: [Row; 3] = [
+    (Act::Tell(1, FIRST), BOOKED, HALF),
+    (Act::Down(1), Brief::Done, HALF),
+    (Act::Up(1, None), Brief::Done, FREE),
+];
 
 #[test]
 fn a_peer_without_the_capability_keeps_nothing(rt: HostRuntime) -> Result<(), Fail> {
     let alloc = rt.alloc();
     let mut database = opened(&rt, alloc)?;
-    assert_eq!(rt; tell(alloc, &mut database, 1, FIRST)?, booked());
-    assert_eq!(rt; database.apply(Event::Down { peer: 1 })?, Reply::Done);
-    assert_eq!(rt; up(&mut database, 1, None)?, Reply::Done);
-    left(&rt, &database, FREE, FREE);
-    Ok(())
+    run(&rt, alloc, &mut database, &WITHOUT_THE_CAPABILITY)
 }
+
+const EXPIRES: [Row; 4] = [
+    (Act::Tell(1, FIRST), BOOKED, HALF),
+    (Act::Down(1), Brief::Done, HALF),
+    (Act::Expire(1), Brief::Done, FREE),
+    (Act::Marker(1), Brief::Refused(Why::UnknownPeer), FREE),
+];
 
 #[test]
 fn a_peer_expires(rt: HostRuntime) -> Result<(), Fail> {
     let alloc = rt.alloc();
     let mut database = opened(&rt, alloc)?;
-    assert_eq!(rt; tell(alloc, &mut database, 1, FIRST)?, booked());
-    assert_eq!(rt; database.apply(Event::Down { peer: 1 })?, Reply::Done);
-    assert_eq!(rt; database.apply(Event::Expire { peer: 1 })?, Reply::Done);
-    left(&rt, &database, FREE, FREE);
-    let reply = database.apply(Event::Marker { peer: 1 })?;
-    assert_eq!(rt; reply, Reply::Refused(Why::UnknownPeer));
-    Ok(())
+    run(&rt, alloc, &mut database, &EXPIRES)
 }
+
+/// While the peer synchronizes nothing waits.
+const WAITS: [Row; 5] = [
+    (
+        Act::Wait(1, FIRST),
+        Brief::Booked { wants_path: true },
+        FREE,
+    ),
+    (Act::Expire(1), Brief::Refused(Why::PeerUp), FREE),
+    (Act::Down(1), Brief::Done, FREE),
+    (Act::Up(1, Some(BOTH)), Brief::Done, FREE),
+    (Act::Wait(1, FIRST), BOOKED, FREE),
+];
 
 #[test]
 fn a_delegated_path_without_a_route_waits(rt: HostRuntime) -> Result<(), Fail> {
     let alloc = rt.alloc();
     let mut database = opened(&rt, alloc)?;
-    // delegated, active and down
-    let waits = bare(alloc, FIRST, 9)?;
-    let event = Event::Report {
-        peer: 1,
-        report: waits,
-    };
-    assert_eq!(rt;
-        database.apply(event.copy()?)?,
-        Reply::Booked { wants_path: true }
-    );
-    assert_eq!(rt;
-        database.apply(Event::Expire { peer: 1 })?,
-        Reply::Refused(Why::PeerUp)
-    );
-    assert_eq!(rt; database.apply(Event::Down { peer: 1 })?, Reply::Done);
-    assert_eq!(rt; up(&mut database, 1, Some(BOTH))?, Reply::Done);
-    // while the peer synchronizes nothing waits
-    assert_eq!(rt; database.apply(event)?, booked());
+    run(&rt, alloc, &mut database, &WAITS)
+}
+
+/// Nothing is queued yet. A peer that is up, and one that is unknown, is down, or has expired.
+const DRAINED: [Row; 6] = [
+    (Act::Drain(1), Brief::Out { messages: 0 }, FREE),
+    (Act::Drain(2), Brief::Refused(Why::UnknownPeer), FREE),
+    (Act::Down(1), Brief::Done, FREE),
+    (Act::Drain(1), Brief::Refused(Why::PeerDown), FREE),
+    (Act::Expire(1), Brief::Done, FREE),
+    (Act::Drain(1), Brief::Refused(Why::UnknownPeer), FREE),
+];
+
+#[test]
+fn what_waits_for_a_peer_is_handed_out(rt: HostRuntime) -> Result<(), Fail> {
+    let alloc = rt.alloc();
+    let mut database = opened(&rt, alloc)?;
+    run(&rt, alloc, &mut database, &DRAINED)?;
+    assert_eq!(rt; database.steps(), 8);
     Ok(())
 }
+
+/// A report of a reserved PLSP-ID.
+const BAD: Told = Told {
+    plsp: 0,
+    flags: 0x18,
+    identifiers: Some((1, 1)),
+    by_c: false,
+    setup: 7,
+    hold: 0,
+    word: W500K,
+};
+
+/// Peer 1 is up, and in the last four rows down; peer 2 is unknown.
+const REFUSED: [Row; 12] = [
+    (Act::Up(1, None), Brief::Refused(Why::PeerUp), FREE),
+    (Act::Expire(1), Brief::Refused(Why::PeerUp), FREE),
+    (Act::Tell(1, BAD), Brief::Refused(Why::BadReport), FREE),
+    (Act::Tell(2, BAD), Brief::Refused(Why::UnknownPeer), FREE),
+    (Act::Marker(2), Brief::Refused(Why::UnknownPeer), FREE),
+    (Act::Down(2), Brief::Refused(Why::UnknownPeer), FREE),
+    (Act::Expire(2), Brief::Refused(Why::UnknownPeer), FREE),
+    (Act::Down(1), Brief::Done, FREE),
+    (Act::Tell(1, BAD), Brief::Refused(Why::PeerDown), FREE),
+    (Act::Marker(1), Brief::Refused(Why::PeerDown), FREE),
+    (Act::Down(1), Brief::Refused(Why::PeerDown), FREE),
+    (Act::Drain(1), Brief::Refused(Why::PeerDown), FREE),
+];
 
 #[test]
 fn refusals_come_in_their_order(rt: HostRuntime) -> Result<(), Fail> {
     let alloc = rt.alloc();
     let mut database = opened(&rt, alloc)?;
-    let bad = Told { plsp: 0, ..FIRST };
-    let refused = |why| Reply::Refused(why);
-    // peer 1 is up, peer 2 is unknown
-    assert_eq!(rt; up(&mut database, 1, None)?, refused(Why::PeerUp));
-    assert_eq!(rt;
-        database.apply(Event::Expire { peer: 1 })?,
-        refused(Why::PeerUp)
-    );
-    assert_eq!(rt;
-        tell(alloc, &mut database, 1, bad)?,
-        refused(Why::BadReport)
-    );
-    assert_eq!(rt;
-        tell(alloc, &mut database, 2, bad)?,
-        refused(Why::UnknownPeer)
-    );
-    assert_eq!(rt;
-        database.apply(Event::Marker { peer: 2 })?,
-        refused(Why::UnknownPeer)
-    );
-    assert_eq!(rt;
-        database.apply(Event::Down { peer: 2 })?,
-        refused(Why::UnknownPeer)
-    );
-    assert_eq!(rt;
-        database.apply(Event::Expire { peer: 2 })?,
-        refused(Why::UnknownPeer)
-    );
-    assert_eq!(rt; database.apply(Event::Down { peer: 1 })?, Reply::Done);
-    // now peer 1 is down
-    assert_eq!(rt; tell(alloc, &mut database, 1, bad)?, refused(Why::PeerDown));
-    assert_eq!(rt;
-        database.apply(Event::Marker { peer: 1 })?,
-        refused(Why::PeerDown)
-    );
-    assert_eq!(rt;
-        database.apply(Event::Down { peer: 1 })?,
-        refused(Why::PeerDown)
-    );
-    Ok(())
+    run(&rt, alloc, &mut database, &REFUSED)
 }
+
+const ONE_PEER_MORE: [Row; 4] = [
+    (Act::Up(64, None), Brief::Refused(Why::TooManyPeers), FREE),
+    (Act::Up(63, None), Brief::Refused(Why::PeerUp), FREE),
+    // a known peer comes up again
+    (Act::Down(63), Brief::Done, FREE),
+    (Act::Up(63, None), Brief::Done, FREE),
+];
 
 #[test]
 fn at_most_64_peers_are_known(rt: HostRuntime) -> Result<(), Fail> {
-    let mut database = diamond(rt.alloc())?;
+    let alloc = rt.alloc();
+    let mut database = diamond(alloc)?;
     for peer in 0..64 {
-        assert_eq!(rt; up(&mut database, peer, None)?, Reply::Done, "peer {peer}");
+        let brief = take(alloc, &mut database, Act::Up(peer, None))?;
+        assert_eq!(rt; brief, Brief::Done, "peer {peer}");
     }
-    assert_eq!(rt;
-        up(&mut database, 64, None)?,
-        Reply::Refused(Why::TooManyPeers)
-    );
-    assert_eq!(rt; up(&mut database, 63, None)?, Reply::Refused(Why::PeerUp));
-    // a known peer comes up again
-    assert_eq!(rt; database.apply(Event::Down { peer: 63 })?, Reply::Done);
-    assert_eq!(rt; up(&mut database, 63, None)?, Reply::Done);
-    Ok(())
+    run(&rt, alloc, &mut database, &ONE_PEER_MORE)
+}
+
+/// The first report with another LSP ID.
+fn with_lsp_id(lsp: u32) -> Act {
+    let identifiers = Some((lsp, 1));
+    Act::Tell(
+        1,
+        Told {
+            identifiers,
+            ..FIRST
+        },
+    )
 }
 
 #[test]
@@ -133,23 +156,13 @@ fn at_most_16384_paths_stand(rt: HostRuntime) -> Result<(), Fail> {
     let alloc = rt.alloc();
     let mut database = opened(&rt, alloc)?;
     for lsp in 1..16_385 {
-        let told = Told {
-            identifiers: Some((lsp, 1)),
-            ..FIRST
-        };
-        assert_eq!(rt;
-            tell(alloc, &mut database, 1, told)?,
-            booked(),
-            "LSP ID {lsp}"
-        );
+        let brief = take(alloc, &mut database, with_lsp_id(lsp))?;
+        assert_eq!(rt; brief, BOOKED, "LSP ID {lsp}");
     }
-    let one_more = Told {
-        identifiers: Some((16_385, 1)),
-        ..FIRST
-    };
-    let reply = tell(alloc, &mut database, 1, one_more)?;
-    assert_eq!(rt; reply, Reply::Refused(Why::TooManyPaths));
+    let brief = take(alloc, &mut database, with_lsp_id(16_385))?;
+    assert_eq!(rt; brief, Brief::Refused(Why::TooManyPaths));
     // a report of a path that stands takes its place
-    assert_eq!(rt; tell(alloc, &mut database, 1, FIRST)?, booked());
+    let brief = take(alloc, &mut database, Act::Tell(1, FIRST))?;
+    assert_eq!(rt; brief, BOOKED);
     Ok(())
 }

@@ -7,23 +7,37 @@ fn insist(
     database: &mut Database,
     event: &Event,
     by_b: [i64; 8],
-) -> Result<Reply, Fail> {
+) -> Result<Brief, Fail> {
     for _ in 0..3 {
         let Ok(copy) = event.copy() else {
             continue;
         };
         let steps = database.steps();
         match database.apply(copy) {
-            Ok(reply) => return Ok(reply),
+            Ok(reply) => return Ok(shortened(&reply)),
             Err(fault) => {
                 assert_eq!(rt; fault, Fault::OutOfMemory);
                 assert_eq!(rt; database.steps(), steps);
-                left(rt, database, by_b, FREE);
+                left(rt, database, by_b);
             }
         }
     }
     Err(Fail::new("refused three times"))
 }
+
+const EVENTS: [Row; 11] = [
+    (Act::Up(1, Some(BOTH)), Brief::Done, FREE),
+    (Act::Marker(1), Brief::Done, FREE),
+    (Act::Tell(1, FIRST), BOOKED, HALF),
+    (Act::Tell(1, SECOND), BOOKED, HALF),
+    (Act::Withdraw(1, FIRST), BOOKED, MOST),
+    (Act::Drain(1), Brief::Out { messages: 0 }, MOST),
+    (Act::Down(1), Brief::Done, MOST),
+    (Act::Up(1, Some(BOTH)), Brief::Done, MOST),
+    (Act::Marker(1), Brief::Done, FREE),
+    (Act::Down(1), Brief::Done, FREE),
+    (Act::Expire(1), Brief::Done, FREE),
+];
 
 /// Run it with each of its allocations refused in turn (`rt try --test --fail-alloc N`): it passes wherever
 /// the refused one lies in `apply` or in a copy.
@@ -31,56 +45,14 @@ fn insist(
 fn an_event_may_be_applied_again_after_want_of_memory(rt: HostRuntime) -> Result<(), Fail> {
     let alloc = rt.alloc();
     let mut database = diamond(alloc)?;
-    let second = Told {
-        identifiers: Some((2, 1)),
-        word: W250K,
-        ..FIRST
-    };
-    let first = Event::Report {
-        peer: 1,
-        report: report(alloc, FIRST)?,
-    };
-    let other = Event::Report {
-        peer: 1,
-        report: report(alloc, second)?,
-    };
-    let removal = Event::Report {
-        peer: 1,
-        report: bare(alloc, FIRST, 4)?,
-    };
-    let comes = Event::Up {
-        peer: 1,
-        capabilities: Some(BOTH),
-    };
-    let half = [500_000; 8];
-    let most = [750_000; 8];
-    assert_eq!(rt; insist(&rt, &mut database, &comes, FREE)?, Reply::Done);
-    assert_eq!(rt;
-        insist(&rt, &mut database, &Event::Marker { peer: 1 }, FREE)?,
-        Reply::Done
-    );
-    assert_eq!(rt; insist(&rt, &mut database, &first, FREE)?, booked());
-    assert_eq!(rt; insist(&rt, &mut database, &other, half)?, booked());
-    assert_eq!(rt; insist(&rt, &mut database, &removal, half)?, booked());
-    left(&rt, &database, most, FREE);
-    assert_eq!(rt;
-        insist(&rt, &mut database, &Event::Down { peer: 1 }, most)?,
-        Reply::Done
-    );
-    assert_eq!(rt; insist(&rt, &mut database, &comes, most)?, Reply::Done);
-    assert_eq!(rt;
-        insist(&rt, &mut database, &Event::Marker { peer: 1 }, most)?,
-        Reply::Done
-    );
-    left(&rt, &database, FREE, FREE);
-    assert_eq!(rt;
-        insist(&rt, &mut database, &Event::Down { peer: 1 }, FREE)?,
-        Reply::Done
-    );
-    assert_eq!(rt;
-        insist(&rt, &mut database, &Event::Expire { peer: 1 }, FREE)?,
-        Reply::Done
-    );
-    assert_eq!(rt; database.steps(), 10);
+    let mut before = FREE;
+    for (number, row) in EVENTS.iter().enumerate() {
+        let event = event_of(alloc, row.0)?;
+        let brief = insist(&rt, &mut database, &event, before)?;
+        assert_eq!(rt; brief, row.1, "row {number}");
+        before = row.2;
+        left(&rt, &database, before);
+    }
+    assert_eq!(rt; database.steps(), 11);
     Ok(())
 }

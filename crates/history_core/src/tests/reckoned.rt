@@ -181,27 +181,33 @@ fn turn(
     database: &mut Database,
     sent: &mut [Option<Sent>; 30],
     random: &mut Random,
-) -> Result<Reply, Fail> {
+) -> Result<Brief, Fail> {
     let chosen = chosen_at_random(random);
     reckon(sent, &chosen);
     let told = told_of(&chosen);
-    if chosen.removes {
-        withdraw(alloc, database, chosen.peer, told)
+    let act = if chosen.removes {
+        Act::Withdraw(chosen.peer, told)
     } else {
-        tell(alloc, database, chosen.peer, told)
-    }
+        Act::Tell(chosen.peer, told)
+    };
+    take(alloc, database, act)
 }
 
 #[test]
 fn a_thousand_reports_leave_what_was_reckoned(rt: HostRuntime) -> Result<(), Fail> {
     let alloc = rt.alloc();
     let mut database = opened(&rt, alloc)?;
-    assert_eq!(rt; up(&mut database, 2, None)?, Reply::Done);
+    run(
+        &rt,
+        alloc,
+        &mut database,
+        &[(Act::Up(2, None), Brief::Done, FREE)],
+    )?;
     let mut sent = [None; 30];
     let mut random = Random { state: 2026 };
     for n in 0..1000 {
-        let reply = turn(alloc, &mut database, &mut sent, &mut random)?;
-        assert_eq!(rt; reply, booked(), "turn {n}");
+        let brief = turn(alloc, &mut database, &mut sent, &mut random)?;
+        assert_eq!(rt; brief, BOOKED, "turn {n}");
         compare(&rt, &database, &sent, n);
     }
     assert_eq!(rt; database.steps(), 1003);

@@ -1,6 +1,6 @@
 //! The life of a peer's session.
 ghost use Rattle.std.specs.Prelude.{◌≡◌, ◌<◌, ◌^◌, IfOk, OnOk, OnErr};
-ghost use Rattle.step_core.specs.Steps.{up_step, marker_step, down_step, expire_step};
+ghost use Rattle.step_core.specs.Steps.{up_step, marker_step, down_step, expire_step, drain_step};
 
 use super::State;
 use super::reports::change_lsps;
@@ -8,6 +8,7 @@ use crate::event::Reply;
 use crate::peer::{PEER_LIMIT, find_peer, forget_peer, knows_peer, set_peer, with_session};
 use lsp_base::Why;
 use pcep_objects::Capabilities;
+use sequence::Sequence;
 use std::alloc::AllocError;
 use sync_rules::{on_down, on_expire, on_marker, on_up};
 
@@ -104,5 +105,20 @@ impl State {
         change_lsps(&mut self.base, &mut self.changes, peer, effect);
         forget_peer(&mut self.peers, peer);
         Ok(Reply::Done)
+    }
+
+    /// What waits for the peer is handed out to be sent: nothing is queued yet, so the list is empty. It
+    /// takes no memory.
+    pub(super) fn drain(&self, peer: u32) -> Reply
+        ensures reply { result ≡ (drain_step self.now peer).reply }
+        ensures state { self.now ≡ (drain_step self.now peer).state }
+    {
+        if !knows_peer(self.peers.as_slice(), peer) {
+            return Reply::Refused(Why::UnknownPeer);
+        }
+        if !find_peer(self.peers.as_slice(), peer).up {
+            return Reply::Refused(Why::PeerDown);
+        }
+        Reply::Out(Sequence::from_vec(Vec::new(self.alloc)))
     }
 }
