@@ -4,3 +4,4 @@ mod Pieces
 mod Outputs
 pub mod Cuts
 pub mod Calling
+pub mod Endings

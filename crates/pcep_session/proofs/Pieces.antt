@@ -1,5 +1,5 @@
 -- Bytes that come in one piece or in two.
-use Rattle.std.proofs.Common.{◌≡◌, ◌≢◌, ℕ, ◌≤◌, max, Bool, true, false, cond, List, [], ◌∷◌, ◌++◌, length, take, refl, sym, ap, ◌∙◌, subst, append_assoc, length-append, arith}
+use Rattle.std.proofs.Common.{◌≡◌, ◌≢◌, ℕ, ◌≤◌, max, Bool, true, false, ◌||◌, cond, List, [], ◌∷◌, ◌++◌, length, take, refl, sym, ap, ◌∙◌, subst, append_assoc, length-append, arith}
 use Rattle.std.specs.Prelude.{Option, Some, None, nat_lt, is_some}
 use Rattle.std.proofs.lemmas.Bool.Decides.{nat_tests}
 use Rattle.std.proofs.lemmas.List.{take-append-le, drop-append-le}
@@ -47,11 +47,15 @@ stays false short' true cut cut' n h f g = rw (f refl) refl
 stays false short' false true cut' n h f g = absurd (h refl)
 stays false short' false false cut' n h f g = rw (f refl, g refl) refl
 
-whole_is : (short bad cut : Bool) (m n : ℕ) → front_if short bad cut m ≡ Whole n → (cut ≡ false) × (m ≡ n)
+whole_is : (short bad cut : Bool) (m n : ℕ) → front_if short bad cut m ≡ Whole n → (cut ≡ false) × (m ≡ n) × (bad ≡ false)
 whole_is true bad cut m n h = (cc)
 whole_is false true cut m n h = (cc)
 whole_is false false true m n h = (cc)
-whole_is false false false m n h = (refl, cc)
+whole_is false false false m n h = (refl, cc, refl)
+
+bad_is : (short bad cut : Bool) (n : ℕ) → front_if short bad cut n ≡ Bad → short ≡ false
+bad_is true bad cut n h = (cc)
+bad_is false bad cut n h = refl
 
 longer : (m n k : ℕ) → m ≤ n → nat_lt m k ≡ false → nat_lt n k ≡ false
 longer m n k h e = grind (arith, nat_tests)
@@ -79,6 +83,23 @@ unfolding front_of
 whole_fits bytes n h =
     let e = whole_is (nat_lt (length bytes) 4) (is_bad bytes) (nat_lt (length bytes) (message_length bytes)) (message_length bytes) n h in
     subst (λ (m : ℕ). m ≤ length bytes) e.1 (at_least (length bytes) (message_length bytes) e.0)
+
+second_false : (x y z : Bool) → (x || y || z) ≡ false → y ≡ false
+second_false x false z e = refl
+second_false true true z e = (cc)
+second_false false true z e = (cc)
+
+-- a message has a header
+pub whole_header : (bytes : List ℕ) (n : ℕ) → front_of bytes ≡ Whole n → 4 ≤ n
+unfolding front_of
+whole_header bytes n h =
+    let e = whole_is (nat_lt (length bytes) 4) (is_bad bytes) (nat_lt (length bytes) (message_length bytes)) (message_length bytes) n h in
+    subst (λ (m : ℕ). 4 ≤ m) e.1 (at_least (message_length bytes) 4 (second_false _ _ _ e.2))
+
+-- so has what is bad
+pub bad_header : (bytes : List ℕ) → front_of bytes ≡ Bad → 4 ≤ length bytes
+unfolding front_of
+bad_header bytes h = at_least (length bytes) 4 (bad_is (nat_lt (length bytes) 4) (is_bad bytes) (nat_lt (length bytes) (message_length bytes)) (message_length bytes) h)
 
 -- a turn doesn't look behind its message
 going_more : (s : State) (q : List ℕ) (c : Contents) → going_to s (more q c) ≡ more_again q (going_to s c)

@@ -5,6 +5,7 @@ ghost use Rattle.pcep_messages.specs.Spelling.{written};
 ghost use Rattle.pcep_session.specs.Calls.{own_open, own_opening};
 ghost use Rattle.pcep_session.specs.Runs.{CallsAreARun};
 ghost use Rattle.pcep_session.specs.Cuts.{CutAnyWay};
+ghost use Rattle.pcep_session.specs.Ends.{TurnsEnd, TurnsRunOut};
 
 /// A list of calls, each of which did what its contract says, is a run: the inputs, the output taken and the
 /// session after it are those of the definitions. Calls that found no memory don't count.
@@ -16,6 +17,17 @@ pub fn calls_are_a_run()
 /// they are cut into pieces, where `next` is called to None after each piece and no timer is due then.
 pub fn cut_any_way()
     ensures { CutAnyWay }
+{}
+
+/// After `most_turns` calls of `next` one more answers None: nothing is left to handle.
+pub fn turns_end()
+    ensures { TurnsEnd }
+{}
+
+/// Each input that `next` gives takes one of the turns that are left, which are `most_turns` at most, and what
+/// the caller sends, ends or takes in between adds none: only `feed` and `tick` do.
+pub fn turns_run_out()
+    ensures { TurnsRunOut }
 {}
 
 /// The bytes that a session begins with are the spelling of its Open.

@@ -2,18 +2,19 @@
 //!
 //! Bytes of a peer and moments go in, inputs for the layer above and bytes for the peer come out; the crate
 //! touches no clock and no socket. The layer above may rely on it that each call is exactly one step of the
-//! definitions, so that a list of calls is a run of them; that a refused call changes nothing; and that the
-//! same bytes at the same moments give the same inputs and the same output however they are cut into pieces.
+//! definitions, so that a list of calls is a run of them; that a refused call changes nothing; that the same
+//! bytes at the same moments give the same inputs and the same output however they are cut into pieces; and
+//! that after `most_turns` turns nothing is left to handle.
 //!
 //! The definitions stand in `specs/`: `Table` has the reaction to what comes, state by state, and the timers;
 //! `Framing` tells a whole message, a bad header and a part of a message apart; `Turns` is `next`, `Calls` are
-//! the other calls, `Runs` lists of calls, `Cuts` the law of pieces.
+//! the other calls, `Runs` lists of calls, `Cuts` the law of pieces, `Ends` that the turns end.
 //!
 //! ```
 //! // All inputs of a piece, and the bytes to be sent.
 //! fn serve(session: &mut Session, piece: &[u8], now_ms: u64) -> Result<Vec<u8>, SessionFault> {
 //!     session.feed(piece, now_ms)?;
-//!     for _ in 0..=piece.len() {
+//!     for _ in 0..session.most_turns() {
 //!         match session.next()? {
 //!             Some(Input::Message(message)) => handle(message),
 //!             Some(_) => {}
@@ -42,7 +43,7 @@ mod turns;
 
 pub use contents::Contents;
 pub use fault::SessionFault;
-pub use laws::{calls_are_a_run, cut_any_way, own_open_is_a_message};
+pub use laws::{calls_are_a_run, cut_any_way, own_open_is_a_message, turns_end, turns_run_out};
 pub use session::Session;
 pub use table::{Input, State};
 
