@@ -1,0 +1,157 @@
+-- What the engine does with what a session gives: the events that it submits for a peer, and by their replies
+-- what it sends and when it ends the session. `go_on` is what comes afterwards.
+use Rattle.std.specs.Prelude.{ℕ, suc, zero, Bool, true, false, ◌==◌, ◌&&◌, not, List, [], ◌∷◌, fold, Option, Some, None, if◌then◌else◌}
+use Rattle.pcep_objects.specs.declared.object.Capabilities.{Capabilities}
+use Rattle.pcep_objects.specs.declared.object.Hop.{Hop}
+use Rattle.pcep_messages.specs.declared.fault.About.{About}
+use Rattle.pcep_messages.specs.declared.fault.About.TheVariants as about
+use Rattle.pcep_messages.specs.declared.message.Message.{Message}
+use Rattle.pcep_messages.specs.declared.message.Message.TheVariants as messages
+use Rattle.pcep_messages.specs.declared.message.StateReport.{StateReport}
+use Rattle.pcep_messages.specs.declared.notice.PcError.{PcError}
+use Rattle.pcep_session.specs.Calls.{begun, fed, sent, error_reported, ended_by}
+use Rattle.pcep_session.specs.Runs.{or_same}
+use Rattle.pcep_session.specs.Turns.{next, is_closed}
+use Rattle.pcep_session.specs.Ends.{most_turns}
+use Rattle.pcep_session.specs.declared.contents.Contents.{Contents}
+use Rattle.pcep_session.specs.declared.table.Input.{Input}
+use Rattle.pcep_session.specs.declared.table.Input.TheVariants as input
+use Rattle.pcep_session.specs.declared.table.State.{State}
+use Rattle.pcep_session.specs.declared.table.State.TheVariants.{Up}
+use Rattle.lsp_base.specs.declared.why.Why.{Why}
+use Rattle.lsp_base.specs.declared.why.Why.TheVariants.{PeerUp, TooManyPeers}
+use Rattle.step_core.specs.declared.event.Event.{Event}
+use Rattle.step_core.specs.declared.event.Event.TheVariants as event
+use Rattle.step_core.specs.declared.event.Reply.{Reply}
+use Rattle.step_core.specs.declared.event.Reply.TheVariants.{Done, Refused, Out}
+use Rattle.engine_core.specs.Plans.{Plan, Ends, Submits}
+use Rattle.engine_core.specs.declared.client.Client.{Client}
+
+abbrev pub with_session : Contents → Client → Client
+with_session s c = record c { session = s }
+
+-- a session that begins: its peer isn't joined
+abbrev pub new_client : ℕ → Client
+new_client now_ms = record { session = begun now_ms; joined = false }
+
+-- the session ends, with a PCErr and a Close as given; one that has ended stays as it is
+abbrev pub ending : Option PcError → Option ℕ → Client → Client
+ending error reason c = with_session (or_same c.session (ended_by error reason c.session)) c
+
+-- a PCErr is sent, and the session goes on
+abbrev pub saying : PcError → Client → Client
+saying error c = with_session (or_same c.session (error_reported error c.session)) c
+
+-- ---- Up
+
+-- the peer has a session already (RFC 5440 section 7.15, Error-Type 9)
+abbrev pub second_session : PcError
+second_session = record { about = about.Nothing; kind = 9; value = 0 }
+
+-- a second session of a peer that is up ends with a PCErr, that of a peer too many with a Close (1: no explanation)
+abbrev pub after_refused_up : Why → Client → Client
+after_refused_up PeerUp c = ending (Some second_session) None c
+after_refused_up TooManyPeers c = ending None (Some 1) c
+after_refused_up why c = c
+
+-- an accepted Up joins the peer
+unfoldable pub after_up : Reply → Client → Client
+after_up Done c = record c { joined = true }
+after_up (Refused why) c = after_refused_up why c
+after_up reply c = c
+
+abbrev pub on_up : {W : Type 0} → ℕ → Option Capabilities → Client → (Client → Plan W) → Plan W
+on_up peer sent c go_on = Submits (event.Up peer sent) (λ reply. go_on (after_up reply c))
+
+-- ---- reports (RFC 8231 section 6.1)
+
+abbrev pub is_empty : List Hop → Bool
+is_empty [] = true
+is_empty (hop ∷ hops) = false
+
+-- the end of synchronization: PLSP-ID 0, S clear, an empty ERO (RFC 8231 section 5.6)
+abbrev pub is_end_of_sync : StateReport → Bool
+is_end_of_sync r = r.plsp == 0 && not r.sync && is_empty r.ero
+
+abbrev pub event_of : ℕ → StateReport → Event
+event_of peer r = if is_end_of_sync r then event.Marker peer else event.Report peer r
+
+-- the request that a report answers; SRP-ID 0 names none (RFC 8231 section 7.2)
+abbrev pub srp_about : Option ℕ → About
+srp_about None = about.Nothing
+srp_about (Some id) = if id == 0 then about.Nothing else about.Srp id
+
+-- the PCE cannot process a report (RFC 8231 section 8.5, Error-Type 20)
+abbrev pub cannot_process : Option ℕ → PcError
+cannot_process srp = record { about = srp_about srp; kind = 20; value = 1 }
+
+-- a refused report is answered, and the session goes on
+unfoldable pub after_report : Option ℕ → Reply → Client → Client
+after_report srp (Refused why) c = saying (cannot_process srp) c
+after_report srp reply c = c
+
+abbrev pub on_reports : {W : Type 0} → ℕ → List StateReport → Client → (Client → Plan W) → Plan W
+on_reports peer [] c go_on = go_on c
+on_reports peer (r ∷ rs) c go_on = Submits (event_of peer r) (λ reply. on_reports peer rs (after_report r.srp reply c) go_on)
+
+abbrev pub on_message : {W : Type 0} → ℕ → Message → Client → (Client → Plan W) → Plan W
+on_message peer (messages.Report reports) c go_on = on_reports peer reports c go_on
+on_message peer message c go_on = go_on c
+
+-- ---- Down
+
+abbrev pub on_down : {W : Type 0} → ℕ → Client → (Client → Plan W) → Plan W
+on_down peer c go_on = if c.joined then Submits (event.Down peer) (λ reply. go_on (record c { joined = false })) else go_on c
+
+-- ---- what a session gives
+
+unfoldable pub on_input : {W : Type 0} → ℕ → Input → Client → (Client → Plan W) → Plan W
+on_input peer (input.Up sent) c go_on = on_up peer sent c go_on
+on_input peer (input.Message message) c go_on = on_message peer message c go_on
+on_input peer input.Down c go_on = on_down peer c go_on
+on_input peer input.Handled c go_on = go_on c
+
+-- one turn of the session: what it gives, and on; or nothing is left to handle
+abbrev pub turned : {W : Type 0} → ℕ → Option Input → Client → (Client → Plan W) → (Client → Plan W) → Plan W
+turned peer None c again go_on = go_on c
+turned peer (Some given) c again go_on = on_input peer given c again
+
+-- all that the session gives, in order, in so many turns at most
+abbrev pub turns : {W : Type 0} → ℕ → ℕ → Client → (Client → Plan W) → Plan W
+turns zero peer c go_on = go_on c
+turns (suc most) peer c go_on = turned peer (next c.session).input (with_session (next c.session).after c) (λ after. turns most peer after go_on) go_on
+
+-- ---- what waits for the peer
+
+abbrev pub messages_of : Reply → List Message
+messages_of (Out messages) = messages
+messages_of reply = []
+
+-- a message whose lengths don't fit is left out
+abbrev pub sending_one : Client → Message → Client
+sending_one c message = with_session (or_same c.session (sent message c.session)) c
+
+unfoldable pub sending : Reply → Client → Client
+sending reply c = fold sending_one c (messages_of reply)
+
+abbrev pub is_up : State → Bool
+is_up Up = true
+is_up state = false
+
+abbrev pub draining : {W : Type 0} → ℕ → Client → (Client → Plan W) → Plan W
+draining peer c go_on = if is_up c.session.state then Submits (event.Drain peer) (λ reply. go_on (sending reply c)) else go_on c
+
+-- ---- the calls
+
+-- Bytes of the peer at a moment: all that the session makes of them, then what waits for the peer is sent. A
+-- session that has ended does nothing.
+abbrev pub served_from : {W : Type 0} → ℕ → Client → (Client → Plan W) → Plan W
+served_from peer c go_on = turns (most_turns c.session) peer c (λ after. draining peer after go_on)
+
+unfoldable pub served : ℕ → List ℕ → ℕ → Client → Plan Client
+served peer piece now_ms c =
+    if is_closed c.session.state then Ends c else served_from peer (with_session (fed piece now_ms c.session) c) Ends
+
+-- the transport has ended: a peer that is joined goes down, and the session ends
+unfoldable pub hung_up : ℕ → Client → Plan Client
+hung_up peer c = on_down peer c (λ after. Ends (ending None None after))

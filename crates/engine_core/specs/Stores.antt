@@ -1,0 +1,34 @@
+-- What a call leaves in a store and in a client.
+use Rattle.std.specs.Prelude.{◌≡◌, List, Result, Ok, Err}
+use Rattle.history_core.specs.declared.fault.Fault.{Fault}
+use Rattle.history_core.specs.declared.fault.Fault.TheVariants.{OutOfMemory, HistoryFull}
+use Rattle.engine_core.specs.Joining.{joined_after}
+use Rattle.engine_core.specs.Plans.{Plan, Ends, Submits, Leads}
+use Rattle.engine_core.specs.declared.client.Client.{Client}
+use Rattle.engine_core.specs.declared.store.Call.{Call}
+
+-- ---- a plan that is carried out over a store
+
+-- Some calls were made. They lead the store from `old` to `new`, and one plan to another.
+pub record Carries {S W : Type 0} (moves : S → List Call → S → Type 0) (old new : S) (client after : Client) (plan rest : Plan W) : Type 0 where
+  pub calls : List Call
+  pub made : moves old calls new
+  pub leads : Leads plan calls rest
+  pub joined : after.joined ≡ joined_after client.joined calls
+
+-- memory may run out anywhere; the history is full only where an event is to be submitted
+abbrev pub MayFail : {S W : Type 0} → (S → Type 0) → S → Plan W → Fault → Type 0
+MayFail is_full store rest OutOfMemory = Unit {0}
+MayFail is_full store (Ends w) HistoryFull = ⊥
+MayFail is_full store (Submits event go_on) HistoryFull = is_full store
+
+-- A fault: some calls were made, and the rest of the plan was not carried out.
+pub record Breaks {S W : Type 0} (moves : S → List Call → S → Type 0) (is_full : S → Type 0) (old new : S) (client after : Client) (plan : Plan W) (fault : Fault) : Type 0 where
+  pub rest : Plan W
+  pub carried : Carries moves old new client after plan rest
+  pub cause : MayFail is_full new rest fault
+
+-- What a call leaves: the plan is carried out up to what goes on, or up to a fault.
+abbrev pub Serves : {X S W : Type 0} → Result X Fault → (S → List Call → S → Type 0) → (S → Type 0) → S → S → Client → Client → Plan W → (Client → Plan W) → Type 0
+Serves (Ok x) moves is_full old new client after plan go_on = Carries moves old new client after plan (go_on after)
+Serves (Err fault) moves is_full old new client after plan go_on = Breaks moves is_full old new client after plan fault

@@ -1,0 +1,36 @@
+//! The engine: what a router's PCEP session does to a database (RFC 8231 sections 5 and 6).
+//!
+//! A `Client` is a session with a peer. `serve` hands it bytes at a moment, submits what the session makes of
+//! them to a `Store` as events of the peer, answers the replies in the session's output, and sends what waits
+//! for the peer; `hang_up` is the end of the transport. No clock, socket or lock is touched here: `Lent` is a
+//! database on one thread, and another store may be one that threads share.
+//!
+//! What `serve` does is a plan (`specs/Plans`): events that are submitted one after the other, each chosen by the
+//! replies to those before it. `specs/Engine` has the plan of each call as a table: what is submitted for each
+//! input of the session, and what the replies mean for it. The contracts say that the calls which were added to
+//! the store's list carry that plan out and that the session is the one in which it ends; after a fault they
+//! carry out its beginning (`specs/Stores`). `specs/Performed` carries a plan out against one database.
+//!
+//! ```text
+//! fn answered(alloc: Global, database: &mut Database, client: &mut Client, piece: &[u8]) -> Result<Vec<u8>, Fault>
+//! {
+//!     let mut store = Lent::new(alloc, database);
+//!     serve(client, 1, piece, 0, &mut store)?;
+//!     Ok(client.session.take_output())
+//! }
+//! ```
+//!
+//! The modules, lowest first: `store`, `client`, `inputs`, `serving`, `lent`.
+#![tactic(auto)]
+
+mod client;
+mod inputs;
+mod lent;
+mod serving;
+mod store;
+
+pub use client::Client;
+pub use history_core::{Event, Fault, Reply};
+pub use lent::{Lent, hang_up_database, serve_database};
+pub use serving::{hang_up, serve};
+pub use store::{Call, Store};

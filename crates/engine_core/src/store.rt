@@ -1,0 +1,53 @@
+//! Where events go.
+
+ghost use Rattle.std.specs.Prelude.{◌≡◌, [], ◌∷◌, ◌++◌, List, Err, IfErr, OnOk, OnErr};
+ghost use Rattle.history_core.specs.declared.fault.Fault.TheVariants.{HistoryFull};
+ghost use Rattle.step_core.specs.declared.event.Reply.{Reply};
+ghost use Rattle.engine_core.specs.Calls.{called};
+ghost use Rattle.engine_core.specs.declared.store.Call.{Call};
+
+use history_core::{Event, Fault, Reply};
+
+/// An event that was submitted, with the reply that it got.
+#[derive(Debug, Drop)]
+pub struct Call {
+    pub event: Event,
+    pub reply: Reply,
+}
+
+/// Where events go: a database that is lent, or one that is shared. It keeps a list of the calls that were
+/// made.
+pub trait Store {
+    /// The calls since the list was last emptied.
+    ghost calls: { Self → List Call };
+
+    /// These calls lead from the one to the other.
+    ghost moves: { Self → List Call → Self → Type 0 };
+
+    /// The same store, but for its list.
+    ghost same_but_calls: { Self → Self → Type 0 };
+
+    /// No further step can be kept.
+    ghost is_full: { Self → Type 0 };
+
+    /// Submits an event. It is added to the list with the reply that it got; after a fault nothing is.
+    fn submit(&mut self, event: Event) -> Result<(), Fault>
+        ensures submitted { OnOk result ((reply : Reply) × moves self.old (called event reply ∷ []) self.new) }
+        ensures unchanged { OnErr result (moves self.old [] self.new) }
+        ensures full { result ≡ Err HistoryFull → is_full self.new };
+
+    /// The calls since the list was last emptied, oldest first.
+    fn calls(&self) -> &[Call]
+        ensures { result.now ≡ calls self.now };
+
+    /// Empties the list.
+    fn forget(&mut self)
+        ensures empty { calls self.new ≡ [] }
+        ensures same { same_but_calls self.old self.new };
+
+    ghost moves_nowhere: { (s : Self) → moves s [] s };
+
+    ghost moves_on: { (a b c : Self) (first second : List Call) → moves a first b → moves b second c → moves a (first ++ second) c };
+
+    ghost moves_add: { (a b : Self) (made : List Call) → moves a made b → calls b ≡ calls a ++ made };
+}
