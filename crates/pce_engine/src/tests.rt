@@ -354,6 +354,29 @@ fn a_failing_write(rt: HostRuntime) -> Result<(), Fail> {
     Ok(())
 }
 
+/// Takes each byte, and can't pass them on.
+#[derive(Drop)]
+struct Stuck;
+
+impl Write for Stuck {
+    fn write(&mut self, buf: &[u8]) -> io::Result<usize> {
+        Ok(buf.len())
+    }
+
+    fn flush(&mut self) -> io::Result<()> {
+        Err(io::Error::from(io::ErrorKind::BrokenPipe))
+    }
+}
+
+#[test]
+fn a_failing_flush(rt: HostRuntime) -> Result<(), Fail> {
+    let input = script(rt.alloc(), DIAMOND, &[REPORT])?;
+    let mut reader = input.as_slice();
+    let ended = run_script(rt.alloc(), &mut reader, &mut Stuck);
+    assert_eq!(rt; ended.err(), Some(ScriptFault::WriteFault));
+    Ok(())
+}
+
 #[test]
 fn texts_of_faults(rt: HostRuntime) -> Result<(), Fail> {
     let alloc = rt.alloc();
