@@ -6,7 +6,7 @@
 
 mod status;
 
-ghost use Rattle.std.specs.Prelude.{◌≡◌, IfOk};
+ghost use Rattle.std.specs.Prelude.{◌≡◌, IfOk, IsOk};
 ghost use Rattle.clap.specs.Values.{kind_of};
 ghost use Rattle.pced.specs.Statuses.{ended_status, refused_status};
 
@@ -51,9 +51,11 @@ fn refuse<R: Print + Eprint>(rt: &R, error: Error) -> io::Result<u8>
     }
 }
 
-/// How a script ended: the text of a fault goes to standard error, and the status is given.
+/// How a script ended: the text of a fault goes to standard error, and the status is given. Where there is no
+/// fault, nothing is written, and nothing fails.
 fn end<R: Eprint>(rt: &R, outcome: Result<(), ScriptFault>) -> io::Result<u8>
-    ensures { IfOk result (λ given. given ≡ ended_status outcome) }
+    ensures status { IfOk result (λ given. given ≡ ended_status outcome) }
+    ensures nothing_to_write { IsOk outcome → IsOk result }
 {
     match outcome {
         Ok(()) => Ok(0),
