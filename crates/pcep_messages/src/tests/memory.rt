@@ -13,35 +13,43 @@ fn insist(rt: &HostRuntime, text: &str) -> Result<Message, Fail> {
     Err(Fail::new("refused twice"))
 }
 
+fn is_report(message: &Message, plsp: u32) -> bool {
+    let Message::Report(reports) = message else {
+        return false;
+    };
+    let [report] = reports.as_slice() else {
+        return false;
+    };
+    report.plsp.number() == plsp
+        && report.ero.as_slice().len() == 2
+        && report.bandwidth.value() == 500_000
+        && report.identifiers.is_some()
+}
+
 /// Run it with each of its allocations refused in turn (`rt try --test --fail-alloc N`): it passes wherever
 /// the refused one lies in `read_message`, and fails for want of memory elsewhere.
 #[test]
 fn reports_are_read_again_after_want_of_memory(rt: HostRuntime) -> Result<(), Fail> {
     for (text, plsp) in [(REPORT, 1), (ANSWER, 5)] {
-        let Message::Report(reports) = insist(&rt, text)? else {
-            return Err(Fail::new("another message"));
-        };
-        let [report] = reports.as_slice() else {
-            return Err(Fail::new("not one report"));
-        };
-        assert_eq!(rt; report.plsp.number(), plsp);
-        assert_eq!(rt; report.ero.as_slice().len(), 2);
-        assert_eq!(rt; report.bandwidth.value(), 500_000);
-        assert!(rt; report.identifiers.is_some());
+        let message = insist(&rt, text)?;
+        check(is_report(&message, plsp), text)?;
     }
     Ok(())
+}
+
+fn is_large_request(message: &Message) -> bool {
+    let Message::Request(requests) = message else {
+        return false;
+    };
+    let [request] = requests.as_slice() else {
+        return false;
+    };
+    request.request == 8 && request.bandwidth.value() == 600_000
 }
 
 /// The same of a request.
 #[test]
 fn requests_are_read_again_after_want_of_memory(rt: HostRuntime) -> Result<(), Fail> {
-    let Message::Request(requests) = insist(&rt, LARGE_REQUEST)? else {
-        return Err(Fail::new("another message"));
-    };
-    let [request] = requests.as_slice() else {
-        return Err(Fail::new("not one request"));
-    };
-    assert_eq!(rt; request.request, 8);
-    assert_eq!(rt; request.bandwidth.value(), 600_000);
-    Ok(())
+    let message = insist(&rt, LARGE_REQUEST)?;
+    check(is_large_request(&message), "request")
 }

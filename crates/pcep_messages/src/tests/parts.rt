@@ -1,7 +1,7 @@
 //! What counts of the objects of a message that has one item, and what it lacks.
 
 use super::writing::{attributes, is_no_path, is_path};
-use super::{check, put_hex};
+use super::{BAD_NUMBER, Row, check, message_of, rows_hold};
 use crate::{About, Cost, Create, Initiate, Message, MessageFault, Update, read_message};
 use pcep_objects::{MetricValue, ObjectFault};
 use pcep_word::Bandwidth;
@@ -44,132 +44,113 @@ const UNKNOWN: &str = "63100008 00000000";
 
 const BAD: &str = "05100008 7f800000";
 
-/// A message of this type and these objects.
-fn bytes_with(rt: &HostRuntime, kind: u8, objects: &[&str]) -> Result<Vec<u8>, Fail> {
-    let mut body = Vec::new(rt.alloc());
-    for object in objects {
-        put_hex(&mut body, object)?;
-    }
-    let mut bytes = Vec::new(rt.alloc());
-    bytes.extend_from_slice(&[0x20, kind])?;
-    let len = (body.len().min(60000) + 4) as u16;
-    bytes.extend_from_slice(&len.to_be_bytes())?;
-    bytes.extend_from_slice(body.as_slice())?;
-    Ok(bytes)
-}
+const BAD_NUMBER_AT_1: Option<MessageFault> = Some(MessageFault::BadObject(
+    ObjectFault::BadNumber,
+    About::Srp(1),
+));
 
-fn fault_of(rt: &HostRuntime, kind: u8, objects: &[&str]) -> Result<Option<MessageFault>, Fail> {
-    let bytes = bytes_with(rt, kind, objects)?;
-    Ok(read_message(rt.alloc(), bytes.as_slice()).err())
-}
+const BAD_NUMBER_IN_7: Option<MessageFault> = Some(MessageFault::BadObject(
+    ObjectFault::BadNumber,
+    About::Request(7),
+));
 
-fn bad_number(about: About) -> Option<MessageFault> {
-    Some(MessageFault::BadObject(ObjectFault::BadNumber, about))
-}
+/// An Open without its object.
+const NO_OPEN: Option<MessageFault> = Some(MessageFault::Missing(1, About::Nothing));
 
-fn missing(class: u8, about: About) -> Option<MessageFault> {
-    Some(MessageFault::Missing(class, about))
-}
+const NO_RP: Option<MessageFault> = Some(MessageFault::Missing(2, About::Nothing));
+
+const NO_SRP: Option<MessageFault> = Some(MessageFault::Missing(33, About::Nothing));
+
+const NO_LSP: Option<MessageFault> = Some(MessageFault::Missing(32, About::Srp(1)));
+
+const NO_LSP_AT_3: Option<MessageFault> = Some(MessageFault::Missing(32, About::Srp(3)));
+
+const NO_ENDS: Option<MessageFault> = Some(MessageFault::Missing(4, About::Srp(1)));
+
+const NO_ERO: Option<MessageFault> = Some(MessageFault::Missing(7, About::Nothing));
+
+const NO_ERO_AT_1: Option<MessageFault> = Some(MessageFault::Missing(7, About::Srp(1)));
+
+const NO_ERO_IN_7: Option<MessageFault> = Some(MessageFault::Missing(7, About::Request(7)));
 
 #[test]
 fn faults_of_session_messages(rt: HostRuntime) -> Result<(), Fail> {
-    let nothing = About::Nothing;
-    let table = [
-        (1, UNKNOWN, missing(1, nothing)),
-        (1, BAD, bad_number(nothing)),
-        (2, BANDWIDTH, None),
-        (2, BAD, bad_number(nothing)),
-        (6, UNKNOWN, None),
-        (6, BAD, bad_number(nothing)),
-        (7, UNKNOWN, None),
-        (7, BAD, bad_number(nothing)),
-    ];
-    for (kind, object, fault) in table {
-        assert_eq!(rt; fault_of(&rt, kind, &[object])?, fault, "{kind} {object}");
-    }
-    Ok(())
+    rows_hold(&rt, "2001", &[(&[UNKNOWN], NO_OPEN), (&[BAD], BAD_NUMBER)])?;
+    rows_hold(&rt, "2002", &[(&[BANDWIDTH], None), (&[BAD], BAD_NUMBER)])?;
+    rows_hold(&rt, "2006", &[(&[UNKNOWN], None), (&[BAD], BAD_NUMBER)])?;
+    rows_hold(&rt, "2007", &[(&[UNKNOWN], None), (&[BAD], BAD_NUMBER)])
 }
 
+/// A message that begins with these digits, of these objects.
+fn message_with(rt: &HostRuntime, front: &str, objects: &[&str]) -> Result<Message, Fail> {
+    let bytes = message_of(rt, front, objects)?;
+    let message = read_message(rt.alloc(), bytes.as_slice())?;
+    Ok(message)
+}
+
+fn closes(message: &Message, reason: u8) -> bool {
+    match message {
+        Message::Close(found) => *found == reason,
+        _ => false,
+    }
+}
+
+/// Of two CLOSEs the first counts.
 #[test]
 fn a_close_without_object_has_reason_1(rt: HostRuntime) -> Result<(), Fail> {
-    let close = "0f100008 00000003";
-    let other = "0f100008 00000002";
-    for (objects, reason) in [([UNKNOWN, ERO], 1), ([close, other], 3)] {
-        let bytes = bytes_with(&rt, 7, &objects)?;
-        let message = read_message(rt.alloc(), bytes.as_slice())?;
-        assert!(rt; matches!(message, Message::Close(found) if found == reason));
-    }
-    Ok(())
+    let message = message_with(&rt, "2007", &[UNKNOWN, ERO])?;
+    check(closes(&message, 1), "no reason")?;
+    let message = message_with(&rt, "2007", &["0f100008 00000003", "0f100008 00000002"])?;
+    check(closes(&message, 3), "two reasons")
 }
+
+const REPLIES: [Row; 6] = [
+    (&[ERO, METRIC, UNKNOWN], NO_RP),
+    (&[RP, METRIC, LSP], NO_ERO_IN_7),
+    (&[RP, NO_PATH, UNKNOWN], None),
+    (&[METRIC, ERO, RP], None),
+    (&[METRIC, BAD, RP], BAD_NUMBER),
+    (&[RP, BAD, ERO], BAD_NUMBER_IN_7),
+];
 
 #[test]
 fn what_a_reply_lacks(rt: HostRuntime) -> Result<(), Fail> {
-    let nothing = About::Nothing;
-    let seven = About::Request(7);
-    let table = [
-        ([ERO, METRIC, UNKNOWN], missing(2, nothing)),
-        ([RP, METRIC, LSP], missing(7, seven)),
-        ([RP, NO_PATH, UNKNOWN], None),
-        ([METRIC, ERO, RP], None),
-        ([METRIC, BAD, RP], bad_number(nothing)),
-        ([RP, BAD, ERO], bad_number(seven)),
-    ];
-    for (objects, fault) in table {
-        assert_eq!(rt; fault_of(&rt, 4, &objects)?, fault, "{objects:?}");
-    }
-    Ok(())
+    rows_hold(&rt, "2004", &REPLIES)
 }
+
+const UPDATES: [Row; 10] = [
+    (&[LSP, ERO, UNKNOWN], NO_SRP),
+    (&[SRP, ERO, UNKNOWN], NO_LSP),
+    (&[SRP, LSP, UNKNOWN], NO_ERO_AT_1),
+    (&[SRP_ZERO, LSP, UNKNOWN], NO_ERO),
+    (&[UNKNOWN, UNKNOWN, UNKNOWN], NO_SRP),
+    (&[SRP, LSP, EMPTY_ERO], None),
+    (&[EMPTY_ERO, LSP, SRP], None),
+    (&[SRP_REMOVE, LSP, UNKNOWN], None),
+    (&[LSP, BAD, SRP], BAD_NUMBER),
+    (&[SRP, BAD, LSP], BAD_NUMBER_AT_1),
+];
 
 #[test]
 fn what_an_update_lacks(rt: HostRuntime) -> Result<(), Fail> {
-    let nothing = About::Nothing;
-    let one = About::Srp(1);
-    let table = [
-        ([LSP, ERO, UNKNOWN], missing(33, nothing)),
-        ([SRP, ERO, UNKNOWN], missing(32, one)),
-        ([SRP, LSP, UNKNOWN], missing(7, one)),
-        ([SRP_ZERO, LSP, UNKNOWN], missing(7, nothing)),
-        ([UNKNOWN, UNKNOWN, UNKNOWN], missing(33, nothing)),
-        ([SRP, LSP, EMPTY_ERO], None),
-        ([EMPTY_ERO, LSP, SRP], None),
-        ([SRP_REMOVE, LSP, UNKNOWN], None),
-        ([LSP, BAD, SRP], bad_number(nothing)),
-        ([SRP, BAD, LSP], bad_number(one)),
-    ];
-    for (objects, fault) in table {
-        assert_eq!(rt; fault_of(&rt, 11, &objects)?, fault, "{objects:?}");
-    }
-    Ok(())
+    rows_hold(&rt, "200b", &UPDATES)
 }
+
+const INITIATES: [Row; 9] = [
+    (&[LSP, END_POINTS, ERO, UNKNOWN], NO_SRP),
+    (&[SRP, END_POINTS, ERO, UNKNOWN], NO_LSP),
+    (&[SRP, LSP, ERO, UNKNOWN], NO_ENDS),
+    (&[SRP, LSP, UNKNOWN, UNKNOWN], NO_ERO_AT_1),
+    (&[SRP, LSP, END_POINTS, UNKNOWN], NO_ERO_AT_1),
+    (&[SRP, LSP, END_POINTS, EMPTY_ERO], None),
+    (&[SRP_REMOVE, LSP, UNKNOWN, UNKNOWN], None),
+    (&[SRP_REMOVE, ERO, UNKNOWN, UNKNOWN], NO_LSP_AT_3),
+    (&[SRP, LSP, END_POINTS, BAD], BAD_NUMBER_AT_1),
+];
 
 #[test]
 fn what_an_initiate_lacks(rt: HostRuntime) -> Result<(), Fail> {
-    let nothing = About::Nothing;
-    let one = About::Srp(1);
-    let table = [
-        ([LSP, END_POINTS, ERO, UNKNOWN], missing(33, nothing)),
-        ([SRP, END_POINTS, ERO, UNKNOWN], missing(32, one)),
-        ([SRP, LSP, ERO, UNKNOWN], missing(4, one)),
-        ([SRP, LSP, UNKNOWN, UNKNOWN], missing(7, one)),
-        ([SRP, LSP, END_POINTS, UNKNOWN], missing(7, one)),
-        ([SRP, LSP, END_POINTS, EMPTY_ERO], None),
-        ([SRP_REMOVE, LSP, UNKNOWN, UNKNOWN], None),
-        (
-            [SRP_REMOVE, ERO, UNKNOWN, UNKNOWN],
-            missing(32, About::Srp(3)),
-        ),
-        ([SRP, LSP, END_POINTS, BAD], bad_number(one)),
-    ];
-    for (objects, fault) in table {
-        assert_eq!(rt; fault_of(&rt, 12, &objects)?, fault, "{objects:?}");
-    }
-    Ok(())
-}
-
-fn message_with(rt: &HostRuntime, kind: u8, objects: &[&str]) -> Result<Message, Fail> {
-    let bytes = bytes_with(rt, kind, objects)?;
-    let message = read_message(rt.alloc(), bytes.as_slice())?;
-    Ok(message)
+    rows_hold(&rt, "200c", &INITIATES)
 }
 
 /// Whether an update has what counts: a holding priority above the setup priority isn't in force.
@@ -181,15 +162,28 @@ fn has_what_counts(update: &Update) -> bool {
 }
 
 /// The first of each class counts, and of the bandwidths that are asked for the greatest.
+const COUNTED: [&str; 12] = [
+    BANDWIDTH, SRP, SRP_ZERO, UNKNOWN, LSP, CURRENT, ERO, EMPTY_ERO, LSPA, OTHER_LSPA, GREATER,
+    BANDWIDTH,
+];
+
+fn is_counted_update(message: &Message) -> bool {
+    match message {
+        Message::Update(update) => has_what_counts(update),
+        _ => false,
+    }
+}
+
 #[test]
 fn what_counts_in_an_update(rt: HostRuntime) -> Result<(), Fail> {
-    let objects = [
-        BANDWIDTH, SRP, SRP_ZERO, UNKNOWN, LSP, CURRENT, ERO, EMPTY_ERO, LSPA, OTHER_LSPA, GREATER,
-        BANDWIDTH,
-    ];
-    match message_with(&rt, 11, &objects)? {
-        Message::Update(update) => check(has_what_counts(&update), "update"),
-        _ => Err(Fail::new("another message")),
+    let message = message_with(&rt, "200b", &COUNTED)?;
+    check(is_counted_update(&message), "update")
+}
+
+fn has_cost(message: &Message, cost: Cost) -> bool {
+    match message {
+        Message::Reply(reply) => is_path(&reply.answer, &[0x0a010002], cost),
+        _ => false,
     }
 }
 
@@ -200,29 +194,40 @@ fn what_counts_in_a_reply(rt: HostRuntime) -> Result<(), Fail> {
         kind: 1,
         value: MetricValue::new(20),
     };
-    match message_with(&rt, 4, &[RP, METRIC, OTHER_METRIC, ERO])? {
-        Message::Reply(reply) => check(is_path(&reply.answer, &[0x0a010002], cost), "path"),
-        _ => Err(Fail::new("another message")),
+    let message = message_with(&rt, "2004", &[RP, METRIC, OTHER_METRIC, ERO])?;
+    check(has_cost(&message, cost), "path")
+}
+
+fn has_no_path(message: &Message) -> bool {
+    match message {
+        Message::Reply(reply) => is_no_path(&reply.answer, None),
+        _ => false,
     }
 }
 
 #[test]
 fn a_no_path_counts_before_an_ero(rt: HostRuntime) -> Result<(), Fail> {
-    match message_with(&rt, 4, &[RP, ERO, NO_PATH, METRIC])? {
-        Message::Reply(reply) => check(is_no_path(&reply.answer, None), "no path"),
-        _ => Err(Fail::new("another message")),
-    }
+    let message = message_with(&rt, "2004", &[RP, ERO, NO_PATH, METRIC])?;
+    check(has_no_path(&message), "no path")
 }
 
 fn is_bare(create: &Create) -> bool {
     create.name.as_slice().is_empty() && create.attributes.is_none() && create.bandwidth.is_none()
 }
 
+fn is_bare_initiate(message: &Message) -> bool {
+    match message {
+        Message::Initiate(initiate) => match initiate {
+            Initiate::Create(create) => is_bare(create),
+            _ => false,
+        },
+        _ => false,
+    }
+}
+
 /// A new LSP without a name has an empty one.
 #[test]
 fn an_initiate_without_a_name(rt: HostRuntime) -> Result<(), Fail> {
-    match message_with(&rt, 12, &[SRP, LSP, END_POINTS, ERO])? {
-        Message::Initiate(Initiate::Create(create)) => check(is_bare(&create), "new LSP"),
-        _ => Err(Fail::new("another message")),
-    }
+    let message = message_with(&rt, "200c", &[SRP, LSP, END_POINTS, ERO])?;
+    check(is_bare_initiate(&message), "new LSP")
 }

@@ -61,13 +61,21 @@ fn request_of(rt: &HostRuntime, objects: &[&str]) -> Result<Vec<u8>, Fail> {
 }
 
 /// The one request of a message.
-fn only_request(rt: &HostRuntime, bytes: &[u8]) -> Result<PathRequest, Fail> {
-    let Message::Request(requests) = read_message(rt.alloc(), bytes)? else {
-        return Err(Fail::new("another message"));
+fn only_of(message: &Message) -> Option<PathRequest> {
+    let Message::Request(requests) = message else {
+        return None;
     };
     match requests.as_slice() {
-        [request] => Ok(*request),
-        _ => Err(Fail::new("not one request")),
+        [request] => Some(*request),
+        _ => None,
+    }
+}
+
+fn only_request(rt: &HostRuntime, bytes: &[u8]) -> Result<PathRequest, Fail> {
+    let message = read_message(rt.alloc(), bytes)?;
+    match only_of(&message) {
+        Some(request) => Ok(request),
+        None => Err(Fail::new("not one request")),
     }
 }
 
@@ -97,51 +105,58 @@ fn plain_request(request: u32, destination: u32) -> Result<PathRequest, Fail> {
     })
 }
 
+/// Whether the message has this request alone.
+fn asks(message: &Message, expected: &PathRequest) -> bool {
+    only_of(message) == Some(*expected)
+}
+
 #[test]
 fn one_request(rt: HostRuntime) -> Result<(), Fail> {
-    let bytes = bytes_of(&rt, REQUEST)?;
-    let found = only_request(&rt, bytes.as_slice())?;
-    assert_eq!(rt; found, plain_request(7, 0x0a090909)?);
+    let expected = plain_request(7, 0x0a090909)?;
+    let message = read_text(&rt, REQUEST)?;
+    check(asks(&message, &expected), "request")
+}
+
+#[test]
+fn one_large_request(rt: HostRuntime) -> Result<(), Fail> {
     let bytes = bytes_of(&rt, LARGE_REQUEST)?;
     let found = only_request(&rt, bytes.as_slice())?;
     let expected = PathRequest {
         bandwidth: bandwidth(0x49127c00)?,
         ..plain_request(8, 0x0a000004)?
     };
-    assert_eq!(rt; found.bandwidth.value(), 600_000);
-    assert_eq!(rt; found, expected);
-    Ok(())
+    check(found.bandwidth.value() == 600_000, "bandwidth")?;
+    check(found == expected, "request")
 }
 
-#[test]
-fn what_counts_in_a_request(rt: HostRuntime) -> Result<(), Fail> {
-    // The first of a class counts, of bandwidths that are asked for the greatest, and of bounds the least.
-    let objects = [
-        SVEC,
-        RP,
-        UNKNOWN,
-        CURRENT,
-        NO_BANDWIDTH,
-        BANDWIDTH,
-        IRO,
-        LSPA,
-        TE_BELOW_20,
-        LEAST_OTHER,
-        FEWEST_HOPS,
-        ENDS,
-        LSP,
-        LEAST_IGP,
-        TE_BELOW_30,
-        NO_BANDWIDTH,
-        UNNAMED,
-        OTHER_LSPA,
-        OTHER_ENDS,
-        OTHER_BELOW_20,
-        SVEC,
-    ];
-    let bytes = request_of(&rt, objects.as_slice())?;
-    let found = only_request(&rt, bytes.as_slice())?;
-    let expected = PathRequest {
+/// The first of a class counts, of bandwidths that are asked for the greatest, and of bounds the least.
+const COUNTED: [&str; 21] = [
+    SVEC,
+    RP,
+    UNKNOWN,
+    CURRENT,
+    NO_BANDWIDTH,
+    BANDWIDTH,
+    IRO,
+    LSPA,
+    TE_BELOW_20,
+    LEAST_OTHER,
+    FEWEST_HOPS,
+    ENDS,
+    LSP,
+    LEAST_IGP,
+    TE_BELOW_30,
+    NO_BANDWIDTH,
+    UNNAMED,
+    OTHER_LSPA,
+    OTHER_ENDS,
+    OTHER_BELOW_20,
+    SVEC,
+];
+
+/// What they ask for.
+fn counted_request() -> Result<PathRequest, Fail> {
+    Ok(PathRequest {
         plsp: Some(Plsp::new(1)),
         bandwidth: bandwidth(0x48742400)?,
         setup: Priority::capped(2),
@@ -158,200 +173,228 @@ fn what_counts_in_a_request(rt: HostRuntime) -> Result<(), Fail> {
             hops: None,
         },
         ..plain_request(7, 0x0a000004)?
-    };
-    assert_eq!(rt; found, expected);
-    Ok(())
+    })
+}
+
+#[test]
+fn what_counts_in_a_request(rt: HostRuntime) -> Result<(), Fail> {
+    let expected = counted_request()?;
+    let bytes = request_of(&rt, &COUNTED)?;
+    let message = read_message(rt.alloc(), bytes.as_slice())?;
+    check(asks(&message, &expected), "request")
+}
+
+/// Objects of a request, and its bounds on IGP and TE.
+type BoundsRow = (&'static [&'static str], Option<u64>, Option<u64>);
+
+const BOUNDS: [BoundsRow; 4] = [
+    (
+        &[RP, ENDS, TE_BELOW_30, TE_BELOW_20, LEAST_IGP],
+        None,
+        Some(20),
+    ),
+    (
+        &[RP, ENDS, TE_BELOW_20, TE_BELOW_30, IGP_BELOW_20],
+        Some(20),
+        Some(20),
+    ),
+    (
+        &[RP, ENDS, IGP_BELOW_20, OTHER_BELOW_20, TE_BELOW_30],
+        Some(20),
+        Some(30),
+    ),
+    (&[RP, ENDS, LEAST_IGP, FEWEST_HOPS, LEAST_IGP], None, None),
+];
+
+fn bounds_hold(rt: &HostRuntime, row: &BoundsRow) -> Result<(), Fail> {
+    let bytes = request_of(rt, row.0)?;
+    let found = only_request(rt, bytes.as_slice())?;
+    check(found.bounds.igp == row.1, "igp")?;
+    check(found.bounds.te == row.2, "te")?;
+    check(found.bounds.hops.is_none(), "hops")
 }
 
 #[test]
 fn bounds(rt: HostRuntime) -> Result<(), Fail> {
-    let table = [
-        ([TE_BELOW_30, TE_BELOW_20, LEAST_IGP], (None, Some(20))),
-        (
-            [TE_BELOW_20, TE_BELOW_30, IGP_BELOW_20],
-            (Some(20), Some(20)),
-        ),
-        (
-            [IGP_BELOW_20, OTHER_BELOW_20, TE_BELOW_30],
-            (Some(20), Some(30)),
-        ),
-        ([LEAST_IGP, FEWEST_HOPS, LEAST_IGP], (None, None)),
-    ];
-    for (metrics, (igp, te)) in table {
-        let [first, second, third] = metrics;
-        let bytes = request_of(&rt, &[RP, ENDS, first, second, third])?;
-        let found = only_request(&rt, bytes.as_slice())?;
-        assert_eq!(rt; found.bounds.igp, igp, "at {metrics:?}");
-        assert_eq!(rt; found.bounds.te, te, "at {metrics:?}");
-        assert_eq!(rt; found.bounds.hops, None, "at {metrics:?}");
+    for row in &BOUNDS {
+        bounds_hold(&rt, row)?;
     }
     Ok(())
+}
+
+/// Whether the message has two requests: this one, and the one of the other RP.
+fn are_both(message: &Message, expected: &PathRequest) -> bool {
+    let Message::Request(requests) = message else {
+        return false;
+    };
+    match requests.as_slice() {
+        [first, second] => {
+            *first == *expected && second.request == 8 && second.bandwidth.value() == 250_000
+        }
+        _ => false,
+    }
 }
 
 #[test]
 fn several_requests(rt: HostRuntime) -> Result<(), Fail> {
-    let objects = [SVEC, RP, ENDS, SVEC, OTHER_RP, BANDWIDTH, ENDS];
-    let bytes = request_of(&rt, objects.as_slice())?;
-    let Message::Request(requests) = read_message(rt.alloc(), bytes.as_slice())? else {
-        return Err(Fail::new("another message"));
-    };
-    let [first, second] = requests.as_slice() else {
-        return Err(Fail::new("not two requests"));
-    };
-    assert_eq!(rt; *first, plain_request(7, 0x0a000004)?);
-    assert_eq!(rt; second.request, 8);
-    assert_eq!(rt; second.bandwidth.value(), 250_000);
-    Ok(())
+    let expected = plain_request(7, 0x0a000004)?;
+    let bytes = request_of(&rt, &[SVEC, RP, ENDS, SVEC, OTHER_RP, BANDWIDTH, ENDS])?;
+    let message = read_message(rt.alloc(), bytes.as_slice())?;
+    check(are_both(&message, &expected), "requests")
 }
 
-fn first_fault(rt: &HostRuntime, objects: &[&str]) -> Result<Option<MessageFault>, Fail> {
-    let bytes = request_of(rt, objects)?;
-    Ok(read_message(rt.alloc(), bytes.as_slice()).err())
-}
+const NO_RP: Option<MessageFault> = Some(MessageFault::Refused(6, 1, About::Nothing));
 
-fn refused(kind: u8, value: u8) -> MessageFault {
-    MessageFault::Refused(kind, value, About::Request(7))
-}
+const NOT_SUPPORTED: Option<MessageFault> = Some(MessageFault::Refused(4, 1, About::Nothing));
 
-fn in_front(kind: u8, value: u8) -> MessageFault {
-    MessageFault::Refused(kind, value, About::Nothing)
-}
+const NOT_SUPPORTED_IN_7: Option<MessageFault> = Some(MessageFault::Refused(
+    4,
+    1,
+    About::Request(7),
+));
 
-fn unknown_class(about: About) -> MessageFault {
-    MessageFault::BadObject(ObjectFault::UnknownClass { p: true, size: 8 }, about)
-}
+const NO_RRO: Option<MessageFault> = Some(MessageFault::Refused(6, 2, About::Request(7)));
 
-fn unknown_type(about: About) -> MessageFault {
-    MessageFault::BadObject(ObjectFault::UnknownType { p: true, size: 8 }, about)
-}
+const NO_ENDS: Option<MessageFault> = Some(MessageFault::Refused(6, 3, About::Request(7)));
 
-fn bad_length(about: About) -> MessageFault {
-    MessageFault::BadObject(ObjectFault::BadLength, about)
-}
+const BAD_P: Option<MessageFault> = Some(MessageFault::BadP(About::Request(7)));
+
+const BAD_P_IN_8: Option<MessageFault> = Some(MessageFault::BadP(About::Request(8)));
+
+const UNKNOWN_CLASS: Option<MessageFault> = Some(MessageFault::BadObject(
+    ObjectFault::UnknownClass { p: true, size: 8 },
+    About::Nothing,
+));
+
+const UNKNOWN_CLASS_IN_7: Option<MessageFault> = Some(MessageFault::BadObject(
+    ObjectFault::UnknownClass { p: true, size: 8 },
+    About::Request(7),
+));
+
+const TYPE_UNKNOWN: Option<MessageFault> = Some(MessageFault::BadObject(
+    ObjectFault::UnknownType { p: true, size: 8 },
+    About::Nothing,
+));
+
+const TYPE_UNKNOWN_IN_7: Option<MessageFault> = Some(MessageFault::BadObject(
+    ObjectFault::UnknownType { p: true, size: 8 },
+    About::Request(7),
+));
+
+const BAD_LENGTH_IN_7: Option<MessageFault> = Some(MessageFault::BadObject(
+    ObjectFault::BadLength,
+    About::Request(7),
+));
+
+const BAD_NUMBER_IN_7: Option<MessageFault> = Some(MessageFault::BadObject(
+    ObjectFault::BadNumber,
+    About::Request(7),
+));
+
+const BAD_NUMBER_IN_8: Option<MessageFault> = Some(MessageFault::BadObject(
+    ObjectFault::BadNumber,
+    About::Request(8),
+));
+
+const IN_FRONT: [Row; 14] = [
+    (&[SVEC, UNKNOWN, SVEC], NO_RP),
+    (&[SVEC, SVEC_WITH_P, RP], NOT_SUPPORTED),
+    (&[ENDS, RP, ENDS], NO_RP),
+    (&[OTHER_ENDS, RP, ENDS], NO_RP),
+    (&[IRO, RP, ENDS], NO_RP),
+    (&[IRO_WITH_P, RP, ENDS], NO_RP),
+    (&[LOAD_BALANCING_WITH_P, RP, ENDS], NO_RP),
+    (&[SRP, RP, ENDS], NO_RP),
+    (&[SVEC, SVEC, UNKNOWN_WITH_P], UNKNOWN_CLASS),
+    (&[UNKNOWN_TYPE_WITH_P, RP, ENDS], TYPE_UNKNOWN),
+    (&[UNKNOWN_TYPE, ENDS, SHORT_RP], NO_RP),
+    (&[SVEC, SHORT_RP, RP], BAD_LENGTH),
+    (&[SVEC_WITH_P, SHORT_RP, RP], NOT_SUPPORTED),
+    (&[], NO_RP),
+];
 
 #[test]
 fn faults_in_front_of_requests(rt: HostRuntime) -> Result<(), Fail> {
-    let nothing = About::Nothing;
-    let table = [
-        ([SVEC, UNKNOWN, SVEC], in_front(6, 1)),
-        ([SVEC, SVEC_WITH_P, RP], in_front(4, 1)),
-        ([ENDS, RP, ENDS], in_front(6, 1)),
-        ([OTHER_ENDS, RP, ENDS], in_front(6, 1)),
-        ([IRO, RP, ENDS], in_front(6, 1)),
-        ([IRO_WITH_P, RP, ENDS], in_front(6, 1)),
-        ([LOAD_BALANCING_WITH_P, RP, ENDS], in_front(6, 1)),
-        ([SRP, RP, ENDS], in_front(6, 1)),
-        ([SVEC, SVEC, UNKNOWN_WITH_P], unknown_class(nothing)),
-        ([UNKNOWN_TYPE_WITH_P, RP, ENDS], unknown_type(nothing)),
-        ([UNKNOWN_TYPE, ENDS, SHORT_RP], in_front(6, 1)),
-        ([SVEC, SHORT_RP, RP], bad_length(nothing)),
-        ([SVEC_WITH_P, SHORT_RP, RP], in_front(4, 1)),
-    ];
-    for (objects, fault) in table {
-        let found = first_fault(&rt, objects.as_slice())?;
-        assert_eq!(rt; found, Some(fault), "at {objects:?}");
-    }
-    let bytes = bytes_of(&rt, "20030004")?;
-    let found = read_message(rt.alloc(), bytes.as_slice()).err();
-    assert_eq!(rt; found, Some(in_front(6, 1)));
-    Ok(())
+    rows_hold(&rt, "2003", &IN_FRONT)
 }
+
+/// Only the first END-POINTS of a request needs the flag.
+const P_FLAGS: [Row; 11] = [
+    (&[SVEC, RP_WITHOUT_P, ENDS], BAD_P),
+    (&[RP_WITHOUT_P, UNKNOWN_WITH_P, ENDS], BAD_P),
+    (&[RP, OTHER_ENDS, ENDS], BAD_P),
+    (&[RP, OTHER_ENDS, IRO_WITH_P], BAD_P),
+    (&[RP, OTHER_ENDS, SHORT_METRIC], BAD_P),
+    (&[RP, IRO_WITH_P, OTHER_ENDS], NOT_SUPPORTED_IN_7),
+    (&[RP, ENDS, SVEC_WITH_P], NOT_SUPPORTED_IN_7),
+    (&[RP, LOAD_BALANCING_WITH_P, ENDS], NOT_SUPPORTED_IN_7),
+    (&[RP, ENDS, UNKNOWN_WITH_P], UNKNOWN_CLASS_IN_7),
+    (&[RP, UNKNOWN_TYPE_WITH_P, OTHER_ENDS], TYPE_UNKNOWN_IN_7),
+    (&[RP, ENDS, OTHER_ENDS, UNKNOWN], None),
+];
 
 #[test]
 fn p_flags(rt: HostRuntime) -> Result<(), Fail> {
-    let this = About::Request(7);
-    let table = [
-        ([SVEC, RP_WITHOUT_P, ENDS], MessageFault::BadP(this)),
-        (
-            [RP_WITHOUT_P, UNKNOWN_WITH_P, ENDS],
-            MessageFault::BadP(this),
-        ),
-        ([RP, OTHER_ENDS, ENDS], MessageFault::BadP(this)),
-        ([RP, OTHER_ENDS, IRO_WITH_P], MessageFault::BadP(this)),
-        ([RP, OTHER_ENDS, SHORT_METRIC], MessageFault::BadP(this)),
-        ([RP, IRO_WITH_P, OTHER_ENDS], refused(4, 1)),
-        ([RP, ENDS, SVEC_WITH_P], refused(4, 1)),
-        ([RP, LOAD_BALANCING_WITH_P, ENDS], refused(4, 1)),
-        ([RP, ENDS, UNKNOWN_WITH_P], unknown_class(this)),
-        ([RP, UNKNOWN_TYPE_WITH_P, OTHER_ENDS], unknown_type(this)),
-    ];
-    for (objects, fault) in table {
-        let found = first_fault(&rt, objects.as_slice())?;
-        assert_eq!(rt; found, Some(fault), "at {objects:?}");
-    }
-    // Only the first END-POINTS of a request needs the flag.
-    let found = first_fault(&rt, &[RP, ENDS, OTHER_ENDS, UNKNOWN])?;
-    assert_eq!(rt; found, None);
-    Ok(())
+    rows_hold(&rt, "2003", &P_FLAGS)
 }
+
+/// What a request lacks comes before the next one's flag.
+const LACKING: [Row; 10] = [
+    (&[RP, LSP, BANDWIDTH, UNKNOWN], NO_ENDS),
+    (&[REOPTIMIZED, ENDS, LSP, CURRENT], NO_RRO),
+    (&[REOPTIMIZED, BANDWIDTH, LSP, ENDS], NO_RRO),
+    (&[REOPTIMIZED, BANDWIDTH, LSP, LSPA], NO_ENDS),
+    (&[REOPTIMIZED, BANDWIDTH, EMPTY_RRO, ENDS], None),
+    (&[REOPTIMIZED, ENDS, NO_BANDWIDTH, LSPA], None),
+    (&[RP, ENDS, CURRENT, BANDWIDTH], None),
+    (&[RP, OTHER_RP, ENDS, UNKNOWN], NO_ENDS),
+    (&[RP, OTHER_RP_WITHOUT_P, ENDS, UNKNOWN], NO_ENDS),
+    (&[RP, ENDS, OTHER_RP_WITHOUT_P, ENDS], BAD_P_IN_8),
+];
 
 #[test]
 fn what_requests_lack(rt: HostRuntime) -> Result<(), Fail> {
-    let table = [
-        ([RP, LSP, BANDWIDTH, UNKNOWN], Some(refused(6, 3))),
-        ([REOPTIMIZED, ENDS, LSP, CURRENT], Some(refused(6, 2))),
-        ([REOPTIMIZED, BANDWIDTH, LSP, ENDS], Some(refused(6, 2))),
-        ([REOPTIMIZED, BANDWIDTH, LSP, LSPA], Some(refused(6, 3))),
-        ([REOPTIMIZED, BANDWIDTH, EMPTY_RRO, ENDS], None),
-        ([REOPTIMIZED, ENDS, NO_BANDWIDTH, LSPA], None),
-        ([RP, ENDS, CURRENT, BANDWIDTH], None),
-        // what a request lacks comes before the next one's flag, an own fault before both
-        ([RP, OTHER_RP, ENDS, UNKNOWN], Some(refused(6, 3))),
-        ([RP, OTHER_RP_WITHOUT_P, ENDS, UNKNOWN], Some(refused(6, 3))),
-        (
-            [RP, ENDS, OTHER_RP_WITHOUT_P, ENDS],
-            Some(MessageFault::BadP(About::Request(8))),
-        ),
-    ];
-    for (objects, fault) in table {
-        let found = first_fault(&rt, objects.as_slice())?;
-        assert_eq!(rt; found, fault, "at {objects:?}");
-    }
-    Ok(())
+    rows_hold(&rt, "2003", &LACKING)
 }
+
+/// An own fault comes before what a request lacks, and before a flag.
+const OWN_FAULTS: [Row; 7] = [
+    (&[RP, BAD, OTHER_RP_WITHOUT_P, ENDS], BAD_NUMBER_IN_7),
+    (&[RP, SHORT_RP, OTHER_RP, ENDS], BAD_LENGTH_IN_7),
+    (&[RP, ENDS, OTHER_BELOW_NO_NUMBER, ENDS], BAD_NUMBER_IN_7),
+    (&[RP, ENDS, OTHER_RP, BAD], BAD_NUMBER_IN_8),
+    (&[RP, UNKNOWN, OTHER_RP, BAD], NO_ENDS),
+    (&[RP_WITHOUT_P, BAD, OTHER_RP, ENDS], BAD_P),
+    (&[REOPTIMIZED, ENDS, BANDWIDTH, BAD], BAD_NUMBER_IN_7),
+];
 
 #[test]
 fn own_faults_in_requests(rt: HostRuntime) -> Result<(), Fail> {
-    let this = About::Request(7);
-    let other = About::Request(8);
-    let table = [
-        ([RP, BAD, OTHER_RP_WITHOUT_P, ENDS], bad_number(this)),
-        ([RP, SHORT_RP, OTHER_RP, ENDS], bad_length(this)),
-        ([RP, ENDS, OTHER_BELOW_NO_NUMBER, ENDS], bad_number(this)),
-        ([RP, ENDS, OTHER_RP, BAD], bad_number(other)),
-        ([RP, UNKNOWN, OTHER_RP, BAD], refused(6, 3)),
-        (
-            [RP_WITHOUT_P, BAD, OTHER_RP, ENDS],
-            MessageFault::BadP(this),
-        ),
-        ([REOPTIMIZED, ENDS, BANDWIDTH, BAD], bad_number(this)),
-    ];
-    for (objects, fault) in table {
-        let found = first_fault(&rt, objects.as_slice())?;
-        assert_eq!(rt; found, Some(fault), "at {objects:?}");
+    rows_hold(&rt, "2003", &OWN_FAULTS)
+}
+
+/// Of a notification nothing is kept.
+const NOTIFICATIONS: [&str; 3] = [
+    "20050004",
+    "2005000c 0c100008 00000102",
+    "20050014 63120008 00000000 0c100008 00000102",
+];
+
+#[test]
+fn notifications(rt: HostRuntime) -> Result<(), Fail> {
+    for text in NOTIFICATIONS {
+        let message = read_text(&rt, text)?;
+        assert!(rt; matches!(message, Message::Notify), "at {text}");
     }
     Ok(())
 }
 
+const BAD_NOTIFICATIONS: [TextRow; 2] = [
+    ("20050008 0c100004", BAD_LENGTH),
+    ("20050010 0c10000c 00000102 00010001", BAD_TLV),
+];
+
 #[test]
-fn notifications(rt: HostRuntime) -> Result<(), Fail> {
-    let table = [
-        ("20050004", None),
-        ("2005000c 0c100008 00000102", None),
-        ("20050014 63120008 00000000 0c100008 00000102", None),
-        ("20050008 0c100004", Some(bad(ObjectFault::BadLength))),
-        (
-            "20050010 0c10000c 00000102 00010001",
-            Some(bad(ObjectFault::BadTlv)),
-        ),
-    ];
-    for (text, fault) in table {
-        let bytes = bytes_of(&rt, text)?;
-        let read = read_message(rt.alloc(), bytes.as_slice());
-        if fault.is_none() {
-            assert!(rt; matches!(read, Ok(Message::Notify)), "at {text}");
-        }
-        assert_eq!(rt; read.err(), fault, "at {text}");
-    }
-    Ok(())
+fn bad_notifications(rt: HostRuntime) -> Result<(), Fail> {
+    text_rows_hold(&rt, &BAD_NOTIFICATIONS)
 }

@@ -1,14 +1,14 @@
 //! Messages that are read and written again.
 
-use super::{bytes_of, check};
+use super::{are_copied, bytes_of, check, read_text};
 use crate::{
-    Answer, Attributes, Cost, Create, Initiate, Message, Reply, Update, read_message, write_message,
+    Answer, Attributes, Cost, Create, Errors, Initiate, Message, Reply, Update, write_message,
 };
 use pcep_objects::{
     Capabilities, Colours, Hop, MetricValue, NoPathVector, Open, PcepError, WriteFault,
 };
 use pcep_word::{Bandwidth, Ipv4, Priority};
-use sequence::{PlainData, Sequence};
+use sequence::Sequence;
 use std::test::*;
 
 pub const OPEN: &str = "20010014 01100010 201e7800 00100004 00000005";
@@ -37,92 +37,104 @@ pub const RETURN: &str = "200b001c 2110000c 00000000 00000001 20100008 00001008 
 pub const UPDATE: &str =
     "200b0048 2110000c 00000000 00000001 20100008 00001009 07100014 01080a03 00022000 01080a04 00022000 09100014 00000000 00000000 00000000 05020000 05100008 48f42400";
 
-fn message_of(rt: &HostRuntime, text: &str) -> Result<Message, Fail> {
-    let bytes = bytes_of(rt, text)?;
-    let message = read_message(rt.alloc(), bytes.as_slice())?;
-    Ok(message)
-}
-
-/// Whether the message of a text is written as it again, behind a byte that stays.
-fn is_written_again(rt: &HostRuntime, text: &str) -> Result<bool, Fail> {
-    let message = message_of(rt, text)?;
+/// The message as it is written behind a byte.
+fn written(rt: &HostRuntime, message: &Message) -> Result<Vec<u8>, Fail> {
     if !message.is_written() {
-        return Ok(false);
+        return Err(Fail::new("no message that is written"));
     }
     let mut out = Vec::new(rt.alloc());
     out.push(7)?;
-    write_message(&message, &mut out)?;
-    let expected = bytes_of(rt, text)?;
-    match out.as_slice() {
-        [first, rest @ ..] => Ok(*first == 7 && rest == expected.as_slice()),
-        [] => Ok(false),
+    write_message(message, &mut out)?;
+    Ok(out)
+}
+
+/// Whether these bytes stand behind that byte.
+fn stand_behind(out: &[u8], expected: &[u8]) -> bool {
+    match out {
+        [first, rest @ ..] => *first == 7 && rest == expected,
+        [] => false,
     }
+}
+
+/// Whether the message is written as this text, behind a byte that stays.
+fn is_written_as(rt: &HostRuntime, message: &Message, text: &str) -> Result<bool, Fail> {
+    let out = written(rt, message)?;
+    let expected = bytes_of(rt, text)?;
+    Ok(stand_behind(out.as_slice(), expected.as_slice()))
+}
+
+/// The message of each text is written as it again.
+fn are_written_again(rt: &HostRuntime, texts: &[&str]) -> Result<(), Fail> {
+    for text in texts {
+        let message = read_text(rt, text)?;
+        check(is_written_as(rt, &message, text)?, text)?;
+    }
+    Ok(())
 }
 
 #[test]
 fn messages_of_sessions_are_written_again(rt: HostRuntime) -> Result<(), Fail> {
-    for text in [OPEN, KEEPALIVE, CLOSE, ERROR, "2001000c 01100008 20ff000a"] {
-        assert!(rt; is_written_again(&rt, text)?, "{text}");
-    }
-    Ok(())
+    are_written_again(
+        &rt,
+        &[OPEN, KEEPALIVE, CLOSE, ERROR, "2001000c 01100008 20ff000a"],
+    )
 }
 
 #[test]
 fn replies_are_written_again(rt: HostRuntime) -> Result<(), Fail> {
-    for text in [NO_PATH, PATH] {
-        assert!(rt; is_written_again(&rt, text)?, "{text}");
-    }
-    Ok(())
+    are_written_again(&rt, &[NO_PATH, PATH])
 }
 
 #[test]
 fn updates_are_written_again(rt: HostRuntime) -> Result<(), Fail> {
-    for text in [CREATE, DELETION, RETURN, UPDATE] {
-        assert!(rt; is_written_again(&rt, text)?, "{text}");
-    }
-    Ok(())
+    are_written_again(&rt, &[CREATE, DELETION, RETURN, UPDATE])
 }
 
 /// Errors of each kind, one behind the other; the P bit of an RP isn't written.
+const ERRORS: &str =
+    "20060044 0d100008 00000603 0212000c 00000000 00000007 2110000c 00000000 00000002 2110000c 00000000 00000000 0210000c 0000003f ffffffff 0d100008 00000a01";
+
+const ERRORS_IN_ORDER: &str =
+    "20060044 0210000c 00000000 00000007 0210000c 00000000 ffffffff 2110000c 00000000 00000002 2110000c 00000000 00000000 0d100008 00000603 0d100008 00000a01";
+
+const EXPECTED_ERRORS: [PcepError; 2] = [
+    PcepError { kind: 6, value: 3 },
+    PcepError { kind: 10, value: 1 },
+];
+
+fn has_all(errors: &Errors) -> bool {
+    errors.requests.as_slice() == [7, 0xffff_ffff].as_slice()
+        && errors.srps.as_slice() == [2, 0].as_slice()
+        && errors.errors.as_slice() == EXPECTED_ERRORS.as_slice()
+}
+
+fn has_all_errors(message: &Message) -> bool {
+    match message {
+        Message::Error(errors) => has_all(errors),
+        _ => false,
+    }
+}
+
 #[test]
 fn errors_are_written_in_order(rt: HostRuntime) -> Result<(), Fail> {
-    let bytes = bytes_of(
-        &rt,
-        "20060044 0d100008 00000603 0212000c 00000000 00000007 2110000c 00000000 00000002 2110000c 00000000 00000000 0210000c 0000003f ffffffff 0d100008 00000a01",
-    )?;
-    let Message::Error(errors) = read_message(rt.alloc(), bytes.as_slice())? else {
-        return Err(Fail::new("another message"));
-    };
-    check(
-        errors.requests.as_slice() == [7, 0xffff_ffff].as_slice(),
-        "requests",
-    )?;
-    check(errors.srps.as_slice() == [2, 0].as_slice(), "srps")?;
-    let expected = [
-        PcepError { kind: 6, value: 3 },
-        PcepError { kind: 10, value: 1 },
-    ];
-    check(errors.errors.as_slice() == expected.as_slice(), "errors")?;
-    let mut out = Vec::new(rt.alloc());
-    write_message(&Message::Error(errors), &mut out)?;
-    let written = bytes_of(
-        &rt,
-        "20060044 0210000c 00000000 00000007 0210000c 00000000 ffffffff 2110000c 00000000 00000002 2110000c 00000000 00000000 0d100008 00000603 0d100008 00000a01",
-    )?;
-    assert_eq!(rt; out.as_slice(), written.as_slice());
-    Ok(())
+    let message = read_text(&rt, ERRORS)?;
+    check(has_all_errors(&message), "errors")?;
+    check(is_written_as(&rt, &message, ERRORS_IN_ORDER)?, "order")
+}
+
+fn is_written(message: Message) -> bool {
+    message.is_written()
 }
 
 #[test]
 fn kinds_that_are_written(rt: HostRuntime) -> Result<(), Fail> {
-    let requests = Sequence::from_vec(Vec::new(rt.alloc()));
-    let reports = Sequence::from_vec(Vec::new(rt.alloc()));
-    assert!(rt; !Message::Request(requests).is_written());
-    assert!(rt; !Message::Report(reports).is_written());
-    assert!(rt; !Message::Notify.is_written());
-    assert!(rt; !Message::Unknown(2).is_written());
-    assert!(rt; Message::Keepalive.is_written());
-    Ok(())
+    let requests = Message::Request(Sequence::from_vec(Vec::new(rt.alloc())));
+    check(!is_written(requests), "requests")?;
+    let reports = Message::Report(Sequence::from_vec(Vec::new(rt.alloc())));
+    check(!is_written(reports), "reports")?;
+    check(!is_written(Message::Notify), "notification")?;
+    check(!is_written(Message::Unknown(2)), "unknown type")?;
+    check(is_written(Message::Keepalive), "Keepalive")
 }
 
 /// A reply with this many hops.
@@ -137,54 +149,60 @@ fn reply_with(rt: &HostRuntime, count: usize) -> Result<Message, Fail> {
     }))
 }
 
+/// Whether a reply with this many hops is written so, and this many bytes stand then.
+fn fits(
+    rt: &HostRuntime,
+    count: usize,
+    fault: Option<WriteFault>,
+    len: usize,
+) -> Result<bool, Fail> {
+    let message = reply_with(rt, count)?;
+    if !message.is_written() {
+        return Ok(false);
+    }
+    let mut out = Vec::new(rt.alloc());
+    out.push(7)?;
+    let found = write_message(&message, &mut out).err();
+    Ok(found == fault && out.len() == len)
+}
+
 /// A message of 2^16 bytes or more is refused, and leaves the bytes before it as they are.
 #[test]
 fn messages_that_do_not_fit_are_refused(rt: HostRuntime) -> Result<(), Fail> {
-    let table = [
-        (8189, None, 65533),
-        (8190, Some(WriteFault::TooLong), 1),
-        (8192, Some(WriteFault::TooLong), 1),
-    ];
-    for (count, fault, len) in table {
-        let message = reply_with(&rt, count)?;
-        let mut out = Vec::new(rt.alloc());
-        out.push(7)?;
-        assert!(rt; message.is_written());
-        let found = write_message(&message, &mut out).err();
-        assert_eq!(rt; found, fault, "{count}");
-        assert_eq!(rt; out.len(), len, "{count}");
-    }
-    Ok(())
+    check(fits(&rt, 8189, None, 65533)?, "8189 hops")?;
+    check(fits(&rt, 8190, Some(WriteFault::TooLong), 1)?, "8190 hops")?;
+    check(fits(&rt, 8192, Some(WriteFault::TooLong), 1)?, "8192 hops")
 }
 
 #[test]
 fn copies_of_written_messages(rt: HostRuntime) -> Result<(), Fail> {
-    for text in [OPEN, CLOSE, CREATE, DELETION, NO_PATH, PATH, ERROR, UPDATE] {
-        let message = message_of(&rt, text)?;
-        let copy = message.copy()?;
-        let printed = format!(in rt.alloc(); "{message:?}")?;
-        let copied = format!(in rt.alloc(); "{copy:?}")?;
-        assert_eq!(rt; copied, printed, "at {text}");
+    are_copied(
+        &rt,
+        &[OPEN, CLOSE, CREATE, DELETION, NO_PATH, PATH, ERROR, UPDATE],
+    )
+}
+
+const EXPECTED_OPEN: Open = Open {
+    keepalive: 30,
+    dead_timer: 120,
+    session: 0,
+    capabilities: Some(Capabilities {
+        update: true,
+        create: true,
+    }),
+};
+
+fn is_open(message: &Message, expected: &Open) -> bool {
+    match message {
+        Message::Opening(opening) => *opening == *expected,
+        _ => false,
     }
-    Ok(())
 }
 
 #[test]
 fn what_an_open_says(rt: HostRuntime) -> Result<(), Fail> {
-    let Message::Opening(opening) = message_of(&rt, OPEN)? else {
-        return Err(Fail::new("another message"));
-    };
-    let expected = Open {
-        keepalive: 30,
-        dead_timer: 120,
-        session: 0,
-        capabilities: Some(Capabilities {
-            update: true,
-            create: true,
-        }),
-    };
-    assert_eq!(rt; opening, expected);
-    Ok(())
+    let message = read_text(&rt, OPEN)?;
+    check(is_open(&message, &EXPECTED_OPEN), "open")
 }
 
 pub fn are_hosts(hops: &[Hop], addresses: &[u32]) -> bool {
@@ -211,25 +229,30 @@ pub fn attributes(setup: u8, hold: u8) -> Attributes {
     }
 }
 
-fn create_of(rt: &HostRuntime, text: &str) -> Result<Create, Fail> {
-    match message_of(rt, text)? {
-        Message::Initiate(Initiate::Create(create)) => Ok(create),
-        _ => Err(Fail::new("another message")),
+fn says_new_lsp(create: &Create) -> bool {
+    create.srp == 1
+        && create.name.as_slice() == b"t1".as_slice()
+        && create.source == Ipv4(0x0a000001)
+        && create.destination == Ipv4(0x0a000004)
+        && are_hosts(create.ero.as_slice(), &[0x0a010002, 0x0a020002])
+        && create.attributes == Some(attributes(7, 0))
+        && create.bandwidth == Bandwidth::at_least(500000)
+}
+
+fn is_new_lsp(message: &Message) -> bool {
+    match message {
+        Message::Initiate(initiate) => match initiate {
+            Initiate::Create(create) => says_new_lsp(create),
+            _ => false,
+        },
+        _ => false,
     }
 }
 
 #[test]
 fn what_a_new_lsp_says(rt: HostRuntime) -> Result<(), Fail> {
-    let create = create_of(&rt, CREATE)?;
-    let create = &create;
-    check(create.srp == 1, "srp")?;
-    check(create.name.as_slice() == b"t1".as_slice(), "name")?;
-    check(create.source == Ipv4(0x0a000001), "source")?;
-    check(create.destination == Ipv4(0x0a000004), "destination")?;
-    let route = [0x0a010002, 0x0a020002];
-    check(are_hosts(create.ero.as_slice(), &route), "route")?;
-    check(create.attributes == Some(attributes(7, 0)), "attributes")?;
-    check(create.bandwidth == Bandwidth::at_least(500000), "bandwidth")
+    let message = read_text(&rt, CREATE)?;
+    check(is_new_lsp(&message), "new LSP")
 }
 
 /// Whether the message deletes this LSP.
@@ -245,49 +268,58 @@ fn is_deletion(message: &Message, request: u32, lsp: u32) -> bool {
 
 #[test]
 fn what_a_deletion_says(rt: HostRuntime) -> Result<(), Fail> {
-    let message = message_of(&rt, DELETION)?;
+    let message = read_text(&rt, DELETION)?;
     check(is_deletion(&message, 2, 5), "deletion")
 }
 
-fn update_of(rt: &HostRuntime, text: &str) -> Result<Update, Fail> {
-    match message_of(rt, text)? {
-        Message::Update(update) => Ok(update),
-        _ => Err(Fail::new("another message")),
+/// What an update of LSP 1 says.
+#[derive(Clone, Copy)]
+struct Expected {
+    delegate: bool,
+    route: &'static [u32],
+    attributes: Option<Attributes>,
+    bandwidth: Option<Bandwidth>,
+}
+
+fn says_update(update: &Update, expected: &Expected) -> bool {
+    update.srp == 1
+        && update.plsp.number() == 1
+        && update.delegate == expected.delegate
+        && update.admin
+        && are_hosts(update.ero.as_slice(), expected.route)
+        && update.attributes == expected.attributes
+        && update.bandwidth == expected.bandwidth
+}
+
+fn is_update(message: &Message, expected: &Expected) -> bool {
+    match message {
+        Message::Update(update) => says_update(update, expected),
+        _ => false,
     }
 }
 
 #[test]
 fn what_an_update_says(rt: HostRuntime) -> Result<(), Fail> {
-    let update = update_of(&rt, UPDATE)?;
-    let update = &update;
-    check(update.srp == 1, "srp")?;
-    check(update.plsp.number() == 1, "plsp")?;
-    check(update.delegate, "delegate")?;
-    check(update.admin, "admin")?;
-    let route = [0x0a030002, 0x0a040002];
-    check(are_hosts(update.ero.as_slice(), &route), "route")?;
-    check(update.attributes == Some(attributes(5, 2)), "attributes")?;
-    check(update.bandwidth == Bandwidth::at_least(500000), "bandwidth")
+    let expected = Expected {
+        delegate: true,
+        route: &[0x0a030002, 0x0a040002],
+        attributes: Some(attributes(5, 2)),
+        bandwidth: Bandwidth::at_least(500000),
+    };
+    let message = read_text(&rt, UPDATE)?;
+    check(is_update(&message, &expected), "update")
 }
 
 #[test]
 fn what_a_return_says(rt: HostRuntime) -> Result<(), Fail> {
-    let update = update_of(&rt, RETURN)?;
-    let update = &update;
-    check(update.srp == 1, "srp")?;
-    check(update.plsp.number() == 1, "plsp")?;
-    check(!update.delegate, "delegate")?;
-    check(update.admin, "admin")?;
-    check(update.ero.as_slice().is_empty(), "route")?;
-    check(update.attributes.is_none(), "attributes")?;
-    check(update.bandwidth.is_none(), "bandwidth")
-}
-
-fn reply_of(rt: &HostRuntime, text: &str) -> Result<Reply, Fail> {
-    match message_of(rt, text)? {
-        Message::Reply(reply) => Ok(reply),
-        _ => Err(Fail::new("another message")),
-    }
+    let expected = Expected {
+        delegate: false,
+        route: &[],
+        attributes: None,
+        bandwidth: None,
+    };
+    let message = read_text(&rt, RETURN)?;
+    check(is_update(&message, &expected), "return")
 }
 
 pub fn is_path(answer: &Answer, addresses: &[u32], expected: Cost) -> bool {
@@ -306,26 +338,43 @@ pub fn is_no_path(answer: &Answer, expected: Option<NoPathVector>) -> bool {
     }
 }
 
+fn is_reply_with_path(message: &Message, cost: Cost) -> bool {
+    match message {
+        Message::Reply(reply) => {
+            reply.request == 8 && is_path(&reply.answer, &[0x0a010002, 0x0a020002], cost)
+        }
+        _ => false,
+    }
+}
+
 #[test]
 fn what_a_reply_with_a_path_says(rt: HostRuntime) -> Result<(), Fail> {
-    let reply = reply_of(&rt, PATH)?;
     let cost = Cost {
         kind: 2,
         value: MetricValue::new(20),
     };
-    check(reply.request == 8, "request")?;
-    let route = [0x0a010002, 0x0a020002];
-    check(is_path(&reply.answer, &route, cost), "path")
+    let message = read_text(&rt, PATH)?;
+    check(is_reply_with_path(&message, cost), "path")
+}
+
+const UNKNOWN_DESTINATION: NoPathVector = NoPathVector {
+    pce_unavailable: false,
+    unknown_destination: true,
+    unknown_source: false,
+};
+
+fn is_reply_without_path(message: &Message, expected: NoPathVector) -> bool {
+    match message {
+        Message::Reply(reply) => { reply.request == 7 && is_no_path(&reply.answer, Some(expected)) }
+        _ => false,
+    }
 }
 
 #[test]
 fn what_a_reply_without_a_path_says(rt: HostRuntime) -> Result<(), Fail> {
-    let reply = reply_of(&rt, NO_PATH)?;
-    let vector = NoPathVector {
-        pce_unavailable: false,
-        unknown_destination: true,
-        unknown_source: false,
-    };
-    check(reply.request == 7, "request")?;
-    check(is_no_path(&reply.answer, Some(vector)), "no path")
+    let message = read_text(&rt, NO_PATH)?;
+    check(
+        is_reply_without_path(&message, UNKNOWN_DESTINATION),
+        "no path",
+    )
 }
