@@ -13,12 +13,12 @@ use Rattle.pce_engine.proofs.Laws.{fed_append, fed_front, after, appends_more, s
 abbrev pub after_text : List ℕ → Outcome → Outcome
 after_text text o = record { text = text ++ o.text; fault = o.fault }
 
-told_front : (r : Result (List ℕ × Stage) ScriptFault) (text : List ℕ) → on_told text r (λ all t. record { text = all; fault = ending t.number t.database }) ≡ after_text text (on_told [] r (λ all t. record { text = all; fault = ending t.number t.database }))
+told_front : (r : Result (List ℕ × Stage) ScriptFault) (text : List ℕ) → on_told text r (λ all t. record { text = all; fault = ending t.number t.standing }) ≡ after_text text (on_told [] r (λ all t. record { text = all; fault = ending t.number t.standing }))
 told_front (Ok r) text = refl
 told_front (Err f) text = ap (λ (t : List ℕ). record { text = t; fault = Some f }) (sym (append-nil text))
 
 closed_front : (text : List ℕ) (s : Stage) (p : List ℕ) → closed_with text s p ≡ after_text text (closed_with [] s p)
-closed_front text s [] = ap (λ (t : List ℕ). record { text = t; fault = ending s.number s.database }) (sym (append-nil text))
+closed_front text s [] = ap (λ (t : List ℕ). record { text = t; fault = ending s.number s.standing }) (sym (append-nil text))
 closed_front text s (b ∷ p) = told_front (told s (b ∷ p)) text
 
 -- ---- a piece stops the script

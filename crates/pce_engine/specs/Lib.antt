@@ -1,8 +1,13 @@
 pub mod Faults
 pub mod Words
+pub mod Commands
 pub mod Orders
 pub mod Texts
+pub mod Answered
 pub mod Submits
+pub mod Talks
+pub mod Sessions
+pub mod Standing
 pub mod Script
 pub mod Machine
 pub mod MachineOf

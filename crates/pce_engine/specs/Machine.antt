@@ -6,7 +6,7 @@ use Rattle.pce_engine.specs.declared.stage.Stage as code
 use Rattle.pce_engine.specs.Script.{Stage, start, told, Outcome, ending, on_told}
 
 abbrev pub stage_of : code.Stage → Stage
-stage_of s = record { number = s.number; header = s.header.items; database = s.database }
+stage_of s = record { number = s.number; header = s.header.items; standing = s.standing }
 
 -- the stage, and the bytes of a line that hasn't ended
 pub record Machine : Type 0 where
@@ -75,8 +75,8 @@ Feeds (Err e) bytes old m new n = Breaks e bytes old m new
 
 -- the last line, where no line break follows it
 abbrev pub closed_with : List ℕ → Stage → List ℕ → Outcome
-closed_with text s [] = record { text = text; fault = ending s.number s.database }
-closed_with text s (b ∷ bs) = on_told text (told s (b ∷ bs)) (λ all t. record { text = all; fault = ending t.number t.database })
+closed_with text s [] = record { text = text; fault = ending s.number s.standing }
+closed_with text s (b ∷ bs) = on_told text (told s (b ∷ bs)) (λ all t. record { text = all; fault = ending t.number t.standing })
 
 abbrev pub completed_by : List ℕ → Machine → Option ScriptFault → Outcome
 completed_by text m None = closed_with text m.stage m.pending

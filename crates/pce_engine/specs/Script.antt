@@ -5,14 +5,10 @@ use Rattle.te_base.specs.declared.fault.TeFault.{TeFault}
 use Rattle.te_base.specs.declared.fault.TeFault.TheVariants.{NotToml}
 use Rattle.te_base.specs.Base.{Base}
 use Rattle.te_base.specs.LinkText.{base_of}
-use Rattle.history_core.specs.Histories.{Content, nothing_happened}
+use Rattle.pce_engine.specs.Standing.{Standing, at_start, standing_line}
 use Rattle.pce_engine.specs.declared.fault.ScriptFault.{ScriptFault}
 use Rattle.pce_engine.specs.declared.fault.ScriptFault.TheVariants.{BadLine, Te}
-use Rattle.pce_engine.specs.declared.orders.Order.{Order}
-use Rattle.pce_engine.specs.declared.orders.Order.TheVariants.{Report, Book, History}
-use Rattle.pce_engine.specs.Orders.{order_of}
-use Rattle.pce_engine.specs.Texts.{book_text, history_text}
-use Rattle.pce_engine.specs.Submits.{◌>>=◌, report_line}
+use Rattle.pce_engine.specs.Submits.{◌>>=◌}
 
 -- ---- lines
 
@@ -36,46 +32,36 @@ lines_of bytes = with_rest (cut bytes).0 (cut bytes).1
 
 -- ---- one line
 
--- the number of the next line, the link text so far, and the database once the link text has ended
+-- the number of the next line, the link text so far, and what stands once the link text has ended
 pub record Stage : Type 0 where
   pub number : ℕ
   pub header : List ℕ
-  pub database : Option Content
+  pub standing : Option Standing
 
 abbrev pub start : Stage
-start = record { number = 1; header = []; database = None }
+start = record { number = 1; header = []; standing = None }
 
 -- a link text that isn't UTF-8 isn't TOML
 unfoldable pub base_in : List ℕ → Result Base TeFault
 base_in text = if is_utf8 text then base_of text else Err NotToml
 
-abbrev pub opened : Result Base TeFault → Result Content ScriptFault
-opened (Ok base) = Ok (nothing_happened base)
+abbrev pub opened : Result Base TeFault → Result Standing ScriptFault
+opened (Ok base) = Ok (at_start base)
 opened (Err fault) = Err (Te fault)
 
 -- `---` ends the link text, another line belongs to it
 unfoldable pub header_line : Stage → List ℕ → Result (List ℕ × Stage) ScriptFault
 header_line s line =
-    if bytes_eq line (codes "---") then (opened (base_in s.header) >>= λ d. Ok ([], record { number = s.number + 1; header = s.header; database = Some d }))
-    else Ok ([], record { number = s.number + 1; header = (s.header ++ line) ++ 10 ∷ []; database = None })
+    if bytes_eq line (codes "---") then (opened (base_in s.header) >>= λ standing. Ok ([], record { number = s.number + 1; header = s.header; standing = Some standing }))
+    else Ok ([], record { number = s.number + 1; header = (s.header ++ line) ++ 10 ∷ []; standing = None })
 
-abbrev pub ordered : ℕ → Content → Option Order → Result (List ℕ × Content) ScriptFault
-ordered number d None = Err (BadLine number)
-ordered number d (Some Book) = Ok (book_text d.state, d)
-ordered number d (Some History) = Ok (history_text d.history, d)
-ordered number d (Some (Report peer reports)) = report_line d peer reports
-
--- what a line prints, and the database after it
-unfoldable pub database_line : ℕ → Content → List ℕ → Result (List ℕ × Content) ScriptFault
-database_line number d line = ordered number d (order_of line)
-
-abbrev pub told_at : Stage → List ℕ → Option Content → Result (List ℕ × Stage) ScriptFault
+abbrev pub told_at : Stage → List ℕ → Option Standing → Result (List ℕ × Stage) ScriptFault
 told_at s line None = header_line s line
-told_at s line (Some d) = database_line s.number d line >>= λ r. Ok (r.0, record { number = s.number + 1; header = s.header; database = Some r.1 })
+told_at s line (Some standing) = standing_line s.number standing line >>= λ r. Ok (r.0, record { number = s.number + 1; header = s.header; standing = Some r.1 })
 
 -- what a line prints, and the stage after it, or its fault
 unfoldable pub told : Stage → List ℕ → Result (List ℕ × Stage) ScriptFault
-told s line = told_at s line s.database
+told s line = told_at s line s.standing
 
 -- ---- the whole script
 
@@ -85,9 +71,9 @@ pub record Outcome : Type 0 where
   pub fault : Option ScriptFault
 
 -- a script without `---` has a bad line one past the last
-abbrev pub ending : ℕ → Option Content → Option ScriptFault
+abbrev pub ending : ℕ → Option Standing → Option ScriptFault
 ending number None = Some (BadLine number)
-ending number (Some d) = None
+ending number (Some standing) = None
 
 -- on from a line, with what was written before it
 abbrev pub on_told : List ℕ → Result (List ℕ × Stage) ScriptFault → (List ℕ → Stage → Outcome) → Outcome
@@ -95,7 +81,7 @@ on_told text (Ok r) go = go (text ++ r.0) r.1
 on_told text (Err fault) go = record { text = text; fault = Some fault }
 
 abbrev pub printed : List (List ℕ) → List ℕ → Stage → Outcome
-printed [] text s = record { text = text; fault = ending s.number s.database }
+printed [] text s = record { text = text; fault = ending s.number s.standing }
 printed (line ∷ lines) text s = on_told text (told s line) (printed lines)
 
 -- what a script prints, and how it ends

@@ -61,6 +61,12 @@ report_line d peer reports = do
   up ← joined d peer
   reported up peer [] reports
 
+-- an event, with its reply on a line
+unfoldable pub event_line : Content → Event → Result (List ℕ × Content) ScriptFault
+event_line d event = do
+  told ← submitted d event
+  Ok (reply_line told.0, told.1)
+
 -- ---- what a call answers, where the script has this
 
 -- where memory ran out nothing is said; a line alone meets no fault of a reader or a writer

@@ -13,10 +13,17 @@ is_space byte = byte == 32
 abbrev pub cut_at_space : List ℕ → Option (List ℕ × List ℕ)
 cut_at_space line = option_map (λ i. (take i line, drop (i + 1) line)) (position is_space line)
 
--- a number below 2 ^ 32 in decimal; it may have leading zeros
+-- a number below 2 ^ bits in decimal; it may have leading zeros
+abbrev pub number_of_bits : ℕ → List ℕ → Option ℕ
+number_of_bits bits word =
+    if all_ascii_digits word && nat_lt 0 (length word) && nat_lt (digits_value 10 word) (2 ^ bits) then Some (digits_value 10 word) else None
+
 abbrev pub number_in : List ℕ → Option ℕ
-number_in word =
-    if all_ascii_digits word && nat_lt 0 (length word) && nat_lt (digits_value 10 word) (2 ^ 32) then Some (digits_value 10 word) else None
+number_in word = number_of_bits 32 word
+
+-- a moment in milliseconds
+abbrev pub moment_in : List ℕ → Option ℕ
+moment_in word = number_of_bits 64 word
 
 -- a number, or the number of a dotted address
 abbrev pub peer_or : Option ℕ → List ℕ → Option ℕ

@@ -1,9 +1,11 @@
 //! What a line asks for.
 
 ghost use Rattle.std.specs.Prelude.{◌≡◌, IfOk};
-ghost use Rattle.pce_engine.specs.Orders.{reports_in, report_order, long_order, order_in, order_of};
+ghost use Rattle.pce_engine.specs.Orders.{reports_in, report_order, message_order, tick_order, event_order, session_order, order_with, long_order, order_in, order_of};
 
-use crate::words::{cut_at_space, octets_in, peer_in};
+use crate::commands::event_with;
+use crate::words::{cut_at_space, moment_in, octets_in, peer_in};
+use history_core::Event;
 use pcep_messages::{Message, MessageFault, StateReport, read_message};
 use sequence::Sequence;
 use std::alloc::{AllocError, Global};
@@ -15,6 +17,18 @@ pub(crate) enum Order {
     Report(u32, Sequence<StateReport>),
     Book,
     History,
+    /// A session of the peer begins.
+    Open(u32),
+    /// One begins and comes up.
+    Up(u32),
+    /// Bytes of the peer, for its session.
+    Bytes(u32, Sequence<u8>),
+    /// The transport of the peer's session has ended.
+    End(u32),
+    /// The moment, in milliseconds.
+    Tick(u64),
+    /// An event of an operator.
+    Submit(Event),
 }
 
 /// The reports of a message, where it is one of state reports.
@@ -49,13 +63,90 @@ fn report_order(alloc: Global, line: &str) -> Result<Option<Order>, AllocError>
     Ok(Some(Order::Report(peer, reports)))
 }
 
+#[tactic(auto, unfolding(crate::specs::Orders::message_order))]
+fn message_order(alloc: Global, line: &str) -> Result<Option<Order>, AllocError>
+    ensures { IfOk result (λ order. order ≡ message_order line.now) }
+{
+    let Some((peer, hex)) = cut_at_space(line) else {
+        return Ok(None);
+    };
+    let Some(peer) = peer_in(peer) else {
+        return Ok(None);
+    };
+    let Some(bytes) = octets_in(alloc, hex)? else {
+        return Ok(None);
+    };
+    Ok(Some(Order::Bytes(peer, Sequence::from_vec(bytes))))
+}
+
+#[tactic(auto, unfolding(crate::specs::Orders::tick_order))]
+fn tick_order(line: &str) -> Option<Order>
+    ensures { result ≡ tick_order line.now }
+{
+    let Some(now_ms) = moment_in(line) else {
+        return None;
+    };
+    Some(Order::Tick(now_ms))
+}
+
+#[tactic(auto, unfolding(crate::specs::Orders::event_order))]
+fn event_order(word: &str, rest: &str) -> Option<Order>
+    ensures { result ≡ event_order word.now rest.now }
+{
+    let Some(event) = event_with(word, rest) else {
+        return None;
+    };
+    Some(Order::Submit(event))
+}
+
+#[tactic(auto, unfolding(crate::specs::Orders::session_order, crate::specs::Orders::peer_order))]
+fn session_order(word: &str, rest: &str) -> Option<Order>
+    ensures { result ≡ session_order word.now rest.now }
+{
+    if word == "open" {
+        return match peer_in(rest) {
+            Some(peer) => Some(Order::Open(peer)),
+            None => None,
+        };
+    }
+    if word == "up" {
+        return match peer_in(rest) {
+            Some(peer) => Some(Order::Up(peer)),
+            None => None,
+        };
+    }
+    if word == "end" {
+        return match peer_in(rest) {
+            Some(peer) => Some(Order::End(peer)),
+            None => None,
+        };
+    }
+    event_order(word, rest)
+}
+
+#[tactic(auto, unfolding(crate::specs::Orders::order_with))]
+fn order_with(alloc: Global, word: &str, rest: &str) -> Result<Option<Order>, AllocError>
+    ensures { IfOk result (λ order. order ≡ order_with word.now rest.now) }
+{
+    if word == "report" {
+        return report_order(alloc, rest);
+    }
+    if word == "msg" {
+        return message_order(alloc, rest);
+    }
+    if word == "tick" {
+        return Ok(tick_order(rest));
+    }
+    Ok(session_order(word, rest))
+}
+
 #[tactic(auto, unfolding(crate::specs::Orders::long_order))]
 fn long_order(alloc: Global, line: &str) -> Result<Option<Order>, AllocError>
     ensures { IfOk result (λ order. order ≡ long_order line.now) }
 {
     match cut_at_space(line) {
-        Some((word, rest)) if word == "report" => report_order(alloc, rest),
-        _ => Ok(None),
+        Some((word, rest)) => order_with(alloc, word, rest),
+        None => Ok(None),
     }
 }
 

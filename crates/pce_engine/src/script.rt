@@ -81,9 +81,9 @@ fn take_chunk<W: Write>(
 }
 
 fn close<W: Write>(stage: &Stage, writer: &mut W) -> Result<(), ScriptFault>
-    ensures { ClosesAt result (W.contents writer.old) (W.contents writer.new) (record { text = []; fault = ending stage.now.number stage.now.database }) }
+    ensures { ClosesAt result (W.contents writer.old) (W.contents writer.new) (record { text = []; fault = ending stage.now.number stage.now.standing }) }
 {
-    if stage.database.is_none() {
+    if stage.standing.is_none() {
         return Err(ScriptFault::BadLine(stage.number));
     }
     if writer.flush().is_err() {
@@ -135,7 +135,7 @@ pub fn run_script<R: Read, W: Write>(
         stage: Stage {
             number: 1,
             header: Vec::new(alloc),
-            database: None,
+            standing: None,
         },
         pending: Vec::new(alloc),
     };

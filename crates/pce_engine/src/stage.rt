@@ -3,24 +3,21 @@
 ghost use Rattle.std.specs.Prelude.{◌≡◌, ◌<◌, ◌≤◌, ◌+◌, ◌^◌, string_bytes, codes, None};
 ghost use Rattle.std.specs.Str.{bytes_eq};
 ghost use Rattle.te_base.specs.Faults.{Gives};
-ghost use Rattle.pce_engine.specs.Script.{told, header_line, base_in, database_line};
+ghost use Rattle.pce_engine.specs.Script.{told, header_line, base_in};
 ghost use Rattle.pce_engine.specs.Submits.{Tells};
 ghost use Rattle.pce_engine.specs.Machine.{stage_of};
 
 use crate::fault::ScriptFault;
-use crate::orders::{Order, order_of};
-use crate::submits::report_line;
-use crate::texts::{book_text, history_text};
-use history_core::Database;
+use crate::standing::Standing;
 use std::alloc::Global;
 use te_base::{TeBase, TeFault};
 
-/// The number of the next line, the link text so far, and the database once the link text has ended.
+/// The number of the next line, the link text so far, and what stands once the link text has ended.
 #[derive(Drop)]
 pub(crate) struct Stage {
     pub number: u64,
     pub header: Vec<u8>,
-    pub database: Option<Database>,
+    pub standing: Option<Standing>,
 }
 
 #[tactic(auto, unfolding(crate::specs::Script::base_in))]
@@ -42,13 +39,13 @@ fn is_bar(line: &[u8]) -> bool
 #[tactic(auto, unfolding(crate::specs::Script::header_line))]
 fn header_line(alloc: Global, stage: &mut Stage, line: &[u8]) -> Result<String, ScriptFault>
     requires number { stage.old.number < 2 ^ 63 }
-    requires header { stage.old.database ≡ None }
+    requires header { stage.old.standing ≡ None }
     ensures told { Tells string_bytes result (header_line (stage_of stage.old) line.now) (stage_of stage.new) }
     ensures number { stage.new.number ≤ stage.old.number + 1 }
 {
     if is_bar(line) {
         match read_base(alloc, &stage.header) {
-            Ok(base) => stage.database = Some(Database::new(alloc, base)?),
+            Ok(base) => stage.standing = Some(Standing::new(alloc, base)?),
             Err(TeFault::OutOfMemory) => return Err(ScriptFault::OutOfMemory),
             Err(fault) => return Err(ScriptFault::Te(fault)),
         }
@@ -60,23 +57,6 @@ fn header_line(alloc: Global, stage: &mut Stage, line: &[u8]) -> Result<String, 
     Ok(String::new(alloc))
 }
 
-#[tactic(auto, unfolding(crate::specs::Script::database_line))]
-fn database_line(
-    alloc: Global,
-    number: u64,
-    database: &mut Database,
-    line: &[u8],
-) -> Result<String, ScriptFault>
-    ensures { Tells string_bytes result (database_line number database.old line.now) database.new }
-{
-    match order_of(alloc, line)? {
-        None => Err(ScriptFault::BadLine(number)),
-        Some(Order::Book) => Ok(book_text(alloc, database)?),
-        Some(Order::History) => Ok(history_text(alloc, database.history())?),
-        Some(Order::Report(peer, reports)) => report_line(alloc, database, peer, reports),
-    }
-}
-
 /// What a line prints.
 #[tactic(auto, unfolding(crate::specs::Script::told))]
 pub(crate) fn tell(alloc: Global, stage: &mut Stage, line: &[u8]) -> Result<String, ScriptFault>
@@ -84,10 +64,10 @@ pub(crate) fn tell(alloc: Global, stage: &mut Stage, line: &[u8]) -> Result<Stri
     ensures told { Tells string_bytes result (told (stage_of stage.old) line.now) (stage_of stage.new) }
     ensures number { stage.new.number ≤ stage.old.number + 1 }
 {
-    match &mut stage.database {
+    match &mut stage.standing {
         None => header_line(alloc, stage, line),
-        Some(database) => {
-            let text = database_line(alloc, stage.number, database, line)?;
+        Some(standing) => {
+            let text = standing.line(alloc, stage.number, line)?;
             stage.number += 1;
             Ok(text)
         }

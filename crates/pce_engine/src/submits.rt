@@ -1,7 +1,7 @@
 //! The events of a line.
 
 ghost use Rattle.std.specs.Prelude.{◌≡◌, List, ℕ, string_bytes};
-ghost use Rattle.pce_engine.specs.Submits.{submitted, came_up, joined, one_reported, reported, report_line, Tells, Leaves};
+ghost use Rattle.pce_engine.specs.Submits.{submitted, came_up, joined, one_reported, reported, report_line, event_line, Tells, Leaves};
 
 use crate::fault::ScriptFault;
 use crate::texts::add_reply;
@@ -85,5 +85,21 @@ pub(crate) fn report_line(
     join(database, peer)?;
     let mut text = String::new(alloc);
     report_each(database, peer, &mut text, reports.into_vec())?;
+    Ok(text)
+}
+
+/// Submits an event, and gives its reply.
+#[tactic(auto, unfolding(crate::specs::Submits::event_line))]
+pub(crate) fn event_line(
+    alloc: Global,
+    database: &mut Database,
+    event: Event,
+) -> Result<String, ScriptFault>
+    ensures { Tells string_bytes result (event_line database.old event) database.new }
+{
+    let reply = submit(database, event)?;
+    let mut text = String::new(alloc);
+    add_reply(&mut text, &reply)?;
+    text.push_str("\n")?;
     Ok(text)
 }

@@ -6,6 +6,8 @@ use std::process::Abort;
 use std::test::*;
 use te_base::TeFault;
 
+mod sessions;
+
 /// Four nodes, and two ways from A to D: links 0 and 1 over B, links 2 and 3 over C.
 const DIAMOND: &str = r#"node = [
  {name="A",id="10.0.0.1"}, {name="B",id="10.0.0.2"},

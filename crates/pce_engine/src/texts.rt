@@ -1,9 +1,10 @@
 //! What lines print.
 
-ghost use Rattle.std.specs.Prelude.{◌≡◌, ◌++◌, ◌<◌, ◌≤◌, IfOk, OnOk, All, length, string_bytes};
+ghost use Rattle.std.specs.Prelude.{◌≡◌, ◌++◌, ◌+◌, ◌<◌, ◌≤◌, IfOk, OnOk, IsOk, All, length, decimal, string_bytes, string_len, string_capacity};
 ghost use Rattle.pce_engine.specs.Texts.{booked_text, out_text, refused_text, reply_text, brief_text, event_text, step_line, history_text, left_at, amounts_text, link_line, book_text};
 
 use history_core::{Brief, Database, Event, Reply, Step, Why};
+use itoa::Buffer;
 use pcep_word::Priority;
 use std::alloc::{AllocError, Global};
 use std::fmt::Write;
@@ -15,22 +16,39 @@ fn booked_word(wants_path: bool) -> &'static str
     if wants_path { "booked wants" } else { "booked" }
 }
 
-fn add_out(text: &mut String, messages: u64) -> Result<(), AllocError>
-    ensures { OnOk result (string_bytes text.new ≡ string_bytes text.old ++ out_text messages) }
+/// A word of eight bytes at most, and a number.
+fn add_number(text: &mut String, word: &str, number: u64) -> Result<(), AllocError>
+    requires { length word.now ≤ 8 }
+    ensures text { OnOk result (string_bytes text.new ≡ string_bytes text.old ++ (word.now ++ decimal number)) }
+    ensures succeeds { string_len text.old + 48 ≤ string_capacity text.old → IsOk result }
 {
-    write!(text, "out {messages}")
+    let mut buffer = Buffer::new();
+    let digits = buffer.format(number);
+    text.push_str(word)?;
+    text.push_str(digits)
+}
+
+fn add_out(text: &mut String, messages: u64) -> Result<(), AllocError>
+    ensures text { OnOk result (string_bytes text.new ≡ string_bytes text.old ++ out_text messages) }
+    ensures succeeds { string_len text.old + 48 ≤ string_capacity text.old → IsOk result }
+{
+    add_number(text, "out ", messages)
 }
 
 fn add_refusal(text: &mut String, why: Why) -> Result<(), AllocError>
-    ensures { OnOk result (string_bytes text.new ≡ string_bytes text.old ++ refused_text why) }
+    ensures text { OnOk result (string_bytes text.new ≡ string_bytes text.old ++ refused_text why) }
+    ensures succeeds { string_len text.old + 48 ≤ string_capacity text.old → IsOk result }
 {
-    let number = why.number();
-    write!(text, "refused {number}")
+    add_number(text, "refused ", u64::from(why.number()))
 }
+
+/// In so much room, in bytes, the text of a reply is added without asking for memory.
+pub(crate) const REPLY_ROOM: usize = 48;
 
 /// A reply, without a line break.
 pub(crate) fn add_reply(text: &mut String, reply: &Reply) -> Result<(), AllocError>
-    ensures { OnOk result (string_bytes text.new ≡ string_bytes text.old ++ reply_text reply.now) }
+    ensures succeeds { string_len text.old + 48 ≤ string_capacity text.old → IsOk result }
+    ensures text { OnOk result (string_bytes text.new ≡ string_bytes text.old ++ reply_text reply.now) }
 {
     match reply {
         Reply::Done => text.push_str("done"),

@@ -1,7 +1,7 @@
 //! Words of a line: numbers, peers and bytes.
 
 ghost use Rattle.std.specs.Prelude.{◌≡◌, ◌==◌, option_map, slice_index, IfOk};
-ghost use Rattle.pce_engine.specs.Words.{cut_at_space, number_in, peer_in, without_spaces, octets};
+ghost use Rattle.pce_engine.specs.Words.{cut_at_space, number_in, moment_in, peer_in, without_spaces, octets};
 
 use hex::FromHexError;
 use pcep_word::Ipv4;
@@ -31,6 +31,16 @@ fn number_in(word: &str) -> Option<u32>
         return None;
     }
     word.parse::<u32>().ok()
+}
+
+/// A moment: a decimal number below 2^64, with leading zeros or without.
+pub(crate) fn moment_in(word: &str) -> Option<u64>
+    ensures { result ≡ moment_in word.now }
+{
+    if has_plus(word.as_bytes()) {
+        return None;
+    }
+    word.parse::<u64>().ok()
 }
 
 /// A peer's number, in decimal or as a dotted address.

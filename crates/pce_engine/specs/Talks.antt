@@ -1,0 +1,69 @@
+-- A session in one line: what the engine does with it, and what is printed of it.
+use Rattle.std.specs.Prelude.{ℕ, Bool, true, false, List, [], ◌∷◌, ◌++◌, codes, Result, Ok, Err, if◌then◌else◌}
+use Rattle.std.specs.Fmt.{decimal}
+use Rattle.hex.specs.Hex.{encode_lower}
+use Rattle.pcep_session.specs.Calls.{own_open, output_taken}
+use Rattle.pcep_session.specs.declared.table.State.{State}
+use Rattle.pcep_session.specs.declared.table.State.TheVariants.{Up, Closed}
+use Rattle.history_core.specs.Histories.{Content}
+use Rattle.history_core.specs.declared.fault.Fault.{Fault}
+use Rattle.engine_core.specs.Engine.{served, hung_up}
+use Rattle.engine_core.specs.Performed.{performed}
+use Rattle.engine_core.specs.declared.client.Client.{Client}
+use Rattle.pce_engine.specs.Faults.{fault_of}
+use Rattle.pce_engine.specs.Submits.{◌>>=◌}
+use Rattle.pce_engine.specs.declared.fault.ScriptFault.{ScriptFault}
+
+-- ---- what is printed
+
+-- bytes that are to be sent, if there are some
+abbrev pub output_text : ℕ → List ℕ → List ℕ
+output_text peer [] = []
+output_text peer (b ∷ bs) = codes "out " ++ decimal peer ++ codes " " ++ encode_lower (b ∷ bs) ++ codes "\n"
+
+-- the session has ended, or it came up
+abbrev pub change_text : ℕ → Bool → State → List ℕ
+change_text peer was_up Closed = codes "down " ++ decimal peer ++ codes "\n"
+change_text peer was_up Up = if was_up then [] else codes "up " ++ decimal peer ++ codes "\n"
+change_text peer was_up state = []
+
+-- what a session leaves to be printed
+abbrev pub told_of : ℕ → Bool → Client → List ℕ
+told_of peer was_up c = output_text peer c.session.output ++ change_text peer was_up c.session.state
+
+-- its bytes are sent
+abbrev pub sent_out : Client → Client
+sent_out c = record c { session = output_taken c.session }
+
+-- ---- what is done
+
+abbrev pub is_up : State → Bool
+is_up Up = true
+is_up state = false
+
+abbrev pub carried : Result (Client × Content) Fault → Result (Client × Content) ScriptFault
+carried (Ok done) = Ok done
+carried (Err fault) = Err (fault_of fault)
+
+-- a text, and the session and the database after it
+abbrev pub Talk : Type 0
+Talk = List ℕ × (Client × Content)
+
+abbrev pub told : ℕ → Bool → Client × Content → Talk
+told peer was_up done = (told_of peer was_up done.0, (sent_out done.0, done.1))
+
+-- bytes of the peer at a moment
+unfoldable pub talked : ℕ → List ℕ → ℕ → Client → Content → Result Talk ScriptFault
+talked peer piece now_ms c d = do
+  done ← carried (performed (served peer piece now_ms c) d)
+  Ok (told peer (is_up c.session.state) done)
+
+-- the transport of the peer has ended
+unfoldable pub hung : ℕ → Client → Content → Result Talk ScriptFault
+hung peer c d = do
+  done ← carried (performed (hung_up peer c) d)
+  Ok (told peer (is_up c.session.state) done)
+
+-- a router that opens a session as this server does, and accepts this server's Open: an Open and a Keepalive
+abbrev pub router_opening : List ℕ
+router_opening = own_open ++ 0x20 ∷ 2 ∷ 0 ∷ 4 ∷ []

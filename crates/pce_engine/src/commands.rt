@@ -1,0 +1,131 @@
+//! The lines of an operator.
+
+ghost use Rattle.std.specs.Prelude.{◌≡◌, ◌<◌, ◌≤◌, ◌+◌, ◌++◌, ◌-◌, Some, length, slice_get, string_bytes, string_len, string_capacity};
+ghost use Rattle.engine_core.specs.declared.store.Call.{Call};
+ghost use Rattle.pce_engine.specs.declared.commands.CommandFault.TheVariants.{Store as Stored};
+ghost use Rattle.pce_engine.specs.Commands.{expire_event, event_with, event_in, fault_number, command_text};
+ghost use Rattle.pce_engine.specs.Answered.{Answers};
+ghost use Rattle.pce_engine.specs.Texts.{reply_text};
+ghost use Rattle.history_core.specs.declared.fault.Fault.TheVariants.{OutOfMemory};
+
+use crate::texts::{REPLY_ROOM, add_reply};
+use crate::words::{cut_at_space, peer_in};
+use engine_core::Store;
+use history_core::{Event, Fault, Reply};
+use std::alloc::{AllocError, Global};
+use std::{error, fmt};
+
+/// Why an operator's line was not answered.
+#[derive(Clone, Copy, Debug, PartialEq, Eq)]
+pub enum CommandFault {
+    /// The line names no event. Nothing was submitted.
+    BadLine,
+    /// The event was not taken. The store is as before.
+    Store(Fault),
+}
+
+impl CommandFault {
+    /// 1 for a bad line, 2 for a fault of the store.
+    pub fn number(self) -> u8
+        ensures { result ≡ fault_number self }
+    {
+        match self {
+            CommandFault::BadLine => 1,
+            CommandFault::Store(_) => 2,
+        }
+    }
+}
+
+impl fmt::Display for CommandFault {
+    ghost output = { λ fault. Some (command_text fault) };
+
+    fn fmt<W: fmt::Write>(&self, f: &mut fmt::Formatter<W>) -> fmt::Result {
+        match *self {
+            CommandFault::BadLine => f.write_str("bad line"),
+            CommandFault::Store(Fault::OutOfMemory) => f.write_str("out of memory"),
+            CommandFault::Store(Fault::HistoryFull) => f.write_str("history full"),
+        }
+    }
+}
+
+impl error::Error for CommandFault {}
+
+impl From<AllocError> for CommandFault {
+    ghost from_gives = { λ _ e. e ≡ Stored OutOfMemory };
+
+    fn from(_e: AllocError) -> CommandFault {
+        CommandFault::Store(Fault::OutOfMemory)
+    }
+}
+
+impl From<Fault> for CommandFault {
+    ghost from_gives = { λ fault e. e ≡ Stored fault };
+
+    fn from(fault: Fault) -> CommandFault {
+        CommandFault::Store(fault)
+    }
+}
+
+#[tactic(auto, unfolding(crate::specs::Commands::expire_event))]
+fn expire_event(line: &str) -> Option<Event>
+    ensures { result ≡ expire_event line.now }
+{
+    let Some(peer) = peer_in(line) else {
+        return None;
+    };
+    Some(Event::Expire { peer })
+}
+
+/// The event that an operator's line names by its first word and its rest.
+#[tactic(auto, unfolding(crate::specs::Commands::event_with))]
+pub(crate) fn event_with(word: &str, rest: &str) -> Option<Event>
+    ensures { result ≡ event_with word.now rest.now }
+{
+    if word == "expire" {
+        return expire_event(rest);
+    }
+    None
+}
+
+#[tactic(auto, unfolding(crate::specs::Commands::event_in))]
+fn event_in(line: &str) -> Option<Event>
+    ensures { result ≡ event_in line.now }
+{
+    match cut_at_space(line) {
+        Some((word, rest)) => event_with(word, rest),
+        None => None,
+    }
+}
+
+/// The reply to the last call.
+fn last_reply<S: Store>(store: &S) -> &Reply
+    requires { 0 < length (S.calls store.now) }
+    ensures { (call : Call) → slice_get (S.calls store.now) (length (S.calls store.now) - 1) ≡ Some call → result.now ≡ call.reply }
+{
+    let calls = store.calls();
+    &calls[calls.len() - 1].reply
+}
+
+/// Adds the text of a reply, in room that is there.
+fn put_reply(text: &mut String, reply: &Reply)
+    requires { string_len text.old + 48 ≤ string_capacity text.old }
+    ensures { string_bytes text.new ≡ string_bytes text.old ++ reply_text reply.now }
+{
+    let added = add_reply(text, reply);
+    prove!(added.is_ok());
+}
+
+/// Submits the one event that an operator's line names (docs/FORMAT.md: `expire PEER`), and answers the
+/// text of its reply. `BadLine` where the line names none: then nothing is submitted. After a fault of the
+/// store, which tells want of memory too, it is as before.
+pub fn command<S: Store>(alloc: Global, line: &str, store: &mut S) -> Result<String, CommandFault>
+    ensures { Answers string_bytes S.moves S.is_full (event_in line.now) result store.old store.new }
+{
+    let Some(event) = event_in(line) else {
+        return Err(CommandFault::BadLine);
+    };
+    let mut text = String::with_capacity(alloc, REPLY_ROOM)?;
+    store.submit(event)?;
+    put_reply(&mut text, last_reply(store));
+    Ok(text)
+}
