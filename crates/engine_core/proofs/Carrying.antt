@@ -80,7 +80,7 @@ out_of_memory moves is_full a b c after p q fault is h = record { rest = q; carr
 
 -- ---- one event, and what its reply means
 
-last_of : (calls : List Call) (call : Call) → slice_get (calls ++ call ∷ []) (length (calls ++ call ∷ []) - 1) ≡ Some call
+pub last_of : (calls : List Call) (call : Call) → slice_get (calls ++ call ∷ []) (length (calls ++ call ∷ []) - 1) ≡ Some call
 last_of calls call =
     let size : length (calls ++ call ∷ []) ≡ length calls + 1 = length-append calls (call ∷ []) in
     let here : length (calls ++ call ∷ []) - 1 ≡ length calls = grind (arith, common_steps) in

@@ -1,3 +1,4 @@
 pub mod Carrying
 pub mod Turning
 pub mod Performing
+pub mod Handling

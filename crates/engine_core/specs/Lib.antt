@@ -6,3 +6,4 @@ pub mod Stores
 pub mod Performed
 pub mod Lending
 pub mod LendingLaws
+pub mod Laws

@@ -17,7 +17,7 @@ use pcep_objects::Capabilities;
 use pcep_session::Input;
 
 /// The reply to the last call.
-pub(crate) fn last_reply<S: Store>(store: &S) -> &Reply
+pub fn last_reply<S: Store>(store: &S) -> &Reply
     requires { 0 < length (S.calls store.now) }
     ensures { (call : Call) → slice_get (S.calls store.now) (length (S.calls store.now) - 1) ≡ Some call → result.now ≡ call.reply }
 {

@@ -9,7 +9,8 @@
 //! replies to those before it. `specs/Engine` has the plan of each call as a table: what is submitted for each
 //! input of the session, and what the replies mean for it. The contracts say that the calls which were added to
 //! the store's list carry that plan out and that the session is the one in which it ends; after a fault they
-//! carry out its beginning (`specs/Stores`). `specs/Performed` carries a plan out against one database.
+//! carry out its beginning (`specs/Stores`). A session is served until it gives nothing more (`specs/Laws`).
+//! `specs/Performed` carries a plan out against one database.
 //!
 //! ```text
 //! fn answered(alloc: Global, database: &mut Database, client: &mut Client, piece: &[u8]) -> Result<Vec<u8>, Fault>
@@ -25,12 +26,18 @@
 
 mod client;
 mod inputs;
+mod laws;
 mod lent;
 mod serving;
 mod store;
 
 pub use client::Client;
 pub use history_core::{Event, Fault, Reply};
+pub use inputs::last_reply;
+pub use laws::all_handled;
 pub use lent::{Lent, hang_up_database, serve_database};
 pub use serving::{hang_up, serve};
 pub use store::{Call, Store};
+
+#[cfg(test)]
+mod tests;

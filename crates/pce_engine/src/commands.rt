@@ -1,7 +1,6 @@
 //! The lines of an operator.
 
-ghost use Rattle.std.specs.Prelude.{◌≡◌, ◌<◌, ◌≤◌, ◌+◌, ◌++◌, ◌-◌, Some, length, slice_get, string_bytes, string_len, string_capacity};
-ghost use Rattle.engine_core.specs.declared.store.Call.{Call};
+ghost use Rattle.std.specs.Prelude.{◌≡◌, ◌≤◌, ◌+◌, ◌++◌, Some, string_bytes, string_len, string_capacity};
 ghost use Rattle.pce_engine.specs.declared.commands.CommandFault.TheVariants.{Store as Stored};
 ghost use Rattle.pce_engine.specs.Commands.{expire_event, event_with, event_in, fault_number, command_text};
 ghost use Rattle.pce_engine.specs.Answered.{Answers};
@@ -10,7 +9,7 @@ ghost use Rattle.history_core.specs.declared.fault.Fault.TheVariants.{OutOfMemor
 
 use crate::texts::{REPLY_ROOM, add_reply};
 use crate::words::{cut_at_space, peer_in};
-use engine_core::Store;
+use engine_core::{Store, last_reply};
 use history_core::{Event, Fault, Reply};
 use std::alloc::{AllocError, Global};
 use std::{error, fmt};
@@ -95,15 +94,6 @@ fn event_in(line: &str) -> Option<Event>
         Some((word, rest)) => event_with(word, rest),
         None => None,
     }
-}
-
-/// The reply to the last call.
-fn last_reply<S: Store>(store: &S) -> &Reply
-    requires { 0 < length (S.calls store.now) }
-    ensures { (call : Call) → slice_get (S.calls store.now) (length (S.calls store.now) - 1) ≡ Some call → result.now ≡ call.reply }
-{
-    let calls = store.calls();
-    &calls[calls.len() - 1].reply
 }
 
 /// Adds the text of a reply, in room that is there.

@@ -191,7 +191,7 @@ pub run_out : TurnsRunOut
 run_out c = (at_most (is_closed c.state) c.state c refl, λ call. call_falls call c)
 
 -- nothing is given again once nothing was
-rests_on : (n : ℕ) (c : Contents) → (next c).input ≡ None → (next (after_turns n c)).input ≡ None
+pub rests_on : (n : ℕ) (c : Contents) → (next c).input ≡ None → (next (after_turns n c)).input ≡ None
 rests_on zero c e = e
 rests_on (suc n) c e =
     let same : (next c).after ≡ c = rests c (next c).after (ap (λ (x : Option Input). turn_of x (next c).after) e) in

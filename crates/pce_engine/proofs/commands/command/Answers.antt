@@ -1,20 +1,10 @@
-use Rattle.std.proofs.Common.{◌≡◌, ℕ, ◌+◌, ◌-◌, ◌<◌, List, [], ◌∷◌, ◌++◌, length, slice_get, Some, sym, ◌∙◌, ap, arith}
-use Rattle.std.proofs.lemmas.Grind.{common_steps}
-use Rattle.std.proofs.lemmas.List.{length-append}
-use Rattle.std.proofs.lemmas.Option.{slice_get-get_or}
-use Rattle.std.proofs.Math.Seq.{get_or-append_seam}
+use Rattle.std.proofs.Common.{◌≡◌, ℕ, List, [], ◌∷◌, ◌++◌, sym, ◌∙◌, ap}
 use Rattle.step_core.specs.declared.event.Reply.{Reply}
 use Rattle.engine_core.specs.Calls.{called}
 use Rattle.engine_core.specs.declared.store.Call.{Call}
+use Rattle.engine_core.proofs.Carrying.{last_of}
 use Rattle.pce_engine.specs.Texts.{reply_text}
 use Rattle.pce_engine.proofs.commands.command.Goals as goal
-
-last_of : (calls : List Call) (call : Call) → slice_get (calls ++ call ∷ []) (length (calls ++ call ∷ []) - 1) ≡ Some call
-last_of calls call =
-    let size : length (calls ++ call ∷ []) ≡ length calls + 1 = length-append calls (call ∷ []) in
-    let here : length (calls ++ call ∷ []) - 1 ≡ length calls = grind (arith, common_steps) in
-    let within : length calls < length (calls ++ call ∷ []) = grind (arith, common_steps) in
-    rw here (slice_get-get_or (calls ++ call ∷ []) (length calls) call within ∙ ap (λ (x : Call). Some x) (get_or-append_seam calls call [] call))
 
 pub returns : goal.returns
 returns g c =
