@@ -6,6 +6,7 @@ use std::process::Abort;
 use std::test::*;
 use te_base::TeFault;
 
+mod commands;
 mod sessions;
 
 /// Four nodes, and two ways from A to D: links 0 and 1 over B, links 2 and 3 over C.
