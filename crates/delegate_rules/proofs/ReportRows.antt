@@ -1,12 +1,12 @@
 -- Reports on a network of four nodes, computed by the definitions: 10.0.0.1 to 10.0.0.4, joined by way of
 -- the second (links 0 and 1) and of the third (links 2 and 3), 1,000,000 bytes per second each.
 use Rattle.std.proofs.Common.{◌≡◌, ℕ, List, [], ◌∷◌, ◌++◌, map, refl, true, false}
-use Rattle.std.specs.Prelude.{ℤ, pos, negsuc, replicate, Option, Some, None, Result, Ok, Err}
+use Rattle.std.specs.Prelude.{ℤ, pos, negsuc, replicate, Some, None, Err}
 use Rattle.te_base.specs.Base.{Base}
 use Rattle.te_base.specs.declared.network.Link.{Link}
 use Rattle.te_base.specs.declared.network.Owner.{Owner}
 use Rattle.lsp_base.specs.Shares.{share, reserved, unreserved, priorities}
-use Rattle.lsp_base.specs.Base.{Lsps, no_lsps, changed, with_stale, dropping}
+use Rattle.lsp_base.specs.Base.{Lsps, no_lsps, changed}
 use Rattle.lsp_base.specs.declared.tunnel.Tunnel.TheVariants.{Signalled, Unsignalled, Asked}
 use Rattle.lsp_base.specs.declared.tunnel.Part.TheVariants.{Reported, Granted}
 use Rattle.lsp_base.specs.declared.path.Path.{Path}

@@ -1,5 +1,5 @@
 -- What a report does to paths and records.
-use Rattle.std.specs.Prelude.{ℕ, ◌+◌, Bool, true, false, ◌==◌, ◌&&◌, ◌||◌, List, [], ◌∷◌, length, map, filter, Option, Some, None, is_none, Result, Ok, Err, if◌then◌else◌, nat_lt}
+use Rattle.std.specs.Prelude.{ℕ, ◌+◌, Bool, true, false, ◌==◌, ◌&&◌, ◌||◌, List, [], ◌∷◌, length, map, filter, Option, Some, is_none, Result, Ok, Err, if◌then◌else◌, nat_lt}
 use Rattle.te_base.specs.Base.{Base}
 use Rattle.lsp_base.specs.Base.{Lsps, lsp_at, is_path_of, ended_records, effect_of}
 use Rattle.lsp_base.specs.Grants.{has_grant}

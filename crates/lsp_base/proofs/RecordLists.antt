@@ -1,5 +1,5 @@
 -- Records in a list, at the place of a key.
-use Rattle.std.proofs.Common.{◌≡◌, ℕ, ◌+◌, ◌<◌, List, [], ◌∷◌, ◌++◌, length, take, drop, set, get_or, refl, sym, ◌∙◌, ap, arith, true, cond, add-one, suc}
+use Rattle.std.proofs.Common.{◌≡◌, ℕ, ◌+◌, ◌<◌, List, ◌∷◌, ◌++◌, length, take, drop, set, get_or, sym, ◌∙◌, ap, true, cond, add-one}
 use Rattle.std.proofs.lemmas.List.{drop_more, set_split}
 use Rattle.lsp_base.specs.Base.{put, is_record_of}
 use Rattle.lsp_base.specs.declared.effect.Record.{Record}

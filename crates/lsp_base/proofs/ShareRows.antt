@@ -2,10 +2,10 @@
 use Rattle.std.proofs.Common.{◌≡◌, ℕ, List, [], ◌∷◌, ◌++◌, map, refl, true, false}
 use Rattle.std.specs.Prelude.{ℤ, pos, negsuc, replicate}
 use Rattle.lsp_base.specs.Shares.{share, reserved, unreserved, priorities, fits}
-use Rattle.lsp_base.specs.Base.{Lsps, no_lsps, changed, with_stale, effect_of, dropping}
+use Rattle.lsp_base.specs.Base.{no_lsps, changed, with_stale, effect_of}
 use Rattle.lsp_base.specs.declared.tunnel.Tunnel.{Tunnel}
-use Rattle.lsp_base.specs.declared.tunnel.Tunnel.TheVariants.{Signalled, Unsignalled, Asked}
-use Rattle.lsp_base.specs.declared.tunnel.Part.TheVariants.{Reported, Granted}
+use Rattle.lsp_base.specs.declared.tunnel.Tunnel.TheVariants.{Signalled, Unsignalled}
+use Rattle.lsp_base.specs.declared.tunnel.Part.TheVariants.{Reported}
 use Rattle.lsp_base.specs.declared.path.Path.{Path}
 use Rattle.te_base.specs.declared.network.Link.{Link}
 

@@ -1,7 +1,7 @@
 -- What is known of LSPs, and the lists after a change.
-use Rattle.std.specs.Prelude.{ℕ, Bool, true, false, ◌==◌, ◌&&◌, not, List, [], ◌∷◌, ◌++◌, map, filter, find, option_map, Option, Some, None, if◌then◌else◌, cond}
+use Rattle.std.specs.Prelude.{ℕ, Bool, false, ◌==◌, ◌&&◌, not, List, [], ◌∷◌, ◌++◌, map, filter, find, option_map, Option, Some, None, if◌then◌else◌, cond}
 use Rattle.std.specs.List.{list_any}
-use Rattle.lsp_base.specs.Same.{same_path, is_reported}
+use Rattle.lsp_base.specs.Same.{same_path}
 use Rattle.lsp_base.specs.declared.path.Path.{Path}
 use Rattle.lsp_base.specs.declared.lsp.Lsp.{Lsp}
 use Rattle.lsp_base.specs.declared.effect.Record.{Record}

@@ -1,6 +1,5 @@
 -- A message is read again from its spelling.
-use Rattle.std.proofs.Common.{◌≡◌, ℕ, ◌+◌, ◌^◌, ◌<◌, true, false, ltb, length, List, Some, None, Result, Ok, refl, ap, ◌∙◌}
-use Rattle.std.specs.List.{AllByRecursion}
+use Rattle.std.proofs.Common.{◌≡◌, ℕ, ◌+◌, ◌^◌, ◌<◌, true, ltb, length, List, None, Result, Ok, ap, ◌∙◌}
 use Rattle.std.proofs.lemmas.Bool.{and_parts, ltb-true, false≢true}
 use Rattle.pcep_messages.specs.Messages.{message_of, message_in}
 use Rattle.pcep_messages.specs.Normal.{IsNormal, IsInitiate}

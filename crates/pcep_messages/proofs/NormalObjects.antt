@@ -1,18 +1,17 @@
 -- The objects of a normal message are normal.
-use Rattle.std.proofs.Common.{◌≡◌, ℕ, List, [], ◌∷◌, ◌++◌, map, Option, Some, None, false, refl, arith}
+use Rattle.std.proofs.Common.{ℕ, List, [], ◌∷◌, ◌++◌, map, Option, Some, None, false, refl, arith}
 use Rattle.std.specs.List.{AllByRecursion}
 use Rattle.pcep_objects.specs.Spelling as spelling
 use Rattle.pcep_objects.specs.declared.object.Object.{Object}
 use Rattle.pcep_objects.specs.declared.object.Object.TheVariants as objects
 use Rattle.pcep_objects.specs.declared.session_objects.PcepError.{PcepError}
-use Rattle.pcep_messages.specs.Normal.{IsWord, IsAnswer, MayBeCost, MayBeAttributes, MayBeBandwidth, IsUpdate, IsCreate, IsInitiate, IsReply, AreErrors, IsNormal}
-use Rattle.pcep_messages.specs.Spelling.{rp_object, srp_object, attributes_objects, bandwidth_objects, cost_objects, error_objects, answer_objects, reply_objects, update_objects, create_objects, initiate_objects, objects_written}
+use Rattle.pcep_messages.specs.Normal.{IsWord, IsAnswer, MayBeCost, MayBeAttributes, MayBeBandwidth, IsUpdate, IsCreate, IsInitiate, IsNormal}
+use Rattle.pcep_messages.specs.Spelling.{rp_object, srp_object, attributes_objects, bandwidth_objects, cost_objects, answer_objects, update_objects, create_objects, initiate_objects, objects_written}
 use Rattle.pcep_messages.specs.declared.message.Answer.{Answer}
 use Rattle.pcep_messages.specs.declared.message.Answer.TheVariants as answers
 use Rattle.pcep_messages.specs.declared.message.Attributes.{Attributes}
 use Rattle.pcep_messages.specs.declared.message.Cost.{Cost}
 use Rattle.pcep_messages.specs.declared.message.Create.{Create}
-use Rattle.pcep_messages.specs.declared.message.Errors.{Errors}
 use Rattle.pcep_messages.specs.declared.message.Initiate.{Initiate}
 use Rattle.pcep_messages.specs.declared.message.Initiate.TheVariants as initiates
 use Rattle.pcep_messages.specs.declared.message.Message.{Message}

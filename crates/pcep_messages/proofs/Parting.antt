@@ -1,11 +1,11 @@
 -- Parts that are taken in one after the other, as a loop does.
-use Rattle.std.proofs.Common.{◌≡◌, false, ℕ, ◌<◌, List, [], ◌∷◌, length, drop, Option, Some, None, refl, sym, ap, ◌∙◌, arith}
+use Rattle.std.proofs.Common.{◌≡◌, false, ℕ, ◌<◌, List, [], ◌∷◌, length, drop, Some, None, refl, sym, ap, ◌∙◌, arith}
 use Rattle.pcep_objects.specs.Objects.{object_at}
 use Rattle.pcep_objects.specs.declared.fault.ObjectFault.{ObjectFault}
 use Rattle.pcep_objects.specs.declared.object.Object.{Object}
 use Rattle.pcep_messages.specs.declared.objects.Next.TheVariants as next
 use Rattle.pcep_messages.specs.declared.parts.Parts.{Parts}
-use Rattle.pcep_messages.specs.Objects.{Found, next_of, followed_by, found_from, found_in}
+use Rattle.pcep_messages.specs.Objects.{Found, next_of, found_from, found_in}
 use Rattle.pcep_messages.specs.Parts.{and_then, parts_after, parts_of, ArePartsOf}
 use Rattle.pcep_messages.proofs.Finding.{step, passed}
 

@@ -1,5 +1,5 @@
 -- The objects of a written message give its parts, and these the message.
-use Rattle.std.proofs.Common.{◌≡◌, ℕ, ◌≤◌, min, Bool, true, false, List, [], ◌∷◌, ◌++◌, map, Option, Some, None, Result, Ok, refl, ap, ◌∙◌, arith}
+use Rattle.std.proofs.Common.{◌≡◌, ℕ, ◌≤◌, min, Bool, false, List, [], ◌∷◌, ◌++◌, map, Option, Some, None, Result, Ok, refl, ap, ◌∙◌, arith}
 use Rattle.std.specs.List.{filter_map}
 use Rattle.std.proofs.lemmas.List.Elements.{filter_map-append}
 use Rattle.std.proofs.lemmas.List.{append-nil}
@@ -17,7 +17,6 @@ use Rattle.pcep_messages.specs.declared.fault.MessageFault.{MessageFault}
 use Rattle.pcep_messages.specs.declared.message.Answer.{Answer}
 use Rattle.pcep_messages.specs.declared.message.Answer.TheVariants as answers
 use Rattle.pcep_messages.specs.declared.message.Attributes.{Attributes}
-use Rattle.pcep_messages.specs.declared.message.Cost.{Cost}
 use Rattle.pcep_messages.specs.declared.message.Create.{Create}
 use Rattle.pcep_messages.specs.declared.message.Errors.{Errors}
 use Rattle.pcep_messages.specs.declared.message.Initiate.{Initiate}

@@ -1,6 +1,6 @@
 -- What the objects of a request ask of a path (RFC 5440 section 6.4, RFC 8231 section 6.4). Of several of one class the first counts, but of
 -- BANDWIDTHs the greatest, and each METRIC.
-use Rattle.std.specs.Prelude.{ℕ, min, max, Bool, true, false, not, ◌&&◌, List, [], ◌∷◌, map, fold, Option, Some, None, nat_lt, ◌==◌, if◌then◌else◌}
+use Rattle.std.specs.Prelude.{ℕ, min, max, Bool, true, false, ◌&&◌, List, [], ◌∷◌, map, fold, Option, Some, None, nat_lt, ◌==◌, if◌then◌else◌}
 use Rattle.pcep_objects.specs.declared.object.BandwidthType.TheVariants.{Requested}
 use Rattle.pcep_objects.specs.declared.object.Lspa.{Lspa}
 use Rattle.pcep_objects.specs.declared.object.Object.{Object}

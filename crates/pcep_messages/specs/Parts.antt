@@ -1,5 +1,5 @@
 -- The parts of a message that has one item: what counts of its objects.
-use Rattle.std.specs.Prelude.{◌≡◌, ℕ, List, Option, Some, None, Result, Ok, Err}
+use Rattle.std.specs.Prelude.{◌≡◌, ℕ, List, Option, Some, None, Result, Err}
 use Rattle.std.specs.List.{fold}
 use Rattle.std.specs.Option.{option_or}
 use Rattle.pcep_objects.specs.declared.fault.ObjectFault.{ObjectFault}
@@ -7,7 +7,7 @@ use Rattle.pcep_objects.specs.declared.object.BandwidthType.{BandwidthType}
 use Rattle.pcep_objects.specs.declared.object.BandwidthType.TheVariants.{Requested, Current}
 use Rattle.pcep_objects.specs.declared.object.Object.{Object}
 use Rattle.pcep_objects.specs.declared.object.Object.TheVariants as objects
-use Rattle.pcep_messages.specs.Objects.{Found, found_in}
+use Rattle.pcep_messages.specs.Objects.{Found}
 use Rattle.pcep_messages.specs.Items.{greatest}
 use Rattle.pcep_messages.specs.declared.fault.About.{About}
 use Rattle.pcep_messages.specs.declared.fault.MessageFault.{MessageFault}

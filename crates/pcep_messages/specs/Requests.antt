@@ -1,5 +1,5 @@
 -- The requests of a PCReq (RFC 5440 section 6.4), or the first fault: SVECs, then requests, each an RP with the objects behind it.
-use Rattle.std.specs.Prelude.{◌≡◌, ℕ, Bool, true, false, not, ◌&&◌, ◌||◌, List, [], ◌∷◌, Option, Some, None, Result, Ok, Err, if◌then◌else◌}
+use Rattle.std.specs.Prelude.{ℕ, Bool, true, false, not, ◌&&◌, ◌||◌, List, [], ◌∷◌, Option, Some, None, Result, Ok, Err, if◌then◌else◌}
 use Rattle.std.specs.List.{list_any, before_first}
 use Rattle.pcep_objects.specs.Steps.{◌>>=◌}
 use Rattle.pcep_objects.specs.declared.fault.ObjectFault.{ObjectFault}
@@ -10,7 +10,7 @@ use Rattle.pcep_objects.specs.declared.object.Object.TheVariants as objects
 use Rattle.pcep_objects.specs.declared.request_objects.EndPoints.{EndPoints}
 use Rattle.pcep_objects.specs.declared.request_objects.Rp.{Rp}
 use Rattle.pcep_messages.specs.Constraints.{first_of, end_points_of, plsp_of, lspa_of, is_rro, is_bandwidth, greatest_requested, minimised, bounds_of}
-use Rattle.pcep_messages.specs.Objects.{Found, found_in_request}
+use Rattle.pcep_messages.specs.Objects.{found_in_request}
 use Rattle.pcep_messages.specs.Reports.{setup_of, hold_of, colours_of}
 use Rattle.pcep_messages.specs.declared.fault.About.{About}
 use Rattle.pcep_messages.specs.declared.fault.About.TheVariants as about

@@ -38,7 +38,7 @@ fn cut_holds(rt: &HostRuntime, cut: &[u8], cuts: &[Cuts]) -> Result<(), Fail> {
 }
 
 /// Reads each cut of a message, with the length left and with the length mended.
-pub fn read_cuts(rt: &HostRuntime, text: &str, cuts: &[Cuts]) -> Result<(), Fail> {
+pub(super) fn read_cuts(rt: &HostRuntime, text: &str, cuts: &[Cuts]) -> Result<(), Fail> {
     let bytes = bytes_of(rt, text)?;
     for len in 4..bytes.len() {
         let (cut, _) = bytes.split_at(len);
@@ -47,7 +47,7 @@ pub fn read_cuts(rt: &HostRuntime, text: &str, cuts: &[Cuts]) -> Result<(), Fail
     Ok(())
 }
 
-pub fn bad_length(about: About) -> Option<MessageFault> {
+pub(super) fn bad_length(about: About) -> Option<MessageFault> {
     Some(MessageFault::BadObject(ObjectFault::BadLength, about))
 }
 

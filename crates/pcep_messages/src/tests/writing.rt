@@ -205,7 +205,7 @@ fn what_an_open_says(rt: HostRuntime) -> Result<(), Fail> {
     check(is_open(&message, &EXPECTED_OPEN), "open")
 }
 
-pub fn are_hosts(hops: &[Hop], addresses: &[u32]) -> bool {
+fn are_hosts(hops: &[Hop], addresses: &[u32]) -> bool {
     if hops.len() != addresses.len() {
         return false;
     }
@@ -217,7 +217,7 @@ pub fn are_hosts(hops: &[Hop], addresses: &[u32]) -> bool {
     true
 }
 
-pub fn attributes(setup: u8, hold: u8) -> Attributes {
+pub(super) fn attributes(setup: u8, hold: u8) -> Attributes {
     Attributes {
         colours: Colours {
             exclude_any: 0,
@@ -322,7 +322,7 @@ fn what_a_return_says(rt: HostRuntime) -> Result<(), Fail> {
     check(is_update(&message, &expected), "return")
 }
 
-pub fn is_path(answer: &Answer, addresses: &[u32], expected: Cost) -> bool {
+pub(super) fn is_path(answer: &Answer, addresses: &[u32], expected: Cost) -> bool {
     match answer {
         Answer::Found(hops, cost) => {
             are_hosts(hops.as_slice(), addresses) && *cost == Some(expected)
@@ -331,7 +331,7 @@ pub fn is_path(answer: &Answer, addresses: &[u32], expected: Cost) -> bool {
     }
 }
 
-pub fn is_no_path(answer: &Answer, expected: Option<NoPathVector>) -> bool {
+pub(super) fn is_no_path(answer: &Answer, expected: Option<NoPathVector>) -> bool {
     match answer {
         Answer::Found(..) => false,
         Answer::NoPath(vector) => *vector == expected,

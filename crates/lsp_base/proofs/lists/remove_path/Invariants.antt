@@ -1,4 +1,4 @@
-use Rattle.std.proofs.Common.{◌≡◌, ◌++◌, take, drop, vec_capacity}
+use Rattle.std.proofs.Common.{◌≡◌, ◌++◌, take, drop}
 use Rattle.lsp_base.specs.Base.{without_path}
 use Rattle.lsp_base.proofs.lists.remove_path.Given as goal
 

@@ -1,4 +1,4 @@
-use Rattle.std.proofs.Common.{◌≡◌, ◌<◌, length, rules, ◌∙◌, sym, ap, arith, take, drop, set}
+use Rattle.std.proofs.Common.{◌<◌, length, ◌∙◌, ap, arith}
 use Rattle.std.proofs.lemmas.Grind.{common_steps}
 use Rattle.lsp_base.specs.Base.{put}
 use Rattle.lsp_base.proofs.RecordLists.{put-here}

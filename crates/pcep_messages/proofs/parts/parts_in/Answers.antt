@@ -2,7 +2,6 @@ use Rattle.std.proofs.Common.{◌≡◌, false, ◌<◌, length, rules, arith, r
 use Rattle.pcep_objects.specs.Objects.{object_at}
 use Rattle.pcep_messages.specs.declared.objects.Next.TheVariants as next
 use Rattle.pcep_messages.specs.Objects.{found_in, next_of}
-use Rattle.pcep_messages.specs.Parts.{no_parts}
 use Rattle.pcep_messages.proofs.Parting.{goes_on, skips, stops, ends}
 use Rattle.pcep_messages.proofs.parts.parts_in.Goals as goal
 
