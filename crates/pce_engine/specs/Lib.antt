@@ -7,6 +7,8 @@ pub mod Answered
 pub mod Submits
 pub mod Talks
 pub mod Sessions
+pub mod Seats
+pub mod Lends
 pub mod Standing
 pub mod Script
 pub mod Machine

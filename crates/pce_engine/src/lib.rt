@@ -24,6 +24,7 @@ mod commands;
 mod fault;
 mod orders;
 mod script;
+mod seats;
 mod sessions;
 mod stage;
 mod standing;

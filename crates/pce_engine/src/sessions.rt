@@ -1,41 +1,33 @@
-//! The sessions that live, by their peers.
+//! The lines that speak for a peer: its session begins, takes bytes, ends.
 
-ghost use Rattle.std.specs.Prelude.{◌≡◌, Ok, is_some, string_bytes};
+ghost use Rattle.std.specs.Prelude.{◌≡◌, Ok, None, string_bytes};
 ghost use Rattle.pce_engine.specs.Sessions.{session_of, gone_if, placed, messaged, ended, opened, brought_up};
 ghost use Rattle.pce_engine.specs.Submits.{Tells, Leaves};
 
 use crate::fault::ScriptFault;
+use crate::seats::Sessions;
 use crate::talks::{hang_up, is_closed, talk, tell_session};
 use engine_core::Client;
 use history_core::Database;
 use std::alloc::Global;
-use std::collections::BTreeMap;
-
-/// The sessions that live, by their peers. Each call takes time logarithmic in their number.
-pub(crate) type Sessions = BTreeMap<u32, Client>;
 
 fn drop_ended(sessions: &mut Sessions, peer: u32, ended: bool)
-    ensures { sessions.new.entries ≡ gone_if ended peer sessions.old.entries }
+    ensures { sessions.new ≡ gone_if ended peer sessions.old }
 {
     if ended {
-        let _ended = sessions.remove(&peer);
+        let _ended = sessions.remove(peer);
     }
 }
 
 fn place(sessions: &mut Sessions, peer: u32, client: Client) -> Result<(), ScriptFault>
-    ensures { Leaves result (Ok (placed peer client sessions.old.entries)) sessions.new.entries }
+    requires { session_of peer sessions.old ≡ None }
+    ensures { Leaves result (Ok (placed peer client sessions.old)) sessions.new }
 {
     if is_closed(&client) {
         return Ok(());
     }
-    let _none = sessions.insert(peer, client)?;
+    sessions.insert(peer, client)?;
     Ok(())
-}
-
-fn lives(sessions: &Sessions, peer: u32) -> bool
-    ensures { result ≡ is_some (session_of peer sessions.now.entries) }
-{
-    sessions.contains_key(&peer)
 }
 
 /// Bytes of a peer. A bad line where none of its sessions lives.
@@ -49,9 +41,9 @@ pub(crate) fn message(
     piece: &[u8],
     now_ms: u64,
 ) -> Result<String, ScriptFault>
-    ensures { Tells string_bytes result (messaged number peer piece.now now_ms sessions.old.entries database.old) (sessions.new.entries, database.new) }
+    ensures { Tells string_bytes result (messaged number peer piece.now now_ms sessions.old database.old) (sessions.new, database.new) }
 {
-    let Some(client) = sessions.get_mut(&peer) else {
+    let Some(client) = sessions.get_mut(peer) else {
         return Err(ScriptFault::BadLine(number));
     };
     let text = talk(alloc, database, client, peer, piece, now_ms)?;
@@ -69,9 +61,9 @@ pub(crate) fn end(
     number: u64,
     peer: u32,
 ) -> Result<String, ScriptFault>
-    ensures { Tells string_bytes result (ended number peer sessions.old.entries database.old) (sessions.new.entries, database.new) }
+    ensures { Tells string_bytes result (ended number peer sessions.old database.old) (sessions.new, database.new) }
 {
-    let Some(client) = sessions.get_mut(&peer) else {
+    let Some(client) = sessions.get_mut(peer) else {
         return Err(ScriptFault::BadLine(number));
     };
     let text = hang_up(alloc, database, client, peer)?;
@@ -90,9 +82,9 @@ pub(crate) fn open(
     peer: u32,
     now_ms: u64,
 ) -> Result<String, ScriptFault>
-    ensures { Tells string_bytes result (opened number peer now_ms sessions.old.entries database.old) (sessions.new.entries, database.new) }
+    ensures { Tells string_bytes result (opened number peer now_ms sessions.old database.old) (sessions.new, database.new) }
 {
-    if lives(sessions, peer) {
+    if sessions.lives(peer) {
         return Err(ScriptFault::BadLine(number));
     }
     let mut client = Client::new(alloc, now_ms)?;
@@ -118,9 +110,9 @@ pub(crate) fn bring_up(
     peer: u32,
     now_ms: u64,
 ) -> Result<String, ScriptFault>
-    ensures { Tells string_bytes result (brought_up number peer now_ms sessions.old.entries database.old) (sessions.new.entries, database.new) }
+    ensures { Tells string_bytes result (brought_up number peer now_ms sessions.old database.old) (sessions.new, database.new) }
 {
-    if lives(sessions, peer) {
+    if sessions.lives(peer) {
         return Err(ScriptFault::BadLine(number));
     }
     let mut client = Client::new(alloc, now_ms)?;

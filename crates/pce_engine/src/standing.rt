@@ -6,12 +6,12 @@ ghost use Rattle.pce_engine.specs.Submits.{Tells, Leaves};
 
 use crate::fault::ScriptFault;
 use crate::orders::{Order, order_of};
-use crate::sessions::{self, Sessions};
+use crate::seats::Sessions;
+use crate::sessions;
 use crate::submits::{event_line, report_line};
 use crate::texts::{book_text, history_text};
 use history_core::Database;
 use std::alloc::{AllocError, Global};
-use std::collections::BTreeMap;
 use std::marker::Model;
 use te_base::TeBase;
 
@@ -28,7 +28,7 @@ impl Model for Standing {
 
     ghost Value = { Standing };
 
-    ghost view = { λ s. record { database = s.database; sessions = s.sessions.entries; moment_ms = s.moment_ms } };
+    ghost view = { λ s. record { database = s.database; sessions = s.sessions; moment_ms = s.moment_ms } };
 }
 
 /// Serves the session of a peer with some bytes.
@@ -95,7 +95,7 @@ fn tick_line(
     ensures { Tells string_bytes result (tick_line number now_ms standing.old) standing.new }
 {
     standing.moment_ms = now_ms;
-    let peers: Vec<u32> = standing.sessions.keys().copied().collect(alloc)?;
+    let peers: Vec<u32> = standing.sessions.peers(alloc)?;
     let mut text = String::new(alloc);
     serve_each(alloc, standing, number, &peers, &mut text)?;
     Ok(text)
@@ -109,7 +109,7 @@ impl Standing {
         let database = Database::new(alloc, te)?;
         Ok(Standing {
             database,
-            sessions: BTreeMap::new(alloc),
+            sessions: Sessions::new(alloc),
             moment_ms: 0,
         })
     }

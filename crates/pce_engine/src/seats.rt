@@ -1,0 +1,105 @@
+//! The sessions that live, each at a place of its own, found by its peer.
+
+ghost use Rattle.std.specs.Prelude.{◌≡◌, None, [], IfOk, OnOk, is_some};
+ghost use Rattle.std.specs.BTreeMap.{insert_entry};
+ghost use Rattle.std.specs.Borrow.{sem};
+ghost use Rattle.std.specs.Map.{lookup, remove_entry, keys_of};
+ghost use Rattle.std.specs.Option.{option_copied_mut};
+ghost use Rattle.std.specs.Ordering.{nat_cmp};
+ghost use Rattle.pce_engine.specs.Sessions.{is_peer, session_of};
+
+use engine_core::Client;
+use slab::Slab;
+use std::alloc::{AllocError, Global};
+use std::collections::BTreeMap;
+use std::marker::Model;
+
+/// The sessions that live. A slab keeps each where it was put, and a tree of places, by peer, finds it: what the
+/// tree moves is a number, and a place that is left is taken again. Each call takes time logarithmic in their
+/// number.
+#[derive(Drop)]
+pub(crate) struct Sessions {
+    clients: Slab<Client>,
+    seats: BTreeMap<u32, usize>,
+}
+
+impl Model for Sessions {
+    ghost use Rattle.pce_engine.specs.Seats.{AreSeated, sessions_at};
+    ghost use Rattle.pce_engine.specs.Sessions.{Sessions};
+
+    ghost Value = { Sessions };
+
+    ghost view = { λ s. sessions_at s.clients s.seats.entries };
+
+    ghost invariant = { λ s. AreSeated s.clients s.seats.entries };
+}
+
+fn place_of(seats: &BTreeMap<u32, usize>, peer: u32) -> Option<usize>
+    ensures { result ≡ lookup (is_peer peer) seats.now.entries }
+{
+    seats.get(&peer).copied()
+}
+
+fn peers_of(alloc: Global, seats: &BTreeMap<u32, usize>) -> Result<Vec<u32>, AllocError>
+    ensures { IfOk result (λ peers. peers.items ≡ keys_of seats.now.entries) }
+{
+    seats.keys().copied().collect(alloc)
+}
+
+impl Sessions {
+    ghost use Rattle.pce_engine.specs.Lends.{lends_session};
+
+    /// No session lives.
+    pub(crate) fn new(alloc: Global) -> Sessions
+        ensures { result ≡ [] }
+    {
+        Sessions {
+            clients: Slab::new(alloc),
+            seats: BTreeMap::new(alloc),
+        }
+    }
+
+    /// Whether a session of the peer lives.
+    pub(crate) fn lives(&self, peer: u32) -> bool
+        ensures { result ≡ is_some (session_of peer self.now) }
+    {
+        self.seats.contains_key(&peer)
+    }
+
+    /// The session of a peer, if one lives.
+    pub(crate) fn get_mut(&mut self, peer: u32) -> Option<&mut Client>
+        ensures* writes_back { sem 𝓛 (lends_session self.entry peer result) }
+        ensures value { option_copied_mut result ≡ session_of peer self.old }
+    {
+        let place = place_of(&self.seats, peer)?;
+        self.clients.get_mut(place)
+    }
+
+    /// A session is new among them.
+    pub(crate) fn insert(&mut self, peer: u32, client: Client) -> Result<(), AllocError>
+        requires { session_of peer self.old ≡ None }
+        ensures { OnOk result (self.new ≡ insert_entry nat_cmp self.old peer client) }
+    {
+        self.clients.reserve(1)?;
+        let place = self.clients.vacant_key();
+        let _none = self.seats.insert(peer, place)?;
+        let _place = self.clients.insert_reserved(client);
+        Ok(())
+    }
+
+    /// Takes the session of a peer away and returns it, if one lives.
+    pub(crate) fn remove(&mut self, peer: u32) -> Option<Client>
+        ensures value { result ≡ session_of peer self.old }
+        ensures others { self.new ≡ remove_entry (is_peer peer) self.old }
+    {
+        let place = self.seats.remove(&peer)?;
+        self.clients.try_remove(place)
+    }
+
+    /// The peers whose sessions live, in rising order.
+    pub(crate) fn peers(&self, alloc: Global) -> Result<Vec<u32>, AllocError>
+        ensures { IfOk result (λ peers. peers.items ≡ keys_of self.now) }
+    {
+        peers_of(alloc, &self.seats)
+    }
+}
