@@ -1,12 +1,12 @@
 -- From piece to piece of the input.
-use Rattle.std.proofs.Common.{◌≡◌, ℕ, List, [], ◌∷◌, ◌++◌, Option, Some, None, Result, Ok, Err, refl, sym, ap, ◌∙◌, subst, append_assoc}
-use Rattle.std.proofs.lemmas.List.{append-nil}
+use Rattle.std.proofs.Common.{◌≡◌, ℕ, ◌+◌, ◌≤◌, List, length, arith, [], ◌∷◌, ◌++◌, Option, Some, None, Result, Ok, Err, refl, sym, ap, ◌∙◌, subst, append_assoc}
+use Rattle.std.proofs.lemmas.List.{append-nil, length-append}
 use Rattle.std.specs.Io.KnownBytes.{Appends, Consumes, Keeps, IsAtEnd}
 use Rattle.pce_engine.specs.declared.fault.ScriptFault.{ScriptFault}
 use Rattle.pce_engine.specs.declared.fault.ScriptFault.TheVariants.{BadLine, Te, ReadFault, WriteFault, OutOfMemory, HistoryFull}
 use Rattle.pce_engine.specs.Script.{Stage, told, Outcome, ending, on_told, script, text_of_lines}
 use Rattle.pce_engine.specs.Machine.{Machine, begun, Fed, took, fed_on, fed, Leads, LeadsPartly, closed_with, completed}
-use Rattle.pce_engine.specs.Ends.{EndsAs, EndsBy, Writes, WritesFront, WritesRead, Closes}
+use Rattle.pce_engine.specs.Ends.{piece_bound, EndsAs, EndsBy, Writes, WritesFront, WritesRead, Closes}
 use Rattle.pce_engine.specs.Runs.{GoesOn, Stops, Reading}
 use Rattle.pce_engine.proofs.Laws.{fed_append, fed_front, after, appends_more, script_by_bytes, text_of_front}
 
@@ -86,26 +86,29 @@ stop_case e input bytes was now old mid new m r c k stops =
     stop_text input bytes ys old mid new m e r.front r.text (r.whole ∙ ap (λ (t : List ℕ). r.front ++ t) rest) r.so_far r.written k stops
 
 -- memory ran out within a piece: the whole lines before it, and those of the piece that were told, stand
-stop_memory : (input bytes : List ℕ) (was now old mid new : Option (List ℕ)) (m : Machine) (text : List ℕ) → Reading input was old mid m → Consumes was now bytes → LeadsPartly bytes [] m text
-    → Appends mid new text → WritesFront old new input
-stop_memory input bytes was now old mid new m text r c part k =
+stop_memory : (input bytes : List ℕ) (was now old mid new : Option (List ℕ)) (m : Machine) (text : List ℕ) → Reading input was old mid m → Consumes was now bytes → length bytes ≤ piece_bound
+    → LeadsPartly bytes [] m text → Appends mid new text → WritesFront old new now input
+stop_memory input bytes was now old mid new m text r c small part k =
     let (ys, is, rest) = consumed r.rest bytes now (subst (λ (o : Option (List ℕ)). Consumes o now bytes) r.known c) in
     let whole : input ≡ (r.front ++ part.front) ++ (part.rest ++ ys) = r.whole ∙ ap (λ (t : List ℕ). r.front ++ t) (rest ∙ ap (λ (t : List ℕ). t ++ ys) part.whole ∙ append_assoc part.front part.rest ys) ∙ sym (append_assoc r.front part.front (part.rest ++ ys)) in
     let text_is : text_of_lines (r.front ++ part.front) ≡ r.text ++ text = text_of_front (r.front ++ part.front) (r.text ++ text) part.machine (leads_on r.front part.front r.text text m part.machine r.so_far part.leads) in
     record {
       front = r.front ++ part.front;
       rest = part.rest ++ ys;
+      unread = ys;
       whole = whole;
+      known = is;
+      behind = omega (arith, length-append part.rest ys, length-append part.front part.rest, ap length part.whole, small);
       written = subst (Appends old new) (sym text_is) (appends_more old mid new r.text text r.written k);
     }
 
-pub read_stops : (e : ScriptFault) (input bytes : List ℕ) (was now old mid new : Option (List ℕ)) (m : Machine) → Reading input was old mid m → Consumes was now bytes → Stops e bytes m mid new → EndsBy e old new now input
-read_stops OutOfMemory input bytes was now old mid new m r c k = stop_memory input bytes was now old mid new m k.0 r c k.1 k.2
-read_stops ReadFault input bytes was now old mid new m r c k = absurd k
-read_stops WriteFault input bytes was now old mid new m r c k = tt
-read_stops (BadLine i) input bytes was now old mid new m r c k = stop_case (BadLine i) input bytes was now old mid new m r c k.0 k.1
-read_stops (Te f) input bytes was now old mid new m r c k = stop_case (Te f) input bytes was now old mid new m r c k.0 k.1
-read_stops HistoryFull input bytes was now old mid new m r c k = stop_case HistoryFull input bytes was now old mid new m r c k.0 k.1
+pub read_stops : (e : ScriptFault) (input bytes : List ℕ) (was now old mid new : Option (List ℕ)) (m : Machine) → Reading input was old mid m → Consumes was now bytes → length bytes ≤ piece_bound → Stops e bytes m mid new → EndsBy e old new now input
+read_stops OutOfMemory input bytes was now old mid new m r c small k = stop_memory input bytes was now old mid new m k.0 r c small k.1 k.2
+read_stops ReadFault input bytes was now old mid new m r c small k = absurd k
+read_stops WriteFault input bytes was now old mid new m r c small k = tt
+read_stops (BadLine i) input bytes was now old mid new m r c small k = stop_case (BadLine i) input bytes was now old mid new m r c k.0 k.1
+read_stops (Te f) input bytes was now old mid new m r c small k = stop_case (Te f) input bytes was now old mid new m r c k.0 k.1
+read_stops HistoryFull input bytes was now old mid new m r c small k = stop_case HistoryFull input bytes was now old mid new m r c k.0 k.1
 
 -- a read failed, or there were too many
 pub read_fails : (input : List ℕ) (was now old mid : Option (List ℕ)) (m : Machine) → Reading input was old mid m → Keeps was now → WritesRead old mid now input
@@ -130,21 +133,24 @@ ends_with : (input text : List ℕ) (old mid new : Option (List ℕ)) (m : Machi
 ends_with input text old mid new m fault so_far first k =
     rw (closed_script input text m so_far) (appends_more old mid new text (closed_with [] m.stage m.pending).text first k.0, k.1)
 
-ends_at : {X : Type 0} (r : Result X ScriptFault) (input text : List ℕ) (old mid new left : Option (List ℕ)) (m : Machine) → Leads input [] begun text m → Appends old mid text
+ends_at : {X : Type 0} (r : Result X ScriptFault) (input text : List ℕ) (old mid new left : Option (List ℕ)) (m : Machine) → left ≡ Some [] → Leads input [] begun text m → Appends old mid text
     → Closes r mid new (closed_with [] m.stage m.pending) → EndsAs r old new left input
-ends_at (Ok x) input text old mid new left m so_far first k = ends_with input text old mid new m None so_far first k
-ends_at (Err OutOfMemory) input text old mid new left m so_far first k =
+ends_at (Ok x) input text old mid new left m over so_far first k = ends_with input text old mid new m None so_far first k
+ends_at (Err OutOfMemory) input text old mid new left m over so_far first k =
     record {
       front = input;
       rest = [];
+      unread = [];
       whole = sym (append-nil input);
+      known = over;
+      behind = omega arith;
       written = subst (Appends old new) (sym (text_of_front input text m so_far)) (subst (λ (o : Option (List ℕ)). Appends old o text) (sym k) first);
     }
-ends_at (Err ReadFault) input text old mid new left m so_far first k = absurd k
-ends_at (Err WriteFault) input text old mid new left m so_far first k = tt
-ends_at (Err (BadLine i)) input text old mid new left m so_far first k = ends_with input text old mid new m (Some (BadLine i)) so_far first k
-ends_at (Err (Te f)) input text old mid new left m so_far first k = ends_with input text old mid new m (Some (Te f)) so_far first k
-ends_at (Err HistoryFull) input text old mid new left m so_far first k = ends_with input text old mid new m (Some HistoryFull) so_far first k
+ends_at (Err ReadFault) input text old mid new left m over so_far first k = absurd k
+ends_at (Err WriteFault) input text old mid new left m over so_far first k = tt
+ends_at (Err (BadLine i)) input text old mid new left m over so_far first k = ends_with input text old mid new m (Some (BadLine i)) so_far first k
+ends_at (Err (Te f)) input text old mid new left m over so_far first k = ends_with input text old mid new m (Some (Te f)) so_far first k
+ends_at (Err HistoryFull) input text old mid new left m over so_far first k = ends_with input text old mid new m (Some HistoryFull) so_far first k
 
 pub read_ends : {X : Type 0} (r : Result X ScriptFault) (input bytes : List ℕ) (was now old mid new : Option (List ℕ)) (m : Machine) → Reading input was old mid m → bytes ≡ [] → Consumes was now bytes → IsAtEnd now
     → Closes r mid new (closed_with [] m.stage m.pending) → EndsAs r old new now input
@@ -152,4 +158,4 @@ read_ends r input bytes was now old mid new m s none c end k =
     let (ys, is, rest) = consumed s.rest bytes now (subst (λ (o : Option (List ℕ)). Consumes o now bytes) s.known c) in
     let over : ys ≡ [] = subst IsAtEnd is end in
     let whole : input ≡ s.front = s.whole ∙ ap (λ (t : List ℕ). s.front ++ t) (both_empty bytes ys s.rest rest none over) ∙ append-nil s.front in
-    ends_at r input s.text old mid new now m (ap (λ (all : List ℕ). fed all [] begun) whole ∙ s.so_far) s.written k
+    ends_at r input s.text old mid new now m (is ∙ ap (λ (t : List ℕ). Some t) over) (ap (λ (all : List ℕ). fed all [] begun) whole ∙ s.so_far) s.written k

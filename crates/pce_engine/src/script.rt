@@ -121,8 +121,9 @@ fn read_piece<R: Read>(reader: &mut R, piece: &mut [u8]) -> Result<usize, Script
 /// Reads a link text, a line `---` and lines, and writes what they print (docs/FORMAT.md has them all).
 ///
 /// `BadLine`, `Te` and `HistoryFull` come where the script has them, after the output of all lines
-/// before. After `ReadFault` the output of all lines that were read stands, after `OutOfMemory` that of
-/// whole lines; after `WriteFault` how much went out is not said. The reader is asked 2^32 times at most.
+/// before. After `ReadFault` the output of all lines that were read stands, after `OutOfMemory` too but for
+/// lines that end in the last piece of 4,096 bytes; after `WriteFault` how much went out is not said. The
+/// reader is asked 2^32 times at most.
 pub fn run_script<R: Read, W: Write>(
     alloc: Global,
     reader: &mut R,

@@ -19,7 +19,7 @@ pub returns-in_err-take_chunk-in-Ok : goal.returns-in_err-take_chunk-in-Ok
 returns-in_err-take_chunk-in-Ok g c = λ input known.
     let p = err_from_is_err_and c.from_residual.result c.from_residual.ensures.1 in
     rw (p.1, p.2) (read_stops c.in_err-take_chunk-in-Ok.field-0.0 input (take c.in-Ok.n c.read_piece.new.piece) (g.R.Read.remaining c.loop.reader) (g.R.Read.remaining c.read_piece.new.reader) (g.W.Write.contents c.args.writer.now) (g.W.Write.contents c.loop.writer) (g.W.Write.contents c.take_chunk.new.writer) (machine_of c.loop.script)
-    (c.loop.invariant.reading input known) c.in-Ok.ensures.bytes.0 c.in_err-take_chunk-in-Ok.ensures.chunk)
+    (c.loop.invariant.reading input known) c.in-Ok.ensures.bytes.0 (grind (arith, common_steps)) c.in_err-take_chunk-in-Ok.ensures.chunk)
 
 pub loop-preserved : goal.loop-preserved
 loop-preserved g c = record {
