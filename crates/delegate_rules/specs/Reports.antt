@@ -9,7 +9,7 @@ use Rattle.lsp_base.specs.declared.tunnel.Part.TheVariants.{Reported}
 use Rattle.lsp_base.specs.declared.path.Path.{Path}
 use Rattle.lsp_base.specs.declared.lsp.Lsp.{Lsp}
 use Rattle.lsp_base.specs.declared.lsp.Constraints.{Constraints}
-use Rattle.lsp_base.specs.declared.lsp.Metric.TheVariants.{Te}
+use Rattle.pcep_objects.specs.declared.object.MetricType.TheVariants.{Te}
 use Rattle.pcep_objects.specs.declared.object.Hop.{Hop}
 use Rattle.pcep_objects.specs.declared.object.Identifiers.{Identifiers}
 use Rattle.pcep_objects.specs.declared.object.Operational.{Operational}

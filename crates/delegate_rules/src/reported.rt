@@ -7,11 +7,11 @@ ghost use Rattle.delegate_rules.specs.Effects.{is_nil, is_unsignalled, is_replac
 use crate::grants::{grants_moved, meets_grant};
 use crate::identity::{are_all_zero, identifiers, means_down, report_tunnel};
 use lsp_base::{
-    Choice, Constraints, Effect, Lsp, Metric, OtherBounds, Part, Path, Priorities, RecordChange,
-    Tunnel, chosen, is_path_of_lsp,
+    Choice, Constraints, Effect, Lsp, OtherBounds, Part, Path, Priorities, RecordChange, Tunnel,
+    chosen, is_path_of_lsp,
 };
 use pcep_messages::StateReport;
-use pcep_objects::Plsp;
+use pcep_objects::{MetricType, Plsp};
 use pcep_word::Ipv4;
 use sequence::{PlainData, Sequence};
 use std::alloc::{AllocError, Global};
@@ -106,7 +106,7 @@ fn constraints_of_report(report: &StateReport, old: Option<&Lsp>) -> Constraints
         bandwidth: report.bandwidth,
         priorities: priorities_of_report(report),
         colours: report.colours,
-        minimise: Metric::Te,
+        minimise: MetricType::Te,
         bound: None,
         hop_bound: None,
         other_bounds: OtherBounds {

@@ -18,7 +18,7 @@ use Rattle.lsp_base.specs.declared.why.Why.TheVariants.{PeerUp, TooManyPeers}
 use Rattle.step_core.specs.declared.event.Event.{Event}
 use Rattle.step_core.specs.declared.event.Reply.{Reply}
 use Rattle.step_core.specs.declared.event.Reply.TheVariants as replies
-use Rattle.engine_core.specs.Engine.{with_session, ending, second_session, saying, after_refused_up, after_up, cannot_process, after_report, on_up, on_reports, on_message, on_down, on_input, turned, turns}
+use Rattle.engine_core.specs.Engine.{with_session, ending, second_session, after_refused_up, after_up, cannot_process, after_report, on_reports, on_message, on_input, turned, turns}
 use Rattle.engine_core.specs.Laws.{GivesNoMore, AllHandled}
 use Rattle.engine_core.specs.Plans.{Plan, Ends, Submits, Leads}
 use Rattle.engine_core.specs.declared.client.Client.{Client}

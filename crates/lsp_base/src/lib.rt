@@ -35,7 +35,7 @@ pub use drops::{dropping_effect, ended, is_path_of_lsp};
 pub use effect::{Change, Effect, Record, RecordChange};
 pub use grants::{carries_srp, has_grant, is_grant_of_lsp, is_unbound};
 pub use lists::{Choice, Edit, any_chosen, chosen, edit_all};
-pub use lsp::{Constraints, Lsp, Metric, OtherBounds, Priorities};
+pub use lsp::{Constraints, Lsp, OtherBounds, Priorities};
 pub use path::Path;
 pub use shares::{reserved_on, share_on, unreserved_at, unreserved_on};
 pub use tunnel::{Part, Tunnel, is_part_reported};

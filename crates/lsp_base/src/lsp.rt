@@ -2,19 +2,11 @@
 ghost use Rattle.std.specs.Prelude.{◌≡◌, ◌≤◌, min, IfOk};
 
 use crate::tunnel::Tunnel;
-use pcep_objects::Colours;
+use pcep_objects::{Colours, MetricType};
 use pcep_word::{Bandwidth, Ipv4, Priority};
 use sequence::{PlainData, Sequence};
 use std::alloc::AllocError;
 use std::marker::Model;
-
-/// What a path is to have least of.
-#[derive(Clone, Copy, Debug, PartialEq, Eq)]
-pub enum Metric {
-    Igp,
-    Te,
-    Hops,
-}
 
 /// Bounds on a metric that is not minimised.
 #[derive(Clone, Copy, Debug, PartialEq, Eq)]
@@ -78,7 +70,7 @@ pub struct Constraints {
     pub bandwidth: Bandwidth,
     pub priorities: Priorities,
     pub colours: Colours,
-    pub minimise: Metric,
+    pub minimise: MetricType,
     /// Of the minimised metric.
     pub bound: Option<u64>,
     pub hop_bound: Option<u64>,

@@ -1,6 +1,6 @@
 //! Calls with ample memory, on a network of four nodes.
 use super::*;
-use pcep_objects::{Colours, Plsp};
+use pcep_objects::{Colours, MetricType, Plsp};
 use pcep_word::{Bandwidth, Ipv4, Priority};
 use sequence::{PlainData, Sequence};
 use std::alloc::{AllocError, Global};
@@ -61,7 +61,7 @@ fn lsp(alloc: Global, name: &[u8]) -> Result<Lsp, AllocError> {
                 include_any: 0,
                 include_all: 0,
             },
-            minimise: Metric::Te,
+            minimise: MetricType::Te,
             bound: None,
             hop_bound: None,
             other_bounds: OtherBounds {

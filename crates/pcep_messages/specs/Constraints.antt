@@ -7,8 +7,8 @@ use Rattle.pcep_objects.specs.declared.object.Object.{Object}
 use Rattle.pcep_objects.specs.declared.object.Object.TheVariants as objects
 use Rattle.pcep_objects.specs.declared.request_objects.EndPoints.{EndPoints}
 use Rattle.pcep_messages.specs.declared.message.Bounds.{Bounds}
-use Rattle.pcep_messages.specs.declared.message.MetricType.{MetricType}
-use Rattle.pcep_messages.specs.declared.message.MetricType.TheVariants.{Igp, Te, Hops}
+use Rattle.pcep_objects.specs.declared.object.MetricType.{MetricType}
+use Rattle.pcep_objects.specs.declared.object.MetricType.TheVariants.{Igp, Te, Hops}
 
 abbrev pub or_else : {B : Type 0} → Option B → Option B → Option B
 or_else None other = other

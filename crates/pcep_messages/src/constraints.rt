@@ -4,8 +4,8 @@ ghost use Rattle.std.specs.Prelude.{◌≡◌, max};
 ghost use Rattle.std.specs.List.{list_any};
 ghost use Rattle.pcep_messages.specs.Constraints.{first_of, end_points_of, plsp_of, lspa_of, is_rro, is_bandwidth, requested, greatest_requested, metric_type, minimised_by, minimised, bound_on, lesser, least_bound, bounds_of};
 
-use crate::message::{Bounds, MetricType};
-use pcep_objects::{BandwidthType, EndPoints, Lspa, Object, Plsp};
+use crate::message::Bounds;
+use pcep_objects::{BandwidthType, EndPoints, Lspa, MetricType, Object, Plsp};
 use pcep_word::Bandwidth;
 
 fn end_points_of(object: &Object) -> Option<EndPoints>

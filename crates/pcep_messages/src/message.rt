@@ -1,7 +1,8 @@
 //! What messages say.
 
 use pcep_objects::{
-    Colours, Hop, Identifiers, MetricValue, NoPathVector, Open, Operational, PcepError, Plsp,
+    Colours, Hop, Identifiers, MetricType, MetricValue, NoPathVector, Open, Operational, PcepError,
+    Plsp,
 };
 use pcep_word::{Bandwidth, Ipv4, Priority};
 use sequence::{PlainData, Sequence};
@@ -41,14 +42,6 @@ pub struct StateReport {
     pub hold: Priority,
     /// The link colours that bind the path; none where the report has no LSPA.
     pub colours: Colours,
-}
-
-/// A metric that a path is to have least of (RFC 5440 section 7.8).
-#[derive(Clone, Copy, Debug, PartialEq, Eq)]
-pub enum MetricType {
-    Igp,
-    Te,
-    Hops,
 }
 
 /// The least bound that a request sets on each metric; None: it sets none.

@@ -47,7 +47,7 @@ pub use borrowed::{put_ero, put_named_lsp};
 pub use fault::{ObjectFault, WriteFault};
 pub use object::{
     BandwidthType, Capabilities, Colours, Hop, Identifiers, Kept, KeptClass, LspObject, Lspa,
-    Metric, MetricValue, Object, Operational, Plsp, Srp,
+    Metric, MetricType, MetricValue, Object, Operational, Plsp, Srp,
 };
 pub use reading::{objects_are_read_or_faulty, read_object};
 pub use request_objects::{EndPoints, NoPath, NoPathVector, Rp};

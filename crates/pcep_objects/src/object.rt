@@ -206,6 +206,14 @@ impl MetricValue {
     }
 }
 
+/// A metric that a path is to have least of (RFC 5440 section 7.8).
+#[derive(Clone, Copy, Debug, PartialEq, Eq)]
+pub enum MetricType {
+    Igp,
+    Te,
+    Hops,
+}
+
 /// METRIC (RFC 5440 section 7.8).
 #[derive(Clone, Copy, Debug, PartialEq, Eq)]
 pub struct Metric {

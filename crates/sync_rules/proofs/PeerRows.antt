@@ -6,7 +6,7 @@ use Rattle.lsp_base.specs.declared.tunnel.Tunnel.TheVariants.{Signalled, Asked}
 use Rattle.lsp_base.specs.declared.tunnel.Part.TheVariants.{Reported, Granted}
 use Rattle.lsp_base.specs.declared.path.Path.{Path}
 use Rattle.lsp_base.specs.declared.lsp.Lsp.{Lsp}
-use Rattle.lsp_base.specs.declared.lsp.Metric.TheVariants.{Te}
+use Rattle.pcep_objects.specs.declared.object.MetricType.TheVariants.{Te}
 use Rattle.lsp_base.specs.declared.effect.Record.{Record}
 use Rattle.sync_rules.specs.Peers.{marker_effect, up_effect, down_effect, expire_effect}
 

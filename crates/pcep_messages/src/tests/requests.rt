@@ -1,5 +1,6 @@
 //! Requests: what their objects say, and their faults.
 use super::*;
+use pcep_objects::MetricType;
 
 const RP: &str = "0212000c 00000000 00000007";
 
