@@ -1,2 +1,3 @@
 mod ReportRows
 pub mod Limits
+pub mod Picks

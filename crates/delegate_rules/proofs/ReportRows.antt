@@ -2,6 +2,7 @@
 -- the second (links 0 and 1) and of the third (links 2 and 3), 1,000,000 bytes per second each.
 use Rattle.std.proofs.Common.{◌≡◌, ℕ, List, [], ◌∷◌, ◌++◌, map, refl, true, false}
 use Rattle.std.specs.Prelude.{ℤ, pos, negsuc, replicate, Some, None, Err}
+use Rattle.pcep_word.specs.Priority.{in_force}
 use Rattle.te_base.specs.Base.{Base}
 use Rattle.te_base.specs.declared.network.Link.{Link}
 use Rattle.te_base.specs.declared.network.Owner.{Owner}
@@ -52,8 +53,7 @@ first = record {
   ero = hop 0x0a010002 ∷ hop 0x0a020002 ∷ [];
   rro = None;
   bandwidth = 500000;
-  setup = 7;
-  hold = 0;
+  priorities = record { setup = 7; hold = 0 };
   colours = record { exclude_any = 0; include_any = 0; include_all = 0 };
 }
 
@@ -63,7 +63,7 @@ identified r lsp tunnel = record r { identifiers = Some (record { sender = 0x0a0
 
 -- the removal of LSP ID 1
 abbrev removal : StateReport
-removal = record first { remove = true; ero = []; bandwidth = 0; setup = 0 }
+removal = record first { remove = true; ero = []; bandwidth = 0; priorities = record { setup = 0; hold = 0 } }
 
 -- after a report of peer 1
 abbrev after : Lsps → StateReport → Lsps
@@ -97,12 +97,12 @@ overbooked : book (after (after no_lsps first) (record (identified first 1 2) { 
 unfolding changed told_effect report_effect_by reported_path reported_lsp reported_constraints share reserved unreserved
 overbooked = refl
 
-held_at_four : book (after no_lsps (record first { hold = 4; bandwidth = 600000 })) ≡ upper (replicate 4 (pos 1000000) ++ replicate 4 (pos 400000))
+held_at_four : book (after no_lsps (record first { priorities = record { setup = 7; hold = 4 }; bandwidth = 600000 })) ≡ upper (replicate 4 (pos 1000000) ++ replicate 4 (pos 400000))
 unfolding changed told_effect report_effect_by reported_path reported_lsp reported_constraints share reserved unreserved
 held_at_four = refl
 
 -- a holding priority worse than the setup priority counts as the setup priority
-held_at_setup : book (after no_lsps (record first { setup = 4; hold = 7; bandwidth = 600000 })) ≡ upper (replicate 4 (pos 1000000) ++ replicate 4 (pos 400000))
+held_at_setup : book (after no_lsps (record first { priorities = in_force 4 7; bandwidth = 600000 })) ≡ upper (replicate 4 (pos 1000000) ++ replicate 4 (pos 400000))
 unfolding changed told_effect report_effect_by reported_path reported_lsp reported_constraints share reserved unreserved
 held_at_setup = refl
 

@@ -2,7 +2,6 @@
 use Rattle.std.specs.Prelude.{ℕ, Bool, true, false, ◌==◌, ◌&&◌, List, [], Option, Some, None, unwrap_or, if◌then◌else◌}
 use Rattle.te_base.specs.Base.{Base}
 use Rattle.te_base.specs.Walk.{walk}
-use Rattle.lsp_base.specs.InForce.{InForce, in_force}
 use Rattle.lsp_base.specs.declared.tunnel.Tunnel.{Tunnel}
 use Rattle.lsp_base.specs.declared.tunnel.Tunnel.TheVariants.{Signalled, Unsignalled}
 use Rattle.lsp_base.specs.declared.tunnel.Part.TheVariants.{Reported}
@@ -47,9 +46,6 @@ hops_of r = unwrap_or r.rro r.ero
 abbrev pub links_of : Base → StateReport → List ℕ
 links_of te r = let i = identifiers_of r in if is_down r.operational then [] else walk te i.sender (hops_of r) i.endpoint
 
-abbrev pub priorities_of : StateReport → InForce
-priorities_of r = in_force r.setup r.hold
-
 -- the path that the report tells of
 unfoldable pub reported_path : Base → ℕ → StateReport → Path
 reported_path te peer r = record {
@@ -57,7 +53,7 @@ reported_path te peer r = record {
   plsp = r.plsp;
   part = Reported (identifiers_of r).lsp;
   tunnel = tunnel_of peer r;
-  hold = (priorities_of r).hold;
+  hold = r.priorities.hold;
   bandwidth = r.bandwidth;
   links = links_of te r;
   fresh = true;
@@ -89,7 +85,7 @@ reported_constraints r old =
       source = if are_zero i then old_source old else Some i.sender;
       destination = if are_zero i then old_destination old else Some i.endpoint;
       bandwidth = r.bandwidth;
-      priorities = priorities_of r;
+      priorities = r.priorities;
       colours = r.colours;
       minimise = Te;
       bound = None;

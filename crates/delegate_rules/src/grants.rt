@@ -5,7 +5,7 @@ ghost use Rattle.delegate_rules.specs.Grants.{is_grant_met, is_grant_settled, is
 ghost use Rattle.delegate_rules.specs.Effects.{bound_grants};
 
 use crate::identity::{are_all_zero, identifiers, means_settled, report_tunnel};
-use lsp_base::{Choice, Edit, Path, carries_srp, chosen, edit_all, is_grant_of_lsp, is_unbound};
+use lsp_base::{Choice, Edit, LspBase, Path, carries_srp, edit_all, is_grant_of_lsp, is_unbound};
 use pcep_messages::StateReport;
 use std::alloc::{AllocError, Global};
 
@@ -103,19 +103,19 @@ impl<'a> Edit for BoundGrant<'a> {
 /// The grant that a report moves, as it leaves it.
 pub fn grants_moved(
     alloc: Global,
-    paths: &[Path],
+    base: &LspBase,
     granted: bool,
     peer: u32,
     report: &StateReport,
 ) -> Result<Vec<Path>, AllocError>
-    ensures { IfOk result (λ moved. moved.items ≡ moved_grants granted paths.now peer report.now) }
+    ensures { IfOk result (λ moved. moved.items ≡ moved_grants granted base.now.content.paths peer report.now) }
 {
     let choice = GrantKept {
         granted,
         peer,
         report,
     };
-    let mut grants = chosen(alloc, paths, &choice)?;
+    let mut grants = base.chosen_of(alloc, peer, report.plsp, &choice)?;
     edit_all(&mut grants, &MovedGrant { peer, report });
     Ok(grants)
 }
@@ -123,12 +123,12 @@ pub fn grants_moved(
 /// The grant that a removal binds, as it leaves it; none where all paths of the LSP are removed.
 pub fn grants_bound(
     alloc: Global,
-    paths: &[Path],
+    base: &LspBase,
     granted: bool,
     peer: u32,
     report: &StateReport,
 ) -> Result<Vec<Path>, AllocError>
-    ensures { IfOk result (λ bound. bound.items ≡ bound_grants granted paths.now peer report.now) }
+    ensures { IfOk result (λ bound. bound.items ≡ bound_grants granted base.now.content.paths peer report.now) }
 {
     if are_all_zero(identifiers(report)) {
         return Ok(Vec::new(alloc));
@@ -138,7 +138,7 @@ pub fn grants_bound(
         peer,
         report,
     };
-    let mut grants = chosen(alloc, paths, &choice)?;
+    let mut grants = base.chosen_of(alloc, peer, report.plsp, &choice)?;
     edit_all(&mut grants, &BoundGrant { report });
     Ok(grants)
 }

@@ -6,7 +6,7 @@ ghost use Rattle.delegate_rules.specs.Effects.{is_reported_as, is_removed, goes_
 use crate::grants::{grants_bound, meets_grant, settles_grant};
 use crate::identity::{are_all_zero, identifiers};
 use crate::reported::has_no_path;
-use lsp_base::{Choice, Effect, LspBase, Part, Path, RecordChange, chosen, ended, is_path_of_lsp};
+use lsp_base::{Choice, Effect, LspBase, Part, Path, RecordChange, ended, is_path_of_lsp};
 use pcep_messages::StateReport;
 use std::alloc::{AllocError, Global};
 
@@ -89,8 +89,8 @@ pub fn effect_of_removal(
         peer,
         report,
     };
-    let dropped = chosen(alloc, base.paths(), &goes)?;
-    let bound = grants_bound(alloc, base.paths(), granted, peer, report)?;
+    let dropped = base.chosen_of(alloc, peer, report.plsp, &goes)?;
+    let bound = grants_bound(alloc, base, granted, peer, report)?;
     let records = records_after(alloc, base, peer, &goes, bound.as_slice())?;
     Ok(Effect::new(dropped, bound, records, false))
 }

@@ -1,14 +1,14 @@
 //! The path and the record of a report with R clear, and its effect.
 ghost use Rattle.std.specs.Prelude.{◌≡◌, ◌∷◌, ◌||◌, IfOk, unwrap_or, option_copied};
-ghost use Rattle.delegate_rules.specs.Reports.{links_of, priorities_of, reported_path, reported_constraints, reported_lsp, old_source, old_destination, old_name, old_removing};
+ghost use Rattle.delegate_rules.specs.Reports.{links_of, reported_path, reported_constraints, reported_lsp, old_source, old_destination, old_name, old_removing};
 ghost use Rattle.delegate_rules.specs.Grants.{moved_grants};
 ghost use Rattle.delegate_rules.specs.Effects.{is_nil, is_unsignalled, is_replaced_part, is_replaced, goes_by_report, wants_path, one_record, report_effect_by};
 
 use crate::grants::{grants_moved, meets_grant};
 use crate::identity::{are_all_zero, identifiers, means_down, report_tunnel};
 use lsp_base::{
-    Choice, Constraints, Effect, Lsp, OtherBounds, Part, Path, Priorities, RecordChange, Tunnel,
-    chosen, is_path_of_lsp,
+    Choice, Constraints, Effect, Lsp, LspBase, OtherBounds, Part, Path, RecordChange, Tunnel,
+    is_path_of_lsp,
 };
 use pcep_messages::StateReport;
 use pcep_objects::{MetricType, Plsp};
@@ -35,12 +35,6 @@ fn report_links(
     te.walk(alloc, i.sender, hops, i.endpoint)
 }
 
-fn priorities_of_report(report: &StateReport) -> Priorities
-    ensures { result ≡ priorities_of report.now }
-{
-    Priorities::new(report.setup, report.hold)
-}
-
 #[tactic(auto, unfolding(crate::specs::Reports::reported_path))]
 fn path_of_report(
     alloc: Global,
@@ -56,7 +50,7 @@ fn path_of_report(
         plsp: report.plsp,
         part: Part::Reported(identifiers(report).lsp),
         tunnel: report_tunnel(peer, report),
-        hold: priorities_of_report(report).hold(),
+        hold: report.priorities.hold(),
         bandwidth: report.bandwidth,
         links: Sequence::from_vec(links),
         fresh: true,
@@ -104,7 +98,7 @@ fn constraints_of_report(report: &StateReport, old: Option<&Lsp>) -> Constraints
             Some(i.endpoint)
         },
         bandwidth: report.bandwidth,
-        priorities: priorities_of_report(report),
+        priorities: report.priorities,
         colours: report.colours,
         minimise: MetricType::Te,
         bound: None,
@@ -240,21 +234,21 @@ pub fn effect_of_report(
     alloc: Global,
     granted: bool,
     old: Option<&Lsp>,
-    paths: &[Path],
+    base: &LspBase,
     te: &TeBase,
     peer: u32,
     report: &StateReport,
 ) -> Result<Effect, AllocError>
     ensures { IfOk result (λ effect. effect
-        ≡ report_effect_by granted (option_copied old.entry) paths.now te.now peer report.now) }
+        ≡ report_effect_by granted (option_copied old.entry) base.now.content.paths te.now peer report.now) }
 {
     let goes = GoesByReport {
         granted,
         peer,
         report,
     };
-    let dropped = chosen(alloc, paths, &goes)?;
-    let grants = grants_moved(alloc, paths, granted, peer, report)?;
+    let dropped = base.chosen_of(alloc, peer, report.plsp, &goes)?;
+    let grants = grants_moved(alloc, base, granted, peer, report)?;
     let wants_path = waits_for_path(report, grants.as_slice(), old);
     let path = path_of_report(alloc, te, peer, report)?;
     let added = path_and_grants(alloc, path, grants)?;

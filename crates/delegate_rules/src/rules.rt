@@ -8,7 +8,7 @@ ghost use Rattle.delegate_rules.specs.Effects.{is_reserved, is_too_many, allowed
 use crate::fault::RuleFault;
 use crate::removals::effect_of_removal;
 use crate::reported::effect_of_report;
-use lsp_base::{Effect, LspBase, PATH_LIMIT, Why, has_grant};
+use lsp_base::{Effect, LspBase, PATH_LIMIT, Why};
 use pcep_messages::StateReport;
 use pcep_objects::Plsp;
 use std::alloc::{AllocError, Global};
@@ -30,12 +30,12 @@ fn effect_told(
 ) -> Result<Effect, AllocError>
     ensures { IfOk result (λ effect. effect ≡ told_effect base.now.content te.now peer report.now) }
 {
-    let granted = has_grant(base.paths(), peer, report.plsp);
+    let granted = base.has_grant(peer, report.plsp);
     if report.remove {
         effect_of_removal(alloc, granted, base, peer, report)
     } else {
         let old = base.lsp(peer, report.plsp);
-        effect_of_report(alloc, granted, old, base.paths(), te, peer, report)
+        effect_of_report(alloc, granted, old, base, te, peer, report)
     }
 }
 

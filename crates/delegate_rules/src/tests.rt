@@ -1,9 +1,9 @@
 //! Reports with ample memory, on a network of four nodes.
 use super::*;
-use lsp_base::{LspBase, Why, unreserved_at};
+use lsp_base::{LspBase, Part, Why};
 use pcep_messages::StateReport;
 use pcep_objects::{Colours, Hop, Identifiers, Operational, Plsp};
-use pcep_word::{Bandwidth, Ipv4, Priority};
+use pcep_word::{Bandwidth, Ipv4, Priorities, Priority};
 use sequence::Sequence;
 use std::alloc::{AllocError, Global};
 use std::process::Abort;
@@ -59,8 +59,7 @@ fn report(
         ero: Sequence::from_vec(ero),
         rro: None,
         bandwidth,
-        setup: Priority::capped(7),
-        hold: Priority::capped(0),
+        priorities: Priorities::new(Priority::capped(7), Priority::capped(0)),
         colours: Colours {
             exclude_any: 0,
             include_any: 0,
@@ -82,8 +81,20 @@ fn book(
     Ok(())
 }
 
-fn left(base: &LspBase, te: &TeBase) -> Option<i64> {
-    unreserved_at(te, base.paths(), 0, Priority::capped(7))
+/// Whether these paths stand, by LSP ID and bandwidth, each over links 0 and 1.
+fn stand(base: &LspBase, paths: &[(u16, u64)]) -> bool {
+    if base.paths().len() != paths.len() {
+        return false;
+    }
+    for (path, (lsp, bandwidth)) in base.paths().iter().zip(paths) {
+        if path.part != Part::Reported(*lsp)
+            || path.bandwidth.value() != *bandwidth
+            || path.links.as_slice() != [0, 1].as_slice()
+        {
+            return false;
+        }
+    }
+    true
 }
 
 /// Make-before-break, then the removal of the first path, and of all that is left.
@@ -93,17 +104,17 @@ fn reports_are_booked(rt: HostRuntime) -> Result<(), Fail> {
     let te = diamond(&rt, alloc);
     let mut base = LspBase::new(alloc);
     book(&mut base, &te, alloc, &report(&rt, alloc, 1, 500_000)?)?;
-    assert_eq!(rt; left(&base, &te), Some(500_000));
+    assert!(rt; stand(&base, &[(1, 500_000)]));
     book(&mut base, &te, alloc, &report(&rt, alloc, 2, 250_000)?)?;
-    assert_eq!(rt; left(&base, &te), Some(500_000));
+    assert!(rt; stand(&base, &[(1, 500_000), (2, 250_000)]));
 
     let mut removal = report(&rt, alloc, 1, 0)?;
     removal.remove = true;
     book(&mut base, &te, alloc, &removal)?;
-    assert_eq!(rt; left(&base, &te), Some(750_000));
+    assert!(rt; stand(&base, &[(2, 250_000)]));
     removal.identifiers = None;
     book(&mut base, &te, alloc, &removal)?;
-    assert_eq!(rt; left(&base, &te), Some(1_000_000));
+    assert!(rt; stand(&base, &[]));
     assert!(rt; base.lsp(1, Plsp::new(1)).is_none());
     Ok(())
 }

@@ -1,5 +1,5 @@
 -- A session is served until it gives nothing more.
-use Rattle.std.proofs.Common.{◌≡◌, ℕ, zero, suc, ◌≤◌, Bool, true, false, List, [], ◌∷◌, Option, Some, None, if◌then◌else◌, refl, subst, arith}
+use Rattle.std.proofs.Common.{◌≡◌, inl, inr, ℕ, zero, suc, ◌≤◌, Bool, true, false, List, [], ◌∷◌, ◌++◌, append_assoc, Option, Some, None, if◌then◌else◌, refl, sym, ◌∙◌, ap, subst, arith}
 use Rattle.std.proofs.Math.Nat.{le_trans}
 use Rattle.pcep_messages.specs.declared.message.Message.{Message}
 use Rattle.pcep_messages.specs.declared.message.Message.TheVariants as messages
@@ -15,14 +15,17 @@ use Rattle.pcep_session.specs.declared.table.Input.TheVariants as input
 use Rattle.pcep_session.proofs.Endings.{run_out, rests_on, fewer, none_left}
 use Rattle.lsp_base.specs.declared.why.Why.{Why}
 use Rattle.lsp_base.specs.declared.why.Why.TheVariants.{PeerUp, TooManyPeers}
+use Rattle.pcep_objects.specs.declared.object.Capabilities.{Capabilities}
 use Rattle.step_core.specs.declared.event.Event.{Event}
+use Rattle.step_core.specs.declared.event.Event.TheVariants as event
 use Rattle.step_core.specs.declared.event.Reply.{Reply}
 use Rattle.step_core.specs.declared.event.Reply.TheVariants as replies
-use Rattle.engine_core.specs.Engine.{with_session, ending, second_session, after_refused_up, after_up, cannot_process, after_report, on_reports, on_message, on_input, turned, turns}
-use Rattle.engine_core.specs.Laws.{GivesNoMore, AllHandled}
-use Rattle.engine_core.specs.Plans.{Plan, Ends, Submits, Leads}
+use Rattle.engine_core.specs.Engine.{client_with, ending, second_session, after_refused_up, after_up, event_of, saying, cannot_process, after_report, on_up, on_report, on_reports, on_message, on_input, turned, turns}
+use Rattle.engine_core.specs.Laws.{AllHandled}
+use Rattle.engine_core.specs.Plans.{Plan, Returns, Reaches, Submits, submitting, LeadsTo}
 use Rattle.engine_core.specs.declared.client.Client.{Client}
 use Rattle.engine_core.specs.declared.store.Call.{Call}
+use Rattle.engine_core.proofs.Leading.{here, leads_on, passed}
 
 -- ---- what is done for an input adds no turns
 
@@ -46,84 +49,201 @@ up_adds_none replies.Done c = same (turns_left c.session)
 up_adds_none (replies.Refused why) c = refusal_adds_none why c
 up_adds_none reply c = same (turns_left c.session)
 
-report_adds_none : (srp : Option ℕ) (reply : Reply) (c : Client) → turns_left (after_report srp reply c).session ≤ turns_left c.session
-unfolding after_report
-report_adds_none srp (replies.Refused why) c = adds_none (runs.Report_error (cannot_process srp)) c.session refl
-report_adds_none srp reply c = same (turns_left c.session)
-
 -- ---- an input, and on
 
--- some calls lead from a client to what goes on
-record Leaves (go_on : Client → Plan Client) (c after : Client) : Type 0 where
+-- a plan, by what goes on after it
+abbrev Going : Type 0
+Going = (Client → Plan Client) → Plan Client
+
+-- The calls of a plan that was carried out: the first lead to a client, whatever goes on from there, and the others
+-- are those of what goes on.
+record Leaves (plan : Going) (go_on : Client → Plan Client) (c : Client) (calls : List Call) (after : Client) : Type 0 where
   mid : Client
-  calls : List Call
+  first : List Call
+  others : List Call
+  whole : calls ≡ first ++ others
+  leads : (k : Client → Plan Client) → LeadsTo (plan k) first (k mid)
   no_more_turns : turns_left mid.session ≤ turns_left c.session
-  on : Leads (go_on mid) calls (Ends after)
+  on : LeadsTo (go_on mid) others (Returns after)
 
-at_once : (go_on : Client → Plan Client) (c after : Client) (calls : List Call) → Leads (go_on c) calls (Ends after) → Leaves go_on c after
-at_once go_on c after calls h = record { mid = c; calls = calls; no_more_turns = same (turns_left c.session); on = h }
+at_once : (go_on : Client → Plan Client) (c : Client) (calls : List Call) (after : Client) → LeadsTo (go_on c) calls (Returns after) → Leaves (λ k. k c) go_on c calls after
+at_once go_on c calls after h = record { mid = c; first = []; others = calls; whole = refl; leads = λ k. here (k c); no_more_turns = same (turns_left c.session); on = h }
 
-from_next : (go_on : Client → Plan Client) (c d after : Client) → turns_left d.session ≤ turns_left c.session → Leaves go_on d after → Leaves go_on c after
-from_next go_on c d after h k = record { mid = k.mid; calls = k.calls; no_more_turns = le_trans k.no_more_turns h; on = k.on }
+from_next : (plan : Going) (go_on : Client → Plan Client) (c d : Client) (calls : List Call) (after : Client) → turns_left d.session ≤ turns_left c.session → Leaves plan go_on d calls after → Leaves plan go_on c calls after
+from_next plan go_on c d calls after h l =
+    record { mid = l.mid; first = l.first; others = l.others; whole = l.whole; leads = l.leads; no_more_turns = le_trans l.no_more_turns h; on = l.on }
+
+both : (calls first rest second others : List Call) → calls ≡ first ++ rest → rest ≡ second ++ others → calls ≡ (first ++ second) ++ others
+both calls first rest second others h k = h ∙ ap (λ (xs : List Call). first ++ xs) k ∙ sym (append_assoc first second others)
+
+and_then : (plan : Going) (later : Client → Going) (go_on : Client → Plan Client) (c : Client) (calls : List Call) (after : Client) → Leaves plan (λ a. later a go_on) c calls after
+    → ((mid : Client) (rest : List Call) → LeadsTo (later mid go_on) rest (Returns after) → Leaves (later mid) go_on mid rest after) → Leaves (λ k. plan (λ a. later a k)) go_on c calls after
+and_then plan later go_on c calls after h f =
+    let l : Leaves (later h.mid) go_on h.mid h.others after = f h.mid h.others h.on in
+    record {
+      mid = l.mid;
+      first = h.first ++ l.first;
+      others = l.others;
+      whole = both calls h.first h.others l.first l.others h.whole l.whole;
+      leads = λ k. leads_on (plan (λ a. later a k)) (later h.mid k) (k l.mid) h.first l.first (h.leads (λ a. later a k)) (l.leads k);
+      no_more_turns = le_trans l.no_more_turns h.no_more_turns;
+      on = l.on;
+    }
+
+abbrev IsReaches : Plan Client → Type 0
+IsReaches (Reaches c plan) = Unit {0}
+IsReaches plan = ⊥
 
 abbrev IsSubmits : Plan Client → Type 0
-IsSubmits (Ends w) = ⊥
 IsSubmits (Submits event go_on) = Unit {0}
+IsSubmits plan = ⊥
 
-record Called (go_on : Reply → Plan Client) (after : Client) : Type 0 where
-  reply : Reply
-  calls : List Call
-  on : Leads (go_on reply) calls (Ends after)
+-- to the end no state that is passed matters
+to_end : (d : Client) (plan : Plan Client) (calls : List Call) (after : Client) → LeadsTo (Reaches d plan) calls (Returns after) → LeadsTo plan calls (Returns after)
+to_end d plan [] after h = elim h [ inl e ↦ absurd (subst IsReaches e tt) | inr i ↦ i ]
+to_end d plan (call ∷ calls) after h = h
 
-one_call : (event : Event) (go_on : Reply → Plan Client) (calls : List Call) (after : Client) → Leads (Submits event go_on) calls (Ends after) → Called go_on after
-one_call event go_on [] after h = absurd (subst IsSubmits h tt)
-one_call event go_on (call ∷ calls) after h = record { reply = call.reply; calls = calls; on = h.1 }
+past : (d : Client) (plan : Going) (go_on : Client → Plan Client) (c : Client) (calls : List Call) (after : Client) → Leaves plan go_on c calls after → Leaves (λ k. Reaches d (plan k)) go_on c calls after
+past d plan go_on c calls after l =
+    record { mid = l.mid; first = l.first; others = l.others; whole = l.whole; leads = λ k. passed d (plan k) (k l.mid) l.first (l.leads k); no_more_turns = l.no_more_turns; on = l.on }
 
-up_leaves : (event : Event) (go_on : Client → Plan Client) (c after : Client) (calls : List Call) → Leads (Submits event (λ reply. go_on (after_up reply c))) calls (Ends after) → Leaves go_on c after
-up_leaves event go_on c after calls h =
-    let k : Called (λ reply. go_on (after_up reply c)) after = one_call event (λ reply. go_on (after_up reply c)) calls after h in
-    from_next go_on c (after_up k.reply c) after (up_adds_none k.reply c) (at_once go_on (after_up k.reply c) after k.calls k.on)
+called_leaves : (event : Event) (plan : Reply → Going) (go_on : Client → Plan Client) (c : Client) (calls : List Call) (after : Client)
+    → ((reply : Reply) (rest : List Call) → LeadsTo (plan reply go_on) rest (Returns after) → Leaves (plan reply) go_on c rest after)
+    → LeadsTo (Submits event (λ reply. plan reply go_on)) calls (Returns after) → Leaves (λ k. Submits event (λ reply. plan reply k)) go_on c calls after
+called_leaves event plan go_on c [] after f h = absurd (subst IsSubmits h tt)
+called_leaves event plan go_on c (call ∷ calls) after f h =
+    let l : Leaves (plan call.reply) go_on c calls after = f call.reply calls h.1 in
+    record {
+      mid = l.mid;
+      first = call ∷ l.first;
+      others = l.others;
+      whole = ap (λ (xs : List Call). call ∷ xs) l.whole;
+      leads = λ k. (h.0, l.leads k);
+      no_more_turns = l.no_more_turns;
+      on = l.on;
+    }
 
-reports_leave : (peer : ℕ) (reports : List StateReport) (go_on : Client → Plan Client) (c after : Client) (calls : List Call) → Leads (on_reports peer reports c go_on) calls (Ends after) → Leaves go_on c after
-reports_leave peer [] go_on c after calls h = at_once go_on c after calls h
-reports_leave peer (r ∷ rs) go_on c after calls h =
-    let k : Called (λ reply. on_reports peer rs (after_report r.srp reply c) go_on) after = one_call _ (λ reply. on_reports peer rs (after_report r.srp reply c) go_on) calls after h in
-    from_next go_on c (after_report r.srp k.reply c) after (report_adds_none r.srp k.reply c) (reports_leave peer rs go_on (after_report r.srp k.reply c) after k.calls k.on)
+submitting_leaves : (d : Client) (event : Event) (plan : Reply → Going) (go_on : Client → Plan Client) (c : Client) (calls : List Call) (after : Client)
+    → ((reply : Reply) (rest : List Call) → LeadsTo (plan reply go_on) rest (Returns after) → Leaves (plan reply) go_on c rest after)
+    → LeadsTo (submitting d event (λ reply. plan reply go_on)) calls (Returns after) → Leaves (λ k. submitting d event (λ reply. plan reply k)) go_on c calls after
+submitting_leaves d event plan go_on c calls after f h =
+    past d (λ k. Submits event (λ reply. Reaches d (plan reply k))) go_on c calls after
+    (called_leaves event (λ reply k. Reaches d (plan reply k)) go_on c calls after
+    (λ reply rest m. past d (plan reply) go_on c rest after (f reply rest (to_end d (plan reply go_on) rest after m)))
+    (to_end d (Submits event (λ reply. Reaches d (plan reply go_on))) calls after h))
 
-message_leaves : (peer : ℕ) (message : Message) (go_on : Client → Plan Client) (c after : Client) (calls : List Call) → Leads (on_message peer message c go_on) calls (Ends after) → Leaves go_on c after
-message_leaves peer (messages.Report reports) go_on c after calls h = reports_leave peer reports go_on c after calls h
-message_leaves peer message go_on c after calls h = at_once go_on c after calls h
+up_leaves : (peer : ℕ) (capabilities : Option Capabilities) (go_on : Client → Plan Client) (c : Client) (calls : List Call) (after : Client)
+    → LeadsTo (on_up peer capabilities c go_on) calls (Returns after) → Leaves (λ k. on_up peer capabilities c k) go_on c calls after
+up_leaves peer capabilities go_on c calls after h =
+    submitting_leaves c (event.Up peer capabilities) (λ reply k. k (after_up reply c)) go_on c calls after
+    (λ reply rest m. from_next (λ k. k (after_up reply c)) go_on c (after_up reply c) rest after (up_adds_none reply c) (at_once go_on (after_up reply c) rest after m)) h
 
-down_leaves : (peer : ℕ) (joined : Bool) (event : Event) (go_on : Client → Plan Client) (c after : Client) (calls : List Call)
-    → Leads (if joined then Submits event (λ reply. go_on (record c { joined = false })) else go_on c) calls (Ends after) → Leaves go_on c after
-down_leaves peer true event go_on c after calls h =
-    let k : Called (λ reply. go_on (record c { joined = false })) after = one_call event (λ reply. go_on (record c { joined = false })) calls after h in
-    record { mid = record c { joined = false }; calls = k.calls; no_more_turns = same (turns_left c.session); on = k.on }
-down_leaves peer false event go_on c after calls h = at_once go_on c after calls h
+reply_leaves : (srp : Option ℕ) (reply : Reply) (go_on : Client → Plan Client) (c : Client) (calls : List Call) (after : Client)
+    → LeadsTo (after_report srp reply c go_on) calls (Returns after) → Leaves (λ k. after_report srp reply c k) go_on c calls after
+unfolding after_report
+reply_leaves srp (replies.Refused why) go_on c calls after h =
+    let d : Client = saying (cannot_process srp) c in
+    past c (λ k. k d) go_on c calls after
+    (from_next (λ k. k d) go_on c d calls after (adds_none (runs.Report_error (cannot_process srp)) c.session refl) (at_once go_on d calls after (to_end c (go_on d) calls after h)))
+reply_leaves srp reply go_on c calls after h = at_once go_on c calls after h
 
-input_leaves : (peer : ℕ) (given : Input) (go_on : Client → Plan Client) (c after : Client) (calls : List Call) → Leads (on_input peer given c go_on) calls (Ends after) → Leaves go_on c after
+report_leaves : (peer : ℕ) (r : StateReport) (go_on : Client → Plan Client) (c : Client) (calls : List Call) (after : Client)
+    → LeadsTo (on_report peer r c go_on) calls (Returns after) → Leaves (λ k. on_report peer r c k) go_on c calls after
+report_leaves peer r go_on c calls after h =
+    submitting_leaves c (event_of peer r) (λ reply k. after_report r.srp reply c k) go_on c calls after (λ reply rest m. reply_leaves r.srp reply go_on c rest after m) h
+
+reports_leave : (peer : ℕ) (reports : List StateReport) (go_on : Client → Plan Client) (c : Client) (calls : List Call) (after : Client)
+    → LeadsTo (on_reports peer reports c go_on) calls (Returns after) → Leaves (λ k. on_reports peer reports c k) go_on c calls after
+reports_leave peer [] go_on c calls after h = at_once go_on c calls after h
+reports_leave peer (r ∷ rs) go_on c calls after h =
+    and_then (λ k. on_report peer r c k) (λ a k. on_reports peer rs a k) go_on c calls after (report_leaves peer r (λ a. on_reports peer rs a go_on) c calls after h)
+    (λ mid rest m. reports_leave peer rs go_on mid rest after m)
+
+message_leaves : (peer : ℕ) (message : Message) (go_on : Client → Plan Client) (c : Client) (calls : List Call) (after : Client)
+    → LeadsTo (on_message peer message c go_on) calls (Returns after) → Leaves (λ k. on_message peer message c k) go_on c calls after
+message_leaves peer (messages.Report reports) go_on c calls after h = reports_leave peer reports go_on c calls after h
+message_leaves peer message go_on c calls after h = at_once go_on c calls after h
+
+abbrev down_plan : Bool → ℕ → Client → Going
+down_plan is peer c k = if is then submitting c (event.Down peer) (λ reply. k (record c { joined = false })) else k c
+
+down_leaves : (is : Bool) (peer : ℕ) (go_on : Client → Plan Client) (c : Client) (calls : List Call) (after : Client)
+    → LeadsTo (down_plan is peer c go_on) calls (Returns after) → Leaves (λ k. down_plan is peer c k) go_on c calls after
+down_leaves true peer go_on c calls after h =
+    let d : Client = record c { joined = false } in
+    submitting_leaves c (event.Down peer) (λ reply k. k d) go_on c calls after
+    (λ reply rest m. from_next (λ k. k d) go_on c d rest after (same (turns_left c.session)) (at_once go_on d rest after m)) h
+down_leaves false peer go_on c calls after h = at_once go_on c calls after h
+
+input_leaves : (peer : ℕ) (given : Input) (go_on : Client → Plan Client) (c : Client) (calls : List Call) (after : Client)
+    → LeadsTo (on_input peer given c go_on) calls (Returns after) → Leaves (λ k. on_input peer given c k) go_on c calls after
 unfolding on_input
-input_leaves peer (input.Up sent) go_on c after calls h = up_leaves _ go_on c after calls h
-input_leaves peer (input.Message message) go_on c after calls h = message_leaves peer message go_on c after calls h
-input_leaves peer input.Down go_on c after calls h = down_leaves peer c.joined _ go_on c after calls h
-input_leaves peer input.Handled go_on c after calls h = at_once go_on c after calls h
+input_leaves peer (input.Up capabilities) go_on c calls after h = up_leaves peer capabilities go_on c calls after h
+input_leaves peer (input.Message message) go_on c calls after h = message_leaves peer message go_on c calls after h
+input_leaves peer input.Down go_on c calls after h = down_leaves c.joined peer go_on c calls after h
+input_leaves peer input.Handled go_on c calls after h = at_once go_on c calls after h
 
 -- ---- all turns
 
-abbrev Handles : ℕ → Type 0
-Handles most = (peer : ℕ) (c after : Client) (calls : List Call) (go_on : Client → Plan Client) → turns_left c.session ≤ most → Leads (turns most peer c go_on) calls (Ends after) → GivesNoMore go_on after
+record Rests (plan : Going) (go_on : Client → Plan Client) (calls : List Call) (after : Client) : Type 0 where
+  rested : Client
+  first : List Call
+  others : List Call
+  whole : calls ≡ first ++ others
+  turned : (k : Client → Plan Client) → LeadsTo (plan k) first (k rested)
+  no_more : (next rested.session).input ≡ None
+  on : LeadsTo (go_on rested) others (Returns after)
 
-by_given : (most peer : ℕ) (c after : Client) (calls : List Call) (go_on : Client → Plan Client) (x : Option Input) → Handles most → (next c.session).input ≡ x → turns_left c.session ≤ suc most
-    → Leads (turned peer x (with_session (next c.session).after c) (λ a. turns most peer a go_on) go_on) calls (Ends after) → GivesNoMore go_on after
-by_given most peer c after calls go_on None ih e few h =
-    record { client = with_session (next c.session).after c; calls = calls; no_more = rests_on 1 c.session e; on = h }
-by_given most peer c after calls go_on (Some given) ih e few h =
-    let k : Leaves (λ a. turns most peer a go_on) (with_session (next c.session).after c) after = input_leaves peer given (λ a. turns most peer a go_on) (with_session (next c.session).after c) after calls h in
-    ih peer k.mid after k.calls go_on (le_trans k.no_more_turns (fewer most c.session given e few)) k.on
+at_rest : (go_on : Client → Plan Client) (c : Client) (calls : List Call) (after : Client) → (next c.session).input ≡ None → LeadsTo (go_on c) calls (Returns after) → Rests (λ k. k c) go_on calls after
+at_rest go_on c calls after e h = record { rested = c; first = []; others = calls; whole = refl; turned = λ k. here (k c); no_more = e; on = h }
+
+abbrev Handles : ℕ → Type 0
+Handles most =
+    (peer : ℕ) (c : Client) (calls : List Call) (after : Client) (go_on : Client → Plan Client)
+    → turns_left c.session ≤ most → LeadsTo (turns most peer c go_on) calls (Returns after) → Rests (λ k. turns most peer c k) go_on calls after
+
+rests_later : (plan : Going) (later : Client → Going) (go_on : Client → Plan Client) (c : Client) (calls : List Call) (after : Client) → (h : Leaves plan (λ a. later a go_on) c calls after)
+    → Rests (later h.mid) go_on h.others after → Rests (λ k. plan (λ a. later a k)) go_on calls after
+rests_later plan later go_on c calls after h r = record {
+  rested = r.rested;
+  first = h.first ++ r.first;
+  others = r.others;
+  whole = both calls h.first h.others r.first r.others h.whole r.whole;
+  turned = λ k. leads_on (plan (λ a. later a k)) (later h.mid k) (k r.rested) h.first r.first (h.leads (λ a. later a k)) (r.turned k);
+  no_more = r.no_more;
+  on = r.on;
+}
+
+rests_past : (d : Client) (plan : Going) (go_on : Client → Plan Client) (calls : List Call) (after : Client) → Rests plan go_on calls after → Rests (λ k. Reaches d (plan k)) go_on calls after
+rests_past d plan go_on calls after r = record {
+  rested = r.rested;
+  first = r.first;
+  others = r.others;
+  whole = r.whole;
+  turned = λ k. passed d (plan k) (k r.rested) r.first (r.turned k);
+  no_more = r.no_more;
+  on = r.on;
+}
+
+by_given : (most peer : ℕ) (c : Client) (calls : List Call) (after : Client) (go_on : Client → Plan Client) (x : Option Input) → Handles most → (next c.session).input ≡ x → turns_left c.session ≤ suc most
+    → LeadsTo (turned peer x (client_with (next c.session).after c) (λ a. turns most peer a go_on) go_on) calls (Returns after)
+    → Rests (λ k. turned peer x (client_with (next c.session).after c) (λ a. turns most peer a k) k) go_on calls after
+by_given most peer c calls after go_on None ih e few h = at_rest go_on (client_with (next c.session).after c) calls after (rests_on 1 c.session e) h
+by_given most peer c calls after go_on (Some given) ih e few h =
+    let d : Client = client_with (next c.session).after c in
+    let l : Leaves (λ k. on_input peer given d k) (λ a. turns most peer a go_on) d calls after = input_leaves peer given (λ a. turns most peer a go_on) d calls after h in
+    rests_later (λ k. on_input peer given d k) (λ a k. turns most peer a k) go_on d calls after l
+    (ih peer l.mid l.others after go_on (le_trans l.no_more_turns (fewer most c.session given e few)) l.on)
 
 handles : (most : ℕ) → Handles most
-handles zero peer c after calls go_on few h = record { client = c; calls = calls; no_more = none_left c.session few; on = h }
-handles (suc most) peer c after calls go_on few h = by_given most peer c after calls go_on (next c.session).input (handles most) refl few h
+handles zero peer c calls after go_on few h = at_rest go_on c calls after (none_left c.session few) h
+handles (suc most) peer c calls after go_on few h =
+    let d : Client = client_with (next c.session).after c in
+    rests_past c (λ k. turned peer (next c.session).input d (λ a. turns most peer a k) k) go_on calls after
+    (by_given most peer c calls after go_on (next c.session).input (handles most) refl few
+    (to_end c (turned peer (next c.session).input d (λ a. turns most peer a go_on) go_on) calls after h))
 
 pub all_handled : AllHandled
-all_handled peer c after calls go_on h = handles (most_turns c.session) peer c after calls go_on (run_out c.session).0 h
+all_handled peer c after calls go_on h =
+    let r : Rests (λ k. turns (most_turns c.session) peer c k) go_on calls after = handles (most_turns c.session) peer c calls after go_on (run_out c.session).0 h in
+    record { rested = r.rested; first = r.first; others = r.others; whole = r.whole; turned = r.turned (λ w. Returns w); no_more = r.no_more; on = r.on }

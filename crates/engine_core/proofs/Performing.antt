@@ -1,51 +1,100 @@
--- Calls that carry a plan out over a database that is lent perform it.
-use Rattle.std.proofs.Common.{◌≡◌, ◌==◌, true, false, List, [], ◌∷◌, length, Result, Ok, Err, refl, ◌∙◌}
+-- Calls that carry a plan out over a database perform it.
+use Rattle.std.proofs.Common.{◌≡◌, inl, inr, false, List, [], ◌∷◌, Result, Ok, Err, refl, ◌∙◌, ap}
 use Rattle.step_core.specs.Steps.{step}
 use Rattle.step_core.specs.declared.event.Event.{Event}
 use Rattle.step_core.specs.declared.event.Reply.{Reply}
-use Rattle.history_core.specs.Histories.{Content, stepped, step_limit}
+use Rattle.history_core.specs.Histories.{Content, stepped, is_full}
 use Rattle.history_core.specs.declared.fault.Fault.{Fault}
 use Rattle.history_core.specs.declared.fault.Fault.TheVariants.{OutOfMemory, HistoryFull}
-use Rattle.engine_core.specs.Lending.{Steps, LentMoves}
+use Rattle.engine_core.specs.Lending.{Steps, IsFull, UnlistedMoves}
 use Rattle.engine_core.specs.Performed.{performed, Performs}
-use Rattle.engine_core.specs.Plans.{Plan, Ends, Submits, Leads}
-use Rattle.engine_core.specs.Stores.{MayFail, Serves}
+use Rattle.engine_core.specs.Plans.{Plan, Returns, Reaches, Submits, Passes, Takes, LeadsTo}
+use Rattle.engine_core.specs.Stores.{Carries, MayFail, BreaksOff, Serves, ServesOrEnds}
 use Rattle.engine_core.specs.declared.client.Client.{Client}
-use Rattle.engine_core.specs.declared.lent.Lent.{Lent}
 use Rattle.engine_core.specs.declared.store.Call.{Call}
+use Rattle.engine_core.specs.declared.unlisted.Unlisted.{Unlisted}
 
-one_step : {W : Type 0} (event : Event) (go_on : Reply → Plan W) (call : Call) (d : Content) → call.event ≡ event → (length d.history == step_limit) ≡ false → call.reply ≡ (step d.state call.event).reply
+one_step : {W : Type 0} (event : Event) (go_on : Reply → Plan W) (call : Call) (d : Content) → call.event ≡ event → is_full d ≡ false → call.reply ≡ (step d.state call.event).reply
     → performed (Submits event go_on) d ≡ performed (go_on call.reply) (stepped d call.event call.reply)
 one_step event go_on call d is small reply = rw (small, reply, is) refl
 
+passing : {W : Type 0} (plan rest : Plan W) (d : Content) → Passes plan rest → performed plan d ≡ performed rest d
+passing (Returns w) rest d h = ap (λ (p : Plan _). performed p d) h
+passing (Submits event go_on) rest d h = ap (λ (p : Plan _). performed p d) h
+passing (Reaches c plan) rest d h = elim h [ inl e ↦ ap (λ (p : Plan _). performed p d) e | inr i ↦ passing plan rest d i ]
+
+taking : {W : Type 0} (plan rest : Plan W) (call : Call) (On : Plan W → Type 0) (d after : Content) → Takes plan call On
+    → is_full d ≡ false → call.reply ≡ (step d.state call.event).reply
+    → ((next : Plan W) → On next → performed next (stepped d call.event call.reply) ≡ performed rest after) → performed plan d ≡ performed rest after
+taking (Returns w) rest call On d after h small reply then = absurd h
+taking (Reaches c plan) rest call On d after h small reply then = taking plan rest call On d after h small reply then
+taking (Submits event go_on) rest call On d after h small reply then = one_step event go_on call d h.0 small reply ∙ then (go_on call.reply) h.1
+
 -- what is left of the plan is performed from where the calls led
-pub leads_to : {W : Type 0} (plan rest : Plan W) (calls : List Call) (d after : Content) → Leads plan calls rest → Steps d calls after → performed plan d ≡ performed rest after
-leads_to plan rest [] d after h k = rw (h, k) refl
-leads_to (Ends w) rest (call ∷ calls) d after h k = absurd h
-leads_to (Submits event go_on) rest (call ∷ calls) d after h k =
-    one_step event go_on call d h.0 k.0 k.1 ∙ leads_to (go_on call.reply) rest calls (stepped d call.event call.reply) after h.1 k.2
+pub leads_to : {W : Type 0} (plan rest : Plan W) (calls : List Call) (d after : Content) → LeadsTo plan calls rest → Steps d calls after → performed plan d ≡ performed rest after
+leads_to plan rest [] d after h k = rw k (passing plan rest d h)
+leads_to plan rest (call ∷ calls) d after h k =
+    taking plan rest call (λ next. LeadsTo next calls rest) d after h k.0 k.1 (λ next m. leads_to next rest calls (stepped d call.event call.reply) after m k.2)
 
-full_there : {W : Type 0} (event : Event) (go_on : Reply → Plan W) (d : Content) → length d.history ≡ step_limit → performed (Submits event go_on) d ≡ Err HistoryFull
-full_there event go_on d full = let e : (length d.history == step_limit) ≡ true = rw full refl in rw e refl
+full_there : {W : Type 0} (event : Event) (go_on : Reply → Plan W) (d : Content) → IsFull d → performed (Submits event go_on) d ≡ Err HistoryFull
+full_there event go_on d full = rw full refl
 
-abbrev moves_of : Lent → List Call → Lent → Type 0
-moves_of old made new = LentMoves old made new
-
-abbrev full_at : Lent → Type 0
-full_at s = length s.database.now.history ≡ step_limit
-
-pub performs : {X : Type 0} (result : Result X Fault) (old new : Lent) (c after : Client) (plan : Plan Client) → Serves result moves_of full_at old new c after plan Ends
-    → Performs result after new.database.now (performed plan old.database.now)
-performs (Ok x) old new c after plan h = leads_to plan (Ends after) h.calls old.database.now new.database.now h.leads h.made.steps
-performs (Err OutOfMemory) old new c after plan h = tt
-performs (Err HistoryFull) old new c after plan h =
-    leads_to plan h.rest h.carried.calls old.database.now new.database.now h.carried.leads h.carried.made.steps ∙ at h.rest h.cause
+broke_off : {W : Type 0} (old new : Content) (c after : Client) (plan : Plan W) → BreaksOff Steps IsFull old new c after plan HistoryFull → performed plan old ≡ Err HistoryFull
+broke_off {W = W} old new c after plan h = leads_to plan (Reaches after h.rest) h.carried.calls old new h.carried.leads h.carried.made ∙ at h.rest h.cause
   where
-    at : (rest : Plan Client) → MayFail full_at new rest HistoryFull → performed rest new.database.now ≡ Err HistoryFull
-    at (Ends w) k = absurd k
-    at (Submits event go_on) k = full_there event go_on new.database.now k
+    at : (rest : Plan W) → MayFail IsFull new rest HistoryFull → performed rest new ≡ Err HistoryFull
+    at (Returns w) k = absurd k
+    at (Reaches c rest) k = absurd k
+    at (Submits event go_on) k = full_there event go_on new k
 
-pub same_loan : {X : Type 0} (result : Result X Fault) (old new : Lent) (c after : Client) (plan : Plan Client) → Serves result moves_of full_at old new c after plan Ends
+pub performs : {X : Type 0} (result : Result X Fault) (old new : Content) (c after : Client) (plan : Plan Client) → Serves result Steps IsFull old new c after plan (λ w. Returns w)
+    → Performs result after new (performed plan old)
+performs (Ok x) old new c after plan h = leads_to plan (Returns after) h.calls old new h.leads h.made
+performs (Err OutOfMemory) old new c after plan h = tt
+performs (Err HistoryFull) old new c after plan h = broke_off old new c after plan h
+
+pub performs_or_ends : {X : Type 0} (result : Result X Fault) (old new : Content) (c after : Client) (plan : Plan Client) → ServesOrEnds result Steps IsFull old new c after plan
+    → Performs result after new (performed plan old)
+performs_or_ends (Ok x) old new c after plan h = leads_to plan (Returns after) h.calls old new h.leads h.made
+performs_or_ends (Err OutOfMemory) old new c after plan h = tt
+performs_or_ends (Err HistoryFull) old new c after plan h = broke_off old new c h.reached plan h.broke_off
+
+-- ---- a database that is lent
+
+abbrev moves_of : Unlisted → List Call → Unlisted → Type 0
+moves_of old made new = UnlistedMoves old made new
+
+abbrev full_at : Unlisted → Type 0
+full_at s = IsFull s.database.now
+
+carried_below : {W : Type 0} (old new : Unlisted) (c after : Client) (plan rest : Plan W) → Carries moves_of old new c after plan rest → Carries Steps old.database.now new.database.now c after plan rest
+carried_below old new c after plan rest h = record { calls = h.calls; made = h.made.steps; leads = h.leads; joined = h.joined }
+
+cause_below : {W : Type 0} (s : Unlisted) (rest : Plan W) (fault : Fault) → MayFail full_at s rest fault → MayFail IsFull s.database.now rest fault
+cause_below s rest OutOfMemory h = tt
+cause_below s (Returns w) HistoryFull h = h
+cause_below s (Reaches c rest) HistoryFull h = h
+cause_below s (Submits event go_on) HistoryFull h = h
+
+broken_below : {W : Type 0} (old new : Unlisted) (c after : Client) (plan : Plan W) (fault : Fault) → BreaksOff moves_of full_at old new c after plan fault → BreaksOff Steps IsFull old.database.now new.database.now c after plan fault
+broken_below old new c after plan fault h = record { rest = h.rest; carried = carried_below old new c after plan (Reaches after h.rest) h.carried; cause = cause_below new h.rest fault h.cause }
+
+pub serves_below : {X : Type 0} (result : Result X Fault) (old new : Unlisted) (c after : Client) (plan : Plan Client) → Serves result moves_of full_at old new c after plan (λ w. Returns w)
+    → Serves result Steps IsFull old.database.now new.database.now c after plan (λ w. Returns w)
+serves_below (Ok x) old new c after plan h = carried_below old new c after plan (Returns after) h
+serves_below (Err fault) old new c after plan h = broken_below old new c after plan fault h
+
+pub ends_below : {X : Type 0} (result : Result X Fault) (old new : Unlisted) (c after : Client) (plan : Plan Client) → ServesOrEnds result moves_of full_at old new c after plan
+    → ServesOrEnds result Steps IsFull old.database.now new.database.now c after plan
+ends_below (Ok x) old new c after plan h = carried_below old new c after plan (Returns after) h
+ends_below (Err fault) old new c after plan h = record { reached = h.reached; broke_off = broken_below old new c h.reached plan fault h.broke_off; ended = h.ended }
+
+pub same_loan : {X : Type 0} (result : Result X Fault) (old new : Unlisted) (c after : Client) (plan : Plan Client) → Serves result moves_of full_at old new c after plan (λ w. Returns w)
     → new.database.ghost_name ≡ old.database.ghost_name
 same_loan (Ok x) old new c after plan h = h.made.same_loan
 same_loan (Err fault) old new c after plan h = h.carried.made.same_loan
+
+pub same_loan_ended : {X : Type 0} (result : Result X Fault) (old new : Unlisted) (c after : Client) (plan : Plan Client) → ServesOrEnds result moves_of full_at old new c after plan
+    → new.database.ghost_name ≡ old.database.ghost_name
+same_loan_ended (Ok x) old new c after plan h = h.made.same_loan
+same_loan_ended (Err fault) old new c after plan h = h.broke_off.carried.made.same_loan

@@ -1,6 +1,7 @@
 -- What the engine does with what a session gives: the events that it submits for a peer, and by their replies
--- what it sends and when it ends the session. `go_on` is what comes afterwards.
-use Rattle.std.specs.Prelude.{ℕ, suc, zero, Bool, true, false, ◌==◌, ◌&&◌, not, List, [], ◌∷◌, fold, Option, Some, None, if◌then◌else◌}
+-- what it sends and when it ends the session. `go_on` is what comes afterwards. `Reaches c` stands wherever memory
+-- may run out, with the client as it then is.
+use Rattle.std.specs.Prelude.{ℕ, suc, zero, Bool, true, false, ◌==◌, ◌&&◌, not, List, [], ◌∷◌, Option, Some, None, if◌then◌else◌}
 use Rattle.pcep_objects.specs.declared.object.Capabilities.{Capabilities}
 use Rattle.pcep_objects.specs.declared.object.Hop.{Hop}
 use Rattle.pcep_messages.specs.declared.fault.About.{About}
@@ -11,24 +12,23 @@ use Rattle.pcep_messages.specs.declared.message.StateReport.{StateReport}
 use Rattle.pcep_messages.specs.declared.notice.PcError.{PcError}
 use Rattle.pcep_session.specs.Calls.{begun, fed, sent, error_reported, ended_by}
 use Rattle.pcep_session.specs.Runs.{or_same}
-use Rattle.pcep_session.specs.Turns.{next, is_closed}
+use Rattle.pcep_session.specs.Turns.{next, is_up, is_closed}
 use Rattle.pcep_session.specs.Ends.{most_turns}
 use Rattle.pcep_session.specs.declared.contents.Contents.{Contents}
 use Rattle.pcep_session.specs.declared.table.Input.{Input}
 use Rattle.pcep_session.specs.declared.table.Input.TheVariants as input
-use Rattle.pcep_session.specs.declared.table.State.{State}
-use Rattle.pcep_session.specs.declared.table.State.TheVariants.{Up}
 use Rattle.lsp_base.specs.declared.why.Why.{Why}
 use Rattle.lsp_base.specs.declared.why.Why.TheVariants.{PeerUp, TooManyPeers}
 use Rattle.step_core.specs.declared.event.Event.{Event}
 use Rattle.step_core.specs.declared.event.Event.TheVariants as event
 use Rattle.step_core.specs.declared.event.Reply.{Reply}
 use Rattle.step_core.specs.declared.event.Reply.TheVariants.{Done, Refused, Out}
-use Rattle.engine_core.specs.Plans.{Plan, Ends, Submits}
+use Rattle.engine_core.specs.Plans.{Plan, Returns, Reaches, submitting}
 use Rattle.engine_core.specs.declared.client.Client.{Client}
 
-abbrev pub with_session : Contents → Client → Client
-with_session s c = record c { session = s }
+-- the client whose session is now this one
+abbrev pub client_with : Contents → Client → Client
+client_with s c = record c { session = s }
 
 -- a session that begins: its peer isn't joined
 abbrev pub new_client : ℕ → Client
@@ -36,11 +36,11 @@ new_client now_ms = record { session = begun now_ms; joined = false }
 
 -- the session ends, with a PCErr and a Close as given; one that has ended stays as it is
 abbrev pub ending : Option PcError → Option ℕ → Client → Client
-ending error reason c = with_session (or_same c.session (ended_by error reason c.session)) c
+ending error reason c = client_with (or_same c.session (ended_by error reason c.session)) c
 
 -- a PCErr is sent, and the session goes on
 abbrev pub saying : PcError → Client → Client
-saying error c = with_session (or_same c.session (error_reported error c.session)) c
+saying error c = client_with (or_same c.session (error_reported error c.session)) c
 
 -- ---- Up
 
@@ -61,7 +61,7 @@ after_up (Refused why) c = after_refused_up why c
 after_up reply c = c
 
 abbrev pub on_up : {W : Type 0} → ℕ → Option Capabilities → Client → (Client → Plan W) → Plan W
-on_up peer sent c go_on = Submits (event.Up peer sent) (λ reply. go_on (after_up reply c))
+on_up peer capabilities c go_on = submitting c (event.Up peer capabilities) (λ reply. go_on (after_up reply c))
 
 -- ---- reports (RFC 8231 section 6.1)
 
@@ -85,14 +85,17 @@ srp_about (Some id) = if id == 0 then about.Nothing else about.Srp id
 abbrev pub cannot_process : Option ℕ → PcError
 cannot_process srp = record { about = srp_about srp; kind = 20; value = 1 }
 
--- a refused report is answered, and the session goes on
-unfoldable pub after_report : Option ℕ → Reply → Client → Client
-after_report srp (Refused why) c = saying (cannot_process srp) c
-after_report srp reply c = c
+-- the reply to a report: one that is refused is answered, and the session goes on
+unfoldable pub after_report : {W : Type 0} → Option ℕ → Reply → Client → (Client → Plan W) → Plan W
+after_report srp (Refused why) c go_on = Reaches c (go_on (saying (cannot_process srp) c))
+after_report srp reply c go_on = go_on c
+
+abbrev pub on_report : {W : Type 0} → ℕ → StateReport → Client → (Client → Plan W) → Plan W
+on_report peer r c go_on = submitting c (event_of peer r) (λ reply. after_report r.srp reply c go_on)
 
 abbrev pub on_reports : {W : Type 0} → ℕ → List StateReport → Client → (Client → Plan W) → Plan W
 on_reports peer [] c go_on = go_on c
-on_reports peer (r ∷ rs) c go_on = Submits (event_of peer r) (λ reply. on_reports peer rs (after_report r.srp reply c) go_on)
+on_reports peer (r ∷ rs) c go_on = on_report peer r c (λ after. on_reports peer rs after go_on)
 
 abbrev pub on_message : {W : Type 0} → ℕ → Message → Client → (Client → Plan W) → Plan W
 on_message peer (messages.Report reports) c go_on = on_reports peer reports c go_on
@@ -101,12 +104,12 @@ on_message peer message c go_on = go_on c
 -- ---- Down
 
 abbrev pub on_down : {W : Type 0} → ℕ → Client → (Client → Plan W) → Plan W
-on_down peer c go_on = if c.joined then Submits (event.Down peer) (λ reply. go_on (record c { joined = false })) else go_on c
+on_down peer c go_on = if c.joined then submitting c (event.Down peer) (λ reply. go_on (record c { joined = false })) else go_on c
 
 -- ---- what a session gives
 
 unfoldable pub on_input : {W : Type 0} → ℕ → Input → Client → (Client → Plan W) → Plan W
-on_input peer (input.Up sent) c go_on = on_up peer sent c go_on
+on_input peer (input.Up capabilities) c go_on = on_up peer capabilities c go_on
 on_input peer (input.Message message) c go_on = on_message peer message c go_on
 on_input peer input.Down c go_on = on_down peer c go_on
 on_input peer input.Handled c go_on = go_on c
@@ -119,7 +122,8 @@ turned peer (Some given) c again go_on = on_input peer given c again
 -- all that the session gives, in order, in so many turns at most
 abbrev pub turns : {W : Type 0} → ℕ → ℕ → Client → (Client → Plan W) → Plan W
 turns zero peer c go_on = go_on c
-turns (suc most) peer c go_on = turned peer (next c.session).input (with_session (next c.session).after c) (λ after. turns most peer after go_on) go_on
+turns (suc most) peer c go_on =
+    Reaches c (turned peer (next c.session).input (client_with (next c.session).after c) (λ after. turns most peer after go_on) go_on)
 
 -- ---- what waits for the peer
 
@@ -129,17 +133,15 @@ messages_of reply = []
 
 -- a message whose lengths don't fit is left out
 abbrev pub sending_one : Client → Message → Client
-sending_one c message = with_session (or_same c.session (sent message c.session)) c
+sending_one c message = client_with (or_same c.session (sent message c.session)) c
 
-unfoldable pub sending : Reply → Client → Client
-sending reply c = fold sending_one c (messages_of reply)
-
-abbrev pub is_up : State → Bool
-is_up Up = true
-is_up state = false
+abbrev pub sending : {W : Type 0} → List Message → Client → (Client → Plan W) → Plan W
+sending [] c go_on = go_on c
+sending (message ∷ messages) c go_on = Reaches c (sending messages (sending_one c message) go_on)
 
 abbrev pub draining : {W : Type 0} → ℕ → Client → (Client → Plan W) → Plan W
-draining peer c go_on = if is_up c.session.state then Submits (event.Drain peer) (λ reply. go_on (sending reply c)) else go_on c
+draining peer c go_on =
+    if is_up c.session.state then submitting c (event.Drain peer) (λ reply. sending (messages_of reply) c go_on) else go_on c
 
 -- ---- the calls
 
@@ -150,8 +152,8 @@ served_from peer c go_on = turns (most_turns c.session) peer c (λ after. draini
 
 unfoldable pub served : ℕ → List ℕ → ℕ → Client → Plan Client
 served peer piece now_ms c =
-    if is_closed c.session.state then Ends c else served_from peer (with_session (fed piece now_ms c.session) c) Ends
+    if is_closed c.session.state then Returns c else Reaches c (served_from peer (client_with (fed piece now_ms c.session) c) Returns)
 
 -- the transport has ended: a peer that is joined goes down, and the session ends
 unfoldable pub hung_up : ℕ → Client → Plan Client
-hung_up peer c = on_down peer c (λ after. Ends (ending None None after))
+hung_up peer c = on_down peer c (λ after. Returns (ending None None after))

@@ -12,7 +12,7 @@ joined_by_up joined Done = true
 joined_by_up joined reply = joined
 
 abbrev pub joined_by : Bool → Event → Reply → Bool
-joined_by joined (Up peer sent) reply = joined_by_up joined reply
+joined_by joined (Up peer capabilities) reply = joined_by_up joined reply
 joined_by joined (Down peer) reply = false
 joined_by joined event reply = joined
 

@@ -1,21 +1,25 @@
 -- What holds of every session that is served.
-use Rattle.std.specs.Prelude.{◌≡◌, ℕ, List, None}
+use Rattle.std.specs.Prelude.{◌≡◌, ℕ, List, ◌++◌, None}
 use Rattle.pcep_session.specs.Ends.{most_turns}
 use Rattle.pcep_session.specs.Turns.{next}
 use Rattle.engine_core.specs.Engine.{turns}
-use Rattle.engine_core.specs.Plans.{Plan, Ends, Leads}
+use Rattle.engine_core.specs.Plans.{Plan, Returns, LeadsTo}
 use Rattle.engine_core.specs.declared.client.Client.{Client}
 use Rattle.engine_core.specs.declared.store.Call.{Call}
 
--- the session came to where it gives nothing more, and then went on
-pub record GivesNoMore (go_on : Client → Plan Client) (after : Client) : Type 0 where
-  pub client : Client
-  pub calls : List Call
-  pub no_more : (next client.session).input ≡ None
-  pub on : Leads (go_on client) calls (Ends after)
+-- Of these calls the first lead the turns of a session to where it gives nothing more, and the others are those of
+-- what goes on from there.
+pub record GivesNoMore (peer : ℕ) (c : Client) (go_on : Client → Plan Client) (calls : List Call) (after : Client) : Type 0 where
+  pub rested : Client
+  pub first : List Call
+  pub others : List Call
+  pub whole : calls ≡ first ++ others
+  pub turned : LeadsTo (turns (most_turns c.session) peer c (λ w. Returns w)) first (Returns rested)
+  pub no_more : (next rested.session).input ≡ None
+  pub on : LeadsTo (go_on rested) others (Returns after)
 
 -- The turns of a session are enough: it is served until it gives nothing more, whatever the replies are.
 abbrev pub AllHandled : Type 0
 AllHandled =
     (peer : ℕ) (c after : Client) (calls : List Call) (go_on : Client → Plan Client)
-    → Leads (turns (most_turns c.session) peer c go_on) calls (Ends after) → GivesNoMore go_on after
+    → LeadsTo (turns (most_turns c.session) peer c go_on) calls (Returns after) → GivesNoMore peer c go_on calls after

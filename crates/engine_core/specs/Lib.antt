@@ -2,6 +2,7 @@ pub mod Calls
 pub mod Plans
 pub mod Engine
 pub mod Joining
+pub mod Sent
 pub mod Stores
 pub mod Performed
 pub mod Lending

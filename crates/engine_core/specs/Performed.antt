@@ -1,16 +1,26 @@
 -- A plan that is carried out against one database, on one thread.
-use Rattle.std.specs.Prelude.{◌≡◌, ◌==◌, length, Result, Ok, Err, if◌then◌else◌}
+use Rattle.std.specs.Prelude.{◌≡◌, Result, Ok, Err, if◌then◌else◌}
 use Rattle.step_core.specs.Steps.{step}
-use Rattle.history_core.specs.Histories.{Content, stepped, step_limit}
+use Rattle.step_core.specs.declared.event.Event.{Event}
+use Rattle.step_core.specs.declared.event.Reply.{Reply}
+use Rattle.history_core.specs.Histories.{Content, stepped, is_full}
 use Rattle.history_core.specs.declared.fault.Fault.{Fault}
 use Rattle.history_core.specs.declared.fault.Fault.TheVariants.{OutOfMemory, HistoryFull}
-use Rattle.engine_core.specs.Plans.{Plan, Ends, Submits}
+use Rattle.engine_core.specs.Plans.{Plan, Returns, Reaches, Submits}
 
--- each event is a step of the database, until as many steps are kept as a history holds
+-- one event: its reply, and the database after it, unless no further step can be kept
+abbrev pub applied : Content → Event → Result (Reply × Content) Fault
+applied d event = if is_full d then Err HistoryFull else Ok ((step d.state event).reply, stepped d event (step d.state event).reply)
+
+abbrev pub and_then : {A B : Type 0} → Result A Fault → (A → Result B Fault) → Result B Fault
+and_then (Ok a) go_on = go_on a
+and_then (Err fault) go_on = Err fault
+
+-- each event is a step of the database, until one can't be kept
 abbrev pub performed : {W : Type 0} → Plan W → Content → Result (W × Content) Fault
-performed (Ends w) d = Ok (w, d)
-performed (Submits event go_on) d =
-    if length d.history == step_limit then Err HistoryFull else performed (go_on (step d.state event).reply) (stepped d event (step d.state event).reply)
+performed (Returns w) d = Ok (w, d)
+performed (Reaches c plan) d = performed plan d
+performed (Submits event go_on) d = and_then (applied d event) (λ done. performed (go_on done.0) done.1)
 
 -- what a call leaves that carries a plan out; where memory ran out nothing is said
 abbrev pub Performs : {X W : Type 0} → Result X Fault → W → Content → Result (W × Content) Fault → Type 0

@@ -1,16 +1,34 @@
--- Events that are submitted one after the other, each chosen by the replies to those before it.
-use Rattle.std.specs.Prelude.{◌≡◌, List, [], ◌∷◌}
+-- What a call does, as a plan: the events that it submits one after the other, each chosen by the replies to those
+-- before it, and the states that its client comes to on the way.
+use Rattle.std.specs.Prelude.{◌≡◌, ◌⊎◌, List, [], ◌∷◌}
 use Rattle.step_core.specs.declared.event.Event.{Event}
 use Rattle.step_core.specs.declared.event.Reply.{Reply}
+use Rattle.engine_core.specs.declared.client.Client.{Client}
 use Rattle.engine_core.specs.declared.store.Call.{Call}
 
--- what is left to do: nothing, with a result, or an event to submit, and by its reply what is left then
+-- What is left to do: nothing, with a result; or the client is as given, and on; or an event to submit, and by its
+-- reply what is left then.
 pub data Plan (W : Type 0) : Type 0 where
-  Ends : W → Plan W
+  Returns : W → Plan W
+  Reaches : Client → Plan W → Plan W
   Submits : Event → (Reply → Plan W) → Plan W
 
+-- an event is submitted, and until its reply is answered the client stays as it was
+abbrev pub submitting : {W : Type 0} → Client → Event → (Reply → Plan W) → Plan W
+submitting c event go_on = Reaches c (Submits event (λ reply. Reaches c (go_on reply)))
+
+-- from one plan to what is left of it, with nothing submitted
+abbrev pub Passes : {W : Type 0} → Plan W → Plan W → Type 0
+Passes (Reaches c plan) rest = (Reaches c plan ≡ rest) ⊎ Passes plan rest
+Passes plan rest = plan ≡ rest
+
+-- a plan's next event is that of the call, and of what its reply leaves this holds
+abbrev pub Takes : {W : Type 0} → Plan W → Call → (Plan W → Type 0) → Type 0
+Takes (Returns w) call On = ⊥
+Takes (Reaches c plan) call On = Takes plan call On
+Takes (Submits event go_on) call On = (call.event ≡ event) × On (go_on call.reply)
+
 -- these calls, in order, lead from one plan to what is left of it
-abbrev pub Leads : {W : Type 0} → Plan W → List Call → Plan W → Type 0
-Leads plan [] rest = plan ≡ rest
-Leads (Ends w) (call ∷ calls) rest = ⊥
-Leads (Submits event go_on) (call ∷ calls) rest = (call.event ≡ event) × Leads (go_on call.reply) calls rest
+abbrev pub LeadsTo : {W : Type 0} → Plan W → List Call → Plan W → Type 0
+LeadsTo plan [] rest = Passes plan rest
+LeadsTo plan (call ∷ calls) rest = Takes plan call (λ next. LeadsTo next calls rest)

@@ -1,9 +1,10 @@
 -- What a call leaves in a store and in a client.
-use Rattle.std.specs.Prelude.{◌≡◌, List, Result, Ok, Err}
+use Rattle.std.specs.Prelude.{◌≡◌, List, None, Result, Ok, Err}
 use Rattle.history_core.specs.declared.fault.Fault.{Fault}
 use Rattle.history_core.specs.declared.fault.Fault.TheVariants.{OutOfMemory, HistoryFull}
+use Rattle.engine_core.specs.Engine.{ending}
 use Rattle.engine_core.specs.Joining.{joined_after}
-use Rattle.engine_core.specs.Plans.{Plan, Ends, Submits, Leads}
+use Rattle.engine_core.specs.Plans.{Plan, Returns, Reaches, Submits, LeadsTo}
 use Rattle.engine_core.specs.declared.client.Client.{Client}
 use Rattle.engine_core.specs.declared.store.Call.{Call}
 
@@ -13,22 +14,37 @@ use Rattle.engine_core.specs.declared.store.Call.{Call}
 pub record Carries {S W : Type 0} (moves : S → List Call → S → Type 0) (old new : S) (client after : Client) (plan rest : Plan W) : Type 0 where
   pub calls : List Call
   pub made : moves old calls new
-  pub leads : Leads plan calls rest
+  pub leads : LeadsTo plan calls rest
   pub joined : after.joined ≡ joined_after client.joined calls
 
 -- memory may run out anywhere; the history is full only where an event is to be submitted
 abbrev pub MayFail : {S W : Type 0} → (S → Type 0) → S → Plan W → Fault → Type 0
 MayFail is_full store rest OutOfMemory = Unit {0}
-MayFail is_full store (Ends w) HistoryFull = ⊥
+MayFail is_full store (Returns w) HistoryFull = ⊥
+MayFail is_full store (Reaches c plan) HistoryFull = ⊥
 MayFail is_full store (Submits event go_on) HistoryFull = is_full store
 
--- A fault: some calls were made, and the rest of the plan was not carried out.
-pub record Breaks {S W : Type 0} (moves : S → List Call → S → Type 0) (is_full : S → Type 0) (old new : S) (client after : Client) (plan : Plan W) (fault : Fault) : Type 0 where
+-- A fault: some calls were made, with which the client came to where it is now, and the rest of the plan was not
+-- carried out.
+pub record BreaksOff {S W : Type 0} (moves : S → List Call → S → Type 0) (is_full : S → Type 0) (old new : S) (client after : Client) (plan : Plan W) (fault : Fault) : Type 0 where
   pub rest : Plan W
-  pub carried : Carries moves old new client after plan rest
+  pub carried : Carries moves old new client after plan (Reaches after rest)
   pub cause : MayFail is_full new rest fault
 
 -- What a call leaves: the plan is carried out up to what goes on, or up to a fault.
 abbrev pub Serves : {X S W : Type 0} → Result X Fault → (S → List Call → S → Type 0) → (S → Type 0) → S → S → Client → Client → Plan W → (Client → Plan W) → Type 0
 Serves (Ok x) moves is_full old new client after plan go_on = Carries moves old new client after plan (go_on after)
-Serves (Err fault) moves is_full old new client after plan go_on = Breaks moves is_full old new client after plan fault
+Serves (Err fault) moves is_full old new client after plan go_on = BreaksOff moves is_full old new client after plan fault
+
+-- ---- a call that ends the session after a fault
+
+-- The plan broke off where the client was `reached`, whose session was then ended: its output is what it was there,
+-- and no Close is added.
+pub record EndsAt {S : Type 0} (moves : S → List Call → S → Type 0) (is_full : S → Type 0) (old new : S) (client after : Client) (plan : Plan Client) (fault : Fault) : Type 0 where
+  pub reached : Client
+  pub broke_off : BreaksOff moves is_full old new client reached plan fault
+  pub ended : after ≡ ending None None reached
+
+abbrev pub ServesOrEnds : {X S : Type 0} → Result X Fault → (S → List Call → S → Type 0) → (S → Type 0) → S → S → Client → Client → Plan Client → Type 0
+ServesOrEnds (Ok x) moves is_full old new client after plan = Carries moves old new client after plan (Returns after)
+ServesOrEnds (Err fault) moves is_full old new client after plan = EndsAt moves is_full old new client after plan fault

@@ -4,7 +4,8 @@ ghost use Rattle.std.specs.Prelude.{◌≡◌, fold, None, IfOk, IfErr, OnOk, On
 ghost use Rattle.history_core.specs.declared.fault.Fault.TheVariants.{OutOfMemory};
 ghost use Rattle.pcep_session.specs.Turns.{next};
 ghost use Rattle.engine_core.specs.Joining.{joined_by_up};
-ghost use Rattle.engine_core.specs.Engine.{new_client, with_session, ending, saying, after_refused_up, after_up, srp_about, after_report, sending_one, sending};
+ghost use Rattle.engine_core.specs.Engine.{new_client, client_with, ending, saying, after_refused_up, after_up, srp_about, cannot_process, sending_one};
+ghost use Rattle.engine_core.specs.Sent.{SomeSent};
 
 use history_core::{Fault, Reply, Why};
 use pcep_messages::{About, Message, PcError};
@@ -109,45 +110,27 @@ fn srp_about(srp: Option<u32>) -> About
     }
 }
 
-fn report_error(client: &mut Client, error: PcError) -> Result<(), Fault>
-    ensures answered { OnOk result (client.new ≡ saying error client.old) }
+/// A report that is refused is answered (RFC 8231 section 8.5, Error-Type 20), and the session goes on.
+pub(crate) fn refuse_report(client: &mut Client, srp: Option<u32>) -> Result<(), Fault>
+    ensures answered { OnOk result (client.new ≡ saying (cannot_process srp) client.old) }
     ensures unchanged { OnErr result (client.new ≡ client.old) }
     ensures only_memory { IfErr result (λ fault. fault ≡ OutOfMemory) }
 {
+    let error = PcError {
+        about: srp_about(srp),
+        kind: 20,
+        value: 1,
+    };
     match client.session.report_error(error) {
         Err(SessionFault::OutOfMemory) => Err(Fault::OutOfMemory),
         _ => Ok(()),
     }
 }
 
-/// What the reply to a report means for the session: one that is refused is answered (RFC 8231 section
-/// 8.5, Error-Type 20), and the session goes on.
-#[tactic(auto, unfolding(crate::specs::Engine::after_report))]
-pub(crate) fn after_report(
-    client: &mut Client,
-    srp: Option<u32>,
-    reply: &Reply,
-) -> Result<(), Fault>
-    ensures answered { OnOk result (client.new ≡ after_report srp reply.now client.old) }
-    ensures unchanged { OnErr result (client.new ≡ client.old) }
-    ensures joined { client.new.joined ≡ client.old.joined }
-    ensures only_memory { IfErr result (λ fault. fault ≡ OutOfMemory) }
-{
-    let Reply::Refused(_) = reply else {
-        return Ok(());
-    };
-    let error = PcError {
-        about: srp_about(srp),
-        kind: 20,
-        value: 1,
-    };
-    report_error(client, error)
-}
-
 /// What the session gives next.
 pub(crate) fn next(client: &mut Client) -> Result<Option<Input>, Fault>
     ensures given { IfOk result (λ given. given ≡ (next client.old.session).input) }
-    ensures turned { OnOk result (client.new ≡ with_session (next client.old.session).after client.old) }
+    ensures turned { OnOk result (client.new ≡ client_with (next client.old.session).after client.old) }
     ensures unchanged { OnErr result (client.new ≡ client.old) }
     ensures only_memory { IfErr result (λ fault. fault ≡ OutOfMemory) }
 {
@@ -160,6 +143,7 @@ pub(crate) fn next(client: &mut Client) -> Result<Option<Input>, Fault>
 /// Sends a message; one whose lengths don't fit is left out.
 fn send(client: &mut Client, message: &Message) -> Result<(), Fault>
     ensures sent { OnOk result (client.new ≡ sending_one client.old message.now) }
+    ensures unchanged { OnErr result (client.new ≡ client.old) }
     ensures joined { client.new.joined ≡ client.old.joined }
     ensures only_memory { IfErr result (λ fault. fault ≡ OutOfMemory) }
 {
@@ -169,8 +153,10 @@ fn send(client: &mut Client, message: &Message) -> Result<(), Fault>
     }
 }
 
-fn send_each(client: &mut Client, messages: &[Message]) -> Result<(), Fault>
+/// Sends messages in order. Where memory runs out, some of them were sent.
+pub(crate) fn send_each(client: &mut Client, messages: &[Message]) -> Result<(), Fault>
     ensures sent { OnOk result (client.new ≡ fold sending_one client.old messages.now) }
+    ensures some_sent { OnErr result (SomeSent messages.now client.old client.new) }
     ensures joined { client.new.joined ≡ client.old.joined }
     ensures only_memory { IfErr result (λ fault. fault ≡ OutOfMemory) }
 {
@@ -178,17 +164,4 @@ fn send_each(client: &mut Client, messages: &[Message]) -> Result<(), Fault>
         send(client, message)?;
     }
     Ok(())
-}
-
-/// Sends what a reply hands out.
-#[tactic(auto, unfolding(crate::specs::Engine::sending))]
-pub(crate) fn send_all(client: &mut Client, reply: &Reply) -> Result<(), Fault>
-    ensures sent { OnOk result (client.new ≡ sending reply.now client.old) }
-    ensures joined { client.new.joined ≡ client.old.joined }
-    ensures only_memory { IfErr result (λ fault. fault ≡ OutOfMemory) }
-{
-    match reply {
-        Reply::Out(messages) => send_each(client, messages.as_slice()),
-        _ => Ok(()),
-    }
 }

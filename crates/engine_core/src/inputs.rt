@@ -1,31 +1,20 @@
 //! What is done with what a session gives.
 
-ghost use Rattle.std.specs.Prelude.{◌≡◌, ◌<◌, ◌-◌, length, slice_get, Some, [], OnErr};
-ghost use Rattle.engine_core.specs.Engine.{event_of, after_report, on_up, on_reports, on_message, on_down, on_input, turns};
-ghost use Rattle.engine_core.specs.Plans.{Plan, Submits};
+ghost use Rattle.std.specs.Prelude.{◌≡◌, [], OnErr};
+ghost use Rattle.engine_core.specs.Engine.{event_of, on_up, after_report, on_report, on_reports, on_message, on_down, on_input, turns};
+ghost use Rattle.engine_core.specs.Plans.{Plan};
 ghost use Rattle.engine_core.specs.Stores.{Serves};
 ghost use Rattle.engine_core.specs.declared.client.Client.{Client};
-ghost use Rattle.engine_core.specs.declared.store.Call.{Call};
 ghost use Rattle.pcep_session.specs.Ends.{most_turns};
-ghost use Rattle.step_core.specs.declared.event.Reply.{Reply};
 
-use crate::client::{Client, after_report, after_up, next};
-use crate::store::Store;
+use crate::client::{Client, after_up, next, refuse_report};
+use crate::sink::Sink;
 use history_core::{Event, Fault, Reply};
 use pcep_messages::{Message, StateReport};
 use pcep_objects::Capabilities;
 use pcep_session::Input;
 
-/// The reply to the last call.
-pub fn last_reply<S: Store>(store: &S) -> &Reply
-    requires { 0 < length (S.calls store.now) }
-    ensures { (call : Call) → slice_get (S.calls store.now) (length (S.calls store.now) - 1) ≡ Some call → result.now ≡ call.reply }
-{
-    let calls = store.calls();
-    &calls[calls.len() - 1].reply
-}
-
-fn on_up<S: Store>(
+fn on_up<S: Sink>(
     client: &mut Client,
     peer: u32,
     capabilities: Option<Capabilities>,
@@ -33,8 +22,8 @@ fn on_up<S: Store>(
 ) -> Result<(), Fault>
     ensures { (go_on : Client → Plan Client) → Serves result S.moves S.is_full store.old store.new client.old client.new (on_up peer capabilities client.old go_on) go_on }
 {
-    store.submit(Event::Up { peer, capabilities })?;
-    after_up(client, last_reply(store))
+    store.hand_in(Event::Up { peer, capabilities })?;
+    after_up(client, store.reply())
 }
 
 /// The end of synchronization (RFC 8231 section 5.6), or the report of an LSP.
@@ -47,20 +36,32 @@ fn event_of(peer: u32, report: StateReport) -> Event
     Event::Report { peer, report }
 }
 
-fn on_report<S: Store>(
+/// What the reply to a report means: one that is refused is answered.
+#[tactic(auto, unfolding(crate::specs::Engine::after_report))]
+fn after_report<S: Sink>(client: &mut Client, srp: Option<u32>, store: &mut S) -> Result<(), Fault>
+    requires { S.is_answered store.old }
+    ensures { (go_on : Client → Plan Client) → Serves result S.moves S.is_full store.old store.new client.old client.new (after_report srp (S.newest store.old) client.old go_on) go_on }
+{
+    match store.reply() {
+        Reply::Refused(_) => refuse_report(client, srp),
+        _ => Ok(()),
+    }
+}
+
+fn on_report<S: Sink>(
     client: &mut Client,
     peer: u32,
     report: StateReport,
     store: &mut S,
 ) -> Result<(), Fault>
-    ensures { (go_on : Client → Plan Client) → Serves result S.moves S.is_full store.old store.new client.old client.new (Submits (event_of peer report) (λ reply. go_on (after_report report.srp reply client.old))) go_on }
+    ensures { (go_on : Client → Plan Client) → Serves result S.moves S.is_full store.old store.new client.old client.new (on_report peer report client.old go_on) go_on }
 {
     let srp = report.srp;
-    store.submit(event_of(peer, report))?;
-    after_report(client, srp, last_reply(store))
+    store.hand_in(event_of(peer, report))?;
+    after_report(client, srp, store)
 }
 
-fn on_reports<S: Store>(
+fn on_reports<S: Sink>(
     client: &mut Client,
     peer: u32,
     reports: Vec<StateReport>,
@@ -74,7 +75,7 @@ fn on_reports<S: Store>(
     Ok(())
 }
 
-fn on_message<S: Store>(
+fn on_message<S: Sink>(
     client: &mut Client,
     peer: u32,
     message: Message,
@@ -89,20 +90,20 @@ fn on_message<S: Store>(
 }
 
 /// A peer that is joined goes down.
-pub(crate) fn on_down<S: Store>(client: &mut Client, peer: u32, store: &mut S) -> Result<(), Fault>
+pub(crate) fn on_down<S: Sink>(client: &mut Client, peer: u32, store: &mut S) -> Result<(), Fault>
     ensures went_down { (go_on : Client → Plan Client) → Serves result S.moves S.is_full store.old store.new client.old client.new (on_down peer client.old go_on) go_on }
     ensures unchanged { OnErr result (client.new ≡ client.old) }
     ensures nothing_submitted { OnErr result (S.moves store.old [] store.new) }
 {
     if client.joined {
-        store.submit(Event::Down { peer })?;
+        store.hand_in(Event::Down { peer })?;
         client.joined = false;
     }
     Ok(())
 }
 
 #[tactic(auto, unfolding(crate::specs::Engine::on_input))]
-fn on_input<S: Store>(
+fn on_input<S: Sink>(
     client: &mut Client,
     peer: u32,
     input: Input,
@@ -119,7 +120,7 @@ fn on_input<S: Store>(
 }
 
 /// All that the session gives, in order.
-pub(crate) fn take_turns<S: Store>(
+pub(crate) fn take_turns<S: Sink>(
     client: &mut Client,
     peer: u32,
     store: &mut S,

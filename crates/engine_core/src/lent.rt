@@ -1,12 +1,7 @@
 //! A database that is lent to the engine, on one thread.
 
-ghost use Rattle.std.specs.Prelude.{◌≡◌, [], true, OnErr};
-ghost use Rattle.pcep_session.specs.Turns.{is_closed};
-ghost use Rattle.engine_core.specs.Engine.{served, hung_up};
-ghost use Rattle.engine_core.specs.Performed.{performed, Performs};
+ghost use Rattle.std.specs.Prelude.{◌≡◌, []};
 
-use crate::client::Client;
-use crate::serving::{hang_up, serve};
 use crate::store::{Call, Store};
 use history_core::{Database, Event, Fault};
 use sequence::PlainData;
@@ -34,9 +29,7 @@ impl<'a> Lent<'a> {
 }
 
 impl<'a> Store for Lent<'a> {
-    ghost use Rattle.std.specs.Prelude.{◌≡◌, length};
-    ghost use Rattle.history_core.specs.Histories.{step_limit};
-    ghost use Rattle.engine_core.specs.Lending.{LentMoves, SameDatabase};
+    ghost use Rattle.engine_core.specs.Lending.{LentMoves, SameDatabase, IsFull};
     ghost use Rattle.engine_core.specs.LendingLaws.{moves_nowhere, moves_on};
 
     ghost calls = { λ s. s.calls.items };
@@ -45,7 +38,7 @@ impl<'a> Store for Lent<'a> {
 
     ghost same_but_calls = { λ old new. SameDatabase old new };
 
-    ghost is_full = { λ s. length s.database.now.history ≡ step_limit };
+    ghost is_full = { λ s. IsFull s.database.now };
 
     ghost moves_nowhere = { λ s. moves_nowhere s };
 
@@ -69,69 +62,4 @@ impl<'a> Store for Lent<'a> {
     fn forget(&mut self) {
         self.calls.clear();
     }
-}
-
-fn serve_lent(
-    store: &mut Lent,
-    client: &mut Client,
-    peer: u32,
-    piece: &[u8],
-    now_ms: u64,
-) -> Result<(), Fault>
-    ensures same_loan { store.new.database.ghost_name ≡ store.old.database.ghost_name }
-    ensures served { Performs result client.new store.new.database.now (performed (served peer piece.now now_ms client.old) store.old.database.now) }
-    ensures closed_after_fault { OnErr result (is_closed client.new.session.state ≡ true) }
-{
-    serve(client, peer, piece, now_ms, store)
-}
-
-fn hang_up_lent(store: &mut Lent, client: &mut Client, peer: u32) -> Result<(), Fault>
-    ensures same_loan { store.new.database.ghost_name ≡ store.old.database.ghost_name }
-    ensures hung_up { Performs result client.new store.new.database.now (performed (hung_up peer client.old) store.old.database.now) }
-    ensures unchanged { OnErr result (client.new ≡ client.old) }
-    ensures same_database { OnErr result (store.new.database.now ≡ store.old.database.now) }
-{
-    hang_up(client, peer, store)
-}
-
-/// Serves a session over a database, which takes each event as a step. Where the history is full, the steps
-/// up to then stay.
-pub fn serve_database(
-    alloc: Global,
-    database: &mut Database,
-    client: &mut Client,
-    peer: u32,
-    piece: &[u8],
-    now_ms: u64,
-) -> Result<(), Fault>
-    ensures served { Performs result client.new database.new (performed (served peer piece.now now_ms client.old) database.old) }
-    ensures closed_after_fault { OnErr result (is_closed client.new.session.state ≡ true) }
-{
-    let mut store = Lent::new(alloc, database);
-    let outcome = serve_lent(&mut store, client, peer, piece, now_ms);
-    let Lent {
-        database: _database,
-        calls: _calls,
-    } = store;
-    outcome
-}
-
-/// Ends a session over a database, as `hang_up` does. After a fault both are as before.
-pub fn hang_up_database(
-    alloc: Global,
-    database: &mut Database,
-    client: &mut Client,
-    peer: u32,
-) -> Result<(), Fault>
-    ensures hung_up { Performs result client.new database.new (performed (hung_up peer client.old) database.old) }
-    ensures unchanged { OnErr result (client.new ≡ client.old) }
-    ensures same_database { OnErr result (database.new ≡ database.old) }
-{
-    let mut store = Lent::new(alloc, database);
-    let outcome = hang_up_lent(&mut store, client, peer);
-    let Lent {
-        database: _database,
-        calls: _calls,
-    } = store;
-    outcome
 }

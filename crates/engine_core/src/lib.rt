@@ -3,14 +3,16 @@
 //! A `Client` is a session with a peer. `serve` hands it bytes at a moment, submits what the session makes of
 //! them to a `Store` as events of the peer, answers the replies in the session's output, and sends what waits
 //! for the peer; `hang_up` is the end of the transport. No clock, socket or lock is touched here: `Lent` is a
-//! database on one thread, and another store may be one that threads share.
+//! database on one thread, and another store may be one that threads share. `serve_database` and
+//! `hang_up_database` do the same over a database whose calls nobody reads: then no event is copied.
 //!
 //! What `serve` does is a plan (`specs/Plans`): events that are submitted one after the other, each chosen by the
-//! replies to those before it. `specs/Engine` has the plan of each call as a table: what is submitted for each
-//! input of the session, and what the replies mean for it. The contracts say that the calls which were added to
-//! the store's list carry that plan out and that the session is the one in which it ends; after a fault they
-//! carry out its beginning (`specs/Stores`). A session is served until it gives nothing more (`specs/Laws`).
-//! `specs/Performed` carries a plan out against one database.
+//! replies to those before it, and the states of the client on the way. `specs/Engine` has the plan of each call
+//! as a table: what is submitted for each input of the session, and what the replies mean for it. The contracts
+//! say that the calls which were added to the store's list carry that plan out and that the session is the one in
+//! which it ends; after a fault they carry out its beginning, and the session is ended as it was where the plan
+//! broke off, with all output up to there (`specs/Stores`). A session is served until it gives nothing more
+//! (`specs/Laws`). `specs/Performed` carries a plan out against one database.
 //!
 //! ```text
 //! fn answered(alloc: Global, database: &mut Database, client: &mut Client, piece: &[u8]) -> Result<Vec<u8>, Fault>
@@ -21,7 +23,7 @@
 //! }
 //! ```
 //!
-//! The modules, lowest first: `store`, `client`, `inputs`, `serving`, `lent`.
+//! The modules, lowest first: `store`, `sink`, `client`, `inputs`, `serving`, `lent`, `unlisted`.
 #![tactic(auto)]
 
 mod client;
@@ -29,15 +31,17 @@ mod inputs;
 mod laws;
 mod lent;
 mod serving;
+mod sink;
 mod store;
+mod unlisted;
 
 pub use client::Client;
 pub use history_core::{Event, Fault, Reply};
-pub use inputs::last_reply;
 pub use laws::all_handled;
-pub use lent::{Lent, hang_up_database, serve_database};
+pub use lent::Lent;
 pub use serving::{hang_up, serve};
-pub use store::{Call, Store};
+pub use store::{Call, Store, last_reply};
+pub use unlisted::{hang_up_database, serve_database};
 
 #[cfg(test)]
 mod tests;

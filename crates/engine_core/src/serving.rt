@@ -1,25 +1,26 @@
 //! The calls on a client: its peer's bytes, and the end of the transport.
 
-ghost use Rattle.std.specs.Prelude.{◌≡◌, true, false, [], None, OnErr, OnOk, IfErr};
+ghost use Rattle.std.specs.Prelude.{◌≡◌, true, false, [], None, fold, OnErr, OnOk, IfErr};
 ghost use Rattle.pcep_session.specs.Calls.{fed};
 ghost use Rattle.pcep_session.specs.Ends.{most_turns};
 ghost use Rattle.pcep_session.specs.Turns.{is_closed};
-ghost use Rattle.engine_core.specs.Engine.{with_session, draining, served_from, served, hung_up};
-ghost use Rattle.engine_core.specs.Plans.{Plan, Ends};
-ghost use Rattle.engine_core.specs.Stores.{Serves};
+ghost use Rattle.engine_core.specs.Engine.{client_with, messages_of, sending_one, draining, served_from, served, hung_up};
+ghost use Rattle.engine_core.specs.Plans.{Plan, Returns, Reaches};
+ghost use Rattle.engine_core.specs.Sent.{SomeSent};
+ghost use Rattle.engine_core.specs.Stores.{Serves, ServesOrEnds};
 ghost use Rattle.history_core.specs.declared.fault.Fault.TheVariants.{OutOfMemory};
 ghost use Rattle.engine_core.specs.declared.client.Client.{Client};
 
-use crate::client::{Client, close, send_all};
-use crate::inputs::{last_reply, on_down, take_turns};
+use crate::client::{Client, close, send_each};
+use crate::inputs::{on_down, take_turns};
+use crate::sink::Sink;
 use crate::store::Store;
-use history_core::{Event, Fault};
-use pcep_session::{SessionFault, State};
+use history_core::{Event, Fault, Reply};
 
 /// Stores bytes of the peer, and the moment at which they came.
 fn feed(client: &mut Client, piece: &[u8], now_ms: u64) -> Result<(), Fault>
     requires { is_closed client.old.session.state ≡ false }
-    ensures fed { OnOk result (client.new ≡ with_session (fed piece.now now_ms client.old.session) client.old) }
+    ensures fed { OnOk result (client.new ≡ client_with (fed piece.now now_ms client.old.session) client.old) }
     ensures unchanged { OnErr result (client.new ≡ client.old) }
     ensures only_memory { IfErr result (λ fault. fault ≡ OutOfMemory) }
 {
@@ -29,26 +30,40 @@ fn feed(client: &mut Client, piece: &[u8], now_ms: u64) -> Result<(), Fault>
     }
 }
 
+/// Sends the messages of a reply.
+fn send_out<S: Sink>(client: &mut Client, store: &S) -> Result<(), Fault>
+    requires { S.is_answered store.now }
+    ensures sent { OnOk result (client.new ≡ fold sending_one client.old (messages_of (S.newest store.now))) }
+    ensures some_sent { OnErr result (SomeSent (messages_of (S.newest store.now)) client.old client.new) }
+    ensures joined { client.new.joined ≡ client.old.joined }
+    ensures only_memory { IfErr result (λ fault. fault ≡ OutOfMemory) }
+{
+    match store.reply() {
+        Reply::Out(messages) => send_each(client, messages.as_slice()),
+        _ => Ok(()),
+    }
+}
+
 /// The messages that wait for a peer whose session is up are sent.
-fn drain<S: Store>(client: &mut Client, peer: u32, store: &mut S) -> Result<(), Fault>
+fn drain<S: Sink>(client: &mut Client, peer: u32, store: &mut S) -> Result<(), Fault>
     ensures { (go_on : Client → Plan Client) → Serves result S.moves S.is_full store.old store.new client.old client.new (draining peer client.old go_on) go_on }
 {
-    if client.session.state() != State::Up {
+    if !client.session.state().is_up() {
         return Ok(());
     }
-    store.submit(Event::Drain { peer })?;
-    send_all(client, last_reply(store))
+    store.hand_in(Event::Drain { peer })?;
+    send_out(client, store)
 }
 
 /// All that an open session makes of what it holds.
-fn serve_open<S: Store>(client: &mut Client, peer: u32, store: &mut S) -> Result<(), Fault>
+fn serve_open<S: Sink>(client: &mut Client, peer: u32, store: &mut S) -> Result<(), Fault>
     ensures { (go_on : Client → Plan Client) → Serves result S.moves S.is_full store.old store.new client.old client.new (served_from peer client.old go_on) go_on }
 {
     take_turns(client, peer, store)?;
     drain(client, peer, store)
 }
 
-fn serve_fed<S: Store>(
+fn serve_fed<S: Sink>(
     client: &mut Client,
     peer: u32,
     piece: &[u8],
@@ -56,42 +71,37 @@ fn serve_fed<S: Store>(
     store: &mut S,
 ) -> Result<(), Fault>
     requires { is_closed client.old.session.state ≡ false }
-    ensures { Serves result S.moves S.is_full store.old store.new client.old client.new (served_from peer (with_session (fed piece.now now_ms client.old.session) client.old) Ends) Ends }
+    ensures { Serves result S.moves S.is_full store.old store.new client.old client.new (Reaches client.old (served_from peer (client_with (fed piece.now now_ms client.old.session) client.old) Returns)) Returns }
 {
     feed(client, piece, now_ms)?;
     serve_open(client, peer, store)
 }
 
 #[tactic(auto, unfolding(crate::specs::Engine::served))]
-fn serve_piece<S: Store>(
+fn serve_piece<S: Sink>(
     client: &mut Client,
     peer: u32,
     piece: &[u8],
     now_ms: u64,
     store: &mut S,
 ) -> Result<(), Fault>
-    ensures { Serves result S.moves S.is_full store.old store.new client.old client.new (served peer piece.now now_ms client.old) Ends }
+    ensures { Serves result S.moves S.is_full store.old store.new client.old client.new (served peer piece.now now_ms client.old) Returns }
 {
-    if client.session.state() == State::Closed {
+    if client.session.state().is_closed() {
         return Ok(());
     }
     serve_fed(client, peer, piece, now_ms, store)
 }
 
-/// Serves a session with bytes of its peer at a moment, in milliseconds of one clock of the caller's. What the
-/// session makes of them is submitted to the store as events of the peer, and their replies are answered in the
-/// session's output; last, where the session is up, what waits for the peer is put there too. Does nothing on
-/// a session that has ended.
-///
-/// After a fault the session has ended, and the events that were submitted stay: `hang_up` is to follow.
-pub fn serve<S: Store>(
+/// Serves a session over any sink, and ends it after a fault.
+pub(crate) fn serve_into<S: Sink>(
     client: &mut Client,
     peer: u32,
     piece: &[u8],
     now_ms: u64,
     store: &mut S,
 ) -> Result<(), Fault>
-    ensures served { Serves result S.moves S.is_full store.old store.new client.old client.new (served peer piece.now now_ms client.old) Ends }
+    ensures served { ServesOrEnds result S.moves S.is_full store.old store.new client.old client.new (served peer piece.now now_ms client.old) }
     ensures closed_after_fault { OnErr result (is_closed client.new.session.state ≡ true) }
 {
     let outcome = serve_piece(client, peer, piece, now_ms, store);
@@ -101,15 +111,47 @@ pub fn serve<S: Store>(
     outcome
 }
 
-/// The transport has ended: a peer that is joined goes down, and the session ends. After a fault all is as
-/// before.
+/// Serves a session with bytes of its peer at a moment, in milliseconds of one clock of the caller's. What the
+/// session makes of them is submitted to the store as events of the peer, and their replies are answered in the
+/// session's output; last, where the session is up, what waits for the peer is put there too. Does nothing on
+/// a session that has ended.
+///
+/// After a fault the session has ended where it had come to, and no Close is sent: the events that were submitted
+/// stay, and so does all output up to then. `hang_up` is to follow.
+pub fn serve<S: Store>(
+    client: &mut Client,
+    peer: u32,
+    piece: &[u8],
+    now_ms: u64,
+    store: &mut S,
+) -> Result<(), Fault>
+    ensures served { ServesOrEnds result S.moves S.is_full store.old store.new client.old client.new (served peer piece.now now_ms client.old) }
+    ensures closed_after_fault { OnErr result (is_closed client.new.session.state ≡ true) }
+{
+    serve_into(client, peer, piece, now_ms, store)
+}
+
 #[tactic(auto, unfolding(crate::specs::Engine::hung_up))]
-pub fn hang_up<S: Store>(client: &mut Client, peer: u32, store: &mut S) -> Result<(), Fault>
-    ensures hung_up { Serves result S.moves S.is_full store.old store.new client.old client.new (hung_up peer client.old) Ends }
+pub(crate) fn hang_up_into<S: Sink>(
+    client: &mut Client,
+    peer: u32,
+    store: &mut S,
+) -> Result<(), Fault>
+    ensures hung_up { Serves result S.moves S.is_full store.old store.new client.old client.new (hung_up peer client.old) Returns }
     ensures unchanged { OnErr result (client.new ≡ client.old) }
     ensures nothing_submitted { OnErr result (S.moves store.old [] store.new) }
 {
     on_down(client, peer, store)?;
     close(client);
     Ok(())
+}
+
+/// The transport has ended: a peer that is joined goes down, and the session ends. After a fault all is as
+/// before.
+pub fn hang_up<S: Store>(client: &mut Client, peer: u32, store: &mut S) -> Result<(), Fault>
+    ensures hung_up { Serves result S.moves S.is_full store.old store.new client.old client.new (hung_up peer client.old) Returns }
+    ensures unchanged { OnErr result (client.new ≡ client.old) }
+    ensures nothing_submitted { OnErr result (S.moves store.old [] store.new) }
+{
+    hang_up_into(client, peer, store)
 }

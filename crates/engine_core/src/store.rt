@@ -1,18 +1,29 @@
 //! Where events go.
 
-ghost use Rattle.std.specs.Prelude.{◌≡◌, [], ◌∷◌, ◌++◌, List, Err, IfErr, OnOk, OnErr};
+ghost use Rattle.std.specs.Prelude.{◌≡◌, ◌<◌, ◌-◌, [], ◌∷◌, ◌++◌, List, length, slice_get, Some, Err, IfErr, OnOk, OnErr};
 ghost use Rattle.history_core.specs.declared.fault.Fault.TheVariants.{HistoryFull};
 ghost use Rattle.step_core.specs.declared.event.Reply.{Reply};
 ghost use Rattle.engine_core.specs.Calls.{called};
 ghost use Rattle.engine_core.specs.declared.store.Call.{Call};
 
 use history_core::{Event, Fault, Reply};
+use sequence::PlainData;
+use std::alloc::AllocError;
 
 /// An event that was submitted, with the reply that it got.
 #[derive(Debug, Drop)]
 pub struct Call {
     pub event: Event,
     pub reply: Reply,
+}
+
+impl PlainData for Call {
+    fn copy(&self) -> Result<Call, AllocError> {
+        Ok(Call {
+            event: self.event.copy()?,
+            reply: self.reply.copy()?,
+        })
+    }
 }
 
 /// Where events go: a database that is lent, or one that is shared. It keeps a list of the calls that were
@@ -50,4 +61,13 @@ pub trait Store {
     ghost moves_on: { (a b c : Self) (first second : List Call) → moves a first b → moves b second c → moves a (first ++ second) c };
 
     ghost moves_add: { (a b : Self) (made : List Call) → moves a made b → calls b ≡ calls a ++ made };
+}
+
+/// The reply to the last call.
+pub fn last_reply<S: Store>(store: &S) -> &Reply
+    requires { 0 < length (S.calls store.now) }
+    ensures { (call : Call) → slice_get (S.calls store.now) (length (S.calls store.now) - 1) ≡ Some call → result.now ≡ call.reply }
+{
+    let calls = store.calls();
+    &calls[calls.len() - 1].reply
 }

@@ -3,7 +3,8 @@ use super::*;
 use history_core::{Database, Why};
 use pcep_session::State;
 use pcep_word::Priority;
-use std::alloc::Global;
+use sequence::PlainData;
+use std::alloc::{AllocError, Global};
 use std::process::Abort;
 use std::test::Fail;
 use te_base::TeBase;
@@ -79,4 +80,13 @@ fn letters(alloc: Global, calls: &[Call]) -> Result<Vec<u8>, Fail> {
 /// What is left on the link from A to B at the worst priority.
 fn left_by_b(database: &Database) -> Option<i64> {
     database.unreserved(0, Priority::capped(7))
+}
+
+/// A router's greeting, the end of synchronization and a report.
+fn greeting_and_report(alloc: Global) -> Result<Vec<u8>, Fail> {
+    let mut bytes = bytes_of(alloc, GREETING)?;
+    for text in [END_OF_SYNC, REPORT] {
+        bytes.extend_from_slice(bytes_of(alloc, text)?.as_slice())?;
+    }
+    Ok(bytes)
 }

@@ -1,5 +1,5 @@
 -- Histories: the steps that were taken from a state, and the state to which they lead.
-use Rattle.std.specs.Prelude.{ℕ, ◌≡◌, List, [], ◌∷◌, ◌++◌}
+use Rattle.std.specs.Prelude.{ℕ, ◌≡◌, Bool, ◌==◌, List, [], ◌∷◌, ◌++◌, length}
 use Rattle.te_base.specs.Base.{Base}
 use Rattle.step_core.specs.declared.event.Event.{Event}
 use Rattle.step_core.specs.declared.event.Reply.{Reply}
@@ -27,6 +27,10 @@ pub record Content : Type 0 where
   pub state : State
   pub history : List Step
 
+-- no more steps are kept
+abbrev pub is_full : Content → Bool
+is_full d = length d.history == step_limit
+
 -- the history is legal from the start, and leads from there to the state
 pub record ReplaysFrom (start : State) (d : Content) : Type 0 where
   pub legal : IsLegalFrom start d.history
@@ -44,4 +48,4 @@ kept_step event reply = record { event = event; brief = brief_of reply }
 
 -- the state after one more event, and the history with it and the brief of its reply
 abbrev pub stepped : Content → Event → Reply → Content
-stepped d event reply = record { state = (step d.state event).state; history = d.history ++ kept_step event reply ∷ [] }
+stepped d event reply = record d { state = (step d.state event).state; history = d.history ++ kept_step event reply ∷ [] }

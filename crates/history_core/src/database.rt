@@ -1,10 +1,10 @@
 //! A state with its history.
-ghost use Rattle.std.specs.Prelude.{◌≡◌, ◌≤◌, ◌+◌, ◌↔◌, [], ◌∷◌, ◌++◌, length, vec_len, vec_capacity, IfOk, OnErr, IsNone, IfSome};
+ghost use Rattle.std.specs.Prelude.{◌≡◌, ◌≤◌, ◌+◌, ◌↔◌, IsTrue, [], ◌∷◌, ◌++◌, length, vec_len, vec_capacity, IfOk, OnErr, IsNone, IfSome};
 ghost use Rattle.lsp_base.specs.Shares.{unreserved};
 ghost use Rattle.step_core.specs.States.{is_up};
 ghost use Rattle.step_core.specs.Steps.{step};
 ghost use Rattle.step_core.specs.Laws.{peer_of, OthersStay};
-ghost use Rattle.history_core.specs.Histories.{Replays, nothing_happened, kept_step, stepped, step_limit};
+ghost use Rattle.history_core.specs.Histories.{Replays, nothing_happened, kept_step, stepped, is_full};
 
 use crate::fault::Fault;
 use crate::step::{Step, shortened};
@@ -63,10 +63,10 @@ impl Database {
     pub fn apply(&mut self, event: Event) -> Result<Reply, Fault>
         ensures step { IfOk result (λ reply. self.new ≡ stepped self.old event reply) }
         ensures reply { IfOk result (λ reply. reply ≡ (step self.old.state event).reply) }
-        ensures full { (result ≡ Err Fault.HistoryFull) ↔ (length self.old.history ≡ step_limit) }
+        ensures full { (result ≡ Err Fault.HistoryFull) ↔ IsTrue (is_full self.old) }
         ensures unchanged_on_fault { OnErr result (self.new ≡ self.old) }
         ensures unchanged_by_refused { (why : _) → result ≡ Ok (Reply.Refused why) → self.new.state ≡ self.old.state }
-        ensures others_stay { OthersStay (peer_of event) self.old.state self.new.state }
+        ensures others_stay { OthersStay (peer_of self.old.state event) self.old.state self.new.state }
         ensures replays { Replays self.new }
     {
         if self.history.len() >= STEP_LIMIT {

@@ -1,5 +1,8 @@
+pub mod Chains
+pub mod Distinct
+pub mod Keys
 pub mod PathLists
-pub mod RecordLists
 pub mod Removal
-pub mod Tunnels
 mod ShareRows
+pub mod Swapped
+pub mod Walks

@@ -1,10 +1,11 @@
--- Two paths that are the same path are equal; what a removal of chosen paths leaves.
-use Rattle.std.proofs.Common.{◌≡◌, ◌≤◌, ℕ, ◌+◌, Bool, true, false, not, cond, List, [], ◌∷◌, ◌++◌, length, refl, ap, ◌∙◌, arith, length-append}
-use Rattle.std.specs.Prelude.{filter}
-use Rattle.std.proofs.lemmas.Bool.{eqb-true, eq-eqb, and_parts, and_from, false≢true, both_ways, false_from_ne_true}
-use Rattle.std.proofs.lemmas.List.Filters.{length-filter_both}
+-- Two paths that are the same path are equal; what a removal of paths leaves, whatever its order.
+use Rattle.std.proofs.Common.{◌≡◌, ◌≤◌, ◌<◌, ℕ, ◌+◌, Bool, true, false, not, cond, List, [], ◌∷◌, ◌++◌, length, filter, find, Some, sum_by, IsPermutation, refl, sym, subst, ap, ◌∙◌, arith, inl, inr}
+use Rattle.std.proofs.lemmas.Bool.{cases_Bool, eqb-true, eq-eqb, and_parts, and_from, false≢true}
+use Rattle.std.proofs.lemmas.List.{append_assoc, length-append}
+use Rattle.std.proofs.lemmas.List.Sums.{sum_by-cons, sum_by-append}
+use Rattle.std.proofs.lemmas.List.Sorted.{IsPermutation-refl, IsPermutation-sym, IsPermutation-cons, IsPermutation-trans, IsPermutation-append_left, IsPermutation-filter_both, length_permutation, sum_by-IsPermutation}
 use Rattle.lsp_base.specs.Same.{same_tunnel, same_part, same_links, same_flag, same_path}
-use Rattle.lsp_base.specs.Base.{Lsps, without_path, without, effect_of, changed}
+use Rattle.lsp_base.specs.Base.{Lsps, without_path, without, occurrences, HasAll, effect_of, changed}
 use Rattle.lsp_base.specs.Rooms.{IsWithinLimit}
 use Rattle.lsp_base.specs.declared.tunnel.Tunnel.{Tunnel}
 use Rattle.lsp_base.specs.declared.tunnel.Tunnel.TheVariants.{Signalled, Unsignalled, Asked}
@@ -12,6 +13,7 @@ use Rattle.lsp_base.specs.declared.tunnel.Part.{Part}
 use Rattle.lsp_base.specs.declared.tunnel.Part.TheVariants.{Reported, Granted}
 use Rattle.lsp_base.specs.declared.path.Path.{Path}
 use Rattle.lsp_base.specs.declared.effect.RecordChange.{RecordChange}
+use Rattle.lsp_base.proofs.Swapped.{without_first-permutes}
 
 pub same_tunnel-refl : (t : Tunnel) → same_tunnel t t ≡ true
 same_tunnel-refl (Signalled p e t x) = and_from _ _ (and_from _ _ (and_from _ _ (eq-eqb p p refl) (eq-eqb e e refl)) (eq-eqb t t refl)) (eq-eqb x x refl)
@@ -117,43 +119,113 @@ same_path-eq x y h =
     ∙ ap (λ v. path_of y.peer y.plsp y.part y.tunnel y.hold y.bandwidth v x.fresh) is_links
     ∙ ap (λ v. path_of y.peer y.plsp y.part y.tunnel y.hold y.bandwidth y.links v) is_fresh
 
--- a path that isn't chosen stays where chosen ones go
-without-kept : (p : Path → Bool) (x : Path) → p x ≡ false → (ys xs : List Path) → without (x ∷ xs) (filter p ys) ≡ x ∷ without xs (filter p ys)
-without-kept p x h [] xs = refl
-without-kept p x h (y ∷ ys) xs = by (p y) refl (without-kept p x h ys)
-  where
-    by : (b : Bool) → p y ≡ b → ((zs : List Path) → without (x ∷ zs) (filter p ys) ≡ x ∷ without zs (filter p ys)) → without (x ∷ xs) (cond b (y ∷ filter p ys) (filter p ys)) ≡ x ∷ without xs (cond b (y ∷ filter p ys) (filter p ys))
-    by false e ih = ih xs
-    by true e ih =
-        let other : same_path x y ≡ false = false_from_ne_true _ (λ s. both_ways (p x) h (ap p (same_path-eq x y s) ∙ e)) in
-        ap (λ b. without (cond b xs (x ∷ without_path y xs)) (filter p ys)) other ∙ ih (without_path y xs)
+-- ---- how often a path is among others
 
--- where the chosen paths go, the others stay, in their order
-pub without-filter : (p : Path → Bool) (xs : List Path) → without xs (filter p xs) ≡ filter (λ x. not (p x)) xs
-without-filter p [] = refl
-without-filter p (x ∷ xs) = by (p x) refl (without-filter p xs)
-  where
-    by : (b : Bool) → p x ≡ b → without xs (filter p xs) ≡ filter (λ y. not (p y)) xs → without (x ∷ xs) (cond b (x ∷ filter p xs) (filter p xs)) ≡ cond (not b) (x ∷ filter (λ y. not (p y)) xs) (filter (λ y. not (p y)) xs)
-    by true e ih = ap (λ b. without (cond b xs (x ∷ without_path x xs)) (filter p xs)) (same_path-refl x) ∙ ih
-    by false e ih = without-kept p x e xs xs ∙ ap (λ ys. x ∷ ys) ih
+-- as a sum, which doesn't see their order
+occurrences-sum : (x : Path) (ys : List Path) → occurrences x ys ≡ sum_by (λ y. cond (same_path y x) 1 0) ys
+occurrences-sum x [] = refl
+occurrences-sum x (y ∷ ys) = ap (λ n. cond (same_path y x) 1 0 + n) (occurrences-sum x ys) ∙ sym (sum_by-cons (λ z. cond (same_path z x) 1 0) y ys)
 
--- how many paths stand where the chosen ones go and others come
-pub length-exchanged : (p : Path → Bool) (xs ys : List Path) → length (without xs (filter p xs) ++ ys) + length (filter p xs) ≡ length xs + length ys
-length-exchanged p xs ys =
-    let stay = ap length (without-filter p xs) in
-    let both = length-filter_both p (λ x. not (p x)) (λ x. refl) xs in
-    let all = length-append (without xs (filter p xs)) ys in
-    omega arith
+occurrences-append : (x : Path) (ys zs : List Path) → occurrences x (ys ++ zs) ≡ occurrences x ys + occurrences x zs
+occurrences-append x ys zs =
+    let test : Path → ℕ = λ y. cond (same_path y x) 1 0 in
+    let all = occurrences-sum x (ys ++ zs) in
+    let both = sum_by-append test ys zs in
+    let left = occurrences-sum x ys in
+    let right = occurrences-sum x zs in
+    omega (arith, all, both, left, right)
+
+pub occurrences-permuted : (x : Path) (ys zs : List Path) → IsPermutation ys zs → occurrences x zs ≡ occurrences x ys
+occurrences-permuted x ys zs same = occurrences-sum x zs ∙ sum_by-IsPermutation (λ y. cond (same_path y x) 1 0) ys zs same ∙ sym (occurrences-sum x ys)
+
+found_path : (d : Path) (xs : List Path) → 0 < occurrences d xs → find (λ x. same_path x d) xs ≡ Some d
+found_path d [] n = absurd (omega (arith, n))
+found_path d (x ∷ xs) n = by (same_path x d) refl n (found_path d xs)
+  where
+    by : (b : Bool) → same_path x d ≡ b → 0 < cond b 1 0 + occurrences d xs → (0 < occurrences d xs → find (λ y. same_path y d) xs ≡ Some d) → cond b (Some x) (find (λ y. same_path y d) xs) ≡ Some d
+    by true is m rest = ap Some (same_path-eq x d is)
+    by false is m rest = rest (omega (arith, m))
+
+-- the path that went, and those that are left
+pub without_path-permutes : (d : Path) (xs : List Path) → 0 < occurrences d xs → IsPermutation xs (d ∷ without_path d xs)
+without_path-permutes d xs n = without_first-permutes (λ x. same_path x d) xs d (found_path d xs n)
+
+-- lists are the same up to order where each path is as often in the one as in the other
+pub permutes_by_occurrences : (xs ys : List Path) → ((x : Path) → occurrences x xs ≡ occurrences x ys) → IsPermutation xs ys
+permutes_by_occurrences [] [] same = IsPermutation-refl []
+permutes_by_occurrences [] (y ∷ ys) same = let self = same_path-refl y in let h : 0 ≡ 1 + occurrences y ys = rw self at (same y) in absurd (omega (arith, h))
+permutes_by_occurrences (x ∷ xs) ys same =
+    let self = same_path-refl x in
+    let here : 1 + occurrences x xs ≡ occurrences x ys = rw self at (same x) in
+    let left = without_path-permutes x ys (omega (arith, here)) in
+    let rest : (z : Path) → occurrences z xs ≡ occurrences z (without_path x ys) = λ z. (let a = occurrences-permuted z ys (x ∷ without_path x ys) left in omega (arith, a, same z)) in
+    IsPermutation-trans _ _ _ (IsPermutation-cons x _ _ (permutes_by_occurrences xs (without_path x ys) rest)) (IsPermutation-sym _ _ left)
+
+-- ---- a list that has all of the dropped paths
+
+has_first : (paths ds : List Path) (d : Path) → HasAll paths (d ∷ ds) → 0 < occurrences d paths
+has_first paths ds d has = let self = same_path-refl d in let h : 1 + occurrences d ds ≤ occurrences d paths = rw self at (has d) in omega (arith, h)
+
+has_rest : (paths ds : List Path) (d : Path) → HasAll paths (d ∷ ds) → HasAll (without_path d paths) ds
+has_rest paths ds d has y =
+    let e = occurrences-permuted y paths (d ∷ without_path d paths) (without_path-permutes d paths (has_first paths ds d has)) in
+    let h = has y in
+    omega (arith, e, h)
+
+-- the dropped paths, and those that are left
+pub without-permutes : (paths dropped : List Path) → HasAll paths dropped → IsPermutation paths (dropped ++ without paths dropped)
+without-permutes paths [] has = IsPermutation-refl paths
+without-permutes paths (d ∷ ds) has =
+    IsPermutation-trans _ _ _ (without_path-permutes d paths (has_first paths ds d has)) (IsPermutation-cons d _ _ (without-permutes (without_path d paths) ds (has_rest paths ds d has)))
+
+-- those that stood and those that come are the dropped ones and those that stand after it
+pub paths_exchanged : (paths dropped added : List Path) → HasAll paths dropped → IsPermutation (paths ++ added) (dropped ++ (without paths dropped ++ added))
+paths_exchanged paths dropped added has =
+    subst (IsPermutation (paths ++ added)) (append_assoc dropped (without paths dropped) added) (IsPermutation-append_left added paths (dropped ++ without paths dropped) (without-permutes paths dropped has))
+
+-- a list of paths has those of it that pass a test
+pub has_filter : (test : Path → Bool) (paths : List Path) → HasAll paths (filter test paths)
+has_filter test [] y = omega arith
+has_filter test (x ∷ xs) y =
+    let ih = has_filter test xs y in
+    elim (cases_Bool (test x)) [
+      | inl here ↦ rw here (omega (arith, ih))
+      | inr other ↦ rw other (omega (arith, ih))
+    ]
+
+-- where the chosen paths go, the others stay
+pub without-filter : (p : Path → Bool) (xs : List Path) → IsPermutation (filter (λ x. not (p x)) xs) (without xs (filter p xs))
+without-filter p xs =
+    let gone = filter p xs in
+    let stay = filter (λ x. not (p x)) xs in
+    let left = without xs gone in
+    let both = IsPermutation-filter_both p (λ x. not (p x)) (λ x. refl) xs in
+    let dropped = without-permutes xs gone (has_filter p xs) in
+    permutes_by_occurrences stay left (λ z.
+    let a = occurrences-permuted z xs (gone ++ stay) both in
+    let b = occurrences-permuted z xs (gone ++ left) dropped in
+    omega (arith, a, b, occurrences-append z gone stay, occurrences-append z gone left))
+
+-- ---- effects
+
+-- how many paths stand where dropped ones go and others come
+length-exchanged : (paths dropped added : List Path) → HasAll paths dropped → length (without paths dropped ++ added) + length dropped ≡ length paths + length added
+length-exchanged paths dropped added has =
+    let same = length_permutation paths (dropped ++ without paths dropped) (without-permutes paths dropped has) in
+    let both = length-append dropped (without paths dropped) in
+    let all = length-append (without paths dropped) added in
+    omega (arith, same, both, all)
 
 -- an effect that drops chosen paths keeps the limit where it would by the numbers of paths
 pub IsWithinLimit-effect : (lsps : Lsps) (test : Path → Bool) (dropped added : List Path) (records : List RecordChange) (wants : Bool) → dropped ≡ filter test lsps.paths → length lsps.paths + length added ≤ 16384 + length dropped → IsWithinLimit lsps (effect_of dropped added records wants)
 IsWithinLimit-effect lsps test dropped added records wants e h =
-    let all = length-exchanged test lsps.paths added in
-    let same = ap (λ d. length (without lsps.paths d ++ added)) e in
-    let gone = ap length e in
-    omega arith
+    let has : HasAll lsps.paths dropped = subst (HasAll lsps.paths) (sym e) (has_filter test lsps.paths) in
+    let all = length-exchanged lsps.paths dropped added has in
+    omega (arith, all, h)
 
 -- the paths after such an effect
-pub paths-changed : (lsps : Lsps) (peer : ℕ) (test : Path → Bool) (dropped added : List Path) (records : List RecordChange) (wants : Bool) → dropped ≡ filter test lsps.paths → (changed lsps peer (effect_of dropped added records wants)).paths ≡ filter (λ x. not (test x)) lsps.paths ++ added
+pub paths-changed : (lsps : Lsps) (peer : ℕ) (test : Path → Bool) (dropped added : List Path) (records : List RecordChange) (wants : Bool) → dropped ≡ filter test lsps.paths → IsPermutation (filter (λ x. not (test x)) lsps.paths ++ added) (changed lsps peer (effect_of dropped added records wants)).paths
 unfolding changed
-paths-changed lsps peer test dropped added records wants e = ap (λ d. without lsps.paths d ++ added) e ∙ ap (λ stay. stay ++ added) (without-filter test lsps.paths)
+paths-changed lsps peer test dropped added records wants e =
+    let stay = filter (λ x. not (test x)) lsps.paths in
+    subst (λ d. IsPermutation (stay ++ added) (without lsps.paths d ++ added)) (sym e) (IsPermutation-append_left added stay (without lsps.paths (filter test lsps.paths)) (without-filter test lsps.paths))

@@ -1,6 +1,6 @@
 -- What is known of LSPs, and the lists after a change.
-use Rattle.std.specs.Prelude.{ℕ, Bool, false, ◌==◌, ◌&&◌, not, List, [], ◌∷◌, ◌++◌, map, filter, find, option_map, Option, Some, None, if◌then◌else◌, cond}
-use Rattle.std.specs.List.{list_any}
+use Rattle.std.specs.Prelude.{ℕ, ◌+◌, ◌≤◌, Bool, false, ◌==◌, ◌&&◌, not, List, [], ◌∷◌, ◌++◌, length, map, filter, find, option_map, Option, Some, None, if◌then◌else◌, cond}
+use Rattle.std.specs.List.{list_any, slice_rotate_right}
 use Rattle.lsp_base.specs.Same.{same_path}
 use Rattle.lsp_base.specs.declared.path.Path.{Path}
 use Rattle.lsp_base.specs.declared.lsp.Lsp.{Lsp}
@@ -23,6 +23,10 @@ is_record_of peer plsp r = r.peer == peer && r.plsp == plsp
 abbrev pub lsp_at : List Record → ℕ → ℕ → Option Lsp
 lsp_at records peer plsp = option_map (λ r. r.lsp) (find (is_record_of peer plsp) records)
 
+-- at most one record stands of each LSP
+abbrev pub AreDistinct : List Record → Type 0
+AreDistinct records = (peer plsp : ℕ) → length (filter (is_record_of peer plsp) records) ≤ 1
+
 -- the path is one of the LSP's: reported, or a grant that is bound to it
 abbrev pub is_path_of : ℕ → ℕ → Path → Bool
 is_path_of peer plsp x = x.peer == peer && x.plsp == plsp
@@ -37,15 +41,32 @@ no_effect = effect_of [] [] [] false
 
 -- ---- the lists after an effect
 
+-- the list with its last element in front of the others
+abbrev pub last_in_front : {X : Type 0} → List X → List X
+last_in_front xs = slice_rotate_right xs 1
+
+-- the list without the first element that passes the test: the last one takes its place
+abbrev pub without_first : {X : Type 0} → (X → Bool) → List X → List X
+without_first test [] = []
+without_first test (x ∷ xs) = cond (test x) (last_in_front xs) (x ∷ without_first test xs)
+
 -- the list without the first path that is this one
 abbrev pub without_path : Path → List Path → List Path
-without_path d [] = []
-without_path d (x ∷ xs) = cond (same_path x d) xs (x ∷ without_path d xs)
+without_path d paths = without_first (λ x. same_path x d) paths
 
 -- the list without each of these paths
 abbrev pub without : List Path → List Path → List Path
 without paths [] = paths
 without paths (d ∷ ds) = without (without_path d paths) ds
+
+-- how often a path is among others
+abbrev pub occurrences : Path → List Path → ℕ
+occurrences x [] = 0
+occurrences x (y ∷ ys) = (if same_path y x then 1 else 0) + occurrences x ys
+
+-- the paths have each of the dropped ones, as often as it is dropped
+abbrev pub HasAll : List Path → List Path → Type 0
+HasAll paths dropped = (x : Path) → occurrences x dropped ≤ occurrences x paths
 
 -- a record set: in its place where there is one, else as the last
 abbrev pub put : List Record → ℕ → ℕ → Lsp → List Record
@@ -54,8 +75,7 @@ put (r ∷ rs) peer plsp lsp = cond (is_record_of peer plsp r) (record { peer = 
 
 -- the record taken away
 abbrev pub taken_away : List Record → ℕ → ℕ → List Record
-taken_away [] peer plsp = []
-taken_away (r ∷ rs) peer plsp = cond (is_record_of peer plsp r) rs (r ∷ taken_away rs peer plsp)
+taken_away records peer plsp = without_first (is_record_of peer plsp) records
 
 abbrev pub set_record : ℕ → List Record → ℕ → Option Lsp → List Record
 set_record peer records plsp None = taken_away records peer plsp

@@ -1,7 +1,8 @@
 pub mod Same
-pub mod InForce
 pub mod Whys
 pub mod Shares
 pub mod Base
 pub mod Rooms
 pub mod Grants
+pub mod Chains
+pub mod Tables

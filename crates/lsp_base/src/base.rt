@@ -1,13 +1,18 @@
 //! The paths and the records of all LSPs.
-ghost use Rattle.std.specs.Prelude.{◌≡◌, ◌≤◌, length, OnOk, option_copied, slice_get};
-ghost use Rattle.lsp_base.specs.Base.{no_lsps, lsp_at, changed, with_stale};
+ghost use Rattle.std.specs.Prelude.{◌≡◌, ◌≤◌, ◌++◌, length, filter, IsPermutation, OnOk, IfOk, option_copied, slice_get};
+ghost use Rattle.std.specs.List.{list_any};
+ghost use Rattle.lsp_base.specs.Base.{AreDistinct, HasAll, no_lsps, lsp_at, changed, with_stale};
+ghost use Rattle.lsp_base.specs.Grants.{has_grant};
 ghost use Rattle.lsp_base.specs.Rooms.{HasRoom, IsWithinLimit};
+ghost use Rattle.lsp_base.specs.Tables.{PicksFrom};
 
-use crate::effect::{Effect, Record};
-use crate::lists::{Edit, add_paths, edit_all, remove_paths};
+use crate::effect::{Change, Effect, Record};
+use crate::grants::GrantOf;
+use crate::lists::Choice;
 use crate::lsp::Lsp;
 use crate::path::Path;
-use crate::records::{find_lsp, set_records};
+use crate::path_table::PathTable;
+use crate::record_table::RecordTable;
 use pcep_objects::Plsp;
 use std::alloc::{AllocError, Global};
 use std::marker::Model;
@@ -19,41 +24,24 @@ pub const PATH_LIMIT: usize = 16384;
 /// was made for more.
 #[derive(Drop)]
 pub struct LspBase {
-    paths: Vec<Path>,
-    records: Vec<Record>,
+    paths: PathTable,
+    records: RecordTable,
 }
 
 impl Model for LspBase {
-    ghost use Rattle.std.specs.Prelude.{◌≤◌, length, vec_capacity};
+    ghost use Rattle.std.specs.Prelude.{◌≤◌, length};
+    ghost use Rattle.lsp_base.specs.Base.{AreDistinct};
     ghost use Rattle.lsp_base.specs.Rooms.{Rooms};
 
     ghost Value = { Rooms };
 
     ghost view = { λ b. record {
-      content = record { paths = b.paths.items; records = b.records.items };
-      path_room = vec_capacity b.paths;
-      record_room = vec_capacity b.records;
+      content = record { paths = b.paths.paths; records = b.records.records };
+      path_room = b.paths.room;
+      record_room = b.records.room;
     } };
 
-    ghost invariant = { λ b. length b.paths.items ≤ 16384 };
-}
-
-/// Makes the paths of a peer stale.
-#[derive(Drop)]
-struct MadeStale {
-    peer: u32,
-}
-
-impl Edit for MadeStale {
-    ghost use Rattle.lsp_base.specs.Base.{made_stale};
-
-    ghost edited = { λ s x. made_stale s.peer x };
-
-    fn edit(&self, path: &mut Path) {
-        if path.peer == self.peer {
-            path.fresh = false;
-        }
-    }
+    ghost invariant = { λ b. (length b.paths.paths ≤ 16384) × AreDistinct b.records.records };
 }
 
 impl LspBase {
@@ -62,8 +50,8 @@ impl LspBase {
         ensures { result.content ≡ no_lsps }
     {
         LspBase {
-            paths: Vec::new(alloc),
-            records: Vec::new(alloc),
+            paths: PathTable::new(alloc),
+            records: RecordTable::new(alloc),
         }
     }
 
@@ -77,13 +65,16 @@ impl LspBase {
         Ok(())
     }
 
-    /// Carries out an effect on the LSPs of a peer: the dropped paths go, the added ones come at the end,
-    /// and the records are set in order. It grows nothing.
-    #[tactic(auto, unfolding(crate::specs::Base::changed))]
+    /// Carries out an effect on the LSPs of a peer: the dropped paths go, the last path taking the place of
+    /// each, the added ones come at the end, and the records are set in order. No other path comes or goes.
+    /// It grows nothing.
+    #[tactic(auto, unfolding(crate::specs::Base::changed), using(crate::proofs::Distinct::set_records_distinct, crate::proofs::Removal::paths_exchanged))]
     pub fn change(&mut self, peer: u32, effect: Effect)
         requires reserved { HasRoom self.old effect }
         requires few { IsWithinLimit self.old.content effect }
         ensures changed { self.new.content ≡ changed self.old.content peer effect }
+        ensures exchanged { HasAll self.old.content.paths effect.change.dropped
+            → IsPermutation (self.old.content.paths ++ effect.change.added) (effect.change.dropped ++ self.new.content.paths) }
         ensures same_path_room { self.new.path_room ≡ self.old.path_room }
         ensures same_record_room { self.new.record_room ≡ self.old.record_room }
     {
@@ -92,9 +83,9 @@ impl LspBase {
             records,
             wants_path: _,
         } = effect;
-        remove_paths(&mut self.paths, change.dropped.as_slice());
-        add_paths(&mut self.paths, change.added.into_vec());
-        set_records(&mut self.records, peer, records.into_vec());
+        let Change { dropped, added } = change;
+        self.paths.change(dropped.as_slice(), added.into_vec());
+        self.records.set_all(peer, records.into_vec());
     }
 
     /// Makes the peer's paths stale, and changes nothing else.
@@ -104,7 +95,7 @@ impl LspBase {
         ensures same_path_room { self.new.path_room ≡ self.old.path_room }
         ensures same_record_room { self.new.record_room ≡ self.old.record_room }
     {
-        edit_all(&mut self.paths, &MadeStale { peer });
+        self.paths.mark_stale(peer);
     }
 
     pub fn paths(&self) -> &[Path]
@@ -114,11 +105,42 @@ impl LspBase {
         self.paths.as_slice()
     }
 
+    /// Copies of the paths that pass the test, in order, with no pass over all. All of them are the LSP's,
+    /// or grants of the peer that are not bound.
+    pub fn chosen_of<C: Choice>(
+        &self,
+        alloc: Global,
+        peer: u32,
+        plsp: Plsp,
+        choice: &C,
+    ) -> Result<Vec<Path>, AllocError>
+        requires { PicksFrom (C.chooses choice.now) peer plsp }
+        ensures { IfOk result (λ found. found.items ≡ filter (C.chooses choice.now) self.now.content.paths) }
+    {
+        self.paths.chosen_of(alloc, peer, plsp, choice)
+    }
+
+    /// Whether a path passes the test, with no pass over all. All that pass it are the LSP's, or grants of
+    /// the peer that are not bound.
+    pub fn any_chosen_of<C: Choice>(&self, peer: u32, plsp: Plsp, choice: &C) -> bool
+        requires { PicksFrom (C.chooses choice.now) peer plsp }
+        ensures { result ≡ list_any (C.chooses choice.now) self.now.content.paths }
+    {
+        self.paths.any_chosen_of(peer, plsp, choice)
+    }
+
+    /// Whether the LSP has a grant, with no pass over all.
+    pub fn has_grant(&self, peer: u32, plsp: Plsp) -> bool
+        ensures { result ≡ has_grant self.now.content.paths peer plsp }
+    {
+        self.any_chosen_of(peer, plsp, &GrantOf { peer, plsp })
+    }
+
     /// What is known of the LSP.
     pub fn lsp(&self, peer: u32, plsp: Plsp) -> Option<&Lsp>
         ensures { option_copied result ≡ lsp_at self.now.content.records peer plsp }
     {
-        find_lsp(self.records.as_slice(), peer, plsp)
+        self.records.lsp(peer, plsp)
     }
 
     /// The record at a place; each stands at one place below their number.
@@ -129,7 +151,8 @@ impl LspBase {
     }
 
     pub fn records(&self) -> &[Record]
-        ensures { result.now ≡ self.now.content.records }
+        ensures records { result.now ≡ self.now.content.records }
+        ensures distinct { AreDistinct result.now }
     {
         self.records.as_slice()
     }

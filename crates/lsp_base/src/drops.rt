@@ -1,11 +1,11 @@
 //! Paths that go, with the records that then have none.
-ghost use Rattle.std.specs.Prelude.{◌≡◌, not, map, filter, IfOk};
+ghost use Rattle.std.specs.Prelude.{◌≡◌, not, map, filter, IfOk, IsPermutation};
 ghost use Rattle.lsp_base.specs.Base.{is_path_of, taking, has_none_left, ended_records, changed, dropping};
 ghost use Rattle.lsp_base.specs.Rooms.{IsWithinLimit};
 
 use crate::base::LspBase;
 use crate::effect::{Effect, Record, RecordChange};
-use crate::lists::{Choice, any_chosen, chosen};
+use crate::lists::{Choice, chosen};
 use crate::path::Path;
 use pcep_objects::Plsp;
 use std::alloc::{AllocError, Global};
@@ -36,11 +36,11 @@ impl<'a, C: Choice> Choice for StaysOf<'a, C> {
     }
 }
 
-fn has_ended<C: Choice>(paths: &[Path], known: &Record, peer: u32, going: &C) -> bool
-    ensures { result ≡ has_none_left (C.chooses going.now) peer paths.now known.now }
+fn has_ended<C: Choice>(base: &LspBase, known: &Record, peer: u32, going: &C) -> bool
+    ensures { result ≡ has_none_left (C.chooses going.now) peer base.now.content.paths known.now }
 {
     let plsp = known.plsp;
-    known.peer == peer && !any_chosen(paths, &StaysOf { going, peer, plsp })
+    known.peer == peer && !base.any_chosen_of(peer, plsp, &StaysOf { going, peer, plsp })
 }
 
 /// Takes away the peer's records of which no path stays where those of the choice go.
@@ -52,21 +52,21 @@ pub fn ended<C: Choice>(
 ) -> Result<Vec<RecordChange>, AllocError>
     ensures { IfOk result (λ changes. changes.items ≡ ended_records base.now.content peer (C.chooses going.now)) }
 {
-    ended_among(alloc, base.paths(), base.records(), peer, going)
+    ended_among(alloc, base, base.records(), peer, going)
 }
 
 fn ended_among<C: Choice>(
     alloc: Global,
-    paths: &[Path],
+    base: &LspBase,
     records: &[Record],
     peer: u32,
     going: &C,
 ) -> Result<Vec<RecordChange>, AllocError>
-    ensures { IfOk result (λ changes. changes.items ≡ map taking (filter (has_none_left (C.chooses going.now) peer paths.now) records.now)) }
+    ensures { IfOk result (λ changes. changes.items ≡ map taking (filter (has_none_left (C.chooses going.now) peer base.now.content.paths) records.now)) }
 {
     let mut changes = Vec::new(alloc);
     for record in records {
-        if has_ended(paths, record, peer, going) {
+        if has_ended(base, record, peer, going) {
             changes.push(RecordChange {
                 plsp: record.plsp,
                 lsp: None,
@@ -85,8 +85,8 @@ pub fn dropping_effect<C: Choice>(
     choice: &C,
 ) -> Result<Effect, AllocError>
     ensures dropping { IfOk result (λ effect. effect ≡ dropping base.now.content peer (C.chooses choice.now)) }
-    ensures stay { IfOk result (λ effect. (changed base.now.content peer effect).paths
-        ≡ filter (λ x. not (C.chooses choice.now x)) base.now.content.paths) }
+    ensures stay { IfOk result (λ effect. IsPermutation (filter (λ x. not (C.chooses choice.now x)) base.now.content.paths)
+        (changed base.now.content peer effect).paths) }
     ensures few { IfOk result (λ effect. IsWithinLimit base.now.content effect) }
 {
     let dropped = chosen(alloc, base.paths(), choice)?;

@@ -43,9 +43,9 @@ pub fn is_unbound(path: &Path, peer: u32, srp: Option<u32>) -> bool
 
 /// The grants that are bound to an LSP.
 #[derive(Drop)]
-struct GrantOf {
-    peer: u32,
-    plsp: Plsp,
+pub struct GrantOf {
+    pub peer: u32,
+    pub plsp: Plsp,
 }
 
 impl Choice for GrantOf {

@@ -1,9 +1,12 @@
 //! What is known of LSPs: their paths with what each reserves, and one record for each LSP. The rules
 //! compute an `Effect`, `LspBase::reserve` makes all the room that it needs, and `LspBase::change` then
 //! carries it out without growing anything. A layer above may rely on it that the lists after a change
-//! are exactly `without paths dropped ++ added` and the records set in the effect's order, and that at
+//! are exactly `without paths dropped ++ added` and the records set in the effect's order, where the last
+//! path or record takes the place of one that goes; that at most one record of an LSP stands, and that at
 //! most 16,384 paths ever stand. What paths reserve is defined in `specs/Shares.antt` (shared explicit
-//! reservation, RFC 3209), the lists after a change in `specs/Base.antt`.
+//! reservation, RFC 3209), the lists after a change in `specs/Base.antt`. An LSP's paths and its record are
+//! found by chains through the two lists, with no pass over all: hints, of which `specs/Chains.antt` says
+//! that they skip nothing.
 //!
 //! ```text
 //! fn carry_out(base: &mut LspBase, peer: u32, effect: Effect) -> Result<(), AllocError>
@@ -19,14 +22,17 @@
 #![tactic(auto)]
 
 mod base;
+mod chain;
+mod chained;
 mod drops;
 mod effect;
+mod found;
 mod grants;
 mod lists;
 mod lsp;
 mod path;
-mod records;
-mod shares;
+mod path_table;
+mod record_table;
 mod tunnel;
 mod why;
 
@@ -35,9 +41,9 @@ pub use drops::{dropping_effect, ended, is_path_of_lsp};
 pub use effect::{Change, Effect, Record, RecordChange};
 pub use grants::{carries_srp, has_grant, is_grant_of_lsp, is_unbound};
 pub use lists::{Choice, Edit, any_chosen, chosen, edit_all};
-pub use lsp::{Constraints, Lsp, OtherBounds, Priorities};
+pub use lsp::{Constraints, Lsp, OtherBounds};
 pub use path::Path;
-pub use shares::{reserved_on, share_on, unreserved_at, unreserved_on};
+pub use pcep_word::Priorities;
 pub use tunnel::{Part, Tunnel, is_part_reported};
 pub use why::{Ends, Why};
 

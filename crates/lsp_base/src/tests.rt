@@ -1,23 +1,12 @@
-//! Calls with ample memory, on a network of four nodes.
+//! Calls with ample memory.
 use super::*;
 use pcep_objects::{Colours, MetricType, Plsp};
 use pcep_word::{Bandwidth, Ipv4, Priority};
 use sequence::{PlainData, Sequence};
 use std::alloc::{AllocError, Global};
+use std::fmt::Debug;
 use std::process::Abort;
 use std::test::Fail;
-use te_base::TeBase;
-
-static DIAMOND: &str = r#"
-node = [
- {name="A",id="10.0.0.1"}, {name="B",id="10.0.0.2"},
- {name="C",id="10.0.0.3"}, {name="D",id="10.0.0.4"} ]
-link = [
- {from="A",to="B",local="10.1.0.1",remote="10.1.0.2",igp=10,te=10,colour=0,reservable=1000000},
- {from="B",to="D",local="10.2.0.1",remote="10.2.0.2",igp=10,te=10,colour=0,reservable=1000000},
- {from="A",to="C",local="10.3.0.1",remote="10.3.0.2",igp=20,te=20,colour=0,reservable=1000000},
- {from="C",to="D",local="10.4.0.1",remote="10.4.0.2",igp=20,te=20,colour=0,reservable=1000000} ]
-"#;
 
 /// A path of peer 1 over links 0 and 1, in a tunnel of this number.
 fn path(
@@ -113,18 +102,20 @@ impl Choice for OfPart {
     }
 }
 
-fn diamond(rt: &impl Abort, alloc: Global) -> TeBase {
-    match TeBase::read(alloc, DIAMOND) {
-        Ok(te) => te,
-        Err(_) => panic!(rt; "the diamond"),
-    }
+/// Drops the paths of peer 1 with this LSP ID, with the records that then have none.
+fn remove(alloc: Global, base: &mut LspBase, lsp: u16) -> Result<(), AllocError> {
+    let gone = OfPart {
+        part: Part::Reported(lsp),
+    };
+    let effect = dropping_effect(alloc, base, 1, &gone)?;
+    base.reserve(&effect)?;
+    base.change(1, effect);
+    Ok(())
 }
 
 #[test]
-fn paths_of_a_tunnel_share(rt: HostRuntime) -> Result<(), Fail> {
+fn paths_come_and_go(rt: HostRuntime) -> Result<(), Fail> {
     let alloc = rt.alloc();
-    let te = diamond(&rt, alloc);
-    let worst = Priority::capped(7);
     let mut base = LspBase::new(alloc);
     add(
         &rt,
@@ -140,33 +131,25 @@ fn paths_of_a_tunnel_share(rt: HostRuntime) -> Result<(), Fail> {
         path(&rt, alloc, 2, 1, 250_000)?,
         lsp(alloc, b"two")?,
     )?;
+    add(
+        &rt,
+        alloc,
+        &mut base,
+        path(&rt, alloc, 3, 2, 125_000)?,
+        lsp(alloc, b"three")?,
+    )?;
+    assert_eq!(rt; base.paths().len(), 3);
+    // the last path takes the place of the one that goes
+    remove(alloc, &mut base, 1)?;
     assert_eq!(rt; base.paths().len(), 2);
-    assert_eq!(rt;
-        share_on(base.paths(), &base.paths()[0].tunnel, 0, worst),
-        500_000
-    );
-    assert_eq!(rt; reserved_on(base.paths(), 0, worst), 500_000);
-    assert_eq!(rt; unreserved_at(&te, base.paths(), 0, worst), Some(500_000));
-    assert_eq!(rt; unreserved_at(&te, base.paths(), 2, worst), Some(1_000_000));
-    assert_eq!(rt; unreserved_at(&te, base.paths(), 4, worst), None);
-    assert_eq!(rt;
-        unreserved_on(&[te.link(0).expect(&rt, "link 0")], base.paths(), 0, worst),
-        500_000
-    );
-
-    let gone = OfPart {
-        part: Part::Reported(1),
-    };
-    let effect = dropping_effect(alloc, &base, 1, &gone)?;
-    base.reserve(&effect)?;
-    base.change(1, effect);
-    assert_eq!(rt; unreserved_at(&te, base.paths(), 0, worst), Some(750_000));
-    assert_eq!(rt; base.records().len(), 1);
+    assert_eq!(rt; base.paths()[0].bandwidth.value(), 125_000);
+    assert_eq!(rt; base.paths()[1].bandwidth.value(), 250_000);
+    assert_eq!(rt; base.records().len(), 2);
 
     base.mark_stale(1);
     let stale = base.paths().first().expect(&rt, "a path");
     assert!(rt; !stale.fresh);
-    assert_eq!(rt; unreserved_at(&te, base.paths(), 0, worst), Some(750_000));
+    assert_eq!(rt; stale.bandwidth.value(), 125_000);
     Ok(())
 }
 
@@ -185,34 +168,71 @@ fn records_are_found(rt: HostRuntime) -> Result<(), Fail> {
         &rt,
         alloc,
         &mut base,
-        path(&rt, alloc, 1, 2, 1)?,
+        path(&rt, alloc, 2, 2, 1)?,
         lsp(alloc, b"two")?,
+    )?;
+    add(
+        &rt,
+        alloc,
+        &mut base,
+        path(&rt, alloc, 3, 3, 1)?,
+        lsp(alloc, b"three")?,
     )?;
     let found = base.lsp(1, Plsp::new(2)).expect(&rt, "the second");
     assert_eq!(rt; found.name.as_slice(), b"two".as_slice());
     assert_eq!(rt; found.constraints.priorities.setup().number(), 3);
     assert_eq!(rt; found.constraints.priorities.hold().number(), 3);
-    assert!(rt; base.lsp(1, Plsp::new(3)).is_none());
-    let first = base.record_at(0).expect(&rt, "the first").copy()?;
+    assert!(rt; base.lsp(1, Plsp::new(4)).is_none());
+    let first = base.record_at(0).expect(&rt, "the first");
     assert_eq!(rt; first.plsp.number(), 1);
-    assert!(rt; base.record_at(2).is_none());
-    assert!(rt; !has_grant(base.paths(), 1, Plsp::new(1)));
-    let dropped = RecordChange {
+    assert!(rt; base.record_at(3).is_none());
+    // the last record takes the place of the one that goes
+    remove(alloc, &mut base, 1)?;
+    assert_eq!(rt; base.records().len(), 2);
+    let first = base.record_at(0).expect(&rt, "the first");
+    assert_eq!(rt; first.plsp.number(), 3);
+    assert!(rt; base.lsp(1, Plsp::new(1)).is_none());
+    assert!(rt; base.lsp(1, Plsp::new(2)).is_some());
+    assert!(rt; !base.has_grant(1, Plsp::new(1)));
+    assert_eq!(rt; Why::BadReport.number(), 19);
+    Ok(())
+}
+
+/// A copy prints as the value does.
+fn is_copied<T: PlainData + Debug>(rt: &HostRuntime, value: &T) -> Result<bool, Fail> {
+    let copy = value.copy()?;
+    let copied = format!(in rt.alloc(); "{copy:?}")?;
+    let printed = format!(in rt.alloc(); "{value:?}")?;
+    Ok(copied.as_str() == printed.as_str())
+}
+
+#[test]
+fn effects_and_records_are_copied(rt: HostRuntime) -> Result<(), Fail> {
+    let alloc = rt.alloc();
+    let set = RecordChange {
         plsp: Plsp::new(1),
+        lsp: Some(lsp(alloc, b"one")?),
+    };
+    let taken = RecordChange {
+        plsp: Plsp::new(2),
         lsp: None,
     };
-    let effect = Effect {
-        change: Change {
-            dropped: Sequence::from_vec(Vec::new(alloc)),
-            added: Sequence::from_vec(Vec::new(alloc)),
-        },
-        records: Sequence::from_vec(vec![in alloc; dropped]?),
-        wants_path: true,
+    let effect = Effect::new(
+        vec![in alloc; path(&rt, alloc, 1, 1, 500_000)?]?,
+        vec![in alloc;
+            path(&rt, alloc, 2, 1, 250_000)?,
+            path(&rt, alloc, 1, 2, 1)?,
+        ]?,
+        vec![in alloc; set, taken]?,
+        true,
+    );
+    assert!(rt; is_copied(&rt, &effect)?, "an effect");
+    let record = Record {
+        peer: 1,
+        plsp: Plsp::new(1),
+        lsp: lsp(alloc, b"one")?,
     };
-    let copy = effect.copy()?;
-    assert!(rt; copy.wants_path);
-    assert_eq!(rt; copy.records.as_slice().len(), 1);
-    assert_eq!(rt; Why::BadReport.number(), 19);
+    assert!(rt; is_copied(&rt, &record)?, "a record");
     Ok(())
 }
 
@@ -237,5 +257,120 @@ fn reserve_may_find_no_memory(rt: HostRuntime) -> Result<(), Fail> {
     assert_eq!(rt; base.paths().len(), 1);
     assert_eq!(rt; base.records().len(), 1);
     reserved?;
+    Ok(())
+}
+
+/// The paths of an LSP of peer 1.
+#[derive(Drop)]
+struct OfLsp {
+    plsp: Plsp,
+}
+
+impl Choice for OfLsp {
+    ghost use Rattle.lsp_base.specs.Base.{is_path_of};
+
+    ghost chooses = { λ s x. is_path_of 1 s.plsp x };
+
+    fn chooses(&self, path: &Path) -> bool {
+        is_path_of_lsp(path, 1, self.plsp)
+    }
+}
+
+/// What the plain list of the test knows of a path: its PLSP-ID and its LSP ID.
+#[derive(Clone, Copy, PartialEq, Eq)]
+struct Plain {
+    plsp: u16,
+    lsp: u16,
+}
+
+/// The next number of a linear congruential generator (Numerical Recipes), without its low bits.
+fn draw(seed: &mut u32) -> u32 {
+    *seed = seed.wrapping_mul(1_664_525).wrapping_add(1_013_904_223);
+    *seed >> 16
+}
+
+/// Takes away the first that is this one; the last takes its place.
+fn drop_plain(plain: &mut Vec<Plain>, gone: Plain) {
+    for i in 0..plain.len() {
+        if plain[i] == gone {
+            let _ = plain.swap_remove(i);
+            return;
+        }
+    }
+}
+
+/// Drops all paths of an LSP ID, from the base and from the plain list.
+fn drop_lsp_id(
+    alloc: Global,
+    base: &mut LspBase,
+    plain: &mut Vec<Plain>,
+    lsp: u16,
+) -> Result<(), AllocError> {
+    remove(alloc, base, lsp)?;
+    let mut dropped = Vec::new(alloc);
+    for known in plain.as_slice() {
+        if known.lsp == lsp {
+            dropped.push(*known)?;
+        }
+    }
+    for known in dropped.as_slice() {
+        drop_plain(plain, *known);
+    }
+    Ok(())
+}
+
+fn are_same(paths: &[Path], plain: &[Plain]) -> bool {
+    if paths.len() != plain.len() {
+        return false;
+    }
+    for i in 0..paths.len() {
+        let part = Part::Reported(plain[i].lsp);
+        if paths[i].plsp.number() != u32::from(plain[i].plsp) || paths[i].part != part {
+            return false;
+        }
+    }
+    true
+}
+
+/// Whether the LSP's paths are found as they stand in the plain list, and its record where it has a path.
+fn is_found(alloc: Global, base: &LspBase, plain: &[Plain], plsp: u16) -> Result<bool, AllocError> {
+    let mut of_lsp = Vec::new(alloc);
+    for known in plain {
+        if known.plsp == plsp {
+            of_lsp.push(*known)?;
+        }
+    }
+    let number = Plsp::new(u32::from(plsp));
+    let found = base.chosen_of(alloc, 1, number, &OfLsp { plsp: number })?;
+    let is_any = base.any_chosen_of(1, number, &OfLsp { plsp: number });
+    Ok(
+        are_same(found.as_slice(), of_lsp.as_slice())
+            && is_any != of_lsp.is_empty()
+            && base.lsp(1, number).is_some() == is_any,
+    )
+}
+
+/// A thousand random effects, on the base and on a plain list.
+#[test]
+fn paths_and_records_are_those_of_a_plain_list(rt: HostRuntime) -> Result<(), Fail> {
+    let alloc = rt.alloc();
+    let mut base = LspBase::new(alloc);
+    let mut plain = Vec::new(alloc);
+    let mut seed = 1;
+    for _ in 0..1000 {
+        let plsp = (1 + draw(&mut seed) % 8) as u16;
+        let lsp_id = (1 + draw(&mut seed) % 6) as u16;
+        if draw(&mut seed) % 4 == 0 {
+            drop_lsp_id(alloc, &mut base, &mut plain, lsp_id)?;
+        } else {
+            let known = path(&rt, alloc, lsp_id, plsp, 1)?;
+            add(&rt, alloc, &mut base, known, lsp(alloc, b"any")?)?;
+            plain.push(Plain { plsp, lsp: lsp_id })?;
+        }
+        assert!(rt; are_same(base.paths(), plain.as_slice()), "all paths");
+        for plsp in 1..9 {
+            assert!(rt; is_found(alloc, &base, plain.as_slice(), plsp)?, "an LSP's");
+        }
+    }
     Ok(())
 }

@@ -6,7 +6,7 @@ use pcep_objects::Plsp;
 use pcep_word::Ipv4;
 
 /// What shares its reservations on a common link (shared explicit reservation, RFC 3209 section 2.4.3).
-#[derive(Clone, Copy, Debug, PartialEq, Eq)]
+#[derive(Clone, Copy, Debug, PartialEq, Eq, Hash)]
 pub enum Tunnel {
     /// The session of RFC 3209 section 4.6.1, kept apart for each peer.
     Signalled {

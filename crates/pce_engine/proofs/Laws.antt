@@ -1,11 +1,12 @@
 -- The machine that takes a script byte by byte writes what the script's lines print.
 use Rattle.std.proofs.Common.{◌≡◌, ℕ, ◌+◌, ◌<◌, ◌==◌, suc, Bool, true, false, List, [], ◌∷◌, ◌++◌, length, take, drop, get_or, drop-cons, take-append-drop, Option, Some, None, Result, Ok, Err, fold, refl, sym, ap, ◌∙◌, append_assoc}
-use Rattle.std.proofs.lemmas.List.{append-nil, take_more}
+use Rattle.std.proofs.lemmas.List.{append-nil, length-append, take_more}
 use Rattle.std.specs.Io.KnownBytes.{Appends}
 use Rattle.pce_engine.specs.declared.fault.ScriptFault.{ScriptFault}
 use Rattle.pce_engine.specs.declared.fault.ScriptFault.TheVariants.{BadLine, Te, ReadFault, WriteFault, OutOfMemory, HistoryFull}
-use Rattle.pce_engine.specs.Script.{Cut, cut_at, with_rest, Stage, start, told, Outcome, on_told, printed, script, text_of_lines}
-use Rattle.pce_engine.specs.Machine.{Machine, begun, Fed, after_line, took, fed_on, fed, Leads, Halts, Breaks, completed}
+use Rattle.pce_engine.specs.Told.{Told, told, ◌>>=◌}
+use Rattle.pce_engine.specs.Script.{Cut, cut_at, with_rest, Stage, start, answered, counted, line_told, Outcome, on_told, printed, script, next_number, text_of_lines}
+use Rattle.pce_engine.specs.Machine.{Machine, started, Fed, after_line, took, fed_on, fed, Leads, Halts, Breaks, completed}
 
 -- the lines of what was cut, and of the bytes after it
 abbrev pub cut_on : Cut → List ℕ → List (List ℕ)
@@ -17,10 +18,10 @@ cut_break ls p b e = rw e
 cut_other : (ls : List (List ℕ)) (p : List ℕ) (b : ℕ) → (b == 10) ≡ false → cut_at (ls, p) b ≡ (ls, p ++ b ∷ [])
 cut_other ls p b e = rw e
 
-took_break : (m : Machine) (b : ℕ) → (b == 10) ≡ true → took m b ≡ after_line (told m.stage m.pending)
+took_break : (m : Machine) (b : ℕ) → (b == 10) ≡ true → took m b ≡ after_line (line_told m.stage m.pending)
 took_break m b e = rw e
 
-took_other : (m : Machine) (b : ℕ) → (b == 10) ≡ false → took m b ≡ Ok ([], record { stage = m.stage; pending = m.pending ++ b ∷ [] })
+took_other : (m : Machine) (b : ℕ) → (b == 10) ≡ false → took m b ≡ Ok (told [] (record { stage = m.stage; pending = m.pending ++ b ∷ [] }))
 took_other m b e = rw e
 
 abbrev Keeps_front : List ℕ → Type 0
@@ -45,7 +46,7 @@ abbrev GoesOn : List (List ℕ) → List ℕ → Stage → Type 0
 GoesOn ls text s = (more : List (List ℕ)) → printed (ls ++ more) [] start ≡ printed more text s
 
 -- one line more
-goes_on : (ls : List (List ℕ)) (p text : List ℕ) (s : Stage) (r : List ℕ × Stage) → told s p ≡ Ok r → GoesOn ls text s → GoesOn (ls ++ p ∷ []) (text ++ r.0) r.1
+goes_on : (ls : List (List ℕ)) (p text : List ℕ) (s : Stage) (r : Told Stage) → line_told s p ≡ Ok r → GoesOn ls text s → GoesOn (ls ++ p ∷ []) (text ++ r.text) r.after
 goes_on ls p text s r e goes more =
     ap (λ (all : List (List ℕ)). printed all [] start) (append_assoc ls (p ∷ []) more) ∙ goes (p ∷ more) ∙ ap (λ t. on_told text t (printed more)) e
 
@@ -53,10 +54,10 @@ abbrev Agrees : List ℕ → Type 0
 Agrees bytes = (ls : List (List ℕ)) (p text : List ℕ) (s : Stage) → GoesOn ls text s
     → printed (cut_on (ls, p) bytes) [] start ≡ completed (fed bytes text (record { stage = s; pending = p }))
 
-agrees_told : (r : Result (List ℕ × Stage) ScriptFault) (bytes : List ℕ) (ls : List (List ℕ)) (p text : List ℕ) (s : Stage) → told s p ≡ r → Agrees bytes → GoesOn ls text s
+agrees_told : (r : Result (Told Stage) ScriptFault) (bytes : List ℕ) (ls : List (List ℕ)) (p text : List ℕ) (s : Stage) → line_told s p ≡ r → Agrees bytes → GoesOn ls text s
     → printed (cut_on (ls ++ p ∷ [], []) bytes) [] start ≡ completed (fed_on text (record { stage = s; pending = p }) (after_line r) (fed bytes))
 agrees_told (Ok r) bytes ls p text s e ih goes =
-    ih (ls ++ p ∷ []) [] (text ++ r.0) r.1 (goes_on ls p text s r e goes)
+    ih (ls ++ p ∷ []) [] (text ++ r.text) r.after (goes_on ls p text s r e goes)
 agrees_told (Err fault) bytes ls p text s e ih goes =
     let h = front_of bytes (ls ++ p ∷ []) [] in
     ap (λ (all : List (List ℕ)). printed all [] start) (h.1 ∙ append_assoc ls (p ∷ []) h.0) ∙ goes (p ∷ h.0) ∙ ap (λ t. on_told text t (printed h.0)) e
@@ -65,7 +66,7 @@ agrees_at : (t : Bool) (b : ℕ) (bytes : List ℕ) → (b == 10) ≡ t → Agre
 agrees_at true b bytes e ih ls p text s goes =
     let m : Machine = record { stage = s; pending = p } in
     ap (λ (c : Cut). printed (cut_on c bytes) [] start) (cut_break ls p b e)
-    ∙ agrees_told (told s p) bytes ls p text s refl ih goes
+    ∙ agrees_told (line_told s p) bytes ls p text s refl ih goes
     ∙ sym (ap (λ t. completed (fed_on text m t (fed bytes))) (took_break m b e))
 agrees_at false b bytes e ih ls p text s goes =
     let m : Machine = record { stage = s; pending = p } in
@@ -81,7 +82,7 @@ agrees [] ls (b ∷ p) text s goes = goes ((b ∷ p) ∷ [])
 agrees (b ∷ bytes) ls p text s goes = agrees_at (b == 10) b bytes refl (λ ls p text s goes. agrees bytes ls p text s goes) ls p text s goes
 
 -- what is fed byte by byte and then completed is the script
-pub script_by_bytes : (bytes : List ℕ) → script bytes ≡ completed (fed bytes [] begun)
+pub script_by_bytes : (bytes : List ℕ) → script bytes ≡ completed (fed bytes [] started)
 script_by_bytes bytes = agrees bytes [] [] [] start (λ more. refl)
 
 -- ---- the whole lines of a front
@@ -91,16 +92,16 @@ abbrev Prints : List ℕ → Type 0
 Prints bytes = (ls : List (List ℕ)) (p text : List ℕ) (s : Stage) (all : List ℕ) (n : Machine) → GoesOn ls text s → Leads bytes text (record { stage = s; pending = p }) all n
     → (printed (fold cut_at (ls, p) bytes).0 [] start).text ≡ all
 
-prints_told : (r : Result (List ℕ × Stage) ScriptFault) (bytes : List ℕ) (ls : List (List ℕ)) (p text : List ℕ) (s : Stage) (all : List ℕ) (n : Machine) → told s p ≡ r → Prints bytes → GoesOn ls text s
+prints_told : (r : Result (Told Stage) ScriptFault) (bytes : List ℕ) (ls : List (List ℕ)) (p text : List ℕ) (s : Stage) (all : List ℕ) (n : Machine) → line_told s p ≡ r → Prints bytes → GoesOn ls text s
     → fed_on text (record { stage = s; pending = p }) (after_line r) (fed bytes) ≡ record { text = all; machine = n; fault = None } → (printed (fold cut_at (ls ++ p ∷ [], []) bytes).0 [] start).text ≡ all
-prints_told (Ok r) bytes ls p text s all n e ih goes h = ih (ls ++ p ∷ []) [] (text ++ r.0) r.1 all n (goes_on ls p text s r e goes) h
+prints_told (Ok r) bytes ls p text s all n e ih goes h = ih (ls ++ p ∷ []) [] (text ++ r.text) r.after all n (goes_on ls p text s r e goes) h
 prints_told (Err fault) bytes ls p text s all n e ih goes h = let bad : Some fault ≡ None = ap (λ (f : Fed). f.fault) h in cc
 
 prints_at : (t : Bool) (b : ℕ) (bytes : List ℕ) → (b == 10) ≡ t → Prints bytes → Prints (b ∷ bytes)
 prints_at true b bytes e ih ls p text s all n goes h =
     let m : Machine = record { stage = s; pending = p } in
     ap (λ (c : Cut). (printed (fold cut_at c bytes).0 [] start).text) (cut_break ls p b e)
-    ∙ prints_told (told s p) bytes ls p text s all n refl ih goes (sym (ap (λ t. fed_on text m t (fed bytes)) (took_break m b e)) ∙ h)
+    ∙ prints_told (line_told s p) bytes ls p text s all n refl ih goes (sym (ap (λ t. fed_on text m t (fed bytes)) (took_break m b e)) ∙ h)
 prints_at false b bytes e ih ls p text s all n goes h =
     let m : Machine = record { stage = s; pending = p } in
     let k : Machine = record { stage = s; pending = p ++ b ∷ [] } in
@@ -112,17 +113,56 @@ prints [] ls p text s all n goes h =
     ap (λ (all : List (List ℕ)). (printed all [] start).text) (sym (append-nil ls)) ∙ ap (λ (o : Outcome). o.text) (goes []) ∙ ap (λ (f : Fed). f.text) h
 prints (b ∷ bytes) ls p text s all n goes h = prints_at (b == 10) b bytes refl (λ ls p text s all n goes h. prints bytes ls p text s all n goes h) ls p text s all n goes h
 
-pub text_of_front : (front text : List ℕ) (m : Machine) → Leads front [] begun text m → text_of_lines front ≡ text
+pub text_of_front : (front text : List ℕ) (m : Machine) → Leads front [] started text m → text_of_lines front ≡ text
 text_of_front front text m h = prints front [] [] [] start text m (λ more. refl) h
+
+-- ---- the number of the next line
+
+number_after : (answer : Result (Told Stage) ScriptFault) (number : ℕ) (r : Told Stage) → (answer >>= λ t. Ok (told t.text (counted number t.after))) ≡ Ok r → r.after.number ≡ number + 1
+number_after (Ok t) number r e = let same : r ≡ told t.text (counted number t.after) = cc in ap (λ (next : Told Stage). next.after.number) same
+number_after (Err fault) number r e = cc
+
+next_told : (s : Stage) (line : List ℕ) (r : Told Stage) → line_told s line ≡ Ok r → r.after.number ≡ s.number + 1
+unfolding line_told
+next_told s line r e = number_after (answered s line) s.number r e
+
+-- where no fault stops the bytes, each of their whole lines is counted
+abbrev Counts : List ℕ → Type 0
+Counts bytes = (ls : List (List ℕ)) (p text : List ℕ) (s : Stage) (all : List ℕ) (n : Machine) → s.number ≡ length ls + 1 → Leads bytes text (record { stage = s; pending = p }) all n
+    → n.stage.number ≡ length (fold cut_at (ls, p) bytes).0 + 1
+
+counts_told : (r : Result (Told Stage) ScriptFault) (bytes : List ℕ) (ls : List (List ℕ)) (p text : List ℕ) (s : Stage) (all : List ℕ) (n : Machine) → line_told s p ≡ r → Counts bytes → s.number ≡ length ls + 1
+    → fed_on text (record { stage = s; pending = p }) (after_line r) (fed bytes) ≡ record { text = all; machine = n; fault = None } → n.stage.number ≡ length (fold cut_at (ls ++ p ∷ [], []) bytes).0 + 1
+counts_told (Ok r) bytes ls p text s all n e ih at h =
+    ih (ls ++ p ∷ []) [] (text ++ r.text) r.after all n (next_told s p r e ∙ ap (λ (k : ℕ). k + 1) (at ∙ sym (length-append ls (p ∷ [])))) h
+counts_told (Err fault) bytes ls p text s all n e ih at h = let bad : Some fault ≡ None = ap (λ (f : Fed). f.fault) h in cc
+
+counts_at : (t : Bool) (b : ℕ) (bytes : List ℕ) → (b == 10) ≡ t → Counts bytes → Counts (b ∷ bytes)
+counts_at true b bytes e ih ls p text s all n at h =
+    let m : Machine = record { stage = s; pending = p } in
+    counts_told (line_told s p) bytes ls p text s all n refl ih at (sym (ap (λ t. fed_on text m t (fed bytes)) (took_break m b e)) ∙ h)
+    ∙ ap (λ (c : Cut). length (fold cut_at c bytes).0 + 1) (sym (cut_break ls p b e))
+counts_at false b bytes e ih ls p text s all n at h =
+    let m : Machine = record { stage = s; pending = p } in
+    let k : Machine = record { stage = s; pending = p ++ b ∷ [] } in
+    ih ls (p ++ b ∷ []) text s all n at (ap (λ (t : List ℕ). fed bytes t k) (sym (append-nil text)) ∙ sym (ap (λ t. fed_on text m t (fed bytes)) (took_other m b e)) ∙ h)
+    ∙ ap (λ (c : Cut). length (fold cut_at c bytes).0 + 1) (sym (cut_other ls p b e))
+
+counts : (bytes : List ℕ) → Counts bytes
+counts [] ls p text s all n at h = ap (λ (f : Fed). f.machine.stage.number) (sym h) ∙ at
+counts (b ∷ bytes) ls p text s all n at h = counts_at (b == 10) b bytes refl (λ ls p text s all n at h. counts bytes ls p text s all n at h) ls p text s all n at h
+
+pub number_of_front : (front text : List ℕ) (m : Machine) → Leads front [] started text m → m.stage.number ≡ next_number front
+number_of_front front text m h = counts front [] [] [] start text m refl h
 
 -- ---- pieces
 
 abbrev Splits : List ℕ → Type 0
 Splits a = (b text : List ℕ) (m : Machine) (t : List ℕ) (n : Machine) → Leads a text m t n → fed (a ++ b) text m ≡ fed b t n
 
-splits_at : (r : Result (List ℕ × Machine) ScriptFault) (a b text : List ℕ) (m : Machine) (t : List ℕ) (n : Machine) → Splits a
+splits_at : (r : Result (Told Machine) ScriptFault) (a b text : List ℕ) (m : Machine) (t : List ℕ) (n : Machine) → Splits a
     → fed_on text m r (fed a) ≡ record { text = t; machine = n; fault = None } → fed_on text m r (fed (a ++ b)) ≡ fed b t n
-splits_at (Ok r) a b text m t n ih e = ih b (text ++ r.0) r.1 t n e
+splits_at (Ok r) a b text m t n ih e = ih b (text ++ r.text) r.after t n e
 splits_at (Err fault) a b text m t n ih e = let bad : Some fault ≡ None = ap (λ (f : Fed). f.fault) e in cc
 
 -- a second piece goes on where the first one ended
@@ -132,7 +172,7 @@ fed_append (x ∷ a) b text m t n e = splits_at (took m x) a b text m t n (λ b 
 
 -- one byte more
 pub leads_more : (bytes : List ℕ) (i : ℕ) (old : List ℕ) (m : Machine) (text : List ℕ) (n : Machine) (line new : List ℕ) (k : Machine) → i < length bytes
-    → Leads (take i bytes) old m text n → took n (get_or bytes i 0) ≡ Ok (line, k) → new ≡ text ++ line → Leads (take (i + 1) bytes) old m new k
+    → Leads (take i bytes) old m text n → took n (get_or bytes i 0) ≡ Ok (told line k) → new ≡ text ++ line → Leads (take (i + 1) bytes) old m new k
 leads_more bytes i old m text n line new k within so_far e more =
     ap (λ (front : List ℕ). fed front old m) (take_more bytes i 0 within)
     ∙ fed_append (take i bytes) (get_or bytes i 0 ∷ []) old m text n so_far
@@ -154,13 +194,14 @@ halted_as bytes i old m text n new e within so_far is same =
     let h = halted bytes i old m text n e within so_far is in (ap (λ (f : Fed). f.text) h ∙ sym same, ap (λ (f : Fed). f.fault) h)
 
 pub breaks : (e : ScriptFault) (bytes : List ℕ) (i : ℕ) (old : List ℕ) (m : Machine) (text : List ℕ) (n : Machine) (new : List ℕ) → i < length bytes
-    → Leads (take i bytes) old m text n → Halts e (took n (get_or bytes i 0)) text new → Breaks e bytes old m new
-breaks OutOfMemory bytes i old m text n new within so_far h = record {
+    → Leads (take i bytes) old m text n → Halts n.stage.number e (took n (get_or bytes i 0)) text new → Breaks e bytes old m new
+breaks (OutOfMemory line) bytes i old m text n new within so_far h = record {
   front = take i bytes;
   rest = drop i bytes;
   machine = n;
   whole = sym (take-append-drop i bytes);
-  leads = so_far ∙ ap (λ (t : List ℕ). record { text = t; machine = n; fault = None }) (sym h);
+  leads = so_far ∙ ap (λ (t : List ℕ). record { text = t; machine = n; fault = None }) (sym h.0);
+  numbered = sym h.1;
 }
 breaks ReadFault bytes i old m text n new within so_far h = absurd h
 breaks WriteFault bytes i old m text n new within so_far h = absurd h
@@ -175,9 +216,9 @@ after front f = record { text = front ++ f.text; machine = f.machine; fault = f.
 abbrev Fronts : List ℕ → Type 0
 Fronts bytes = (front text : List ℕ) (m : Machine) → fed bytes (front ++ text) m ≡ after front (fed bytes text m)
 
-fronts_at : (r : Result (List ℕ × Machine) ScriptFault) (bytes front text : List ℕ) (m : Machine) → Fronts bytes
+fronts_at : (r : Result (Told Machine) ScriptFault) (bytes front text : List ℕ) (m : Machine) → Fronts bytes
     → fed_on (front ++ text) m r (fed bytes) ≡ after front (fed_on text m r (fed bytes))
-fronts_at (Ok r) bytes front text m ih = ap (λ (t : List ℕ). fed bytes t r.1) (append_assoc front text r.0) ∙ ih front (text ++ r.0) r.1
+fronts_at (Ok r) bytes front text m ih = ap (λ (t : List ℕ). fed bytes t r.after) (append_assoc front text r.text) ∙ ih front (text ++ r.text) r.after
 fronts_at (Err fault) bytes front text m ih = refl
 
 pub fed_front : (bytes : List ℕ) → Fronts bytes

@@ -1,4 +1,5 @@
 pub mod Numbers
 pub mod Laws
 pub mod Runs
-mod Seating
+pub mod Telling
+mod Placing

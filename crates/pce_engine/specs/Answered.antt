@@ -14,10 +14,10 @@ abbrev pub Replied : {S : Type 0} → (S → List Call → S → Type 0) → Eve
 Replied moves event text old new = (reply : Reply) × moves old (called event reply ∷ []) new × (text ≡ reply_text reply)
 
 -- nothing was submitted
-abbrev pub Refused : {S : Type 0} → (S → List Call → S → Type 0) → (S → Type 0) → CommandFault → S → S → Type 0
-Refused moves is_full BadLine old new = ⊥
-Refused moves is_full (Store OutOfMemory) old new = moves old [] new
-Refused moves is_full (Store HistoryFull) old new = moves old [] new × is_full new
+abbrev pub NotTaken : {S : Type 0} → (S → List Call → S → Type 0) → (S → Type 0) → CommandFault → S → S → Type 0
+NotTaken moves is_full BadLine old new = ⊥
+NotTaken moves is_full (Store OutOfMemory) old new = moves old [] new
+NotTaken moves is_full (Store HistoryFull) old new = moves old [] new × is_full new
 
 -- a bad line leaves the store alone
 abbrev pub IsBad : {X S : Type 0} → Result X CommandFault → S → S → Type 0
@@ -25,7 +25,7 @@ IsBad result old new = (result ≡ Err BadLine) × (new ≡ old)
 
 abbrev pub AnswersTo : {X S : Type 0} → (X → List ℕ) → (S → List Call → S → Type 0) → (S → Type 0) → Event → Result X CommandFault → S → S → Type 0
 AnswersTo view moves is_full event (Ok text) old new = Replied moves event (view text) old new
-AnswersTo view moves is_full event (Err fault) old new = Refused moves is_full fault old new
+AnswersTo view moves is_full event (Err fault) old new = NotTaken moves is_full fault old new
 
 -- the event that the line names, if any, is submitted
 abbrev pub Answers : {X S : Type 0} → (X → List ℕ) → (S → List Call → S → Type 0) → (S → Type 0) → Option Event → Result X CommandFault → S → S → Type 0

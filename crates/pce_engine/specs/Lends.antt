@@ -4,7 +4,7 @@ use Rattle.std.specs.Borrow.{LendsIf, Fml, MutBor}
 use Rattle.std.specs.Map.{set_value}
 use Rattle.engine_core.specs.declared.client.Client.{Client}
 use Rattle.engine_core.specs.contracts.client.Client.{the_row as client_row}
-use Rattle.pce_engine.specs.contracts.seats.Sessions.{the_row}
+use Rattle.pce_engine.specs.contracts.sessions.Sessions.{the_row}
 use Rattle.pce_engine.specs.Sessions.{Sessions, is_peer}
 
 -- once the borrow ends, the peer has the session that was left behind it

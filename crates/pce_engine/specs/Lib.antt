@@ -4,11 +4,13 @@ pub mod Commands
 pub mod Orders
 pub mod Texts
 pub mod Answered
+pub mod Told
 pub mod Submits
 pub mod Talks
 pub mod Sessions
-pub mod Seats
+pub mod Places
 pub mod Lends
+pub mod SessionLines
 pub mod Standing
 pub mod Script
 pub mod Machine

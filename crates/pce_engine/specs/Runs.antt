@@ -1,13 +1,18 @@
 -- A run over a reader and a writer whose bytes are known.
-use Rattle.std.specs.Prelude.{◌≡◌, ℕ, List, [], ◌++◌, Option, Some, Result, Ok, Err}
+use Rattle.std.specs.Prelude.{◌≡◌, ℕ, ◌^◌, ◌≤◌, List, length, [], ◌++◌, Option, Some, None, Result, Ok, Err}
 use Rattle.std.specs.Io.KnownBytes.{Appends}
 use Rattle.pce_engine.specs.declared.fault.ScriptFault.{ScriptFault}
 use Rattle.pce_engine.specs.declared.fault.ScriptFault.TheVariants.{ReadFault, WriteFault, OutOfMemory}
-use Rattle.pce_engine.specs.Machine.{Machine, begun, fed, Leads, LeadsPartly}
+use Rattle.pce_engine.specs.declared.script.Input.{Input}
+use Rattle.pce_engine.specs.declared.script.Input.TheVariants.{Ended, Endless}
+use Rattle.pce_engine.specs.Script.{script}
+use Rattle.pce_engine.specs.Ends.{Writes, WritesRead, EndsBy}
+use Rattle.pce_engine.specs.Machine.{Machine, started, fed, Leads, LeadsPartly}
 
--- A fault stopped it, and what it printed before was written.
+-- A fault stopped it, and what it printed before was written. Where memory ran out, that is what all lines of the piece
+-- before the one that it names print.
 abbrev pub Stops : ScriptFault → List ℕ → Machine → Option (List ℕ) → Option (List ℕ) → Type 0
-Stops OutOfMemory bytes m old new = (text : List ℕ) × LeadsPartly bytes [] m text × Appends old new text
+Stops (OutOfMemory line) bytes m old new = (text : List ℕ) × LeadsPartly bytes [] m text line × Appends old new text
 Stops ReadFault bytes m old new = ⊥
 Stops WriteFault bytes m old new = Unit {0}
 Stops e bytes m old new = Appends old new (fed bytes [] m).text × ((fed bytes [] m).fault ≡ Some e)
@@ -21,12 +26,27 @@ abbrev pub Chunk : {X : Type 0} → Result X ScriptFault → List ℕ → Machin
 Chunk (Ok x) bytes m old new n = GoesOn bytes m old new n
 Chunk (Err e) bytes m old new n = Stops e bytes m old new
 
--- some of the input was read, and what it prints was written
-pub record Reading (input : List ℕ) (remaining old new : Option (List ℕ)) (m : Machine) : Type 0 where
+-- some of the input was read, at least a byte a turn, and what it prints was written
+pub record Reading (input : List ℕ) (remaining old new : Option (List ℕ)) (m : Machine) (turns : ℕ) : Type 0 where
   pub front : List ℕ
   pub rest : List ℕ
   pub text : List ℕ
   pub known : remaining ≡ Some rest
   pub whole : input ≡ front ++ rest
   pub written : Appends old new text
-  pub so_far : Leads front [] begun text m
+  pub so_far : Leads front [] started text m
+  pub turned : turns ≤ length front
+
+-- the reader is asked so often at most
+abbrev pub most_turns : ℕ
+most_turns = 2 ^ 32
+
+-- as often as the reader may be asked it gave a byte or more, and there may be others
+abbrev pub ReadsOn : Option (List ℕ) → Option (List ℕ) → Option (List ℕ) → List ℕ → Type 0
+ReadsOn old new left input = (r : WritesRead old new left input) × (most_turns ≤ length r.front)
+
+-- What the reading of the input leaves.
+abbrev pub Reaches : Result Input ScriptFault → Option (List ℕ) → Option (List ℕ) → Option (List ℕ) → List ℕ → Type 0
+Reaches (Ok Ended) old new left input = Writes old new None (script input)
+Reaches (Ok Endless) old new left input = ReadsOn old new left input
+Reaches (Err e) old new left input = EndsBy e old new left input

@@ -1,14 +1,17 @@
 -- What a script prints: a link text, a line `---`, and lines.
-use Rattle.std.specs.Prelude.{ℕ, ◌+◌, ◌==◌, List, [], ◌∷◌, ◌++◌, fold, codes, Option, Some, None, Result, Ok, Err, if◌then◌else◌}
+use Rattle.std.specs.Prelude.{ℕ, ◌+◌, ◌==◌, List, [], ◌∷◌, ◌++◌, length, fold, codes, Option, Some, None, Result, Ok, Err, if◌then◌else◌}
 use Rattle.std.specs.Str.{bytes_eq, is_utf8}
 use Rattle.te_base.specs.declared.fault.TeFault.{TeFault}
 use Rattle.te_base.specs.declared.fault.TeFault.TheVariants.{NotToml}
 use Rattle.te_base.specs.Base.{Base}
 use Rattle.te_base.specs.LinkText.{base_of}
-use Rattle.pce_engine.specs.Standing.{Standing, at_start, standing_line}
+use Rattle.pce_engine.specs.Faults.{numbered, te_numbered}
+use Rattle.pce_engine.specs.Standing.{at_start, standing_line}
+use Rattle.pce_engine.specs.declared.commands.CommandFault.{CommandFault}
+use Rattle.pce_engine.specs.declared.standing.Standing.{Standing}
 use Rattle.pce_engine.specs.declared.fault.ScriptFault.{ScriptFault}
-use Rattle.pce_engine.specs.declared.fault.ScriptFault.TheVariants.{BadLine, Te}
-use Rattle.pce_engine.specs.Submits.{◌>>=◌}
+use Rattle.pce_engine.specs.declared.fault.ScriptFault.TheVariants.{BadLine}
+use Rattle.pce_engine.specs.Told.{Told, told, ◌>>=◌}
 
 -- ---- lines
 
@@ -45,23 +48,37 @@ start = record { number = 1; header = []; standing = None }
 unfoldable pub base_in : List ℕ → Result Base TeFault
 base_in text = if is_utf8 text then base_of text else Err NotToml
 
-abbrev pub opened : Result Base TeFault → Result Standing ScriptFault
-opened (Ok base) = Ok (at_start base)
-opened (Err fault) = Err (Te fault)
-
 -- `---` ends the link text, another line belongs to it
-unfoldable pub header_line : Stage → List ℕ → Result (List ℕ × Stage) ScriptFault
+unfoldable pub header_line : Stage → List ℕ → Result (Told Stage) TeFault
 header_line s line =
-    if bytes_eq line (codes "---") then (opened (base_in s.header) >>= λ standing. Ok ([], record { number = s.number + 1; header = s.header; standing = Some standing }))
-    else Ok ([], record { number = s.number + 1; header = (s.header ++ line) ++ 10 ∷ []; standing = None })
+    if bytes_eq line (codes "---") then (base_in s.header >>= λ base. Ok (told [] (record s { standing = Some (at_start base) })))
+    else Ok (told [] (record s { header = (s.header ++ line) ++ 10 ∷ [] }))
 
-abbrev pub told_at : Stage → List ℕ → Option Standing → Result (List ℕ × Stage) ScriptFault
-told_at s line None = header_line s line
-told_at s line (Some standing) = standing_line s.number standing line >>= λ r. Ok (r.0, record { number = s.number + 1; header = s.header; standing = Some r.1 })
+-- what a line of the link text leaves; its fault gets its number
+abbrev pub numbered_header : Stage → Result (Told Stage) TeFault → Result (Told Stage) ScriptFault
+numbered_header s (Ok t) = Ok t
+numbered_header s (Err fault) = Err (te_numbered s.number fault)
+
+-- what a line behind the link text leaves; its fault gets its number
+abbrev pub numbered_line : Stage → Result (Told Standing) CommandFault → Result (Told Stage) ScriptFault
+numbered_line s (Ok t) = Ok (told t.text (record s { standing = Some t.after }))
+numbered_line s (Err fault) = Err (numbered s.number fault)
+
+abbrev pub answered_at : Stage → List ℕ → Option Standing → Result (Told Stage) ScriptFault
+answered_at s line None = numbered_header s (header_line s line)
+answered_at s line (Some standing) = numbered_line s (standing_line standing line)
+
+-- what the line of the stage's number prints, and what it leaves
+unfoldable pub answered : Stage → List ℕ → Result (Told Stage) ScriptFault
+answered s line = answered_at s line s.standing
+
+-- the line after the one with this number is the next
+abbrev pub counted : ℕ → Stage → Stage
+counted number s = record s { number = number + 1 }
 
 -- what a line prints, and the stage after it, or its fault
-unfoldable pub told : Stage → List ℕ → Result (List ℕ × Stage) ScriptFault
-told s line = told_at s line s.standing
+unfoldable pub line_told : Stage → List ℕ → Result (Told Stage) ScriptFault
+line_told s line = answered s line >>= λ t. Ok (told t.text (counted s.number t.after))
 
 -- ---- the whole script
 
@@ -76,13 +93,13 @@ ending number None = Some (BadLine number)
 ending number (Some standing) = None
 
 -- on from a line, with what was written before it
-abbrev pub on_told : List ℕ → Result (List ℕ × Stage) ScriptFault → (List ℕ → Stage → Outcome) → Outcome
-on_told text (Ok r) go = go (text ++ r.0) r.1
+abbrev pub on_told : List ℕ → Result (Told Stage) ScriptFault → (List ℕ → Stage → Outcome) → Outcome
+on_told text (Ok t) go = go (text ++ t.text) t.after
 on_told text (Err fault) go = record { text = text; fault = Some fault }
 
 abbrev pub printed : List (List ℕ) → List ℕ → Stage → Outcome
 printed [] text s = record { text = text; fault = ending s.number s.standing }
-printed (line ∷ lines) text s = on_told text (told s line) (printed lines)
+printed (line ∷ lines) text s = on_told text (line_told s line) (printed lines)
 
 -- what a script prints, and how it ends
 abbrev pub script : List ℕ → Outcome
@@ -91,3 +108,7 @@ script bytes = printed (lines_of bytes) [] start
 -- what the whole lines of the bytes print
 abbrev pub text_of_lines : List ℕ → List ℕ
 text_of_lines bytes = (printed (cut bytes).0 [] start).text
+
+-- the number of the line that follows the whole lines of the bytes
+abbrev pub next_number : List ℕ → ℕ
+next_number bytes = length (cut bytes).0 + 1

@@ -1,8 +1,9 @@
 -- A session in one line: what the engine does with it, and what is printed of it.
-use Rattle.std.specs.Prelude.{ℕ, Bool, true, false, List, [], ◌∷◌, ◌++◌, codes, Result, Ok, Err, if◌then◌else◌}
+use Rattle.std.specs.Prelude.{ℕ, Bool, List, [], ◌∷◌, ◌++◌, codes, Result, Ok, Err, if◌then◌else◌}
 use Rattle.std.specs.Fmt.{decimal}
 use Rattle.hex.specs.Hex.{encode_lower}
 use Rattle.pcep_session.specs.Calls.{own_open, output_taken}
+use Rattle.pcep_session.specs.Turns.{is_up}
 use Rattle.pcep_session.specs.declared.table.State.{State}
 use Rattle.pcep_session.specs.declared.table.State.TheVariants.{Up, Closed}
 use Rattle.history_core.specs.Histories.{Content}
@@ -10,9 +11,9 @@ use Rattle.history_core.specs.declared.fault.Fault.{Fault}
 use Rattle.engine_core.specs.Engine.{served, hung_up}
 use Rattle.engine_core.specs.Performed.{performed}
 use Rattle.engine_core.specs.declared.client.Client.{Client}
-use Rattle.pce_engine.specs.Faults.{fault_of}
-use Rattle.pce_engine.specs.Submits.{◌>>=◌}
-use Rattle.pce_engine.specs.declared.fault.ScriptFault.{ScriptFault}
+use Rattle.pce_engine.specs.Told.{Told, told, ◌>>=◌}
+use Rattle.pce_engine.specs.declared.commands.CommandFault.{CommandFault}
+use Rattle.pce_engine.specs.declared.commands.CommandFault.TheVariants.{Store}
 
 -- ---- what is printed
 
@@ -37,32 +38,33 @@ sent_out c = record c { session = output_taken c.session }
 
 -- ---- what is done
 
-abbrev pub is_up : State → Bool
-is_up Up = true
-is_up state = false
+-- a session and the database
+pub record Talk : Type 0 where
+  pub client : Client
+  pub database : Content
 
-abbrev pub carried : Result (Client × Content) Fault → Result (Client × Content) ScriptFault
-carried (Ok done) = Ok done
-carried (Err fault) = Err (fault_of fault)
+abbrev pub talk : Client → Content → Talk
+talk client database = record { client = client; database = database }
 
--- a text, and the session and the database after it
-abbrev pub Talk : Type 0
-Talk = List ℕ × (Client × Content)
+abbrev pub talk_of : Result (Client × Content) Fault → Result Talk CommandFault
+talk_of (Ok done) = Ok (talk done.0 done.1)
+talk_of (Err fault) = Err (Store fault)
 
-abbrev pub told : ℕ → Bool → Client × Content → Talk
-told peer was_up done = (told_of peer was_up done.0, (sent_out done.0, done.1))
+-- what is printed of a session, whose bytes are sent
+abbrev pub told_talk : ℕ → Bool → Talk → Told Talk
+told_talk peer was_up done = told (told_of peer was_up done.client) (talk (sent_out done.client) done.database)
 
 -- bytes of the peer at a moment
-unfoldable pub talked : ℕ → List ℕ → ℕ → Client → Content → Result Talk ScriptFault
+unfoldable pub talked : ℕ → List ℕ → ℕ → Client → Content → Result (Told Talk) CommandFault
 talked peer piece now_ms c d = do
-  done ← carried (performed (served peer piece now_ms c) d)
-  Ok (told peer (is_up c.session.state) done)
+  done ← talk_of (performed (served peer piece now_ms c) d)
+  Ok (told_talk peer (is_up c.session.state) done)
 
 -- the transport of the peer has ended
-unfoldable pub hung : ℕ → Client → Content → Result Talk ScriptFault
+unfoldable pub hung : ℕ → Client → Content → Result (Told Talk) CommandFault
 hung peer c d = do
-  done ← carried (performed (hung_up peer c) d)
-  Ok (told peer (is_up c.session.state) done)
+  done ← talk_of (performed (hung_up peer c) d)
+  Ok (told_talk peer (is_up c.session.state) done)
 
 -- a router that opens a session as this server does, and accepts this server's Open: an Open and a Keepalive
 abbrev pub router_opening : List ℕ

@@ -10,9 +10,18 @@ use Rattle.step_core.specs.declared.event.Event.{Event}
 use Rattle.step_core.specs.declared.event.Event.TheVariants as event
 use Rattle.step_core.specs.declared.event.Reply.{Reply}
 use Rattle.step_core.specs.declared.event.Reply.TheVariants as reply
+use Rattle.history_core.specs.Histories.{Content}
 use Rattle.history_core.specs.declared.step.Brief.{Brief}
 use Rattle.history_core.specs.declared.step.Brief.TheVariants as brief
 use Rattle.history_core.specs.declared.step.Step.{Step}
+
+-- the text of a reply has a word of at most so many bytes, before a number
+abbrev pub word_bound : ℕ
+word_bound = 20
+
+-- in so much room, in bytes, the text of a reply is added without asking for memory
+abbrev pub reply_room : ℕ
+reply_room = 64
 
 abbrev pub booked_text : Bool → List ℕ
 booked_text false = codes "booked"
@@ -53,8 +62,8 @@ abbrev pub steps_from : ℕ → List Step → List ℕ
 steps_from number [] = []
 steps_from number (step ∷ steps) = step_line number step ++ steps_from (number + 1) steps
 
-abbrev pub history_text : List Step → List ℕ
-history_text steps = steps_from 0 steps
+abbrev pub history_text : Content → List ℕ
+history_text d = steps_from 0 d.history
 
 -- what is unreserved on a link at a priority
 abbrev pub left_at : State → ℕ → ℕ → ℤ

@@ -1,10 +1,10 @@
 //! The lines of an operator.
 
-ghost use Rattle.std.specs.Prelude.{◌≡◌, ◌≤◌, ◌+◌, ◌++◌, Some, string_bytes, string_len, string_capacity};
+ghost use Rattle.std.specs.Prelude.{◌≡◌, ◌≤◌, ◌+◌, ◌++◌, Some, IfOk, IsOk, string_bytes, string_len, string_capacity};
 ghost use Rattle.pce_engine.specs.declared.commands.CommandFault.TheVariants.{Store as Stored};
 ghost use Rattle.pce_engine.specs.Commands.{expire_event, event_with, event_in, fault_number, command_text};
 ghost use Rattle.pce_engine.specs.Answered.{Answers};
-ghost use Rattle.pce_engine.specs.Texts.{reply_text};
+ghost use Rattle.pce_engine.specs.Texts.{reply_room, reply_text};
 ghost use Rattle.history_core.specs.declared.fault.Fault.TheVariants.{OutOfMemory};
 
 use crate::texts::{REPLY_ROOM, add_reply};
@@ -75,30 +75,32 @@ fn expire_event(line: &str) -> Option<Event>
     Some(Event::Expire { peer })
 }
 
-/// The event that an operator's line names by its first word and its rest.
+/// The event that an operator's line names by its first word and its rest. No line of today takes memory.
 #[tactic(auto, unfolding(crate::specs::Commands::event_with))]
-pub(crate) fn event_with(word: &str, rest: &str) -> Option<Event>
-    ensures { result ≡ event_with word.now rest.now }
+pub(crate) fn event_with(word: &str, rest: &str) -> Result<Option<Event>, AllocError>
+    ensures event { IfOk result (λ event. event ≡ event_with word.now rest.now) }
+    ensures succeeds { IsOk result }
 {
     if word == "expire" {
-        return expire_event(rest);
+        return Ok(expire_event(rest));
     }
-    None
+    Ok(None)
 }
 
 #[tactic(auto, unfolding(crate::specs::Commands::event_in))]
-fn event_in(line: &str) -> Option<Event>
-    ensures { result ≡ event_in line.now }
+fn event_in(line: &str) -> Result<Option<Event>, AllocError>
+    ensures event { IfOk result (λ event. event ≡ event_in line.now) }
+    ensures succeeds { IsOk result }
 {
     match cut_at_space(line) {
         Some((word, rest)) => event_with(word, rest),
-        None => None,
+        None => Ok(None),
     }
 }
 
 /// Adds the text of a reply, in room that is there.
 fn put_reply(text: &mut String, reply: &Reply)
-    requires { string_len text.old + 48 ≤ string_capacity text.old }
+    requires { string_len text.old + reply_room ≤ string_capacity text.old }
     ensures { string_bytes text.new ≡ string_bytes text.old ++ reply_text reply.now }
 {
     let added = add_reply(text, reply);
@@ -111,7 +113,8 @@ fn put_reply(text: &mut String, reply: &Reply)
 pub fn command<S: Store>(alloc: Global, line: &str, store: &mut S) -> Result<String, CommandFault>
     ensures { Answers string_bytes S.moves S.is_full (event_in line.now) result store.old store.new }
 {
-    let Some(event) = event_in(line) else {
+    let named = event_in(line)?;
+    let Some(event) = named else {
         return Err(CommandFault::BadLine);
     };
     let mut text = String::with_capacity(alloc, REPLY_ROOM)?;

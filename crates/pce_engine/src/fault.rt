@@ -1,11 +1,8 @@
 //! Why a script ended early.
 
-ghost use Rattle.std.specs.Prelude.{◌≡◌, Some};
-ghost use Rattle.pce_engine.specs.declared.fault.ScriptFault.TheVariants.{OutOfMemory};
-ghost use Rattle.pce_engine.specs.Faults.{fault_of, fault_text};
+ghost use Rattle.std.specs.Prelude.{Some};
+ghost use Rattle.pce_engine.specs.Faults.{fault_text};
 
-use history_core::Fault;
-use std::alloc::{AllocError, AllocFailed};
 use std::{error, fmt};
 use te_base::TeFault;
 
@@ -14,14 +11,14 @@ use te_base::TeFault;
 pub enum ScriptFault {
     /// A line that is none of the script's, by its number from 1; without `---`, one past the last.
     BadLine(u64),
-    /// The link text has this fault.
+    /// The link text has this fault. Want of memory among them is told as `OutOfMemory` is.
     Te(TeFault),
     /// A read failed, or the reader was asked 2^32 times.
     ReadFault,
     /// A write failed.
     WriteFault,
-    /// A growth was refused.
-    OutOfMemory,
+    /// A growth was refused at this line, by its number from 1; 0 where none was read.
+    OutOfMemory(u64),
     /// As many steps are kept as a history holds.
     HistoryFull,
 }
@@ -32,42 +29,17 @@ impl fmt::Display for ScriptFault {
     fn fmt<W: fmt::Write>(&self, f: &mut fmt::Formatter<W>) -> fmt::Result {
         match *self {
             ScriptFault::BadLine(line) => write!(f, "bad line {line}"),
+            ScriptFault::Te(TeFault::OutOfMemory) | ScriptFault::OutOfMemory(_) => {
+                f.write_str("out of memory")
+            }
             ScriptFault::Te(fault) => {
                 let number = fault.number();
                 write!(f, "te fault {number}")
             }
             ScriptFault::ReadFault | ScriptFault::WriteFault => f.write_str("device fault"),
-            ScriptFault::OutOfMemory => f.write_str("out of memory"),
             ScriptFault::HistoryFull => f.write_str("history full"),
         }
     }
 }
 
 impl error::Error for ScriptFault {}
-
-impl From<AllocError> for ScriptFault {
-    ghost from_gives = { λ _ e. e ≡ OutOfMemory };
-
-    fn from(_e: AllocError) -> ScriptFault {
-        ScriptFault::OutOfMemory
-    }
-}
-
-impl<T: Drop> From<AllocFailed<T>> for ScriptFault {
-    ghost from_gives = { λ _ e. e ≡ OutOfMemory };
-
-    fn from(_e: AllocFailed<T>) -> ScriptFault {
-        ScriptFault::OutOfMemory
-    }
-}
-
-impl From<Fault> for ScriptFault {
-    ghost from_gives = { λ fault e. e ≡ fault_of fault };
-
-    fn from(fault: Fault) -> ScriptFault {
-        match fault {
-            Fault::OutOfMemory => ScriptFault::OutOfMemory,
-            Fault::HistoryFull => ScriptFault::HistoryFull,
-        }
-    }
-}

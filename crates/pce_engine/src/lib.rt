@@ -4,7 +4,7 @@
 //! what it read (`specs/Script.antt`): each line by the database's and the sessions' own steps, and a fault
 //! only after the output of all lines before it. Where memory runs out or a read fails, whole lines stand
 //! (`specs/Ends.antt`). What a line asks for is defined in `specs/Orders.antt` and `specs/Words.antt`, what it
-//! does in `specs/Submits.antt`, `specs/Sessions.antt` and `specs/Standing.antt`, and what it prints in
+//! does in `specs/Submits.antt`, `specs/SessionLines.antt` and `specs/Standing.antt`, and what it prints in
 //! `specs/Texts.antt` and `specs/Talks.antt`. `command` takes an operator's line over any store
 //! (`specs/Commands.antt`, `specs/Answered.antt`).
 //!
@@ -24,7 +24,7 @@ mod commands;
 mod fault;
 mod orders;
 mod script;
-mod seats;
+mod session_lines;
 mod sessions;
 mod stage;
 mod standing;
@@ -37,6 +37,7 @@ pub use commands::{CommandFault, command};
 pub use engine_core::{Call, Client, Lent, Store, hang_up, serve};
 pub use fault::ScriptFault;
 pub use script::run_script;
+pub use te_base::TeFault;
 
 #[cfg(test)]
 mod tests;

@@ -1,7 +1,8 @@
 //! What a line asks for.
 
 ghost use Rattle.std.specs.Prelude.{◌≡◌, IfOk};
-ghost use Rattle.pce_engine.specs.Orders.{reports_in, report_order, message_order, tick_order, event_order, session_order, order_with, long_order, order_in, order_of};
+ghost use Rattle.pce_engine.specs.Orders.{reports_in, report_order, message_order, tick_order, event_order, session_order, order_with, long_order, order_in, order_of, peer_order};
+ghost use Rattle.pce_engine.specs.declared.orders.Order.TheVariants.{Open, Up, End};
 
 use crate::commands::event_with;
 use crate::words::{cut_at_space, moment_in, octets_in, peer_in};
@@ -90,36 +91,57 @@ fn tick_order(line: &str) -> Option<Order>
 }
 
 #[tactic(auto, unfolding(crate::specs::Orders::event_order))]
-fn event_order(word: &str, rest: &str) -> Option<Order>
-    ensures { result ≡ event_order word.now rest.now }
+fn event_order(word: &str, rest: &str) -> Result<Option<Order>, AllocError>
+    ensures { IfOk result (λ order. order ≡ event_order word.now rest.now) }
 {
-    let Some(event) = event_with(word, rest) else {
-        return None;
+    let Some(event) = event_with(word, rest)? else {
+        return Ok(None);
     };
-    Some(Order::Submit(event))
+    Ok(Some(Order::Submit(event)))
 }
 
-#[tactic(auto, unfolding(crate::specs::Orders::session_order, crate::specs::Orders::peer_order))]
-fn session_order(word: &str, rest: &str) -> Option<Order>
-    ensures { result ≡ session_order word.now rest.now }
+#[tactic(auto, unfolding(crate::specs::Orders::peer_order))]
+fn open_order(line: &str) -> Option<Order>
+    ensures { result ≡ peer_order (λ peer. Open peer) line.now }
+{
+    match peer_in(line) {
+        Some(peer) => Some(Order::Open(peer)),
+        None => None,
+    }
+}
+
+#[tactic(auto, unfolding(crate::specs::Orders::peer_order))]
+fn up_order(line: &str) -> Option<Order>
+    ensures { result ≡ peer_order (λ peer. Up peer) line.now }
+{
+    match peer_in(line) {
+        Some(peer) => Some(Order::Up(peer)),
+        None => None,
+    }
+}
+
+#[tactic(auto, unfolding(crate::specs::Orders::peer_order))]
+fn end_order(line: &str) -> Option<Order>
+    ensures { result ≡ peer_order (λ peer. End peer) line.now }
+{
+    match peer_in(line) {
+        Some(peer) => Some(Order::End(peer)),
+        None => None,
+    }
+}
+
+#[tactic(auto, unfolding(crate::specs::Orders::session_order))]
+fn session_order(word: &str, rest: &str) -> Result<Option<Order>, AllocError>
+    ensures { IfOk result (λ order. order ≡ session_order word.now rest.now) }
 {
     if word == "open" {
-        return match peer_in(rest) {
-            Some(peer) => Some(Order::Open(peer)),
-            None => None,
-        };
+        return Ok(open_order(rest));
     }
     if word == "up" {
-        return match peer_in(rest) {
-            Some(peer) => Some(Order::Up(peer)),
-            None => None,
-        };
+        return Ok(up_order(rest));
     }
     if word == "end" {
-        return match peer_in(rest) {
-            Some(peer) => Some(Order::End(peer)),
-            None => None,
-        };
+        return Ok(end_order(rest));
     }
     event_order(word, rest)
 }
@@ -137,7 +159,7 @@ fn order_with(alloc: Global, word: &str, rest: &str) -> Result<Option<Order>, Al
     if word == "tick" {
         return Ok(tick_order(rest));
     }
-    Ok(session_order(word, rest))
+    session_order(word, rest)
 }
 
 #[tactic(auto, unfolding(crate::specs::Orders::long_order))]

@@ -5,7 +5,7 @@ ghost use Rattle.std.specs.Io.{ReadsAtMost};
 ghost use Rattle.std.specs.Io.KnownBytes.{ReadConsumes};
 ghost use Rattle.pce_engine.specs.declared.fault.ScriptFault.TheVariants.{ReadFault};
 ghost use Rattle.pce_engine.specs.Script.{ending};
-ghost use Rattle.pce_engine.specs.Runs.{Chunk};
+ghost use Rattle.pce_engine.specs.Runs.{Chunk, Reaches};
 ghost use Rattle.pce_engine.specs.Ends.{EndsAs, Closes, ClosesAt};
 ghost use Rattle.pce_engine.specs.Machine.{Takes, took, Feeds, closed_with, stage_of};
 ghost use Rattle.pce_engine.specs.MachineOf.{machine_of};
@@ -17,6 +17,15 @@ use std::io::{Read, Write};
 
 /// The reader is asked this often at most.
 const MAX_TURNS: u64 = 1 << 32;
+
+/// How far the reader came.
+#[derive(Clone, Copy)]
+enum Input {
+    /// The input has ended.
+    Ended,
+    /// The reader gave bytes as often as it may be asked.
+    Endless,
+}
 
 /// Where a script is, with the bytes of a line that hasn't ended.
 #[derive(Drop)]
@@ -32,15 +41,16 @@ fn take_byte(
     out: &mut Vec<u8>,
 ) -> Result<(), ScriptFault>
     requires { script.old.stage.number < 2 ^ 63 }
-    ensures took { Takes result (took (machine_of script.old) byte) out.old.items out.new.items (machine_of script.new) }
+    ensures took { Takes result (took (machine_of script.old) byte) out.old.items (machine_of script.old) out.new.items (machine_of script.new) }
     ensures number { script.new.stage.number ≤ script.old.stage.number + 1 }
 {
     if byte != b'\n' {
-        script.pending.push(byte)?;
-        return Ok(());
+        return match script.pending.push(byte) {
+            Ok(()) => Ok(()),
+            Err(_) => Err(ScriptFault::OutOfMemory(script.stage.number)),
+        };
     }
-    let text = tell(alloc, &mut script.stage, &script.pending)?;
-    out.extend_from_slice(text.as_bytes())?;
+    tell(alloc, &mut script.stage, &script.pending, out)?;
     script.pending.clear();
     Ok(())
 }
@@ -81,7 +91,7 @@ fn take_chunk<W: Write>(
 }
 
 fn close<W: Write>(stage: &Stage, writer: &mut W) -> Result<(), ScriptFault>
-    ensures { ClosesAt result (W.contents writer.old) (W.contents writer.new) (record { text = []; fault = ending stage.now.number stage.now.standing }) }
+    ensures { ClosesAt stage.now.number result (W.contents writer.old) (W.contents writer.new) (record { text = []; fault = ending stage.now.number stage.now.standing }) }
 {
     if stage.standing.is_none() {
         return Err(ScriptFault::BadLine(stage.number));
@@ -94,13 +104,14 @@ fn close<W: Write>(stage: &Stage, writer: &mut W) -> Result<(), ScriptFault>
 
 fn finish<W: Write>(alloc: Global, script: &mut Script, writer: &mut W) -> Result<(), ScriptFault>
     requires { script.old.stage.number < 2 ^ 63 }
-    ensures { Closes result (W.contents writer.old) (W.contents writer.new) (closed_with [] (stage_of script.old.stage) script.old.pending.items) }
+    ensures { Closes script.old.stage.number result (W.contents writer.old) (W.contents writer.new) (closed_with [] (stage_of script.old.stage) script.old.pending.items) }
 {
     if script.pending.is_empty() {
         return close(&script.stage, writer);
     }
-    let text = tell(alloc, &mut script.stage, &script.pending)?;
-    if writer.write_all(text.as_bytes()).is_err() {
+    let mut out = Vec::new(alloc);
+    tell(alloc, &mut script.stage, &script.pending, &mut out)?;
+    if writer.write_all(&out).is_err() {
         return Err(ScriptFault::WriteFault);
     }
     close(&script.stage, writer)
@@ -118,19 +129,14 @@ fn read_piece<R: Read>(reader: &mut R, piece: &mut [u8]) -> Result<usize, Script
     }
 }
 
-/// Reads a link text, a line `---` and lines, and writes what they print (docs/FORMAT.md has them all).
-///
-/// `BadLine`, `Te` and `HistoryFull` come where the script has them, after the output of all lines
-/// before. After `ReadFault` the output of all lines that were read stands, after `OutOfMemory` too but for
-/// lines that end in the last piece of 4,096 bytes; after `WriteFault` how much went out is not said. The
-/// reader is asked 2^32 times at most.
-pub fn run_script<R: Read, W: Write>(
+/// Takes the input piece by piece, and writes what it prints.
+fn take_input<R: Read, W: Write>(
     alloc: Global,
     reader: &mut R,
     writer: &mut W,
-) -> Result<(), ScriptFault>
+) -> Result<Input, ScriptFault>
     ensures { (input : List ℕ) → R.remaining reader.old ≡ Some input
-        → EndsAs result (W.contents writer.old) (W.contents writer.new) (R.remaining reader.new) input }
+        → Reaches result (W.contents writer.old) (W.contents writer.new) (R.remaining reader.new) input }
 {
     let mut script = Script {
         stage: Stage {
@@ -144,9 +150,33 @@ pub fn run_script<R: Read, W: Write>(
     for _ in 0..MAX_TURNS {
         match read_piece(reader, &mut chunk) {
             Err(fault) => return Err(fault),
-            Ok(0) => return finish(alloc, &mut script, writer),
+            Ok(0) => {
+                finish(alloc, &mut script, writer)?;
+                return Ok(Input::Ended);
+            }
             Ok(n) => take_chunk(alloc, &mut script, &chunk[..n], writer)?,
         }
     }
-    Err(ScriptFault::ReadFault)
+    Ok(Input::Endless)
+}
+
+/// Reads a link text, a line `---` and lines, and writes what they print (docs/FORMAT.md has them all).
+///
+/// `BadLine`, `Te` and `HistoryFull` come where the script has them, and `OutOfMemory` at the line that it
+/// names, one that ends in the last piece of 4,096 bytes that was read or later; each after the output of all
+/// lines before. After `ReadFault` the output of all lines that were read stands; after `WriteFault` how much
+/// went out is not said. The reader is asked 2^32 times at most.
+pub fn run_script<R: Read, W: Write>(
+    alloc: Global,
+    reader: &mut R,
+    writer: &mut W,
+) -> Result<(), ScriptFault>
+    ensures { (input : List ℕ) → R.remaining reader.old ≡ Some input
+        → EndsAs result (W.contents writer.old) (W.contents writer.new) (R.remaining reader.new) input }
+{
+    match take_input(alloc, reader, writer) {
+        Ok(Input::Ended) => Ok(()),
+        Ok(Input::Endless) => Err(ScriptFault::ReadFault),
+        Err(fault) => Err(fault),
+    }
 }

@@ -1,122 +1,105 @@
-//! The lines that speak for a peer: its session begins, takes bytes, ends.
+//! The sessions that live, each at a place of its own, found by its peer.
 
-ghost use Rattle.std.specs.Prelude.{◌≡◌, Ok, None, string_bytes};
-ghost use Rattle.pce_engine.specs.Sessions.{session_of, gone_if, placed, messaged, ended, opened, brought_up};
-ghost use Rattle.pce_engine.specs.Submits.{Tells, Leaves};
+ghost use Rattle.std.specs.Prelude.{◌≡◌, None, [], IfOk, OnOk, is_some};
+ghost use Rattle.std.specs.BTreeMap.{insert_entry};
+ghost use Rattle.std.specs.Borrow.{sem};
+ghost use Rattle.std.specs.Map.{lookup, remove_entry, keys_of};
+ghost use Rattle.std.specs.Option.{option_copied_mut};
+ghost use Rattle.std.specs.Ordering.{nat_cmp};
+ghost use Rattle.pce_engine.specs.Sessions.{is_peer, session_of};
 
-use crate::fault::ScriptFault;
-use crate::seats::Sessions;
-use crate::talks::{hang_up, is_closed, talk, tell_session};
 use engine_core::Client;
-use history_core::Database;
-use std::alloc::Global;
+use slab::Slab;
+use std::alloc::{AllocError, Global};
+use std::collections::BTreeMap;
+use std::marker::Model;
 
-fn drop_ended(sessions: &mut Sessions, peer: u32, ended: bool)
-    ensures { sessions.new ≡ gone_if ended peer sessions.old }
+/// The sessions that live. A slab keeps each where it was put, and a tree of places, by peer, finds it: what the
+/// tree moves is a number, and a place that is left is taken again. Each call takes time logarithmic in their
+/// number.
+#[derive(Drop)]
+pub(crate) struct Sessions {
+    clients: Slab<Client>,
+    places: BTreeMap<u32, usize>,
+}
+
+impl Model for Sessions {
+    ghost use Rattle.pce_engine.specs.Places.{ArePlaced, sessions_at};
+    ghost use Rattle.pce_engine.specs.Sessions.{Sessions};
+
+    ghost Value = { Sessions };
+
+    ghost view = { λ s. sessions_at s.clients s.places.entries };
+
+    ghost invariant = { λ s. ArePlaced s.clients s.places.entries };
+}
+
+fn place_of(places: &BTreeMap<u32, usize>, peer: u32) -> Option<usize>
+    ensures { result ≡ lookup (is_peer peer) places.now.entries }
 {
-    if ended {
-        let _ended = sessions.remove(peer);
+    places.get(&peer).copied()
+}
+
+fn peers_of(alloc: Global, places: &BTreeMap<u32, usize>) -> Result<Vec<u32>, AllocError>
+    ensures { IfOk result (λ peers. peers.items ≡ keys_of places.now.entries) }
+{
+    places.keys().copied().collect(alloc)
+}
+
+impl Sessions {
+    ghost use Rattle.pce_engine.specs.Lends.{lends_session};
+
+    /// No session lives.
+    pub(crate) fn new(alloc: Global) -> Sessions
+        ensures { result ≡ [] }
+    {
+        Sessions {
+            clients: Slab::new(alloc),
+            places: BTreeMap::new(alloc),
+        }
     }
-}
 
-fn place(sessions: &mut Sessions, peer: u32, client: Client) -> Result<(), ScriptFault>
-    requires { session_of peer sessions.old ≡ None }
-    ensures { Leaves result (Ok (placed peer client sessions.old)) sessions.new }
-{
-    if is_closed(&client) {
-        return Ok(());
+    /// Whether a session of the peer lives.
+    pub(crate) fn lives(&self, peer: u32) -> bool
+        ensures { result ≡ is_some (session_of peer self.now) }
+    {
+        self.places.contains_key(&peer)
     }
-    sessions.insert(peer, client)?;
-    Ok(())
-}
 
-/// Bytes of a peer. A bad line where none of its sessions lives.
-#[tactic(auto, unfolding(crate::specs::Sessions::messaged))]
-pub(crate) fn message(
-    alloc: Global,
-    database: &mut Database,
-    sessions: &mut Sessions,
-    number: u64,
-    peer: u32,
-    piece: &[u8],
-    now_ms: u64,
-) -> Result<String, ScriptFault>
-    ensures { Tells string_bytes result (messaged number peer piece.now now_ms sessions.old database.old) (sessions.new, database.new) }
-{
-    let Some(client) = sessions.get_mut(peer) else {
-        return Err(ScriptFault::BadLine(number));
-    };
-    let text = talk(alloc, database, client, peer, piece, now_ms)?;
-    let ended = is_closed(client);
-    drop_ended(sessions, peer, ended);
-    Ok(text)
-}
-
-/// The transport of a peer's session has ended. A bad line where none lives.
-#[tactic(auto, unfolding(crate::specs::Sessions::ended))]
-pub(crate) fn end(
-    alloc: Global,
-    database: &mut Database,
-    sessions: &mut Sessions,
-    number: u64,
-    peer: u32,
-) -> Result<String, ScriptFault>
-    ensures { Tells string_bytes result (ended number peer sessions.old database.old) (sessions.new, database.new) }
-{
-    let Some(client) = sessions.get_mut(peer) else {
-        return Err(ScriptFault::BadLine(number));
-    };
-    let text = hang_up(alloc, database, client, peer)?;
-    let ended = is_closed(client);
-    drop_ended(sessions, peer, ended);
-    Ok(text)
-}
-
-/// A session begins. A bad line where one of the peer lives.
-#[tactic(auto, unfolding(crate::specs::Sessions::opened))]
-pub(crate) fn open(
-    alloc: Global,
-    database: &mut Database,
-    sessions: &mut Sessions,
-    number: u64,
-    peer: u32,
-    now_ms: u64,
-) -> Result<String, ScriptFault>
-    ensures { Tells string_bytes result (opened number peer now_ms sessions.old database.old) (sessions.new, database.new) }
-{
-    if sessions.lives(peer) {
-        return Err(ScriptFault::BadLine(number));
+    /// The session of a peer, if one lives.
+    pub(crate) fn get_mut(&mut self, peer: u32) -> Option<&mut Client>
+        ensures* writes_back { sem 𝓛 (lends_session self.entry peer result) }
+        ensures value { option_copied_mut result ≡ session_of peer self.old }
+    {
+        let place = place_of(&self.places, peer)?;
+        self.clients.get_mut(place)
     }
-    let mut client = Client::new(alloc, now_ms)?;
-    let text = tell_session(alloc, peer, false, &mut client)?;
-    place(sessions, peer, client)?;
-    Ok(text)
-}
 
-/// The Open and the Keepalive of a router (RFC 5440 sections 6.2 and 6.3): Keepalive 30 s, DeadTimer 120 s,
-/// SID 0, and a STATEFUL-PCE-CAPABILITY with U and I.
-const ROUTER_OPENING: [u8; 24] = [
-    0x20, 0x01, 0x00, 0x14, 0x01, 0x10, 0x00, 0x10, 0x20, 0x1e, 0x78, 0x00, 0x00, 0x10, 0x00, 0x04,
-    0x00, 0x00, 0x00, 0x05, 0x20, 0x02, 0x00, 0x04,
-];
-
-/// A session begins, and its peer opens it and accepts it at once. A bad line where one of the peer lives.
-#[tactic(auto, unfolding(crate::specs::Sessions::brought_up))]
-pub(crate) fn bring_up(
-    alloc: Global,
-    database: &mut Database,
-    sessions: &mut Sessions,
-    number: u64,
-    peer: u32,
-    now_ms: u64,
-) -> Result<String, ScriptFault>
-    ensures { Tells string_bytes result (brought_up number peer now_ms sessions.old database.old) (sessions.new, database.new) }
-{
-    if sessions.lives(peer) {
-        return Err(ScriptFault::BadLine(number));
+    /// A session is new among them.
+    pub(crate) fn insert(&mut self, peer: u32, client: Client) -> Result<(), AllocError>
+        requires { session_of peer self.old ≡ None }
+        ensures { OnOk result (self.new ≡ insert_entry nat_cmp self.old peer client) }
+    {
+        self.clients.reserve(1)?;
+        let place = self.clients.vacant_key();
+        let _none = self.places.insert(peer, place)?;
+        let _place = self.clients.insert_reserved(client);
+        Ok(())
     }
-    let mut client = Client::new(alloc, now_ms)?;
-    let text = talk(alloc, database, &mut client, peer, &ROUTER_OPENING, now_ms)?;
-    place(sessions, peer, client)?;
-    Ok(text)
+
+    /// Takes the session of a peer away and returns it, if one lives.
+    pub(crate) fn remove(&mut self, peer: u32) -> Option<Client>
+        ensures value { result ≡ session_of peer self.old }
+        ensures others { self.new ≡ remove_entry (is_peer peer) self.old }
+    {
+        let place = self.places.remove(&peer)?;
+        self.clients.try_remove(place)
+    }
+
+    /// The peers whose sessions live, in rising order.
+    pub(crate) fn peers(&self, alloc: Global) -> Result<Vec<u32>, AllocError>
+        ensures { IfOk result (λ peers. peers.items ≡ keys_of self.now) }
+    {
+        peers_of(alloc, &self.places)
+    }
 }

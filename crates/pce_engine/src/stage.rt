@@ -3,12 +3,15 @@
 ghost use Rattle.std.specs.Prelude.{◌≡◌, ◌<◌, ◌≤◌, ◌+◌, ◌^◌, string_bytes, codes, None};
 ghost use Rattle.std.specs.Str.{bytes_eq};
 ghost use Rattle.te_base.specs.Faults.{Gives};
-ghost use Rattle.pce_engine.specs.Script.{told, header_line, base_in};
-ghost use Rattle.pce_engine.specs.Submits.{Tells};
-ghost use Rattle.pce_engine.specs.Machine.{stage_of};
+ghost use Rattle.pce_engine.specs.Script.{answered, line_told, header_line, base_in};
+ghost use Rattle.pce_engine.specs.Faults.{numbered, te_numbered};
+ghost use Rattle.pce_engine.specs.Told.{told};
+ghost use Rattle.pce_engine.specs.Machine.{stage_of, Tells, Adds};
 
+use crate::commands::CommandFault;
 use crate::fault::ScriptFault;
 use crate::standing::Standing;
+use history_core::Fault;
 use std::alloc::Global;
 use te_base::{TeBase, TeFault};
 
@@ -37,39 +40,73 @@ fn is_bar(line: &[u8]) -> bool
 }
 
 #[tactic(auto, unfolding(crate::specs::Script::header_line))]
-fn header_line(alloc: Global, stage: &mut Stage, line: &[u8]) -> Result<String, ScriptFault>
-    requires number { stage.old.number < 2 ^ 63 }
-    requires header { stage.old.standing ≡ None }
-    ensures told { Tells string_bytes result (header_line (stage_of stage.old) line.now) (stage_of stage.new) }
-    ensures number { stage.new.number ≤ stage.old.number + 1 }
+fn header_line(alloc: Global, stage: &mut Stage, line: &[u8]) -> Result<String, TeFault>
+    requires { stage.old.standing ≡ None }
+    ensures told { Gives (λ text. told (string_bytes text) (stage_of stage.new)) result (header_line (stage_of stage.old) line.now) }
+    ensures number { stage.new.number ≡ stage.old.number }
 {
     if is_bar(line) {
-        match read_base(alloc, &stage.header) {
-            Ok(base) => stage.standing = Some(Standing::new(alloc, base)?),
-            Err(TeFault::OutOfMemory) => return Err(ScriptFault::OutOfMemory),
-            Err(fault) => return Err(ScriptFault::Te(fault)),
-        }
+        let base = read_base(alloc, &stage.header)?;
+        stage.standing = Some(Standing::new(alloc, base)?);
     } else {
         stage.header.extend_from_slice(line)?;
         stage.header.push(b'\n')?;
     }
-    stage.number += 1;
     Ok(String::new(alloc))
 }
 
-/// What a line prints.
-#[tactic(auto, unfolding(crate::specs::Script::told))]
-pub(crate) fn tell(alloc: Global, stage: &mut Stage, line: &[u8]) -> Result<String, ScriptFault>
-    requires { stage.old.number < 2 ^ 63 }
-    ensures told { Tells string_bytes result (told (stage_of stage.old) line.now) (stage_of stage.new) }
-    ensures number { stage.new.number ≤ stage.old.number + 1 }
+fn numbered(number: u64, fault: CommandFault) -> ScriptFault
+    ensures { result ≡ numbered number fault }
+{
+    match fault {
+        CommandFault::BadLine => ScriptFault::BadLine(number),
+        CommandFault::Store(Fault::OutOfMemory) => ScriptFault::OutOfMemory(number),
+        CommandFault::Store(Fault::HistoryFull) => ScriptFault::HistoryFull,
+    }
+}
+
+fn te_numbered(number: u64, fault: TeFault) -> ScriptFault
+    ensures { result ≡ te_numbered number fault }
+{
+    match fault {
+        TeFault::OutOfMemory => ScriptFault::OutOfMemory(number),
+        _ => ScriptFault::Te(fault),
+    }
+}
+
+#[tactic(auto, unfolding(crate::specs::Script::answered))]
+fn answer(alloc: Global, stage: &mut Stage, line: &[u8]) -> Result<String, ScriptFault>
+    ensures answered { Tells string_bytes stage.old.number result (answered (stage_of stage.old) line.now) (stage_of stage.new) }
+    ensures number { stage.new.number ≡ stage.old.number }
 {
     match &mut stage.standing {
-        None => header_line(alloc, stage, line),
-        Some(standing) => {
-            let text = standing.line(alloc, stage.number, line)?;
-            stage.number += 1;
-            Ok(text)
-        }
+        None => match header_line(alloc, stage, line) {
+            Ok(text) => Ok(text),
+            Err(fault) => Err(te_numbered(stage.number, fault)),
+        },
+        Some(standing) => match standing.line(alloc, line) {
+            Ok(text) => Ok(text),
+            Err(fault) => Err(numbered(stage.number, fault)),
+        },
     }
+}
+
+/// Adds what a line prints. After a fault nothing is added, and the line is still the next.
+#[tactic(auto, unfolding(crate::specs::Script::line_told))]
+pub(crate) fn tell(
+    alloc: Global,
+    stage: &mut Stage,
+    line: &[u8],
+    out: &mut Vec<u8>,
+) -> Result<(), ScriptFault>
+    requires { stage.old.number < 2 ^ 63 }
+    ensures told { Adds result (line_told (stage_of stage.old) line.now) out.old.items (stage_of stage.old) out.new.items (stage_of stage.new) }
+    ensures number { stage.new.number ≤ stage.old.number + 1 }
+{
+    let text = answer(alloc, stage, line)?;
+    if out.extend_from_slice(text.as_bytes()).is_err() {
+        return Err(ScriptFault::OutOfMemory(stage.number));
+    }
+    stage.number += 1;
+    Ok(())
 }

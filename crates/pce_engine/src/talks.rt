@@ -1,13 +1,12 @@
 //! A session in one line.
 
 ghost use Rattle.std.specs.Prelude.{◌≡◌, ◌++◌, IfOk, OnOk, string_bytes};
-ghost use Rattle.pcep_session.specs.Turns.{is_closed as closed};
 ghost use Rattle.engine_core.specs.Engine.{served, hung_up};
 ghost use Rattle.engine_core.specs.Performed.{performed};
-ghost use Rattle.pce_engine.specs.Submits.{Tells, Leaves};
-ghost use Rattle.pce_engine.specs.Talks.{output_text, change_text, told_of, sent_out, is_up as up, carried, talked, hung};
+ghost use Rattle.pce_engine.specs.Talks.{output_text, change_text, told_of, sent_out, talk, talk_of, talked, hung};
+ghost use Rattle.pce_engine.specs.Told.{Tells, Leaves};
 
-use crate::fault::ScriptFault;
+use crate::commands::CommandFault;
 use engine_core::{Client, hang_up_database, serve_database};
 use history_core::Database;
 use pcep_session::State;
@@ -51,36 +50,16 @@ pub(crate) fn tell_session(
     Ok(text)
 }
 
-fn is_up(state: State) -> bool
-    ensures { result ≡ up state }
-{
-    match state {
-        State::Up => true,
-        _ => false,
-    }
-}
-
-/// Whether a session has ended.
-pub(crate) fn is_closed(client: &Client) -> bool
-    ensures { result ≡ closed client.now.session.state }
-{
-    match client.session.state() {
-        State::Closed => true,
-        _ => false,
-    }
-}
-
 fn serve(
-    alloc: Global,
     database: &mut Database,
     client: &mut Client,
     peer: u32,
     piece: &[u8],
     now_ms: u64,
-) -> Result<(), ScriptFault>
-    ensures { Leaves result (carried (performed (served peer piece.now now_ms client.old) database.old)) (client.new, database.new) }
+) -> Result<(), CommandFault>
+    ensures { Leaves result (talk_of (performed (served peer piece.now now_ms client.old) database.old)) (talk client.new database.new) }
 {
-    serve_database(alloc, database, client, peer, piece, now_ms)?;
+    serve_database(database, client, peer, piece, now_ms)?;
     Ok(())
 }
 
@@ -93,23 +72,18 @@ pub(crate) fn talk(
     peer: u32,
     piece: &[u8],
     now_ms: u64,
-) -> Result<String, ScriptFault>
-    ensures { Tells string_bytes result (talked peer piece.now now_ms client.old database.old) (client.new, database.new) }
+) -> Result<String, CommandFault>
+    ensures { Tells string_bytes result (talked peer piece.now now_ms client.old database.old) (talk client.new database.new) }
 {
-    let was_up = is_up(client.session.state());
-    serve(alloc, database, client, peer, piece, now_ms)?;
+    let was_up = client.session.state().is_up();
+    serve(database, client, peer, piece, now_ms)?;
     Ok(tell_session(alloc, peer, was_up, client)?)
 }
 
-fn end(
-    alloc: Global,
-    database: &mut Database,
-    client: &mut Client,
-    peer: u32,
-) -> Result<(), ScriptFault>
-    ensures { Leaves result (carried (performed (hung_up peer client.old) database.old)) (client.new, database.new) }
+fn end(database: &mut Database, client: &mut Client, peer: u32) -> Result<(), CommandFault>
+    ensures { Leaves result (talk_of (performed (hung_up peer client.old) database.old)) (talk client.new database.new) }
 {
-    hang_up_database(alloc, database, client, peer)?;
+    hang_up_database(database, client, peer)?;
     Ok(())
 }
 
@@ -120,10 +94,10 @@ pub(crate) fn hang_up(
     database: &mut Database,
     client: &mut Client,
     peer: u32,
-) -> Result<String, ScriptFault>
-    ensures { Tells string_bytes result (hung peer client.old database.old) (client.new, database.new) }
+) -> Result<String, CommandFault>
+    ensures { Tells string_bytes result (hung peer client.old database.old) (talk client.new database.new) }
 {
-    let was_up = is_up(client.session.state());
-    end(alloc, database, client, peer)?;
+    let was_up = client.session.state().is_up();
+    end(database, client, peer)?;
     Ok(tell_session(alloc, peer, was_up, client)?)
 }

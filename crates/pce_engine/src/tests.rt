@@ -7,6 +7,7 @@ use std::test::*;
 use te_base::TeFault;
 
 mod commands;
+mod faults;
 mod sessions;
 
 /// Four nodes, and two ways from A to D: links 0 and 1 over B, links 2 and 3 over C.
@@ -203,6 +204,7 @@ fn bad_lines(rt: HostRuntime) -> Result<(), Fail> {
         "report 1",
         "report 1 ",
         "report 1 2",
+        "report 1 20020004",
         "report 1 20630004",
         "report 1 200a0004",
         "report  1 200a0010201000080000001807100004",
@@ -216,7 +218,9 @@ fn bad_lines(rt: HostRuntime) -> Result<(), Fail> {
         let input = script(rt.alloc(), DIAMOND, &[REPORT, line, "book"])?;
         ends(&rt, &input, &["booked\n"], Some(ScriptFault::BadLine(11)))?;
     }
-    Ok(())
+    let mut input = script(rt.alloc(), DIAMOND, &[REPORT])?;
+    input.extend_from_slice(b"book\xff".as_slice())?;
+    ends(&rt, &input, &["booked\n"], Some(ScriptFault::BadLine(11)))
 }
 
 #[test]
@@ -306,6 +310,27 @@ fn a_failing_read(rt: HostRuntime) -> Result<(), Fail> {
     Ok(())
 }
 
+/// A reader may give a byte at a time, for as long as it likes.
+#[test]
+fn many_reads(rt: HostRuntime) -> Result<(), Fail> {
+    let alloc = rt.alloc();
+    let mut input = Vec::new(alloc);
+    for _ in 0..10_000 {
+        input.extend_from_slice(b"# links\n".as_slice())?;
+    }
+    input.extend_from_slice(b"---\nexpire 1\n".as_slice())?;
+    let mut reader = Failing {
+        rest: &input,
+        piece: 1,
+        reads: usize::MAX,
+    };
+    let mut written = Vec::new(alloc);
+    let ended = run_script(alloc, &mut reader, &mut written);
+    assert_eq!(rt; ended.err(), None);
+    assert_eq!(rt; str::from_utf8(&written)?, "refused 1\n");
+    Ok(())
+}
+
 /// Run it with each of its allocations refused in turn (`rt try --test --fail-alloc N`): it passes wherever
 /// the refused one lies in `run_script`.
 #[test]
@@ -316,11 +341,11 @@ fn whole_lines_stand_without_memory(rt: HostRuntime) -> Result<(), Fail> {
     let mut reader = input.as_slice();
     match run_script(rt.alloc(), &mut reader, &mut written) {
         Ok(()) => assert_eq!(rt; str::from_utf8(&written)?, history),
-        Err(fault) => {
-            assert_eq!(rt; fault, ScriptFault::OutOfMemory);
-            let text = str::from_utf8(&written)?;
-            assert!(rt; text.is_empty() || text == "booked\n");
+        Err(ScriptFault::OutOfMemory(line)) => {
+            let before = if line > 10 { "booked\n" } else { "" };
+            assert_eq!(rt; str::from_utf8(&written)?, before);
         }
+        Err(fault) => assert_eq!(rt; Some(fault), None),
     }
     Ok(())
 }
@@ -386,9 +411,10 @@ fn texts_of_faults(rt: HostRuntime) -> Result<(), Fail> {
     for (fault, want) in [
         (ScriptFault::BadLine(7), "bad line 7"),
         (ScriptFault::Te(TeFault::TooMany), "te fault 8"),
+        (ScriptFault::Te(TeFault::OutOfMemory), "out of memory"),
         (ScriptFault::ReadFault, "device fault"),
         (ScriptFault::WriteFault, "device fault"),
-        (ScriptFault::OutOfMemory, "out of memory"),
+        (ScriptFault::OutOfMemory(7), "out of memory"),
         (ScriptFault::HistoryFull, "history full"),
     ] {
         let text = format!(in alloc; "{fault}")?;

@@ -1,7 +1,7 @@
 //! What lines print.
 
 ghost use Rattle.std.specs.Prelude.{◌≡◌, ◌++◌, ◌+◌, ◌<◌, ◌≤◌, IfOk, OnOk, IsOk, All, length, decimal, string_bytes, string_len, string_capacity};
-ghost use Rattle.pce_engine.specs.Texts.{booked_text, out_text, refused_text, reply_text, brief_text, event_text, step_line, history_text, left_at, amounts_text, link_line, book_text};
+ghost use Rattle.pce_engine.specs.Texts.{word_bound, reply_room, booked_text, out_text, refused_text, reply_text, brief_text, event_text, step_line, history_text, left_at, amounts_text, link_line, book_text};
 
 use history_core::{Brief, Database, Event, Reply, Step, Why};
 use itoa::Buffer;
@@ -16,11 +16,11 @@ fn booked_word(wants_path: bool) -> &'static str
     if wants_path { "booked wants" } else { "booked" }
 }
 
-/// A word of eight bytes at most, and a number.
+/// A word of a reply, and a number.
 fn add_number(text: &mut String, word: &str, number: u64) -> Result<(), AllocError>
-    requires { length word.now ≤ 8 }
+    requires { length word.now ≤ word_bound }
     ensures text { OnOk result (string_bytes text.new ≡ string_bytes text.old ++ (word.now ++ decimal number)) }
-    ensures succeeds { string_len text.old + 48 ≤ string_capacity text.old → IsOk result }
+    ensures succeeds { string_len text.old + reply_room ≤ string_capacity text.old → IsOk result }
 {
     let mut buffer = Buffer::new();
     let digits = buffer.format(number);
@@ -30,24 +30,24 @@ fn add_number(text: &mut String, word: &str, number: u64) -> Result<(), AllocErr
 
 fn add_out(text: &mut String, messages: u64) -> Result<(), AllocError>
     ensures text { OnOk result (string_bytes text.new ≡ string_bytes text.old ++ out_text messages) }
-    ensures succeeds { string_len text.old + 48 ≤ string_capacity text.old → IsOk result }
+    ensures succeeds { string_len text.old + reply_room ≤ string_capacity text.old → IsOk result }
 {
     add_number(text, "out ", messages)
 }
 
 fn add_refusal(text: &mut String, why: Why) -> Result<(), AllocError>
     ensures text { OnOk result (string_bytes text.new ≡ string_bytes text.old ++ refused_text why) }
-    ensures succeeds { string_len text.old + 48 ≤ string_capacity text.old → IsOk result }
+    ensures succeeds { string_len text.old + reply_room ≤ string_capacity text.old → IsOk result }
 {
     add_number(text, "refused ", u64::from(why.number()))
 }
 
 /// In so much room, in bytes, the text of a reply is added without asking for memory.
-pub(crate) const REPLY_ROOM: usize = 48;
+pub(crate) const REPLY_ROOM: usize = 64;
 
 /// A reply, without a line break.
 pub(crate) fn add_reply(text: &mut String, reply: &Reply) -> Result<(), AllocError>
-    ensures succeeds { string_len text.old + 48 ≤ string_capacity text.old → IsOk result }
+    ensures succeeds { string_len text.old + reply_room ≤ string_capacity text.old → IsOk result }
     ensures text { OnOk result (string_bytes text.new ≡ string_bytes text.old ++ reply_text reply.now) }
 {
     match reply {
@@ -92,9 +92,10 @@ fn add_step(text: &mut String, number: usize, step: &Step) -> Result<(), AllocEr
 }
 
 /// A line for each kept step.
-pub(crate) fn history_text(alloc: Global, steps: &[Step]) -> Result<String, AllocError>
-    ensures { IfOk result (λ s. string_bytes s ≡ history_text steps.now) }
+pub(crate) fn history_text(alloc: Global, database: &Database) -> Result<String, AllocError>
+    ensures { IfOk result (λ s. string_bytes s ≡ history_text database.now) }
 {
+    let steps = database.history();
     let mut text = String::new(alloc);
     for (number, step) in steps.iter().enumerate() {
         add_step(&mut text, number, step)?;

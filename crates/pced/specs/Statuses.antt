@@ -4,15 +4,22 @@ use Rattle.std.specs.declared.io.ErrorKind as system
 use Rattle.std.specs.declared.io.ErrorKind.TheVariants as error
 use Rattle.clap.specs.declared.error.kind.ErrorKind as words
 use Rattle.clap.specs.declared.error.kind.ErrorKind.TheVariants as word
+use Rattle.te_base.specs.declared.fault.TeFault.{TeFault}
+use Rattle.te_base.specs.declared.fault.TeFault.TheVariants as te
 use Rattle.pce_engine.specs.declared.fault.ScriptFault.{ScriptFault}
 use Rattle.pce_engine.specs.declared.fault.ScriptFault.TheVariants.{BadLine, Te, ReadFault, WriteFault, OutOfMemory, HistoryFull}
 
+-- want of memory is told as such, wherever it came
+abbrev pub te_status : TeFault → ℕ
+te_status te.OutOfMemory = 5
+te_status fault = 2
+
 abbrev pub status_of : ScriptFault → ℕ
 status_of (BadLine n) = 2
-status_of (Te fault) = 2
+status_of (Te fault) = te_status fault
 status_of ReadFault = 3
 status_of WriteFault = 3
-status_of OutOfMemory = 5
+status_of (OutOfMemory n) = 5
 status_of HistoryFull = 5
 
 -- the exit status of a script
@@ -29,5 +36,5 @@ refused_status _ = 2
 
 -- the fault of a run that could not speak with its system
 abbrev pub failed_fault : system.ErrorKind → ScriptFault
-failed_fault error.OutOfMemory = OutOfMemory
+failed_fault error.OutOfMemory = OutOfMemory 0
 failed_fault _ = WriteFault

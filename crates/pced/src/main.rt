@@ -1,7 +1,8 @@
 //! A stateful path computation element for MPLS-TE. `pced script` reads a link text, a line `---` and
-//! lines on standard input, and writes what they print: the replies to state reports, the bandwidth
-//! book, the history. What a script prints is proved of `pce_engine::run_script`; here are the
-//! arguments, the exit statuses and the texts on standard error. docs/FORMAT.md lists all of them.
+//! lines on standard input, and writes what they print: the bytes and the ends of PCEP sessions, the replies
+//! to state reports, the bandwidth book, the history. What a script prints is proved of
+//! `pce_engine::run_script`; here are the arguments, the exit statuses and the texts on standard error.
+//! docs/FORMAT.md lists all of them.
 #![tactic(auto)]
 
 mod status;
@@ -19,10 +20,24 @@ use std::io;
 use std::process::ExitCode;
 use std::rt::Runtime;
 
+/// The lines of a script, in short.
+const LINES: &str = "\
+Standard input is a link text (TOML), a line ---, and lines:
+  open PEER        a PCEP session of the router begins
+  up PEER          a session begins, and comes up at once
+  msg PEER HEX     bytes of the router, in its session
+  end PEER         the connection of its session ends
+  tick MS          it is now MS milliseconds
+  report PEER HEX  state reports of the router, as one PCRpt message
+  expire PEER      a router that is down is forgotten
+  book             what is left of each link at the priorities 0 to 7
+  history          the events so far, with their replies
+PEER is a number or a dotted address. docs/FORMAT.md tells all of it.";
+
 fn command<'a>(alloc: Global) -> Result<Command<'a>, AllocError> {
-    let script = Command::new(alloc, "script").about(
-        "Runs a link text and lines from standard input, and prints what they answer",
-    );
+    let script = Command::new(alloc, "script")
+        .about("Runs a link text and lines from standard input, and prints what they answer")
+        .after_help(LINES);
     Ok(
         Command::new(alloc, "pced")
             .version("0.1.0")
@@ -43,7 +58,7 @@ fn refuse<R: Print + Eprint>(rt: &R, error: Error) -> io::Result<u8>
     ensures { IfOk result (λ given. given ≡ refused_status (kind_of error)) }
 {
     match error.kind() {
-        ErrorKind::OutOfMemory => end(rt, Err(ScriptFault::OutOfMemory)),
+        ErrorKind::OutOfMemory => end(rt, Err(ScriptFault::OutOfMemory(0))),
         kind => {
             error.print(rt)?;
             Ok(refused(kind))

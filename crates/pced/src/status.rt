@@ -5,7 +5,7 @@ ghost use Rattle.std.specs.IoError.{error_kind};
 ghost use Rattle.pced.specs.Statuses.{status_of, refused_status, failed_fault};
 
 use clap::error::ErrorKind;
-use pce_engine::ScriptFault;
+use pce_engine::{ScriptFault, TeFault};
 use std::io;
 
 /// What was given is wrong: a line, the link text or an argument.
@@ -20,9 +20,11 @@ pub fn status(fault: ScriptFault) -> u8
     ensures { result ≡ status_of fault }
 {
     match fault {
+        ScriptFault::Te(TeFault::OutOfMemory)
+        | ScriptFault::OutOfMemory(_)
+        | ScriptFault::HistoryFull => MEMORY,
         ScriptFault::BadLine(_) | ScriptFault::Te(_) => INPUT,
         ScriptFault::ReadFault | ScriptFault::WriteFault => DEVICE,
-        ScriptFault::OutOfMemory | ScriptFault::HistoryFull => MEMORY,
     }
 }
 
@@ -42,7 +44,7 @@ pub fn failed(error: &io::Error) -> ScriptFault
     ensures { result ≡ failed_fault (error_kind error.now) }
 {
     match error.kind() {
-        io::ErrorKind::OutOfMemory => ScriptFault::OutOfMemory,
+        io::ErrorKind::OutOfMemory => ScriptFault::OutOfMemory(0),
         _ => ScriptFault::WriteFault,
     }
 }

@@ -3,7 +3,7 @@ use Rattle.std.proofs.Common.{◌≡◌, ℕ, ◌+◌, ◌^◌, ◌<◌, true, l
 use Rattle.std.proofs.lemmas.Bool.{and_parts, ltb-true, false≢true}
 use Rattle.pcep_messages.specs.Messages.{message_of, message_in}
 use Rattle.pcep_messages.specs.Normal.{IsNormal, IsInitiate}
-use Rattle.pcep_messages.specs.Parts.{read_parts, unless_bad}
+use Rattle.pcep_messages.specs.Parts.{parts_of, read_parts, unless_bad}
 use Rattle.pcep_messages.specs.Objects.{Found, found_in}
 use Rattle.pcep_messages.specs.Sessions.{about_nothing, opening_or_missing, opening_body, keepalive_body, reason_of, close_body}
 use Rattle.pcep_messages.specs.Errors.{errors_of, errors_body}
@@ -32,7 +32,7 @@ initiate_normal (initiates.Create create) normal = normal.attributes
 initiate_normal (initiates.Remove srp plsp) normal = tt
 
 body_again : (message : Message) (body : List ℕ) → is_written message ≡ true → IsNormal message → IsFoundAgain message body → message_of (kind_number message) body ≡ Ok message
-unfolding opening_body keepalive_body close_body errors_body reply_body update_body initiate_body
+unfolding opening_body keepalive_body close_body errors_body reply_body update_body initiate_body parts_of
 body_again (messages.Opening opening) body is normal found = ap (read_parts about_nothing (λ parts. opening_or_missing parts.opening)) found
 body_again messages.Keepalive body is normal found = ap (read_parts about_nothing (λ parts. Ok messages.Keepalive)) found
 body_again (messages.Request requests) body is normal found = absurd (false≢true is)

@@ -40,7 +40,7 @@ errors (e ∷ es) = (tt, errors es)
 attributes : (a : Option Attributes) → MayBeAttributes a → AreNormal (attributes_objects a)
 attributes None normal = tt
 attributes (Some a) normal =
-    (record { exclude_any = normal.exclude_any; include_any = normal.include_any; include_all = normal.include_all; setup = normal.setup; hold = omega (arith, normal.setup, normal.hold) }, tt)
+    (record { exclude_any = normal.exclude_any; include_any = normal.include_any; include_all = normal.include_all; setup = normal.priorities.setup; hold = omega (arith, normal.priorities.setup, normal.priorities.hold) }, tt)
 
 bandwidth : (b : Option ℕ) → MayBeBandwidth b → AreNormal (bandwidth_objects b)
 bandwidth None normal = tt
@@ -48,7 +48,7 @@ bandwidth (Some b) normal = (normal, tt)
 
 cost : (c : Option Cost) → MayBeCost c → AreNormal (cost_objects c)
 cost None normal = tt
-cost (Some c) normal = (record { word = normal.word; reads = normal.reads }, tt)
+cost (Some c) normal = (normal, tt)
 
 answer : (a : Answer) → IsAnswer a → AreNormal (answer_objects a)
 answer (answers.Found ero c) normal = (normal.0, cost c normal.1)

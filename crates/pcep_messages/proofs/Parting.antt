@@ -1,36 +1,105 @@
--- Parts that are taken in one after the other, as a loop does.
-use Rattle.std.proofs.Common.{◌≡◌, false, ℕ, ◌<◌, List, [], ◌∷◌, length, drop, Some, None, refl, sym, ap, ◌∙◌, arith}
+-- Parts that are taken in one after the other, as a loop does, are the parts of all objects.
+use Rattle.std.proofs.Common.{◌≡◌, false, ℕ, ◌<◌, max, List, [], ◌∷◌, length, drop, map, fold, Option, Some, None, refl, sym, ap, ◌∙◌, arith}
+use Rattle.std.specs.Option.{option_or}
 use Rattle.pcep_objects.specs.Objects.{object_at}
 use Rattle.pcep_objects.specs.declared.fault.ObjectFault.{ObjectFault}
+use Rattle.pcep_objects.specs.declared.object.BandwidthType.{BandwidthType}
+use Rattle.pcep_objects.specs.declared.object.BandwidthType.TheVariants.{Requested, Current}
+use Rattle.pcep_objects.specs.declared.object.Hop.{Hop}
+use Rattle.pcep_objects.specs.declared.object.LspObject.{LspObject}
+use Rattle.pcep_objects.specs.declared.object.Lspa.{Lspa}
+use Rattle.pcep_objects.specs.declared.object.Metric.{Metric}
 use Rattle.pcep_objects.specs.declared.object.Object.{Object}
+use Rattle.pcep_objects.specs.declared.object.Srp.{Srp}
+use Rattle.pcep_objects.specs.declared.request_objects.EndPoints.{EndPoints}
+use Rattle.pcep_objects.specs.declared.request_objects.NoPath.{NoPath}
+use Rattle.pcep_objects.specs.declared.request_objects.Rp.{Rp}
+use Rattle.pcep_objects.specs.declared.session_objects.Close.{Close}
+use Rattle.pcep_objects.specs.declared.session_objects.Open.{Open}
+use Rattle.pcep_objects.specs.declared.object.Object.TheVariants as objects
 use Rattle.pcep_messages.specs.declared.objects.Next.TheVariants as next
 use Rattle.pcep_messages.specs.declared.parts.Parts.{Parts}
-use Rattle.pcep_messages.specs.Objects.{Found, next_of, found_from, found_in}
-use Rattle.pcep_messages.specs.Parts.{and_then, parts_after, parts_of, ArePartsOf}
+use Rattle.pcep_messages.specs.Counting.{first_of, opening_of, rp_of, no_path_of, end_points_of, metric_of, ero_of, lspa_of, close_of, lsp_of, srp_of, requested_of, greater_of, greatest_requested}
+use Rattle.pcep_messages.specs.Objects.{Found, found_from, found_in}
+use Rattle.pcep_messages.specs.ObjectSteps.{next_of}
+use Rattle.pcep_messages.specs.Parts as all
+use Rattle.pcep_messages.specs.PartSteps.{no_parts, and_then, kept, ArePartsOf}
 use Rattle.pcep_messages.proofs.Finding.{step, passed}
+use Rattle.pcep_messages.proofs.Taking.{or_assoc, or_none}
 
--- the parts so far, those of the rest and its fault are those of all
+-- parts that were taken in, with the objects that follow
+abbrev pub with_objects : Parts → List Object → all.Parts
+with_objects parts objects = record {
+  opening = option_or parts.opening (first_of opening_of objects);
+  rp = option_or parts.rp (first_of rp_of objects);
+  no_path = option_or parts.no_path (first_of no_path_of objects);
+  end_points = option_or parts.end_points (first_of end_points_of objects);
+  bandwidth = fold greater_of parts.bandwidth (map requested_of objects);
+  metric = option_or parts.metric (first_of metric_of objects);
+  ero = option_or parts.ero (first_of ero_of objects);
+  lspa = option_or parts.lspa (first_of lspa_of objects);
+  close = option_or parts.close (first_of close_of objects);
+  lsp = option_or parts.lsp (first_of lsp_of objects);
+  srp = option_or parts.srp (first_of srp_of objects);
+}
+
+with_none : (parts : Parts) → with_objects parts [] ≡ kept parts
+with_none parts =
+    rw (or_none parts.opening, or_none parts.rp, or_none parts.no_path, or_none parts.end_points, or_none parts.metric, or_none parts.ero, or_none parts.lspa, or_none parts.close, or_none parts.lsp, or_none parts.srp) refl
+
+greater_none : (b : Option ℕ) → greater_of b None ≡ b
+greater_none None = refl
+greater_none (Some b) = refl
+
+-- an object that asks for no bandwidth leaves it
+quiet : (parts : Parts) (whole : all.Parts) (os : List Object)
+    → record whole { bandwidth = fold greater_of (greater_of parts.bandwidth None) (map requested_of os) } ≡ record whole { bandwidth = fold greater_of parts.bandwidth (map requested_of os) }
+quiet parts whole os = ap (λ (b : Option ℕ). record whole { bandwidth = fold greater_of b (map requested_of os) }) (greater_none parts.bandwidth)
+
+takes : (parts : Parts) (object : Object) (os : List Object) → with_objects parts (object ∷ os) ≡ with_objects (and_then parts object) os
+takes parts (objects.Open x) os = quiet parts (with_objects parts (objects.Open x ∷ os)) os ∙ ap (λ (y : Option (Open)). record (with_objects parts os) { opening = y }) (sym (or_assoc parts.opening (Some x) (first_of opening_of os)))
+takes parts (objects.Rp x) os = quiet parts (with_objects parts (objects.Rp x ∷ os)) os ∙ ap (λ (y : Option (Rp)). record (with_objects parts os) { rp = y }) (sym (or_assoc parts.rp (Some x) (first_of rp_of os)))
+takes parts (objects.NoPath x) os = quiet parts (with_objects parts (objects.NoPath x ∷ os)) os ∙ ap (λ (y : Option (NoPath)). record (with_objects parts os) { no_path = y }) (sym (or_assoc parts.no_path (Some x) (first_of no_path_of os)))
+takes parts (objects.EndPoints x) os = quiet parts (with_objects parts (objects.EndPoints x ∷ os)) os ∙ ap (λ (y : Option (EndPoints)). record (with_objects parts os) { end_points = y }) (sym (or_assoc parts.end_points (Some x) (first_of end_points_of os)))
+takes parts (objects.Bandwidth kind bandwidth) os = refl
+takes parts (objects.Metric x) os = quiet parts (with_objects parts (objects.Metric x ∷ os)) os ∙ ap (λ (y : Option (Metric)). record (with_objects parts os) { metric = y }) (sym (or_assoc parts.metric (Some x) (first_of metric_of os)))
+takes parts (objects.Ero x) os = quiet parts (with_objects parts (objects.Ero x ∷ os)) os ∙ ap (λ (y : Option (List Hop)). record (with_objects parts os) { ero = y }) (sym (or_assoc parts.ero (Some x) (first_of ero_of os)))
+takes parts (objects.Rro x) os = quiet parts (with_objects parts (objects.Rro x ∷ os)) os
+takes parts (objects.Lspa x) os = quiet parts (with_objects parts (objects.Lspa x ∷ os)) os ∙ ap (λ (y : Option (Lspa)). record (with_objects parts os) { lspa = y }) (sym (or_assoc parts.lspa (Some x) (first_of lspa_of os)))
+takes parts (objects.Kept x) os = quiet parts (with_objects parts (objects.Kept x ∷ os)) os
+takes parts (objects.Notification x) os = quiet parts (with_objects parts (objects.Notification x ∷ os)) os
+takes parts (objects.Error x) os = quiet parts (with_objects parts (objects.Error x ∷ os)) os
+takes parts (objects.Close x) os = quiet parts (with_objects parts (objects.Close x ∷ os)) os ∙ ap (λ (y : Option (Close)). record (with_objects parts os) { close = y }) (sym (or_assoc parts.close (Some x) (first_of close_of os)))
+takes parts (objects.Lsp x) os = quiet parts (with_objects parts (objects.Lsp x ∷ os)) os ∙ ap (λ (y : Option (LspObject)). record (with_objects parts os) { lsp = y }) (sym (or_assoc parts.lsp (Some x) (first_of lsp_of os)))
+takes parts (objects.Srp x) os = quiet parts (with_objects parts (objects.Srp x ∷ os)) os ∙ ap (λ (y : Option (Srp)). record (with_objects parts os) { srp = y }) (sym (or_assoc parts.srp (Some x) (first_of srp_of os)))
+
+-- the parts so far, with those of the rest, and its fault are those of all
 abbrev pub Continues : Parts → Found → Found → Type 0
-Continues parts rest all = (parts_after parts rest.objects ≡ parts_of all.objects) × (rest.fault ≡ all.fault)
+Continues parts rest whole = (with_objects parts rest.objects ≡ all.parts_of whole.objects) × (rest.fault ≡ whole.fault)
 
-pub goes_on : (parts taken : Parts) (rest : List ℕ) (object : Object) (n : ℕ) (all : Found) → 0 < length rest → 0 < n → next.Object object n ≡ next_of false (object_at rest) → taken ≡ and_then parts object
-    → Continues parts (found_in rest) all → Continues taken (found_in (drop n rest)) all
-goes_on parts taken rest object n all some pos e is so_far =
-    let one : found_in rest ≡ record { objects = object ∷ (found_in (drop n rest)).objects; fault = (found_in (drop n rest)).fault } =
+pub begins : (whole : Found) → Continues no_parts whole whole
+unfolding all.parts_of
+begins whole = (refl, refl)
+
+pub goes_on : (parts taken : Parts) (rest : List ℕ) (object : Object) (n : ℕ) (whole : Found) → 0 < length rest → 0 < n → next.Object object n ≡ next_of false (object_at rest) → taken ≡ and_then parts object
+    → Continues parts (found_in rest) whole → Continues taken (found_in (drop n rest)) whole
+goes_on parts taken rest object n whole some pos e is so_far =
+    let behind = found_in (drop n rest) in
+    let one : found_in rest ≡ record { objects = object ∷ behind.objects; fault = behind.fault } =
     step false rest some ∙ rw (← e) (ap (λ (f : Found). record { objects = object ∷ f.objects; fault = f.fault }) (passed false rest n pos some)) in
-    (ap (λ (p : Parts). parts_after p (found_in (drop n rest)).objects) is ∙ ap (λ (f : Found). parts_after parts f.objects) (sym one) ∙ so_far.0, ap (λ (f : Found). f.fault) (sym one) ∙ so_far.1)
+    (ap (λ (p : Parts). with_objects p behind.objects) is ∙ sym (takes parts object behind.objects) ∙ ap (λ (f : Found). with_objects parts f.objects) (sym one) ∙ so_far.0, ap (λ (f : Found). f.fault) (sym one) ∙ so_far.1)
 
-pub skips : (parts : Parts) (rest : List ℕ) (n : ℕ) (all : Found) → 0 < length rest → 0 < n → next.Skipped n ≡ next_of false (object_at rest) → Continues parts (found_in rest) all → Continues parts (found_in (drop n rest)) all
-skips parts rest n all some pos e so_far =
+pub skips : (parts : Parts) (rest : List ℕ) (n : ℕ) (whole : Found) → 0 < length rest → 0 < n → next.Skipped n ≡ next_of false (object_at rest) → Continues parts (found_in rest) whole → Continues parts (found_in (drop n rest)) whole
+skips parts rest n whole some pos e so_far =
     let one : found_in rest ≡ found_in (drop n rest) = step false rest some ∙ rw (← e) (passed false rest n pos some) in
-    (ap (λ (f : Found). parts_after parts f.objects) (sym one) ∙ so_far.0, ap (λ (f : Found). f.fault) (sym one) ∙ so_far.1)
+    (ap (λ (f : Found). with_objects parts f.objects) (sym one) ∙ so_far.0, ap (λ (f : Found). f.fault) (sym one) ∙ so_far.1)
 
-pub stops : (parts : Parts) (rest : List ℕ) (fault : ObjectFault) (all : Found) → 0 < length rest → next.Bad fault ≡ next_of false (object_at rest) → Continues parts (found_in rest) all → ArePartsOf all parts (Some fault)
-stops parts rest fault all some e so_far =
+pub stops : (parts : Parts) (rest : List ℕ) (fault : ObjectFault) (whole : Found) → 0 < length rest → next.Bad fault ≡ next_of false (object_at rest) → Continues parts (found_in rest) whole → ArePartsOf whole parts (Some fault)
+stops parts rest fault whole some e so_far =
     let one : found_in rest ≡ record { objects = []; fault = Some fault } = step false rest some ∙ rw (← e) refl in
-    (sym so_far.0 ∙ ap (λ (f : Found). parts_after parts f.objects) one, sym so_far.1 ∙ ap (λ (f : Found). f.fault) one)
+    (sym so_far.0 ∙ ap (λ (f : Found). with_objects parts f.objects) one ∙ with_none parts, sym so_far.1 ∙ ap (λ (f : Found). f.fault) one)
 
-pub ends : (parts : Parts) (rest : List ℕ) (all : Found) → length rest ≡ 0 → Continues parts (found_in rest) all → ArePartsOf all parts None
+pub ends : (parts : Parts) (rest : List ℕ) (whole : Found) → length rest ≡ 0 → Continues parts (found_in rest) whole → ArePartsOf whole parts None
 unfolding found_from
-ends parts [] all none so_far = (sym so_far.0, sym so_far.1)
-ends parts (b ∷ bytes) all none so_far = absurd (omega arith)
+ends parts [] whole none so_far = (sym so_far.0 ∙ with_none parts, sym so_far.1)
+ends parts (b ∷ bytes) whole none so_far = absurd (omega arith)

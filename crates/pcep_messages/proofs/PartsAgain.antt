@@ -3,6 +3,7 @@ use Rattle.std.proofs.Common.{◌≡◌, ℕ, ◌≤◌, min, Bool, false, List,
 use Rattle.std.specs.List.{filter_map}
 use Rattle.std.proofs.lemmas.List.Elements.{filter_map-append}
 use Rattle.std.proofs.lemmas.List.{append-nil}
+use Rattle.pcep_word.specs.Priority.{in_force}
 use Rattle.pcep_objects.specs.declared.object.Hop.{Hop}
 use Rattle.pcep_objects.specs.declared.object.Object.{Object}
 use Rattle.pcep_objects.specs.declared.object.Object.TheVariants as objects
@@ -76,6 +77,7 @@ abbrev replied : ℕ → Answer → Reply
 replied request answer = record { request = request; answer = answer }
 
 answered_again : (request : ℕ) (answer : Answer) → reply_of (parts_of (reply_objects (replied request answer))) ≡ Ok (messages.Reply (replied request answer))
+unfolding parts_of
 answered_again request (answers.Found ero None) = refl
 answered_again request (answers.Found ero (Some cost)) = refl
 answered_again request (answers.NoPath vector) = refl
@@ -85,11 +87,12 @@ reply_again reply = answered_again reply.request reply.answer
 
 -- ---- PCUpd
 
-in_force : (attributes : Attributes) → attributes.hold ≤ attributes.setup
-    → record { colours = attributes.colours; setup = attributes.setup; hold = min attributes.setup attributes.hold } ≡ attributes
-in_force attributes better =
-    let hold : min attributes.setup attributes.hold ≡ attributes.hold = omega arith in
-    let with_hold : ℕ → Attributes = λ n. record { colours = attributes.colours; setup = attributes.setup; hold = n } in
+attributes_again : (attributes : Attributes) → attributes.priorities.hold ≤ attributes.priorities.setup
+    → record { colours = attributes.colours; priorities = in_force attributes.priorities.setup attributes.priorities.hold } ≡ attributes
+attributes_again attributes better =
+    let setup = attributes.priorities.setup in
+    let hold : min attributes.priorities.hold setup ≡ attributes.priorities.hold = omega arith in
+    let with_hold : ℕ → Attributes = λ n. record { colours = attributes.colours; priorities = record { setup = setup; hold = n } } in
     ap with_hold hold
 
 abbrev updated : ℕ → ℕ → Bool → Bool → List Hop → Option Attributes → Option ℕ → Update
@@ -101,12 +104,13 @@ update_ok update = Ok (messages.Update update)
 
 updated_again : (srp plsp : ℕ) (delegate admin : Bool) (ero : List Hop) (attributes : Option Attributes) (bandwidth : Option ℕ) → MayBeAttributes attributes
     → update_of (parts_of (update_objects (updated srp plsp delegate admin ero attributes bandwidth))) ≡ update_ok (updated srp plsp delegate admin ero attributes bandwidth)
+unfolding parts_of
 updated_again srp plsp delegate admin ero None None normal = refl
 updated_again srp plsp delegate admin ero None (Some bandwidth) normal = refl
 updated_again srp plsp delegate admin ero (Some attributes) None normal =
-    ap (λ (a : Attributes). update_ok (updated srp plsp delegate admin ero (Some a) None)) (in_force attributes normal.hold)
+    ap (λ (a : Attributes). update_ok (updated srp plsp delegate admin ero (Some a) None)) (attributes_again attributes normal.priorities.hold)
 updated_again srp plsp delegate admin ero (Some attributes) (Some bandwidth) normal =
-    ap (λ (a : Attributes). update_ok (updated srp plsp delegate admin ero (Some a) (Some bandwidth))) (in_force attributes normal.hold)
+    ap (λ (a : Attributes). update_ok (updated srp plsp delegate admin ero (Some a) (Some bandwidth))) (attributes_again attributes normal.priorities.hold)
 
 pub update_again : (update : Update) → MayBeAttributes update.attributes → update_of (parts_of (update_objects update)) ≡ Ok (messages.Update update)
 update_again update normal = updated_again update.srp update.plsp update.delegate update.admin update.ero update.attributes update.bandwidth normal
@@ -122,17 +126,19 @@ create_ok create = Ok (messages.Initiate (initiates.Create create))
 
 created_again : (srp : ℕ) (name : List ℕ) (source destination : ℕ) (ero : List Hop) (attributes : Option Attributes) (bandwidth : Option ℕ) → MayBeAttributes attributes
     → initiate_of (parts_of (create_objects (created srp name source destination ero attributes bandwidth))) ≡ create_ok (created srp name source destination ero attributes bandwidth)
+unfolding parts_of
 created_again srp name source destination ero None None normal = refl
 created_again srp name source destination ero None (Some bandwidth) normal = refl
 created_again srp name source destination ero (Some attributes) None normal =
-    ap (λ (a : Attributes). create_ok (created srp name source destination ero (Some a) None)) (in_force attributes normal.hold)
+    ap (λ (a : Attributes). create_ok (created srp name source destination ero (Some a) None)) (attributes_again attributes normal.priorities.hold)
 created_again srp name source destination ero (Some attributes) (Some bandwidth) normal =
-    ap (λ (a : Attributes). create_ok (created srp name source destination ero (Some a) (Some bandwidth))) (in_force attributes normal.hold)
+    ap (λ (a : Attributes). create_ok (created srp name source destination ero (Some a) (Some bandwidth))) (attributes_again attributes normal.priorities.hold)
 
 abbrev pub MayBeNormal : Initiate → Type 0
 MayBeNormal (initiates.Create create) = MayBeAttributes create.attributes
 MayBeNormal (initiates.Remove srp plsp) = Unit {0}
 
 pub initiate_again : (initiate : Initiate) → MayBeNormal initiate → initiate_of (parts_of (initiate_objects initiate)) ≡ Ok (messages.Initiate initiate)
+unfolding parts_of
 initiate_again (initiates.Create create) normal = created_again create.srp create.name create.source create.destination create.ero create.attributes create.bandwidth normal
 initiate_again (initiates.Remove srp plsp) normal = refl

@@ -2,7 +2,6 @@
 use Rattle.std.specs.Prelude.{◌≡◌, ℕ, ◌/◌, ◌%◌, ◌^◌, Bool, not, ◌&&◌, List, length, drop, slice_index, Result, Ok, Err, nat_lt, ◌==◌, if◌then◌else◌}
 use Rattle.pcep_objects.specs.Steps.{◌>>=◌, field, HasOneAnswer}
 use Rattle.pcep_messages.specs.Notifications.{notification_body}
-use Rattle.pcep_messages.specs.Reports.{report_body}
 use Rattle.pcep_messages.specs.Requests.{request_body}
 use Rattle.pcep_messages.specs.Sessions.{opening_body, keepalive_body, close_body}
 use Rattle.pcep_messages.specs.Replies.{reply_body}
@@ -10,18 +9,9 @@ use Rattle.pcep_messages.specs.Errors.{errors_body}
 use Rattle.pcep_messages.specs.Reports.{report_body}
 use Rattle.pcep_messages.specs.Updates.{update_body, initiate_body}
 use Rattle.pcep_messages.specs.declared.fault.MessageFault.{MessageFault}
-use Rattle.pcep_messages.specs.declared.fault.MessageFault.TheVariants.{BadHeader, BadObject, Missing, MissingIdentifiers, BadP, Refused, OutOfMemory}
+use Rattle.pcep_messages.specs.declared.fault.MessageFault.TheVariants.{BadHeader}
 use Rattle.pcep_messages.specs.declared.message.Message.{Message}
 use Rattle.pcep_messages.specs.declared.message.Message.TheVariants.{Report, Unknown}
-
-abbrev pub fault_number : MessageFault → ℕ
-fault_number BadHeader = 1
-fault_number (BadObject fault about) = 2
-fault_number (Missing class about) = 3
-fault_number (MissingIdentifiers about) = 4
-fault_number (BadP about) = 5
-fault_number (Refused kind value about) = 6
-fault_number OutOfMemory = 7
 
 -- The common header of a message (RFC 5440 section 6.1): version 1 in three bits, flags in five, the type,
 -- and the length of the whole message, a multiple of 4.
@@ -63,12 +53,3 @@ IsFaulty bytes fault = message_in bytes ≡ Err fault
 -- the bytes are one message or have one first fault
 abbrev pub ReadsOrIsFaulty : List ℕ → Type 0
 ReadsOrIsFaulty bytes = HasOneAnswer (Reads bytes) (IsFaulty bytes)
-
--- what a function returned is what reading gives, unless memory ran out
-abbrev pub Fails : {Y : Type 0} → MessageFault → Result Y MessageFault → Type 0
-Fails OutOfMemory read = Unit {0}
-Fails fault read = read ≡ Err fault
-
-abbrev pub Gives : {X Y : Type 0} → (X → Y) → Result X MessageFault → Result Y MessageFault → Type 0
-Gives view (Ok x) read = read ≡ Ok (view x)
-Gives view (Err fault) read = Fails fault read

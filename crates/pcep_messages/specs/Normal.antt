@@ -1,7 +1,8 @@
--- Normal messages: each field in its range, so that the message can be spelled.
+-- Normal messages: each field is one that the wire can have, so that the message is spelled as it reads.
 use Rattle.std.specs.Prelude.{◌≡◌, ℕ, ◌^◌, ◌<◌, ◌≤◌, true, Option, Some, None}
 use Rattle.std.specs.List.{AllByRecursion}
-use Rattle.pcep_word.specs.Word.{IsBandwidth, bound_of}
+use Rattle.pcep_word.specs.Priority.{InForce}
+use Rattle.pcep_word.specs.Word.{IsBandwidth, IsBound}
 use Rattle.pcep_objects.specs.Spelling.{IsHop}
 use Rattle.pcep_messages.specs.declared.message.Answer.{Answer}
 use Rattle.pcep_messages.specs.declared.message.Answer.TheVariants as answers
@@ -23,14 +24,9 @@ pub record AreErrors (errors : Errors) : Type 0 where
   pub requests : AllByRecursion IsWord errors.requests
   pub srps : AllByRecursion IsWord errors.srps
 
--- some word reads as the cost
-pub record IsCost (cost : Cost) : Type 0 where
-  pub word : ℕ
-  pub reads : bound_of word ≡ Some cost.value
-
 abbrev pub MayBeCost : Option Cost → Type 0
 MayBeCost None = Unit {0}
-MayBeCost (Some cost) = IsCost cost
+MayBeCost (Some cost) = IsBound cost.value
 
 abbrev pub IsAnswer : Answer → Type 0
 IsAnswer (answers.Found ero cost) = AllByRecursion (IsHop true) ero × MayBeCost cost
@@ -40,13 +36,16 @@ pub record IsReply (reply : Reply) : Type 0 where
   pub request : IsWord reply.request
   pub answer : IsAnswer reply.answer
 
--- the holding priority is the one in force
+-- the numbers of each `Priorities`
+pub record ArePriorities (priorities : InForce) : Type 0 where
+  pub setup : priorities.setup ≤ 7
+  pub hold : priorities.hold ≤ priorities.setup
+
 pub record AreAttributes (attributes : Attributes) : Type 0 where
   pub exclude_any : IsWord attributes.colours.exclude_any
   pub include_any : IsWord attributes.colours.include_any
   pub include_all : IsWord attributes.colours.include_all
-  pub setup : attributes.setup ≤ 7
-  pub hold : attributes.hold ≤ attributes.setup
+  pub priorities : ArePriorities attributes.priorities
 
 abbrev pub MayBeAttributes : Option Attributes → Type 0
 MayBeAttributes None = Unit {0}

@@ -1,35 +1,31 @@
 -- The objects of a message, from first to last.
-use Rattle.std.specs.Prelude.{◌≡◌, ℕ, ◌≤◌, zero, suc, ◌-◌, Bool, true, false, ◌&&◌, List, [], ◌∷◌, Option, Some, None, Result, Ok, Err, if◌then◌else◌}
+use Rattle.std.specs.Prelude.{◌≡◌, ℕ, zero, suc, ◌-◌, Bool, true, false, ◌&&◌, List, [], ◌∷◌, Option, Some, None, Result, Ok, Err, if◌then◌else◌}
 use Rattle.pcep_objects.specs.Objects.{object_at}
 use Rattle.pcep_objects.specs.declared.fault.ObjectFault.{ObjectFault}
 use Rattle.pcep_objects.specs.declared.fault.ObjectFault.TheVariants.{UnknownClass, UnknownType}
 use Rattle.pcep_objects.specs.declared.object.Object.{Object}
-use Rattle.pcep_messages.specs.declared.objects.Next.{Next}
-use Rattle.pcep_messages.specs.declared.objects.Next.TheVariants as next
 
 -- the objects up to the first that has a fault of its own, and that fault
 pub record Found : Type 0 where
   pub objects : List Object
   pub fault : Option ObjectFault
 
--- An object of an unknown class or type is skipped. In a message that heeds their P flag, one that has to be processed is a fault.
-abbrev pub next_of : Bool → Result (Object × ℕ) ObjectFault → Next
-next_of heeds_p (Ok x) = next.Object x.0 x.1
-next_of heeds_p (Err (UnknownClass p n)) = if heeds_p && p then next.Bad (UnknownClass p n) else next.Skipped n
-next_of heeds_p (Err (UnknownType p n)) = if heeds_p && p then next.Bad (UnknownType p n) else next.Skipped n
-next_of heeds_p (Err fault) = next.Bad fault
+abbrev pub stopped_by : ObjectFault → Found
+stopped_by fault = record { objects = []; fault = Some fault }
 
--- what stands at the front, and the rest behind its bytes
-abbrev pub followed_by : Next → (ℕ → Found) → Found
-followed_by (next.Object object n) rest = record { objects = object ∷ (rest n).objects; fault = (rest n).fault }
-followed_by (next.Skipped n) rest = rest n
-followed_by (next.Bad fault) rest = record { objects = []; fault = Some fault }
+-- What stands at the front, and the rest behind its bytes. An object of an unknown class or type is skipped; in a message that heeds
+-- their P flag, one that has to be processed is a fault.
+abbrev pub followed_by : Bool → Result (Object × ℕ) ObjectFault → (ℕ → Found) → Found
+followed_by heeds_p (Ok x) rest = record { objects = x.0 ∷ (rest x.1).objects; fault = (rest x.1).fault }
+followed_by heeds_p (Err (UnknownClass p n)) rest = if heeds_p && p then stopped_by (UnknownClass p n) else rest n
+followed_by heeds_p (Err (UnknownType p n)) rest = if heeds_p && p then stopped_by (UnknownType p n) else rest n
+followed_by heeds_p (Err fault) rest = stopped_by fault
 
 -- skip counts the bytes of an object that was read and are still to pass
 unfoldable pub found_from : Bool → ℕ → List ℕ → Found
 found_from heeds_p skip [] = record { objects = []; fault = None }
 found_from heeds_p (suc skip) (b ∷ bytes) = found_from heeds_p skip bytes
-found_from heeds_p zero (b ∷ bytes) = followed_by (next_of heeds_p (object_at (b ∷ bytes))) (λ n. found_from heeds_p (n - 1) bytes)
+found_from heeds_p zero (b ∷ bytes) = followed_by heeds_p (object_at (b ∷ bytes)) (λ n. found_from heeds_p (n - 1) bytes)
 
 abbrev pub found_by : Bool → List ℕ → Found
 found_by heeds_p bytes = found_from heeds_p 0 bytes
@@ -43,8 +39,3 @@ found_in_request bytes = found_by true bytes
 
 abbrev pub IsFound : Found → List Object → Option ObjectFault → Type 0
 IsFound found objects fault = found ≡ record { objects = objects; fault = fault }
-
-abbrev pub SizeWithin : ℕ → Next → Type 0
-SizeWithin len (next.Object object n) = (4 ≤ n) × (n ≤ len)
-SizeWithin len (next.Skipped n) = (4 ≤ n) × (n ≤ len)
-SizeWithin len (next.Bad fault) = Unit {0}

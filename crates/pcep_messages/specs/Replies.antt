@@ -1,13 +1,15 @@
 -- What a PCRep says of a path that was asked for (RFC 5440 section 6.5), or the first fault.
 use Rattle.std.specs.Prelude.{ℕ, List, Option, Some, None, Result, Ok, Err}
 use Rattle.std.specs.Option.{option_map}
+use Rattle.pcep_objects.specs.Kinds.{class_number}
 use Rattle.pcep_objects.specs.Steps.{◌>>=◌}
+use Rattle.pcep_objects.specs.declared.kind.Kind.TheVariants as kinds
 use Rattle.pcep_objects.specs.declared.object.Hop.{Hop}
 use Rattle.pcep_objects.specs.declared.object.Metric.{Metric}
 use Rattle.pcep_objects.specs.declared.request_objects.NoPath.{NoPath}
 use Rattle.pcep_objects.specs.declared.request_objects.Rp.{Rp}
 use Rattle.pcep_messages.specs.Objects.{found_in}
-use Rattle.pcep_messages.specs.Parts.{read_parts}
+use Rattle.pcep_messages.specs.Parts.{Parts, read_parts}
 use Rattle.pcep_messages.specs.declared.fault.About.{About}
 use Rattle.pcep_messages.specs.declared.fault.About.TheVariants as about
 use Rattle.pcep_messages.specs.declared.fault.MessageFault.{MessageFault}
@@ -17,30 +19,28 @@ use Rattle.pcep_messages.specs.declared.message.Answer.TheVariants as answers
 use Rattle.pcep_messages.specs.declared.message.Cost.{Cost}
 use Rattle.pcep_messages.specs.declared.message.Message.{Message}
 use Rattle.pcep_messages.specs.declared.message.Message.TheVariants as messages
-use Rattle.pcep_messages.specs.declared.parts.Parts.{Parts}
 
 -- a fault of a reply is about its request
-abbrev pub about_rp : Option Rp → About
-about_rp None = about.Nothing
-about_rp (Some rp) = about.Request rp.id
+abbrev pub about_first_rp : Option Rp → About
+about_first_rp None = about.Nothing
+about_first_rp (Some rp) = about.Request rp.id
 
 abbrev pub about_reply : Parts → About
-about_reply parts = about_rp parts.rp
+about_reply parts = about_first_rp parts.rp
 
 -- the cost is the first METRIC
 abbrev pub cost_of : Metric → Cost
-cost_of metric = record { kind = metric.kind; value = metric.value }
+cost_of metric = record { metric_type = metric.metric_type; value = metric.value }
 
--- NO-PATH says that there is no path, also where an ERO stands beside it. Without either the ERO, class 7,
--- is missing.
+-- NO-PATH says that there is no path, also where an ERO stands beside it. Without either the ERO is missing.
 abbrev pub answer_or_missing : About → Option NoPath → Option (List Hop) → Option Metric → Result Answer MessageFault
 answer_or_missing about (Some no_path) ero metric = Ok (answers.NoPath no_path.vector)
 answer_or_missing about None (Some hops) metric = Ok (answers.Found hops (option_map cost_of metric))
-answer_or_missing about None None metric = Err (Missing 7 about)
+answer_or_missing about None None metric = Err (Missing (class_number kinds.Ero) about)
 
--- RP, class 2, has to be there too
+-- RP has to be there too
 abbrev pub reply_or_missing : Answer → Option Rp → Result Message MessageFault
-reply_or_missing answer None = Err (Missing 2 about.Nothing)
+reply_or_missing answer None = Err (Missing (class_number kinds.Rp) about.Nothing)
 reply_or_missing answer (Some rp) = Ok (messages.Reply (record { request = rp.id; answer = answer }))
 
 abbrev pub reply_of : Parts → Result Message MessageFault

@@ -1,6 +1,7 @@
 -- The requests of a PCReq (RFC 5440 section 6.4), or the first fault: SVECs, then requests, each an RP with the objects behind it.
-use Rattle.std.specs.Prelude.{ℕ, Bool, true, false, not, ◌&&◌, ◌||◌, List, [], ◌∷◌, Option, Some, None, Result, Ok, Err, if◌then◌else◌}
-use Rattle.std.specs.List.{list_any, before_first}
+use Rattle.std.specs.Prelude.{ℕ, Bool, true, false, not, ◌&&◌, List, [], ◌∷◌, Option, Some, None, Result, Ok, Err, if◌then◌else◌}
+use Rattle.std.specs.List.{list_any}
+use Rattle.std.specs.Option.{option_or}
 use Rattle.pcep_objects.specs.Steps.{◌>>=◌}
 use Rattle.pcep_objects.specs.declared.fault.ObjectFault.{ObjectFault}
 use Rattle.pcep_objects.specs.declared.object.KeptClass.{KeptClass}
@@ -9,15 +10,19 @@ use Rattle.pcep_objects.specs.declared.object.Object.{Object}
 use Rattle.pcep_objects.specs.declared.object.Object.TheVariants as objects
 use Rattle.pcep_objects.specs.declared.request_objects.EndPoints.{EndPoints}
 use Rattle.pcep_objects.specs.declared.request_objects.Rp.{Rp}
-use Rattle.pcep_messages.specs.Constraints.{first_of, end_points_of, plsp_of, lspa_of, is_rro, is_bandwidth, greatest_requested, minimised, bounds_of}
+use Rattle.pcep_objects.specs.declared.object.Lspa.{Lspa}
+use Rattle.pcep_objects.specs.declared.object.MetricType.{MetricType}
+use Rattle.pcep_messages.specs.Constraints.{plsp_of, is_rro, is_above_zero, bandwidth_asked, minimised_by, or_te, bounds_of}
+use Rattle.pcep_messages.specs.Counting.{first_of, end_points_of, lspa_of, greatest_of}
 use Rattle.pcep_messages.specs.Objects.{found_in_request}
-use Rattle.pcep_messages.specs.Reports.{setup_of, hold_of, colours_of}
+use Rattle.pcep_messages.specs.Reports.{priorities_of, colours_of}
 use Rattle.pcep_messages.specs.declared.fault.About.{About}
 use Rattle.pcep_messages.specs.declared.fault.About.TheVariants as about
 use Rattle.pcep_messages.specs.declared.fault.MessageFault.{MessageFault}
 use Rattle.pcep_messages.specs.declared.fault.MessageFault.TheVariants.{BadObject, BadP, Refused}
 use Rattle.pcep_messages.specs.declared.message.Message.{Message}
 use Rattle.pcep_messages.specs.declared.message.Message.TheVariants as messages
+use Rattle.pcep_messages.specs.declared.message.Bounds.{Bounds}
 use Rattle.pcep_messages.specs.declared.message.PathRequest.{PathRequest}
 
 -- a fault of a request is about its RP
@@ -30,60 +35,68 @@ is_rp object = false
 
 -- the objects in front of the first RP
 abbrev pub up_to_rp : List Object → List Object
-up_to_rp objects = before_first is_rp objects
+up_to_rp [] = []
+up_to_rp (object ∷ objects) = if is_rp object then [] else object ∷ up_to_rp objects
 
--- A fault at a place among a request's objects: its first END-POINTS has P clear (10/1), or an SVEC, IRO or LOAD-BALANCING has to be
--- taken into account (4/1).
-abbrev pub fault_in_place : About → Bool → List Object → Option MessageFault
-fault_in_place about has_ends [] = None
-fault_in_place about has_ends (objects.EndPoints ends ∷ behind) = if has_ends || ends.p then fault_in_place about true behind else Some (BadP about)
-fault_in_place about has_ends (objects.Kept kept ∷ behind) = if kept.p then Some (Refused 4 1 about) else fault_in_place about has_ends behind
-fault_in_place about has_ends (object ∷ behind) = fault_in_place about has_ends behind
+-- an SVEC, IRO or LOAD-BALANCING that has to be taken into account is 4/1
+abbrev pub kept_fault : About → Object → Option MessageFault
+kept_fault about (objects.Kept kept) = if kept.p then Some (Refused 4 1 about) else None
+kept_fault about object = None
 
--- a new path for an LSP that stands and has bandwidth needs the path that it takes
-abbrev pub lacks_rro : Rp → List Object → Bool
-lacks_rro rp objects = rp.reoptimize && not (list_any is_rro objects) && list_any is_bandwidth objects
+-- the first fault at a place among a request's objects: its first END-POINTS has P clear (10/1), or such an object stands there
+abbrev pub fault_in_place : About → List Object → Option MessageFault
+fault_in_place about [] = None
+fault_in_place about (objects.EndPoints ends ∷ behind) = if ends.p then first_of (kept_fault about) behind else Some (BadP about)
+fault_in_place about (object ∷ behind) = option_or (kept_fault about object) (fault_in_place about behind)
 
-abbrev pub request_with : Rp → List Object → EndPoints → PathRequest
-request_with rp objects ends = record {
+-- ---- one request, by its RP and what counts of the objects behind it
+
+abbrev pub request_with : Rp → EndPoints → Option ℕ → ℕ → Option Lspa → Option MetricType → Bounds → PathRequest
+request_with rp ends plsp bandwidth lspa minimised bounds = record {
   request = rp.id;
-  plsp = first_of plsp_of objects;
+  plsp = plsp;
   source = ends.source;
   destination = ends.destination;
-  bandwidth = greatest_requested objects;
-  setup = setup_of (first_of lspa_of objects);
-  hold = hold_of (first_of lspa_of objects);
-  colours = colours_of (first_of lspa_of objects);
-  minimise = minimised objects;
-  bounds = bounds_of objects;
+  bandwidth = bandwidth;
+  priorities = priorities_of lspa;
+  colours = colours_of lspa;
+  minimise = or_te minimised;
+  bounds = bounds;
 }
 
+-- a new path for an LSP that stands and has bandwidth needs the path that it takes
+abbrev pub lacks_rro : Rp → (has_rro : Bool) → (has_bandwidth : Bool) → Bool
+lacks_rro rp has_rro has_bandwidth = rp.reoptimize && not has_rro && has_bandwidth
+
 -- the end of a request: without END-POINTS it is 6/3, a reoptimization without RRO is 6/2
-abbrev pub whole_request : Rp → List Object → Option EndPoints → Result PathRequest MessageFault
-whole_request rp objects None = Err (Refused 6 3 (about_rp rp))
-whole_request rp objects (Some ends) = if lacks_rro rp objects then Err (Refused 6 2 (about_rp rp)) else Ok (request_with rp objects ends)
+abbrev pub whole_request : Rp → Option EndPoints → (lacks : Bool) → (EndPoints → PathRequest) → Result PathRequest MessageFault
+whole_request rp None lacks request = Err (Refused 6 3 (about_rp rp))
+whole_request rp (Some ends) lacks request = if lacks then Err (Refused 6 2 (about_rp rp)) else Ok (request ends)
 
 -- an object with a fault of its own ends no request
 abbrev pub request_or_own_fault : Rp → List Object → Option ObjectFault → Result PathRequest MessageFault
 request_or_own_fault rp objects (Some fault) = Err (BadObject fault (about_rp rp))
-request_or_own_fault rp objects None = whole_request rp objects (first_of end_points_of objects)
+request_or_own_fault rp objects None =
+    whole_request rp (first_of end_points_of objects) (lacks_rro rp (list_any is_rro objects) (list_any is_above_zero objects))
+    (λ ends. request_with rp ends (first_of plsp_of objects) (greatest_of bandwidth_asked objects) (first_of lspa_of objects)
+    (first_of minimised_by objects) (bounds_of objects))
 
 abbrev pub request_or_fault : Rp → List Object → Option ObjectFault → Option MessageFault → Result PathRequest MessageFault
 request_or_fault rp objects own (Some fault) = Err fault
 request_or_fault rp objects own None = request_or_own_fault rp objects own
 
 -- An RP, the objects behind it up to the next RP, and perhaps an object's own fault behind those. The RP has to have P set.
-unfoldable pub request_of : Rp → List Object → Option ObjectFault → Result PathRequest MessageFault
+abbrev pub request_of : Rp → List Object → Option ObjectFault → Result PathRequest MessageFault
 request_of rp objects own =
     if not rp.p then Err (BadP (about_rp rp))
-    else request_or_fault rp objects own (fault_in_place (about_rp rp) false objects)
+    else request_or_fault rp objects own (fault_in_place (about_rp rp) objects)
 
 -- the fault belongs to the last request
 abbrev pub own_fault : List Object → Option ObjectFault → Option ObjectFault
 own_fault objects fault = if list_any is_rp objects then None else fault
 
 -- each RP with the objects behind it up to the next
-unfoldable pub requests_of : List Object → Option ObjectFault → Result (List PathRequest) MessageFault
+abbrev pub requests_of : List Object → Option ObjectFault → Result (List PathRequest) MessageFault
 requests_of [] fault = Ok []
 requests_of (objects.Rp rp ∷ behind) fault = do
   request ← request_of rp (up_to_rp behind) (own_fault behind fault)
@@ -113,6 +126,9 @@ requests_behind None objects own = if list_any is_rp objects then requests_of ob
 abbrev pub requests_in : List Object → Option ObjectFault → Result (List PathRequest) MessageFault
 requests_in objects own = requests_behind (first_of fault_in_front (up_to_rp objects)) objects own
 
+unfoldable pub requests_in_body : List ℕ → Result (List PathRequest) MessageFault
+requests_in_body body = requests_in (found_in_request body).objects (found_in_request body).fault
+
 -- the body of a PCReq
 unfoldable pub request_body : List ℕ → Result Message MessageFault
-request_body body = requests_in (found_in_request body).objects (found_in_request body).fault >>= λ requests. Ok (messages.Request requests)
+request_body body = requests_in_body body >>= λ requests. Ok (messages.Request requests)

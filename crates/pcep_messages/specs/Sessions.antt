@@ -1,24 +1,25 @@
 -- The messages that open, keep and close a session (RFC 5440 sections 6.2, 6.3 and 6.8), or the first fault.
 use Rattle.std.specs.Prelude.{ℕ, List, Option, Some, None, Result, Ok, Err}
+use Rattle.pcep_objects.specs.Kinds.{class_number}
+use Rattle.pcep_objects.specs.declared.kind.Kind.TheVariants as kinds
 use Rattle.pcep_objects.specs.declared.session_objects.Open.{Open}
 use Rattle.pcep_objects.specs.declared.session_objects.Close.{Close}
 use Rattle.pcep_messages.specs.Objects.{found_in}
-use Rattle.pcep_messages.specs.Parts.{read_parts}
+use Rattle.pcep_messages.specs.Parts.{Parts, read_parts}
 use Rattle.pcep_messages.specs.declared.fault.About.{About}
 use Rattle.pcep_messages.specs.declared.fault.About.TheVariants as about
 use Rattle.pcep_messages.specs.declared.fault.MessageFault.{MessageFault}
 use Rattle.pcep_messages.specs.declared.fault.MessageFault.TheVariants.{Missing}
 use Rattle.pcep_messages.specs.declared.message.Message.{Message}
 use Rattle.pcep_messages.specs.declared.message.Message.TheVariants as messages
-use Rattle.pcep_messages.specs.declared.parts.Parts.{Parts}
 
 -- a fault in one of these messages is about nothing that has a number
 abbrev pub about_nothing : Parts → About
 about_nothing parts = about.Nothing
 
--- OPEN, class 1, has to be there
+-- OPEN has to be there
 abbrev pub opening_or_missing : Option Open → Result Message MessageFault
-opening_or_missing None = Err (Missing 1 about.Nothing)
+opening_or_missing None = Err (Missing (class_number kinds.Open) about.Nothing)
 opening_or_missing (Some opening) = Ok (messages.Opening opening)
 
 unfoldable pub opening_body : List ℕ → Result Message MessageFault

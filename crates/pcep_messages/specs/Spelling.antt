@@ -58,7 +58,8 @@ no_path_object vector = objects.NoPath (record { nature = 0; constraints = false
 abbrev pub attributes_objects : Option Attributes → List Object
 attributes_objects None = []
 attributes_objects (Some attributes) =
-    objects.Lspa (record { colours = attributes.colours; setup = attributes.setup; hold = attributes.hold; local_protection = false }) ∷ []
+    let priorities = attributes.priorities in
+    objects.Lspa (record { colours = attributes.colours; setup = priorities.setup; hold = priorities.hold; local_protection = false }) ∷ []
 
 abbrev pub bandwidth_objects : Option ℕ → List Object
 bandwidth_objects None = []
@@ -70,7 +71,7 @@ constraint_objects attributes bandwidth = attributes_objects attributes ++ bandw
 -- METRIC with C set
 abbrev pub cost_objects : Option Cost → List Object
 cost_objects None = []
-cost_objects (Some cost) = objects.Metric (record { bound = false; computed = true; kind = cost.kind; value = cost.value }) ∷ []
+cost_objects (Some cost) = objects.Metric (record { bound = false; computed = true; metric_type = cost.metric_type; value = cost.value }) ∷ []
 
 -- ---- messages
 

@@ -1,14 +1,17 @@
 -- What a PCUpd (RFC 8231 section 6.2) and a PCInitiate (RFC 8281 section 5.1) ask for, or the first fault.
-use Rattle.std.specs.Prelude.{ℕ, min, not, ◌&&◌, List, [], Option, Some, None, is_none, Result, Ok, Err, if◌then◌else◌}
-use Rattle.std.specs.Option.{option_map}
+use Rattle.std.specs.Prelude.{ℕ, not, ◌&&◌, List, [], Option, Some, None, is_none, Result, Ok, Err, if◌then◌else◌}
+use Rattle.std.specs.Option.{option_map, unwrap_or}
+use Rattle.pcep_word.specs.Priority.{in_force}
+use Rattle.pcep_objects.specs.Kinds.{class_number}
+use Rattle.pcep_objects.specs.declared.kind.Kind.TheVariants as kinds
 use Rattle.pcep_objects.specs.declared.object.Hop.{Hop}
 use Rattle.pcep_objects.specs.declared.object.LspObject.{LspObject}
 use Rattle.pcep_objects.specs.declared.object.Lspa.{Lspa}
 use Rattle.pcep_objects.specs.declared.object.Srp.{Srp}
 use Rattle.pcep_objects.specs.declared.request_objects.EndPoints.{EndPoints}
 use Rattle.pcep_messages.specs.Objects.{found_in}
-use Rattle.pcep_messages.specs.Parts.{read_parts}
-use Rattle.pcep_messages.specs.Reports.{srp_id, about_srp, hops_or_none}
+use Rattle.pcep_messages.specs.Parts.{Parts, read_parts}
+use Rattle.pcep_messages.specs.Reports.{srp_id, about_srp}
 use Rattle.pcep_messages.specs.declared.fault.About.{About}
 use Rattle.pcep_messages.specs.declared.fault.MessageFault.{MessageFault}
 use Rattle.pcep_messages.specs.declared.fault.MessageFault.TheVariants.{Missing}
@@ -18,22 +21,15 @@ use Rattle.pcep_messages.specs.declared.message.Initiate.TheVariants as initiate
 use Rattle.pcep_messages.specs.declared.message.Message.{Message}
 use Rattle.pcep_messages.specs.declared.message.Message.TheVariants as messages
 use Rattle.pcep_messages.specs.declared.message.Update.{Update}
-use Rattle.pcep_messages.specs.declared.parts.Parts.{Parts}
 
 -- a fault is about the request's SRP
 abbrev pub about_parts : Parts → About
 about_parts parts = about_srp (srp_id parts.srp)
 
--- the holding priority in force is never above the setup priority
 abbrev pub attributes_of : Lspa → Attributes
-attributes_of lspa = record { colours = lspa.colours; setup = lspa.setup; hold = min lspa.setup lspa.hold }
+attributes_of lspa = record { colours = lspa.colours; priorities = in_force lspa.setup lspa.hold }
 
--- without SYMBOLIC-PATH-NAME the name is empty
-abbrev pub name_or_none : Option (List ℕ) → List ℕ
-name_or_none None = []
-name_or_none (Some name) = name
-
--- ---- PCUpd
+-- ---- PCUpd: without ERO the route is empty
 
 abbrev pub update_with : Srp → LspObject → Parts → Update
 update_with srp lsp parts = record {
@@ -41,17 +37,17 @@ update_with srp lsp parts = record {
   plsp = lsp.plsp;
   delegate = lsp.delegate;
   admin = lsp.admin;
-  ero = hops_or_none parts.ero;
+  ero = unwrap_or parts.ero [];
   attributes = option_map attributes_of parts.lspa;
   bandwidth = parts.bandwidth;
 }
 
--- SRP, class 33, LSP, class 32, and ERO, class 7, have to be there; with R of SRP set no ERO has to
+-- SRP, LSP and ERO have to be there; with R of SRP set no ERO has to
 abbrev pub update_or_missing : Parts → Option Srp → Option LspObject → Result Message MessageFault
-update_or_missing parts None lsp = Err (Missing 33 (about_parts parts))
-update_or_missing parts (Some srp) None = Err (Missing 32 (about_parts parts))
+update_or_missing parts None lsp = Err (Missing (class_number kinds.Srp) (about_parts parts))
+update_or_missing parts (Some srp) None = Err (Missing (class_number kinds.Lsp) (about_parts parts))
 update_or_missing parts (Some srp) (Some lsp) =
-    if is_none parts.ero && not srp.remove then Err (Missing 7 (about_parts parts)) else Ok (messages.Update (update_with srp lsp parts))
+    if is_none parts.ero && not srp.remove then Err (Missing (class_number kinds.Ero) (about_parts parts)) else Ok (messages.Update (update_with srp lsp parts))
 
 abbrev pub update_of : Parts → Result Message MessageFault
 update_of parts = update_or_missing parts parts.srp parts.lsp
@@ -59,12 +55,12 @@ update_of parts = update_or_missing parts parts.srp parts.lsp
 unfoldable pub update_body : List ℕ → Result Message MessageFault
 update_body body = read_parts about_parts update_of (found_in body)
 
--- ---- PCInitiate
+-- ---- PCInitiate: without SYMBOLIC-PATH-NAME the name is empty
 
 abbrev pub create_with : Srp → LspObject → EndPoints → List Hop → Parts → Create
 create_with srp lsp end_points hops parts = record {
   srp = srp.id;
-  name = name_or_none lsp.name;
+  name = unwrap_or lsp.name [];
   source = end_points.source;
   destination = end_points.destination;
   ero = hops;
@@ -72,16 +68,16 @@ create_with srp lsp end_points hops parts = record {
   bandwidth = parts.bandwidth;
 }
 
--- a new LSP also has to have ERO, class 7, and END-POINTS, class 4
+-- a new LSP also has to have ERO and END-POINTS
 abbrev pub create_or_missing : Srp → LspObject → Parts → Option (List Hop) → Option EndPoints → Result Message MessageFault
-create_or_missing srp lsp parts None end_points = Err (Missing 7 (about_parts parts))
-create_or_missing srp lsp parts (Some hops) None = Err (Missing 4 (about_parts parts))
+create_or_missing srp lsp parts None end_points = Err (Missing (class_number kinds.Ero) (about_parts parts))
+create_or_missing srp lsp parts (Some hops) None = Err (Missing (class_number kinds.EndPoints) (about_parts parts))
 create_or_missing srp lsp parts (Some hops) (Some end_points) = Ok (messages.Initiate (initiates.Create (create_with srp lsp end_points hops parts)))
 
--- SRP, class 33, and LSP, class 32, have to be there; with R of SRP set they are enough, and the LSP is to go
+-- SRP and LSP have to be there; with R of SRP set they are enough, and the LSP is to go
 abbrev pub initiate_or_missing : Parts → Option Srp → Option LspObject → Result Message MessageFault
-initiate_or_missing parts None lsp = Err (Missing 33 (about_parts parts))
-initiate_or_missing parts (Some srp) None = Err (Missing 32 (about_parts parts))
+initiate_or_missing parts None lsp = Err (Missing (class_number kinds.Srp) (about_parts parts))
+initiate_or_missing parts (Some srp) None = Err (Missing (class_number kinds.Lsp) (about_parts parts))
 initiate_or_missing parts (Some srp) (Some lsp) =
     if srp.remove then Ok (messages.Initiate (initiates.Remove srp.id lsp.plsp)) else create_or_missing srp lsp parts parts.ero parts.end_points
 

@@ -1,135 +1,21 @@
-//! What the objects of a request ask of a path.
+//! What an object of a request asks of a path.
 
-ghost use Rattle.std.specs.Prelude.{◌≡◌, max};
-ghost use Rattle.std.specs.List.{list_any};
-ghost use Rattle.pcep_messages.specs.Constraints.{first_of, end_points_of, plsp_of, lspa_of, is_rro, is_bandwidth, requested, greatest_requested, metric_type, minimised_by, minimised, bound_on, lesser, least_bound, bounds_of};
+ghost use Rattle.std.specs.Prelude.{◌≡◌};
+ghost use Rattle.pcep_messages.specs.Constraints.{bandwidth_asked, metric_type, minimised_by, bound_on, lesser};
+ghost use Rattle.pcep_objects.specs.declared.object.Object.TheVariants as objects;
 
 use crate::message::Bounds;
-use pcep_objects::{BandwidthType, EndPoints, Lspa, MetricType, Object, Plsp};
+use pcep_objects::{BandwidthType, Metric, MetricType};
 use pcep_word::Bandwidth;
 
-fn end_points_of(object: &Object) -> Option<EndPoints>
-    ensures { result ≡ end_points_of object.now }
+/// The bandwidth that is asked for: that of an LSP that stands is not.
+pub fn bandwidth_asked(kind: BandwidthType, bandwidth: Bandwidth) -> Bandwidth
+    ensures { result ≡ bandwidth_asked (objects.Bandwidth kind bandwidth) }
 {
-    match object {
-        Object::EndPoints(ends) => Some(*ends),
-        _ => None,
+    match kind {
+        BandwidthType::Requested => bandwidth,
+        BandwidthType::Current => Bandwidth::zero(),
     }
-}
-
-/// The first END-POINTS.
-pub fn first_end_points(objects: &[Object]) -> Option<EndPoints>
-    ensures { result ≡ first_of end_points_of objects.now }
-{
-    for object in objects {
-        let found = end_points_of(object);
-        if found.is_some() {
-            return found;
-        }
-    }
-    None
-}
-
-fn plsp_of(object: &Object) -> Option<Plsp>
-    ensures { result ≡ plsp_of object.now }
-{
-    match object {
-        Object::Lsp(lsp) => Some(lsp.plsp),
-        _ => None,
-    }
-}
-
-/// The PLSP-ID of the first LSP.
-pub fn first_plsp(objects: &[Object]) -> Option<Plsp>
-    ensures { result ≡ first_of plsp_of objects.now }
-{
-    for object in objects {
-        let found = plsp_of(object);
-        if found.is_some() {
-            return found;
-        }
-    }
-    None
-}
-
-fn lspa_of(object: &Object) -> Option<Lspa>
-    ensures { result ≡ lspa_of object.now }
-{
-    match object {
-        Object::Lspa(lspa) => Some(*lspa),
-        _ => None,
-    }
-}
-
-/// The first LSPA.
-pub fn first_lspa(objects: &[Object]) -> Option<Lspa>
-    ensures { result ≡ first_of lspa_of objects.now }
-{
-    for object in objects {
-        let found = lspa_of(object);
-        if found.is_some() {
-            return found;
-        }
-    }
-    None
-}
-
-fn is_rro(object: &Object) -> bool
-    ensures { result ≡ is_rro object.now }
-{
-    matches!(object, Object::Rro(_))
-}
-
-pub fn has_rro(objects: &[Object]) -> bool
-    ensures { result ≡ list_any is_rro objects.now }
-{
-    objects.iter().any(is_rro)
-}
-
-fn is_bandwidth(object: &Object) -> bool
-    ensures { result ≡ is_bandwidth object.now }
-{
-    match object {
-        Object::Bandwidth(_, bandwidth) => 0 < bandwidth.value(),
-        _ => false,
-    }
-}
-
-/// Whether there is a bandwidth above 0, asked for or of an LSP that stands.
-pub fn has_bandwidth(objects: &[Object]) -> bool
-    ensures { result ≡ list_any is_bandwidth objects.now }
-{
-    objects.iter().any(is_bandwidth)
-}
-
-fn requested(object: &Object) -> Bandwidth
-    ensures { result ≡ requested object.now }
-{
-    match object {
-        Object::Bandwidth(BandwidthType::Requested, bandwidth) => *bandwidth,
-        _ => Bandwidth::zero(),
-    }
-}
-
-fn greater(bandwidth: Bandwidth, other: Bandwidth) -> Bandwidth
-    ensures { result ≡ max bandwidth other }
-{
-    if bandwidth.value() < other.value() {
-        other
-    } else {
-        bandwidth
-    }
-}
-
-/// The greatest bandwidth that is asked for.
-pub fn greatest_requested(objects: &[Object]) -> Bandwidth
-    ensures { result ≡ greatest_requested objects.now }
-{
-    let mut greatest = Bandwidth::zero();
-    for object in objects {
-        greatest = greater(greatest, requested(object));
-    }
-    greatest
 }
 
 fn metric_type(number: u8) -> Option<MetricType>
@@ -143,40 +29,24 @@ fn metric_type(number: u8) -> Option<MetricType>
     }
 }
 
-fn minimised_by(object: &Object) -> Option<MetricType>
-    ensures { result ≡ minimised_by object.now }
+/// The metric that is to be least.
+pub fn minimised_by(metric: &Metric) -> Option<MetricType>
+    ensures { result ≡ minimised_by (objects.Metric metric.now) }
 {
-    match object {
-        Object::Metric(metric) if !metric.bound => metric_type(metric.kind),
-        _ => None,
+    if metric.bound {
+        None
+    } else {
+        metric_type(metric.metric_type)
     }
 }
 
-fn first_minimised(objects: &[Object]) -> Option<MetricType>
-    ensures { result ≡ first_of minimised_by objects.now }
+fn bound_on(number: u8, metric: &Metric) -> Option<u64>
+    ensures { result ≡ bound_on number (objects.Metric metric.now) }
 {
-    for object in objects {
-        let found = minimised_by(object);
-        if found.is_some() {
-            return found;
-        }
-    }
-    None
-}
-
-/// The metric that is to be least: the TE metric where no object names one.
-pub fn minimised(objects: &[Object]) -> MetricType
-    ensures { result ≡ minimised objects.now }
-{
-    first_minimised(objects).unwrap_or(MetricType::Te)
-}
-
-fn bound_on(kind: u8, object: &Object) -> Option<u64>
-    ensures { result ≡ bound_on kind object.now }
-{
-    match object {
-        Object::Metric(metric) if metric.bound && metric.kind == kind => Some(metric.value.value()),
-        _ => None,
+    if metric.bound && metric.metric_type == number {
+        Some(metric.value.value())
+    } else {
+        None
     }
 }
 
@@ -190,23 +60,15 @@ fn lesser(bound: Option<u64>, other: Option<u64>) -> Option<u64>
     }
 }
 
-fn least_bound(kind: u8, objects: &[Object]) -> Option<u64>
-    ensures { result ≡ least_bound kind objects.now }
-{
-    let mut least = None;
-    for object in objects {
-        least = lesser(least, bound_on(kind, object));
-    }
-    least
-}
-
-/// The least bound on each metric.
-pub fn bounds_of(objects: &[Object]) -> Bounds
-    ensures { result ≡ bounds_of objects.now }
+/// The bounds, with that of one more METRIC.
+pub fn bounded(bounds: Bounds, metric: &Metric) -> Bounds
+    ensures igp { result.igp ≡ lesser bounds.igp (bound_on 1 (objects.Metric metric.now)) }
+    ensures te { result.te ≡ lesser bounds.te (bound_on 2 (objects.Metric metric.now)) }
+    ensures hops { result.hops ≡ lesser bounds.hops (bound_on 3 (objects.Metric metric.now)) }
 {
     Bounds {
-        igp: least_bound(1, objects),
-        te: least_bound(2, objects),
-        hops: least_bound(3, objects),
+        igp: lesser(bounds.igp, bound_on(1, metric)),
+        te: lesser(bounds.te, bound_on(2, metric)),
+        hops: lesser(bounds.hops, bound_on(3, metric)),
     }
 }

@@ -3,7 +3,7 @@
 ghost use Rattle.std.specs.Prelude.{◌≡◌, IfOk};
 ghost use Rattle.std.specs.List.{filter_map};
 ghost use Rattle.pcep_messages.specs.Errors.{named_request, named_srp, named_error, errors_of, errors_body};
-ghost use Rattle.pcep_messages.specs.Messages.{Gives};
+ghost use Rattle.pcep_messages.specs.Faults.{Gives};
 
 use crate::fault::{About, MessageFault};
 use crate::message::{Errors, Message};

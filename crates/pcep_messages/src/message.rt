@@ -4,14 +4,14 @@ use pcep_objects::{
     Colours, Hop, Identifiers, MetricType, MetricValue, NoPathVector, Open, Operational, PcepError,
     Plsp,
 };
-use pcep_word::{Bandwidth, Ipv4, Priority};
+use pcep_word::{Bandwidth, Ipv4, Priorities};
 use sequence::{PlainData, Sequence};
 use std::alloc::AllocError;
 
 /// What a peer reports of one LSP (RFC 8231 section 6.1).
 #[derive(Debug, Drop)]
 pub struct StateReport {
-    /// The SRP-ID of the request that the report answers; never `Some(0)`.
+    /// The SRP-ID of the request that the report answers. A report that was read has no `Some(0)`.
     pub srp: Option<u32>,
     pub plsp: Plsp,
     /// The LSP was removed (flag R).
@@ -35,11 +35,8 @@ pub struct StateReport {
     pub rro: Option<Sequence<Hop>>,
     /// The greatest of the report's bandwidths, in bytes per second; 0 where it has none.
     pub bandwidth: Bandwidth,
-    /// The setup priority; 7 where the report has no LSPA.
-    pub setup: Priority,
-    /// The holding priority in force: of the setup and the holding priority the better one, so never
-    /// a greater number than `setup`.
-    pub hold: Priority,
+    /// The setup priority and the holding priority in force; both 7 where the report has no LSPA.
+    pub priorities: Priorities,
     /// The link colours that bind the path; none where the report has no LSPA.
     pub colours: Colours,
 }
@@ -47,8 +44,11 @@ pub struct StateReport {
 /// The least bound that a request sets on each metric; None: it sets none.
 #[derive(Clone, Copy, Debug, PartialEq, Eq)]
 pub struct Bounds {
+    /// On the IGP metric.
     pub igp: Option<u64>,
+    /// On the TE metric.
     pub te: Option<u64>,
+    /// On the number of hops.
     pub hops: Option<u64>,
 }
 
@@ -63,14 +63,13 @@ pub struct PathRequest {
     pub destination: Ipv4,
     /// The bandwidth that is asked for, in bytes per second; 0 where the request has none.
     pub bandwidth: Bandwidth,
-    /// The setup priority; 7 where the request has no LSPA.
-    pub setup: Priority,
-    /// The holding priority in force: of the setup and the holding priority the better one.
-    pub hold: Priority,
+    /// The setup priority and the holding priority in force; both 7 where the request has no LSPA.
+    pub priorities: Priorities,
     /// The link colours that bind the path; none where the request has no LSPA.
     pub colours: Colours,
     /// What the path is to have least of: the TE metric where the request names none.
     pub minimise: MetricType,
+    /// The bounds that the METRICs with flag B set on the path.
     pub bounds: Bounds,
 }
 
@@ -78,7 +77,7 @@ pub struct PathRequest {
 #[derive(Clone, Copy, Debug, PartialEq, Eq)]
 pub struct Cost {
     /// The metric's type T (RFC 5440 section 7.8): 1 IGP, 2 TE, 3 hops.
-    pub kind: u8,
+    pub metric_type: u8,
     pub value: MetricValue,
 }
 
@@ -113,9 +112,8 @@ pub struct Errors {
 #[derive(Clone, Copy, Debug, PartialEq, Eq)]
 pub struct Attributes {
     pub colours: Colours,
-    pub setup: Priority,
-    /// The holding priority in force: of the setup and the holding priority the better one.
-    pub hold: Priority,
+    /// The setup priority and the holding priority in force.
+    pub priorities: Priorities,
 }
 
 /// A change of an LSP that the PCE asks for (RFC 8231 section 6.2).
@@ -205,8 +203,7 @@ impl PlainData for StateReport {
             ero: self.ero.copy()?,
             rro: self.rro.copy()?,
             bandwidth: self.bandwidth,
-            setup: self.setup,
-            hold: self.hold,
+            priorities: self.priorities,
             colours: self.colours,
         })
     }

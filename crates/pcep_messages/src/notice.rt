@@ -2,8 +2,8 @@
 
 ghost use Rattle.std.specs.Prelude.{◌≡◌, ◌++◌, OnOk, OnErr};
 ghost use Rattle.pcep_messages.specs.Spelling.{written};
-ghost use Rattle.pcep_messages.specs.Notices.{numbered_text, error_text, notice_text, message_of_notice};
-ghost use Rattle.pcep_messages.specs.declared.notice.Notice.{Notice};
+ghost use Rattle.pcep_messages.specs.Notices.{error_about, message_of_notice};
+ghost use Rattle.pcep_messages.specs.declared.fault.About.TheVariants as abouts;
 
 use crate::fault::About;
 use std::alloc::AllocError;
@@ -30,26 +30,40 @@ pub enum Notice {
     Close(u8),
 }
 
-/// A PCErr behind an object of this class that names a request.
-fn put_numbered(
+/// A PCErr about a request: RP and PCEP-ERROR.
+#[tactic(auto, unfolding(crate::specs::Spelling::object_spelled))]
+fn put_request_error(
     out: &mut Vec<u8>,
-    class: u8,
     id: u32,
-    kind: u8,
+    error_type: u8,
     value: u8,
 ) -> Result<(), AllocError>
-    ensures ok { OnOk result (out.new.items ≡ out.old.items ++ numbered_text class id kind value) }
+    ensures ok { OnOk result (out.new.items ≡ out.old.items ++ written (error_about (abouts.Request id) error_type value)) }
     ensures err { OnErr result (out.new.items ≡ out.old.items) }
 {
     let [a, b, c, d] = id.to_be_bytes();
     out.extend_from_slice(&[
-        0x20, 6, 0, 24, class, 0x10, 0, 12, 0, 0, 0, 0, a, b, c, d, 13, 0x10, 0, 8, 0, 0, kind,
+        0x20, 6, 0, 24, 2, 0x10, 0, 12, 0, 0, 0, 0, a, b, c, d, 13, 0x10, 0, 8, 0, 0, error_type,
         value,
     ])
 }
 
+/// A PCErr about a stateful request: SRP and PCEP-ERROR.
+#[tactic(auto, unfolding(crate::specs::Spelling::object_spelled))]
+fn put_srp_error(out: &mut Vec<u8>, id: u32, error_type: u8, value: u8) -> Result<(), AllocError>
+    ensures ok { OnOk result (out.new.items ≡ out.old.items ++ written (error_about (abouts.Srp id) error_type value)) }
+    ensures err { OnErr result (out.new.items ≡ out.old.items) }
+{
+    let [a, b, c, d] = id.to_be_bytes();
+    out.extend_from_slice(&[
+        0x20, 6, 0, 24, 33, 0x10, 0, 12, 0, 0, 0, 0, a, b, c, d, 13, 0x10, 0, 8, 0, 0, error_type,
+        value,
+    ])
+}
+
+#[tactic(auto, unfolding(crate::specs::Spelling::object_spelled))]
 fn put_error(out: &mut Vec<u8>, error: PcError) -> Result<(), AllocError>
-    ensures ok { OnOk result (out.new.items ≡ out.old.items ++ error_text error) }
+    ensures ok { OnOk result (out.new.items ≡ out.old.items ++ written (error_about error.about error.kind error.value)) }
     ensures err { OnErr result (out.new.items ≡ out.old.items) }
 {
     let PcError { about, kind, value } = error;
@@ -57,15 +71,17 @@ fn put_error(out: &mut Vec<u8>, error: PcError) -> Result<(), AllocError>
         About::Nothing => {
             out.extend_from_slice(&[0x20, 6, 0, 12, 13, 0x10, 0, 8, 0, 0, kind, value])
         }
-        About::Request(id) => put_numbered(out, 2, id, kind, value),
-        About::Srp(id) => put_numbered(out, 33, id, kind, value),
+        About::Request(id) => put_request_error(out, id, kind, value),
+        About::Srp(id) => put_srp_error(out, id, kind, value),
     }
 }
 
-/// Appends the bytes of a notice. Where memory is lacking, nothing is appended.
+/// Appends the spelling of a notice, as `write_message` has it of the message that it is. Where memory is
+/// lacking, nothing is appended.
+#[tactic(auto, unfolding(crate::specs::Spelling::object_spelled))]
 pub fn put_notice(out: &mut Vec<u8>, notice: Notice) -> Result<(), AllocError>
-    ensures ok { OnOk result (out.new.items ≡ out.old.items ++ notice_text notice) }
-    ensures err { OnErr result (out.new.items ≡ out.old.items) }
+    ensures written { OnOk result (out.new.items ≡ out.old.items ++ written (message_of_notice notice)) }
+    ensures unchanged { OnErr result (out.new.items ≡ out.old.items) }
 {
     match notice {
         Notice::Keepalive => out.extend_from_slice(&[0x20, 2, 0, 4]),
@@ -75,8 +91,3 @@ pub fn put_notice(out: &mut Vec<u8>, notice: Notice) -> Result<(), AllocError>
         }
     }
 }
-
-/// The bytes of a notice are the spelling of the message that it is.
-pub fn notices_are_messages()
-    ensures { (notice : Notice) → notice_text notice ≡ written (message_of_notice notice) }
-{}

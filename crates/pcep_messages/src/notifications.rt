@@ -2,7 +2,7 @@
 
 ghost use Rattle.std.specs.Prelude.{◌≡◌};
 ghost use Rattle.pcep_messages.specs.Notifications.{notification_body};
-ghost use Rattle.pcep_messages.specs.Messages.{Gives};
+ghost use Rattle.pcep_messages.specs.Faults.{Gives};
 
 use crate::fault::{About, MessageFault};
 use crate::message::Message;

@@ -2,7 +2,8 @@
 
 ghost use Rattle.std.specs.Prelude.{◌≡◌, ◌≤◌, length, IfOk};
 ghost use Rattle.pcep_objects.specs.Objects.{object_at};
-ghost use Rattle.pcep_messages.specs.Objects.{next_of, found_by, found_in, found_in_request, SizeWithin, IsFound};
+ghost use Rattle.pcep_messages.specs.Objects.{found_by, found_in, found_in_request, IsFound};
+ghost use Rattle.pcep_messages.specs.ObjectSteps.{next_of, SizeWithin};
 
 use pcep_objects::{Object, ObjectFault, read_object};
 use std::alloc::{AllocError, Global};
@@ -18,6 +19,7 @@ pub enum Next {
     Bad(ObjectFault),
 }
 
+#[inline(always)]
 pub fn next_object(alloc: Global, bytes: &[u8], heeds_p: bool) -> Result<Next, AllocError>
     ensures next { IfOk result (λ x. x ≡ next_of heeds_p (object_at bytes.now)) }
     ensures size { IfOk result (SizeWithin (length bytes.now)) }

@@ -1,11 +1,12 @@
 //! The parts of a message that has one item: what counts of its objects.
 
-ghost use Rattle.std.specs.Prelude.{◌≡◌, Some, IfOk};
-ghost use Rattle.std.specs.Option.{option_or};
+ghost use Rattle.std.specs.Prelude.{◌≡◌, IfOk};
 ghost use Rattle.pcep_messages.specs.Objects.{found_in};
-ghost use Rattle.pcep_messages.specs.Parts.{no_parts, requested, and_then, ArePartsOf};
+ghost use Rattle.pcep_messages.specs.Counting.{requested_of, greater_of};
+ghost use Rattle.pcep_messages.specs.PartSteps.{no_parts, and_then, ArePartsOf};
+ghost use Rattle.pcep_objects.specs.declared.object.Object.TheVariants as objects;
 
-use crate::items::greater;
+use crate::counting::{greater, keep_first};
 use crate::objects::{Next, next_object};
 use pcep_objects::{
     BandwidthType, Close, EndPoints, Hop, LspObject, Lspa, Metric, NoPath, Object, ObjectFault,
@@ -50,26 +51,18 @@ fn no_parts() -> Parts
     }
 }
 
-/// Keeps the first of its class.
-fn keep_first<T: Drop>(first: &mut Option<T>, next: T)
-    ensures { first.new ≡ option_or first.old (Some next) }
-{
-    if first.is_none() {
-        *first = Some(next);
-    }
-}
-
 /// The greater of the bandwidths that are asked for.
 fn requested(
     kind: BandwidthType,
     bandwidth: Bandwidth,
     other: Option<Bandwidth>,
 ) -> Option<Bandwidth>
-    ensures { result ≡ requested kind bandwidth other }
+    ensures { result ≡ greater_of other (requested_of (objects.Bandwidth kind bandwidth)) }
 {
-    match kind {
-        BandwidthType::Requested => Some(greater(bandwidth, other)),
-        BandwidthType::Current => other,
+    match (other, kind) {
+        (other, BandwidthType::Current) => other,
+        (None, BandwidthType::Requested) => Some(bandwidth),
+        (Some(other), BandwidthType::Requested) => Some(greater(other, bandwidth)),
     }
 }
 

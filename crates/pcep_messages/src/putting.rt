@@ -1,6 +1,6 @@
-//! The objects of written messages. All but a route and a name have a fixed length, so they fit.
+//! The objects of written messages, in place. All but a route and a name have a length that fits.
 
-ghost use Rattle.std.specs.Prelude.{◌≡◌, ◌++◌, true, false, Some, None, IfOk, IfErr, OnOk};
+ghost use Rattle.std.specs.Prelude.{◌≡◌, ◌++◌, length, take, true, false, Some, None, IfOk, IfErr, OnOk, OnErr};
 ghost use Rattle.pcep_messages.specs.Spelling.{rp_object, srp_object, lsp_object, end_points_object, no_path_object, attributes_objects, bandwidth_objects, constraint_objects, cost_objects, object_spelled, object_fits, objects_spelled, objects_fit};
 ghost use Rattle.pcep_objects.specs.declared.fault.WriteFault.TheVariants.{TooLong};
 ghost use Rattle.pcep_objects.specs.declared.object.Object.TheVariants.{Ero, Lsp};
@@ -8,9 +8,8 @@ ghost use Rattle.pcep_objects.specs.declared.object.Object.TheVariants as object
 
 use crate::message::{Attributes, Cost};
 use pcep_objects::{
-    BandwidthType, EndPoints, Hop, LspObject, Lspa, Metric, NoPath, NoPathVector, Object,
-    Operational, PcepError, Plsp, Rp, Srp, WriteFault, put_ero, put_fitting, put_named_lsp,
-    put_object,
+    BandwidthType, EndPoints, Hop, LspObject, Lspa, Metric, NoPath, NoPathVector, Operational,
+    PcepError, Plsp, Rp, Srp, WriteFault, put_ero, put_lspa, put_metric, put_named_lsp,
 };
 use pcep_word::{Bandwidth, Ipv4};
 use std::alloc::AllocError;
@@ -20,6 +19,7 @@ use std::alloc::AllocError;
 pub fn put_rp(p: bool, id: u32, out: &mut Vec<u8>) -> Result<(), AllocError>
     ensures written { OnOk result (out.new.items ≡ out.old.items ++ object_spelled (rp_object p id)) }
     ensures fits { object_fits (rp_object p id) ≡ true }
+    ensures unchanged { OnErr result (out.new.items ≡ out.old.items) }
 {
     let rp = Rp {
         p,
@@ -29,7 +29,7 @@ pub fn put_rp(p: bool, id: u32, out: &mut Vec<u8>) -> Result<(), AllocError>
         loose: false,
         id,
     };
-    put_fitting(&Object::Rp(rp), out)
+    pcep_objects::put_rp(rp, out)
 }
 
 /// Appends an SRP.
@@ -37,16 +37,18 @@ pub fn put_rp(p: bool, id: u32, out: &mut Vec<u8>) -> Result<(), AllocError>
 pub fn put_srp(remove: bool, id: u32, out: &mut Vec<u8>) -> Result<(), AllocError>
     ensures written { OnOk result (out.new.items ≡ out.old.items ++ object_spelled (srp_object remove id)) }
     ensures fits { object_fits (srp_object remove id) ≡ true }
+    ensures unchanged { OnErr result (out.new.items ≡ out.old.items) }
 {
-    put_fitting(&Object::Srp(Srp { remove, id }), out)
+    pcep_objects::put_srp(Srp { remove, id }, out)
 }
 
 /// Appends a PCEP-ERROR.
 #[tactic(auto, unfolding(crate::specs::Spelling::object_spelled))]
 pub fn put_error(error: PcepError, out: &mut Vec<u8>) -> Result<(), AllocError>
-    ensures { OnOk result (out.new.items ≡ out.old.items ++ object_spelled (objects.Error error)) }
+    ensures written { OnOk result (out.new.items ≡ out.old.items ++ object_spelled (objects.Error error)) }
+    ensures unchanged { OnErr result (out.new.items ≡ out.old.items) }
 {
-    put_fitting(&Object::Error(error), out)
+    pcep_objects::put_error(error, out)
 }
 
 /// An LSP with flags D and A, and no name.
@@ -71,9 +73,10 @@ fn lsp_object(plsp: Plsp, delegate: bool, admin: bool) -> LspObject
 pub fn put_lsp(plsp: Plsp, delegate: bool, admin: bool, out: &mut Vec<u8>) -> Result<(), AllocError>
     ensures written { OnOk result (out.new.items ≡ out.old.items ++ object_spelled (Lsp (lsp_object plsp delegate admin None))) }
     ensures fits { object_fits (Lsp (lsp_object plsp delegate admin None)) ≡ true }
+    ensures unchanged { OnErr result (out.new.items ≡ out.old.items) }
 {
-    let lsp = Object::Lsp(lsp_object(plsp, delegate, admin));
-    put_fitting(&lsp, out)
+    let lsp = lsp_object(plsp, delegate, admin);
+    pcep_objects::put_lsp(&lsp, out)
 }
 
 /// Appends the LSP of a new path: PLSP-ID 0, flags D and A, and a name.
@@ -82,6 +85,7 @@ pub fn put_new_lsp(name: &[u8], out: &mut Vec<u8>) -> Result<(), WriteFault>
     ensures written { OnOk result (out.new.items ≡ out.old.items ++ object_spelled (Lsp (lsp_object 0 true true (Some name.now)))) }
     ensures fits { IfOk result (λ _. object_fits (Lsp (lsp_object 0 true true (Some name.now))) ≡ true) }
     ensures too_long { IfErr result (λ e. e ≡ TooLong → object_fits (Lsp (lsp_object 0 true true (Some name.now))) ≡ false) }
+    ensures unchanged { OnErr result (out.new.items ≡ out.old.items) }
 {
     let lsp = lsp_object(Plsp::new(0), true, true);
     put_named_lsp(&lsp, name, out)
@@ -92,13 +96,14 @@ pub fn put_new_lsp(name: &[u8], out: &mut Vec<u8>) -> Result<(), WriteFault>
 pub fn put_end_points(source: Ipv4, destination: Ipv4, out: &mut Vec<u8>) -> Result<(), AllocError>
     ensures written { OnOk result (out.new.items ≡ out.old.items ++ object_spelled (end_points_object source destination)) }
     ensures fits { object_fits (end_points_object source destination) ≡ true }
+    ensures unchanged { OnErr result (out.new.items ≡ out.old.items) }
 {
     let end_points = EndPoints {
         p: true,
         source,
         destination,
     };
-    put_fitting(&Object::EndPoints(end_points), out)
+    pcep_objects::put_end_points(end_points, out)
 }
 
 /// Appends an ERO.
@@ -107,23 +112,24 @@ pub fn put_route(hops: &[Hop], out: &mut Vec<u8>) -> Result<(), WriteFault>
     ensures written { OnOk result (out.new.items ≡ out.old.items ++ object_spelled (Ero hops.now)) }
     ensures fits { IfOk result (λ _. object_fits (Ero hops.now) ≡ true) }
     ensures too_long { IfErr result (λ e. e ≡ TooLong → object_fits (Ero hops.now) ≡ false) }
+    ensures unchanged { OnErr result (out.new.items ≡ out.old.items) }
 {
     put_ero(hops, out)
 }
 
 /// Appends a NO-PATH with nature 0 and C clear.
 #[tactic(auto, unfolding(crate::specs::Spelling::object_spelled, crate::specs::Spelling::object_fits))]
-pub fn put_no_path(vector: Option<NoPathVector>, out: &mut Vec<u8>) -> Result<(), WriteFault>
+pub fn put_no_path(vector: Option<NoPathVector>, out: &mut Vec<u8>) -> Result<(), AllocError>
     ensures written { OnOk result (out.new.items ≡ out.old.items ++ object_spelled (no_path_object vector)) }
-    ensures fits { IfOk result (λ _. object_fits (no_path_object vector) ≡ true) }
-    ensures too_long { IfErr result (λ e. e ≡ TooLong → object_fits (no_path_object vector) ≡ false) }
+    ensures fits { object_fits (no_path_object vector) ≡ true }
+    ensures unchanged { OnErr result (out.new.items ≡ out.old.items) }
 {
     let no_path = NoPath {
         nature: 0,
         constraints: false,
         vector,
     };
-    put_object(&Object::NoPath(no_path), out)
+    pcep_objects::put_no_path(&no_path, out)
 }
 
 /// Appends the METRIC of a cost, with C set.
@@ -131,6 +137,7 @@ pub fn put_no_path(vector: Option<NoPathVector>, out: &mut Vec<u8>) -> Result<()
 pub fn put_cost(cost: Option<Cost>, out: &mut Vec<u8>) -> Result<(), AllocError>
     ensures written { OnOk result (out.new.items ≡ out.old.items ++ objects_spelled (cost_objects cost)) }
     ensures fits { objects_fit (cost_objects cost) ≡ true }
+    ensures unchanged { OnErr result (out.new.items ≡ out.old.items) }
 {
     let Some(cost) = cost else {
         return Ok(());
@@ -138,10 +145,10 @@ pub fn put_cost(cost: Option<Cost>, out: &mut Vec<u8>) -> Result<(), AllocError>
     let metric = Metric {
         bound: false,
         computed: true,
-        kind: cost.kind,
+        metric_type: cost.metric_type,
         value: cost.value,
     };
-    put_fitting(&Object::Metric(metric), out)
+    put_metric(metric, out)
 }
 
 /// Appends the LSPA of attributes, with L clear.
@@ -149,17 +156,18 @@ pub fn put_cost(cost: Option<Cost>, out: &mut Vec<u8>) -> Result<(), AllocError>
 fn put_attributes(attributes: Option<Attributes>, out: &mut Vec<u8>) -> Result<(), AllocError>
     ensures written { OnOk result (out.new.items ≡ out.old.items ++ objects_spelled (attributes_objects attributes)) }
     ensures fits { objects_fit (attributes_objects attributes) ≡ true }
+    ensures unchanged { OnErr result (out.new.items ≡ out.old.items) }
 {
     let Some(attributes) = attributes else {
         return Ok(());
     };
     let lspa = Lspa {
         colours: attributes.colours,
-        setup: attributes.setup,
-        hold: attributes.hold,
+        setup: attributes.priorities.setup(),
+        hold: attributes.priorities.hold(),
         local_protection: false,
     };
-    put_fitting(&Object::Lspa(lspa), out)
+    put_lspa(&lspa, out)
 }
 
 /// Appends the BANDWIDTH that is asked for.
@@ -167,15 +175,16 @@ fn put_attributes(attributes: Option<Attributes>, out: &mut Vec<u8>) -> Result<(
 fn put_bandwidth(bandwidth: Option<Bandwidth>, out: &mut Vec<u8>) -> Result<(), AllocError>
     ensures written { OnOk result (out.new.items ≡ out.old.items ++ objects_spelled (bandwidth_objects bandwidth)) }
     ensures fits { objects_fit (bandwidth_objects bandwidth) ≡ true }
+    ensures unchanged { OnErr result (out.new.items ≡ out.old.items) }
 {
     let Some(bandwidth) = bandwidth else {
         return Ok(());
     };
-    let object = Object::Bandwidth(BandwidthType::Requested, bandwidth);
-    put_fitting(&object, out)
+    pcep_objects::put_bandwidth(BandwidthType::Requested, bandwidth, out)
 }
 
 /// Appends LSPA and BANDWIDTH.
+#[tactic(auto, using(crate::proofs::Fronts::front_same, crate::proofs::Fronts::front_one))]
 pub fn put_constraints(
     attributes: Option<Attributes>,
     bandwidth: Option<Bandwidth>,
@@ -183,6 +192,7 @@ pub fn put_constraints(
 ) -> Result<(), AllocError>
     ensures written { OnOk result (out.new.items ≡ out.old.items ++ objects_spelled (constraint_objects attributes bandwidth)) }
     ensures fits { IfOk result (λ _. objects_fit (constraint_objects attributes bandwidth) ≡ true) }
+    ensures front { OnErr result (take (length out.old.items) out.new.items ≡ out.old.items) }
 {
     put_attributes(attributes, out)?;
     put_bandwidth(bandwidth, out)

@@ -1,51 +1,21 @@
 //! Whole messages.
 
-ghost use Rattle.std.specs.Prelude.{◌≡◌, ◌≢◌, ℕ, List, IfOk, IfErr};
-ghost use Rattle.pcep_messages.specs.Reports.{names_nothing, report_body};
-ghost use Rattle.pcep_messages.specs.Messages.{Gives, has_header, report_message, message_of, message_in, Reads, IsFaulty, ReadsOrIsFaulty};
+ghost use Rattle.std.specs.Prelude.{◌≡◌, ◌≢◌, ℕ, List, true, IfOk, IfErr};
+ghost use Rattle.pcep_messages.specs.Messages.{has_header, message_of, message_in, Reads, IsFaulty, ReadsOrIsFaulty};
+ghost use Rattle.pcep_messages.specs.Faults.{Gives};
 ghost use Rattle.pcep_messages.specs.declared.fault.MessageFault.TheVariants.{OutOfMemory};
 
 use crate::errors::read_errors;
 use crate::fault::{About, MessageFault};
-use crate::items::{Item, items_of};
-use crate::message::{Message, StateReport};
+use crate::message::Message;
 use crate::notifications::read_notification;
-use crate::objects::objects_in;
 use crate::replies::read_reply;
-use crate::reports::reports_before;
+use crate::report_steps::read_reports;
 use crate::requests::read_requests;
 use crate::sessions::{read_close, read_keepalive, read_opening};
 use crate::updates::{read_initiate, read_update};
 use byteorder::{BigEndian, ByteOrder};
-use sequence::Sequence;
 use std::alloc::Global;
-
-fn names_nothing(front: &Item) -> bool
-    ensures { result ≡ names_nothing front.now }
-{
-    front.ero.is_none() && front.rro.is_none() && front.lspa.is_none() && front.bandwidth.is_none()
-}
-
-/// The reports of a PCRpt.
-#[tactic(auto, unfolding(crate::specs::Reports::report_body))]
-fn read_report(alloc: Global, body: &[u8]) -> Result<Vec<StateReport>, MessageFault>
-    ensures { Gives (λ v. v.items) result (report_body body.now) }
-{
-    let (objects, fault) = objects_in(alloc, body)?;
-    let (front, items) = items_of(alloc, objects)?;
-    if !names_nothing(&front) || (items.is_empty() && fault.is_none()) {
-        return Err(MessageFault::Refused(6, 8, About::Nothing));
-    }
-    reports_before(alloc, items, fault)
-}
-
-/// The body of a PCRpt.
-fn read_reports(alloc: Global, body: &[u8]) -> Result<Message, MessageFault>
-    ensures { Gives (λ x. x) result (report_message body.now) }
-{
-    let reports = read_report(alloc, body)?;
-    Ok(Message::Report(Sequence::from_vec(reports)))
-}
 
 fn has_header(bytes: &[u8]) -> bool
     ensures { result ≡ has_header bytes.now }
@@ -76,7 +46,8 @@ fn read_body(alloc: Global, kind: u8, body: &[u8]) -> Result<Message, MessageFau
 
 #[tactic(auto, unfolding(crate::specs::Messages::message_in))]
 fn read(alloc: Global, bytes: &[u8]) -> Result<Message, MessageFault>
-    ensures { Gives (λ x. x) result (message_in bytes.now) }
+    ensures gives { Gives (λ x. x) result (message_in bytes.now) }
+    ensures memory { IfErr result (λ e. e ≡ OutOfMemory → has_header bytes.now ≡ true) }
 {
     if !has_header(bytes) {
         return Err(MessageFault::BadHeader);
@@ -91,10 +62,11 @@ fn read(alloc: Global, bytes: &[u8]) -> Result<Message, MessageFault>
 /// identifiers. Objects that an item doesn't name are skipped, and so are those of unknown classes and
 /// types, but for those of a PCReq that have P set. In a message of one item the first object of each class
 /// counts (of BANDWIDTHs the greatest), and what it lacks is told in the order SRP, LSP, ERO, RP, END-POINTS.
-/// `OutOfMemory` comes where a growth was refused.
+/// `OutOfMemory` comes where a growth was refused, and may then stand in place of any answer but `BadHeader`.
 pub fn read_message(alloc: Global, bytes: &[u8]) -> Result<Message, MessageFault>
     ensures reads { IfOk result (Reads bytes.now) }
     ensures first_fault { IfErr result (λ e. e ≢ OutOfMemory → IsFaulty bytes.now e) }
+    ensures memory { IfErr result (λ e. e ≡ OutOfMemory → has_header bytes.now ≡ true) }
 {
     read(alloc, bytes)
 }

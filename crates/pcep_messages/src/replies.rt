@@ -2,8 +2,9 @@
 
 ghost use Rattle.std.specs.Prelude.{◌≡◌};
 ghost use Rattle.std.specs.Option.{option_map};
-ghost use Rattle.pcep_messages.specs.Replies.{about_rp, cost_of, answer_or_missing, reply_of, reply_body};
-ghost use Rattle.pcep_messages.specs.Messages.{Gives};
+ghost use Rattle.pcep_messages.specs.Replies.{about_first_rp, cost_of, answer_or_missing, reply_of, reply_body};
+ghost use Rattle.pcep_messages.specs.Faults.{Gives};
+ghost use Rattle.pcep_messages.specs.PartSteps.{kept};
 
 use crate::fault::{About, MessageFault};
 use crate::message::{Answer, Cost, Message, Reply};
@@ -13,7 +14,7 @@ use sequence::Sequence;
 use std::alloc::Global;
 
 fn about_rp(rp: Option<Rp>) -> About
-    ensures { result ≡ about_rp rp }
+    ensures { result ≡ about_first_rp rp }
 {
     match rp {
         Some(rp) => About::Request(rp.id),
@@ -26,7 +27,7 @@ fn cost_of(metric: Option<Metric>) -> Option<Cost>
 {
     match metric {
         Some(metric) => Some(Cost {
-            kind: metric.kind,
+            metric_type: metric.metric_type,
             value: metric.value,
         }),
         None => None,
@@ -53,7 +54,7 @@ fn answer_of(
 
 /// The reply of the parts that are there.
 fn reply_of(mut parts: Parts) -> Result<Message, MessageFault>
-    ensures { Gives (λ x. x) result (reply_of parts) }
+    ensures { Gives (λ x. x) result (reply_of (kept parts)) }
 {
     let about = about_rp(parts.rp);
     let answer = answer_of(about, parts.no_path, parts.ero.take(), parts.metric)?;

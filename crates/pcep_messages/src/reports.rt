@@ -1,17 +1,18 @@
-//! What the items of a state report say.
+//! What an item of a state report says.
 
-ghost use Rattle.std.specs.Prelude.{◌≡◌, min};
-ghost use Rattle.pcep_messages.specs.Reports.{report_with, srp_id, about_srp, lacks_identifiers, setup_of, hold_of, colours_of, bandwidth_or_none, hops_or_none, report_of, reports_of, before_fault, cut_off, reports_before};
-ghost use Rattle.pcep_messages.specs.Messages.{Gives};
+ghost use Rattle.std.specs.Prelude.{◌≡◌, [], None};
+ghost use Rattle.std.specs.Option.{unwrap_or};
+ghost use Rattle.pcep_messages.specs.Faults.{Gives};
+ghost use Rattle.pcep_messages.specs.Reports.{report_with, srp_id, about_srp, lacks_identifiers, priorities_of, colours_of, cut_off};
+ghost use Rattle.pcep_messages.specs.ReportSteps.{report_from};
 
 use crate::fault::{About, MessageFault};
 use crate::items::Item;
 use crate::message::StateReport;
 use pcep_objects::{Colours, Hop, LspObject, Lspa, ObjectFault, Srp};
-use pcep_word::{Bandwidth, Priority};
+use pcep_word::{Priorities, Priority};
 use sequence::Sequence;
 use std::alloc::Global;
-use std::collections::VecDeque;
 
 pub fn srp_id(srp: Option<Srp>) -> Option<u32>
     ensures { result ≡ srp_id srp }
@@ -37,25 +38,13 @@ fn lacks_identifiers(lsp: &LspObject) -> bool
     lsp.plsp.number() != 0 && lsp.identifiers.is_none()
 }
 
-/// The better of the two priorities.
-pub fn in_force(setup: Priority, hold: Priority) -> Priority
-    ensures { result ≡ min setup hold }
-{
-    if setup.number() < hold.number() {
-        setup
-    } else {
-        hold
-    }
-}
-
 /// The setup priority and the holding priority in force.
-pub fn priorities(lspa: Option<Lspa>) -> (Priority, Priority)
-    ensures setup { result.0 ≡ setup_of lspa }
-    ensures hold { result.1 ≡ hold_of lspa }
+pub fn priorities_of(lspa: Option<Lspa>) -> Priorities
+    ensures { result ≡ priorities_of lspa }
 {
     match lspa {
-        None => (Priority::capped(7), Priority::capped(7)),
-        Some(lspa) => (lspa.setup, in_force(lspa.setup, lspa.hold)),
+        None => Priorities::new(Priority::capped(7), Priority::capped(7)),
+        Some(lspa) => Priorities::new(lspa.setup, lspa.hold),
     }
 }
 
@@ -72,17 +61,8 @@ pub fn colours_of(lspa: Option<Lspa>) -> Colours
     }
 }
 
-fn bandwidth_or_none(bandwidth: Option<Bandwidth>) -> Bandwidth
-    ensures { result ≡ bandwidth_or_none bandwidth }
-{
-    match bandwidth {
-        Some(bandwidth) => bandwidth,
-        None => Bandwidth::zero(),
-    }
-}
-
-pub fn hops_or_none(alloc: Global, ero: Option<Sequence<Hop>>) -> Sequence<Hop>
-    ensures { result ≡ hops_or_none ero }
+pub fn hops_or_empty(alloc: Global, ero: Option<Sequence<Hop>>) -> Sequence<Hop>
+    ensures { result ≡ unwrap_or ero [] }
 {
     match ero {
         Some(hops) => hops,
@@ -92,12 +72,11 @@ pub fn hops_or_none(alloc: Global, ero: Option<Sequence<Hop>>) -> Sequence<Hop>
 
 /// The report of an item that has an LSP.
 fn report_with(alloc: Global, item: Item, lsp: LspObject) -> StateReport
-    ensures { result ≡ report_with item lsp }
+    ensures { result ≡ report_with item.srp lsp item.ero item.rro item.lspa item.bandwidth }
 {
     let srp = srp_id(item.srp);
-    let (setup, hold) = priorities(item.lspa);
+    let priorities = priorities_of(item.lspa);
     let colours = colours_of(item.lspa);
-    let bandwidth = bandwidth_or_none(item.bandwidth);
     StateReport {
         srp,
         plsp: lsp.plsp,
@@ -109,19 +88,18 @@ fn report_with(alloc: Global, item: Item, lsp: LspObject) -> StateReport
         created: lsp.created,
         name: lsp.name,
         identifiers: lsp.identifiers,
-        ero: hops_or_none(alloc, item.ero),
+        ero: hops_or_empty(alloc, item.ero),
         rro: item.rro,
-        bandwidth,
-        setup,
-        hold,
+        bandwidth: item.bandwidth,
+        priorities,
         colours,
     }
 }
 
-/// The report of an item.
-#[tactic(auto, unfolding(crate::specs::Reports::report_of))]
-fn report_of(alloc: Global, mut item: Item) -> Result<StateReport, MessageFault>
-    ensures { Gives (λ x. x) result (report_of item) }
+/// The report of an item that has ended.
+#[inline(always)]
+pub fn report_from(alloc: Global, mut item: Item) -> Result<StateReport, MessageFault>
+    ensures { Gives (λ x. x) result (report_from item None) }
 {
     let srp = srp_id(item.srp);
     let Some(lsp) = item.lsp.take() else {
@@ -136,53 +114,13 @@ fn report_of(alloc: Global, mut item: Item) -> Result<StateReport, MessageFault>
     Ok(report_with(alloc, item, lsp))
 }
 
-/// The fault where an object cannot be read after this item.
-fn cut_off(item: &Item, fault: ObjectFault) -> MessageFault
-    ensures { result ≡ cut_off item.now fault }
+/// The fault where an object cannot be read in this item.
+pub fn cut_off(item: &Item, fault: ObjectFault) -> MessageFault
+    ensures { result ≡ cut_off item.now.srp item.now.lsp fault }
 {
     let about = about_srp(srp_id(item.srp));
     match &item.lsp {
         Some(lsp) if lacks_identifiers(lsp) => MessageFault::MissingIdentifiers(about),
         _ => MessageFault::BadObject(fault, about),
-    }
-}
-
-fn each_report(alloc: Global, mut items: VecDeque<Item>) -> Result<Vec<StateReport>, MessageFault>
-    ensures { Gives (λ v. v.items) result (reports_of items.items) }
-{
-    let mut found = Vec::new(alloc);
-    while let Some(item) = items.pop_front() {
-        let report = report_of(alloc, item)?;
-        found.push(report)?;
-    }
-    Ok(found)
-}
-
-fn fault_after(
-    alloc: Global,
-    mut items: VecDeque<Item>,
-    fault: ObjectFault,
-) -> Result<Vec<StateReport>, MessageFault>
-    ensures { Gives (λ v. v.items) result (before_fault items.items fault) }
-{
-    let Some(last) = items.pop_back() else {
-        return Err(MessageFault::BadObject(fault, About::Nothing));
-    };
-    let _before = each_report(alloc, items)?;
-    Err(cut_off(&last, fault))
-}
-
-/// The reports of the items. An object that cannot be read may come after them.
-#[tactic(auto, unfolding(crate::specs::Reports::reports_before))]
-pub fn reports_before(
-    alloc: Global,
-    items: VecDeque<Item>,
-    fault: Option<ObjectFault>,
-) -> Result<Vec<StateReport>, MessageFault>
-    ensures { Gives (λ v. v.items) result (reports_before items.items fault) }
-{
-    match fault {
-        None => each_report(alloc, items),
-        Some(fault) => fault_after(alloc, items, fault),
     }
 }

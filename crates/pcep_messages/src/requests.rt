@@ -1,148 +1,55 @@
-//! The requests of a PCReq.
+//! Requests, which are told apart while the objects of a PCReq are read.
 
-ghost use Rattle.std.specs.Prelude.{◌≡◌, ℕ, List, false};
-ghost use Rattle.std.specs.List.{list_any};
-ghost use Rattle.pcep_messages.specs.Constraints.{first_of};
-ghost use Rattle.pcep_messages.specs.Requests.{is_rp, up_to_rp, fault_in_place, lacks_rro, request_with, request_of, own_fault, requests_of, fault_of_kept, fault_in_front, no_request, requests_in, request_body};
-ghost use Rattle.pcep_messages.specs.Messages.{Gives};
+ghost use Rattle.std.specs.Prelude.{◌≡◌, None};
+ghost use Rattle.pcep_messages.specs.Faults.{Gives};
+ghost use Rattle.pcep_messages.specs.Requests.{lacks_rro, request_with, fault_of_kept, fault_in_front, requests_in_body, request_body};
+ghost use Rattle.pcep_messages.specs.RequestSteps.{place_fault, request_from, ended, after_rp, after, finished_at, Steps, Joins};
 
-use crate::constraints::{
-    bounds_of, first_end_points, first_lspa, first_plsp, greatest_requested, has_bandwidth,
-    has_rro, minimised,
-};
+use crate::asked::{Asked, begun, take};
 use crate::fault::{About, MessageFault};
 use crate::message::{Message, PathRequest};
-use crate::objects::request_objects_in;
-use crate::reports::{colours_of, priorities};
-use pcep_objects::{EndPoints, KeptClass, Object, ObjectFault, Rp};
+use crate::objects::{Next, next_object};
+use crate::reports::{colours_of, priorities_of};
+use pcep_objects::{EndPoints, KeptClass, MetricType, Object, ObjectFault, Rp};
 use sequence::Sequence;
 use std::alloc::Global;
 
-fn is_rp(object: &Object) -> bool
-    ensures { result ≡ is_rp object.now }
+fn request_with(asked: &Asked, ends: EndPoints) -> PathRequest
+    ensures { result ≡ request_with asked.now.rp ends asked.now.plsp asked.now.bandwidth asked.now.lspa asked.now.minimised asked.now.bounds }
 {
-    matches!(object, Object::Rp(_))
-}
-
-fn has_rp(objects: &[Object]) -> bool
-    ensures { result ≡ list_any is_rp objects.now }
-{
-    objects.iter().any(is_rp)
-}
-
-/// The objects in front of the first RP.
-fn up_to_rp(objects: &[Object]) -> &[Object]
-    ensures { result.now ≡ up_to_rp objects.now }
-{
-    let mut len = 0;
-    while len < objects.len() && !is_rp(&objects[len]) {
-        len += 1;
-    }
-    &objects[..len]
-}
-
-/// The first fault at a place among the objects of a request.
-fn fault_in_place(about: About, objects: &[Object]) -> Option<MessageFault>
-    ensures { result ≡ fault_in_place about false objects.now }
-{
-    let mut has_ends = false;
-    for object in objects {
-        match object {
-            Object::EndPoints(ends) => {
-                if !has_ends && !ends.p {
-                    return Some(MessageFault::BadP(about));
-                }
-                has_ends = true;
-            }
-            Object::Kept(kept) if kept.p => return Some(MessageFault::Refused(4, 1, about)),
-            _ => {}
-        }
-    }
-    None
-}
-
-fn lacks_rro(rp: Rp, objects: &[Object]) -> bool
-    ensures { result ≡ lacks_rro rp objects.now }
-{
-    rp.reoptimize && !has_rro(objects) && has_bandwidth(objects)
-}
-
-fn request_with(rp: Rp, objects: &[Object], ends: EndPoints) -> PathRequest
-    ensures { result ≡ request_with rp objects.now ends }
-{
-    let (setup, hold) = priorities(first_lspa(objects));
-    let colours = colours_of(first_lspa(objects));
-    let plsp = first_plsp(objects);
-    let bandwidth = greatest_requested(objects);
-    let minimise = minimised(objects);
-    let bounds = bounds_of(objects);
+    let priorities = priorities_of(asked.lspa);
+    let colours = colours_of(asked.lspa);
     PathRequest {
-        request: rp.id,
-        plsp,
+        request: asked.rp.id,
+        plsp: asked.plsp,
         source: ends.source,
         destination: ends.destination,
-        bandwidth,
-        setup,
-        hold,
+        bandwidth: asked.bandwidth,
+        priorities,
         colours,
-        minimise,
-        bounds,
+        minimise: asked.minimised.unwrap_or(MetricType::Te),
+        bounds: asked.bounds,
     }
 }
 
-/// The request of an RP and the objects behind it. An object with a fault of its own may stand behind those.
-#[tactic(auto, unfolding(crate::specs::Requests::request_of))]
-fn request_of(
-    rp: Rp,
-    objects: &[Object],
-    own: Option<ObjectFault>,
-) -> Result<PathRequest, MessageFault>
-    ensures { Gives (λ x. x) result (request_of rp objects.now own) }
+fn lacks_rro(asked: &Asked) -> bool
+    ensures { result ≡ lacks_rro asked.now.rp asked.now.has_rro asked.now.has_bandwidth }
 {
-    let about = About::Request(rp.id);
-    if !rp.p {
-        return Err(MessageFault::BadP(about));
-    }
-    if let Some(fault) = fault_in_place(about, objects) {
-        return Err(fault);
-    }
-    if let Some(fault) = own {
-        return Err(MessageFault::BadObject(fault, about));
-    }
-    let Some(ends) = first_end_points(objects) else {
+    asked.rp.reoptimize && !asked.has_rro && asked.has_bandwidth
+}
+
+/// The request of what was read, at its end.
+fn request_from(asked: &Asked) -> Result<PathRequest, MessageFault>
+    ensures { Gives (λ x. x) result (request_from asked.now None) }
+{
+    let about = About::Request(asked.rp.id);
+    let Some(ends) = asked.ends else {
         return Err(MessageFault::Refused(6, 3, about));
     };
-    if lacks_rro(rp, objects) {
+    if lacks_rro(asked) {
         return Err(MessageFault::Refused(6, 2, about));
     }
-    Ok(request_with(rp, objects, ends))
-}
-
-/// The fault where no RP stands in front of it.
-fn own_fault(objects: &[Object], fault: Option<ObjectFault>) -> Option<ObjectFault>
-    ensures { result ≡ own_fault objects.now fault }
-{
-    if has_rp(objects) { None } else { fault }
-}
-
-fn each_request(
-    alloc: Global,
-    objects: &[Object],
-    fault: Option<ObjectFault>,
-) -> Result<Vec<PathRequest>, MessageFault>
-    ensures { Gives (λ v. v.items) result (requests_of objects.now fault) }
-{
-    let mut found = Vec::new(alloc);
-    let mut rest = objects;
-    while let Some((object, behind)) = rest.split_first() {
-        rest = behind;
-        let Object::Rp(rp) = object else {
-            continue;
-        };
-        let request = request_of(*rp, up_to_rp(behind), own_fault(behind, fault))?;
-        found.push(request)?;
-    }
-    Ok(found)
+    Ok(request_with(asked, ends))
 }
 
 fn fault_of_kept(class: KeptClass, p: bool) -> Option<MessageFault>
@@ -157,6 +64,7 @@ fn fault_of_kept(class: KeptClass, p: bool) -> Option<MessageFault>
     }
 }
 
+/// The fault of an object in front of the first RP.
 fn fault_in_front(object: &Object) -> Option<MessageFault>
     ensures { result ≡ fault_in_front object.now }
 {
@@ -166,43 +74,123 @@ fn fault_in_front(object: &Object) -> Option<MessageFault>
     }
 }
 
-/// The first fault of objects in front of the first RP.
-fn first_fault_in_front(objects: &[Object]) -> Option<MessageFault>
-    ensures { result ≡ first_of fault_in_front objects.now }
+/// The fault of an object at its place in a request.
+fn place_fault(about: About, first: Option<EndPoints>, object: &Object) -> Option<MessageFault>
+    ensures { result ≡ place_fault about first object.now }
 {
-    for object in objects {
-        let found = fault_in_front(object);
-        if found.is_some() {
-            return found;
-        }
-    }
-    None
-}
-
-fn no_request(fault: Option<ObjectFault>) -> MessageFault
-    ensures { result ≡ no_request fault }
-{
-    match fault {
-        None => MessageFault::Refused(6, 1, About::Nothing),
-        Some(fault) => MessageFault::BadObject(fault, About::Nothing),
+    match object {
+        Object::EndPoints(ends) if first.is_none() && !ends.p => Some(MessageFault::BadP(about)),
+        Object::Kept(kept) if kept.p => Some(MessageFault::Refused(4, 1, about)),
+        _ => None,
     }
 }
 
-/// The requests of a message's objects. An object with a fault of its own may stand behind those.
-fn requests_in(
-    alloc: Global,
-    objects: &[Object],
+/// The requests at the end of the objects, or the fault where an object has one of its own.
+fn finish(
+    asked: Option<Asked>,
+    mut requests: Vec<PathRequest>,
     own: Option<ObjectFault>,
 ) -> Result<Vec<PathRequest>, MessageFault>
-    ensures { Gives (λ v. v.items) result (requests_in objects.now own) }
+    ensures { Gives (λ v. v.items) result (finished_at asked requests.items own) }
 {
-    if let Some(fault) = first_fault_in_front(up_to_rp(objects)) {
-        return Err(fault);
+    match (asked, own) {
+        (None, None) => Err(MessageFault::Refused(6, 1, About::Nothing)),
+        (None, Some(fault)) => Err(MessageFault::BadObject(fault, About::Nothing)),
+        (Some(asked), Some(fault)) => {
+            Err(MessageFault::BadObject(fault, About::Request(asked.rp.id)))
+        }
+        (Some(asked), None) => {
+            requests.push(request_from(&asked)?)?;
+            Ok(requests)
+        }
     }
-    if !has_rp(objects) {
-        return Err(no_request(own));
+}
+
+/// The requests with the one that was read, where one has begun.
+fn end_request(
+    asked: Option<Asked>,
+    requests: Vec<PathRequest>,
+) -> Result<Vec<PathRequest>, MessageFault>
+    ensures { Gives (λ v. v.items) result (ended asked requests.items) }
+{
+    if asked.is_none() {
+        return Ok(requests);
     }
-    each_request(alloc, objects, own)
+    finish(asked, requests, None)
+}
+
+/// Takes in an RP, which ends the request in front of it and begins its own.
+fn take_rp(
+    rp: Rp,
+    asked: &mut Option<Asked>,
+    requests: Vec<PathRequest>,
+) -> Result<Vec<PathRequest>, MessageFault>
+    ensures { Steps (λ v. v.items) (after_rp rp asked.old requests.items) result asked.new }
+{
+    let ended = end_request(*asked, requests)?;
+    if !rp.p {
+        return Err(MessageFault::BadP(About::Request(rp.id)));
+    }
+    *asked = Some(begun(rp));
+    Ok(ended)
+}
+
+/// Takes in an object that is no RP.
+fn take_other(object: &Object, asked: &mut Option<Asked>) -> Result<(), MessageFault>
+    ensures { Joins asked.old object.now result asked.new }
+{
+    match asked {
+        None => match fault_in_front(object) {
+            Some(fault) => Err(fault),
+            None => Ok(()),
+        },
+        Some(asked) => match place_fault(About::Request(asked.rp.id), asked.ends, object) {
+            Some(fault) => Err(fault),
+            None => {
+                take(asked, object);
+                Ok(())
+            }
+        },
+    }
+}
+
+/// Takes in one more object.
+fn take_in(
+    object: Object,
+    asked: &mut Option<Asked>,
+    requests: Vec<PathRequest>,
+) -> Result<Vec<PathRequest>, MessageFault>
+    ensures { Steps (λ v. v.items) (after object (record { requests = requests.items; asked = asked.old })) result asked.new }
+{
+    if let Object::Rp(rp) = object {
+        return take_rp(rp, asked, requests);
+    }
+    take_other(&object, asked)?;
+    Ok(requests)
+}
+
+fn requests_in(alloc: Global, body: &[u8]) -> Result<Vec<PathRequest>, MessageFault>
+    ensures { Gives (λ v. v.items) result (requests_in_body body.now) }
+{
+    // Most messages have one.
+    let mut requests = Vec::with_capacity(alloc, 1)?;
+    let mut asked = None;
+    let mut rest = body;
+    while !rest.is_empty() {
+        match next_object(alloc, rest, true)? {
+            Next::Object(object, size) => {
+                requests = take_in(object, &mut asked, requests)?;
+                let (_, after) = rest.split_at(size);
+                rest = after;
+            }
+            Next::Skipped(size) => {
+                let (_, after) = rest.split_at(size);
+                rest = after;
+            }
+            Next::Bad(fault) => return finish(asked, requests, Some(fault)),
+        }
+    }
+    finish(asked, requests, None)
 }
 
 /// The body of a PCReq.
@@ -210,7 +198,6 @@ fn requests_in(
 pub fn read_requests(alloc: Global, body: &[u8]) -> Result<Message, MessageFault>
     ensures { Gives (λ x. x) result (request_body body.now) }
 {
-    let (objects, fault) = request_objects_in(alloc, body)?;
-    let requests = requests_in(alloc, &objects, fault)?;
+    let requests = requests_in(alloc, body)?;
     Ok(Message::Request(Sequence::from_vec(requests)))
 }

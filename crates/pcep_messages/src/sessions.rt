@@ -2,7 +2,7 @@
 
 ghost use Rattle.std.specs.Prelude.{◌≡◌};
 ghost use Rattle.pcep_messages.specs.Sessions.{opening_body, keepalive_body, reason_of, close_body};
-ghost use Rattle.pcep_messages.specs.Messages.{Gives};
+ghost use Rattle.pcep_messages.specs.Faults.{Gives};
 
 use crate::fault::{About, MessageFault};
 use crate::message::Message;

@@ -1,15 +1,17 @@
 //! What a PCUpd and a PCInitiate ask for.
 
-ghost use Rattle.std.specs.Prelude.{◌≡◌};
-ghost use Rattle.std.specs.Option.{option_map};
-ghost use Rattle.pcep_messages.specs.Updates.{attributes_of, name_or_none, update_with, update_of, update_body, create_with, create_or_missing, initiate_of, initiate_body};
-ghost use Rattle.pcep_messages.specs.Messages.{Gives};
+ghost use Rattle.std.specs.Prelude.{◌≡◌, []};
+ghost use Rattle.std.specs.Option.{option_map, unwrap_or};
+ghost use Rattle.pcep_messages.specs.Updates.{attributes_of, update_with, update_of, update_body, create_with, create_or_missing, initiate_of, initiate_body};
+ghost use Rattle.pcep_messages.specs.Faults.{Gives};
+ghost use Rattle.pcep_messages.specs.PartSteps.{kept};
 
 use crate::fault::MessageFault;
 use crate::message::{Attributes, Create, Initiate, Message, Update};
 use crate::parts::{Parts, parts_in};
-use crate::reports::{about_srp, hops_or_none, in_force, srp_id};
+use crate::reports::{about_srp, hops_or_empty, srp_id};
 use pcep_objects::{EndPoints, Hop, LspObject, Lspa, Srp};
+use pcep_word::Priorities;
 use sequence::Sequence;
 use std::alloc::Global;
 
@@ -19,15 +21,14 @@ fn attributes_of(lspa: Option<Lspa>) -> Option<Attributes>
     match lspa {
         Some(lspa) => Some(Attributes {
             colours: lspa.colours,
-            setup: lspa.setup,
-            hold: in_force(lspa.setup, lspa.hold),
+            priorities: Priorities::new(lspa.setup, lspa.hold),
         }),
         None => None,
     }
 }
 
-fn name_or_none(alloc: Global, name: Option<Sequence<u8>>) -> Sequence<u8>
-    ensures { result ≡ name_or_none name }
+fn name_or_empty(alloc: Global, name: Option<Sequence<u8>>) -> Sequence<u8>
+    ensures { result ≡ unwrap_or name [] }
 {
     match name {
         Some(name) => name,
@@ -36,7 +37,7 @@ fn name_or_none(alloc: Global, name: Option<Sequence<u8>>) -> Sequence<u8>
 }
 
 fn update_with(alloc: Global, srp: Srp, lsp: &LspObject, parts: Parts) -> Update
-    ensures { result ≡ update_with srp lsp.now parts }
+    ensures { result ≡ update_with srp lsp.now (kept parts) }
 {
     let attributes = attributes_of(parts.lspa);
     Update {
@@ -44,7 +45,7 @@ fn update_with(alloc: Global, srp: Srp, lsp: &LspObject, parts: Parts) -> Update
         plsp: lsp.plsp,
         delegate: lsp.delegate,
         admin: lsp.admin,
-        ero: hops_or_none(alloc, parts.ero),
+        ero: hops_or_empty(alloc, parts.ero),
         attributes,
         bandwidth: parts.bandwidth,
     }
@@ -52,7 +53,7 @@ fn update_with(alloc: Global, srp: Srp, lsp: &LspObject, parts: Parts) -> Update
 
 /// The update of the parts that are there.
 fn update_of(alloc: Global, mut parts: Parts) -> Result<Message, MessageFault>
-    ensures { Gives (λ x. x) result (update_of parts) }
+    ensures { Gives (λ x. x) result (update_of (kept parts)) }
 {
     let about = about_srp(srp_id(parts.srp));
     let Some(srp) = parts.srp else {
@@ -88,12 +89,12 @@ fn create_with(
     hops: Sequence<Hop>,
     parts: Parts,
 ) -> Create
-    ensures { result ≡ create_with srp lsp end_points hops parts }
+    ensures { result ≡ create_with srp lsp end_points hops (kept parts) }
 {
     let attributes = attributes_of(parts.lspa);
     Create {
         srp: srp.id,
-        name: name_or_none(alloc, lsp.name),
+        name: name_or_empty(alloc, lsp.name),
         source: end_points.source,
         destination: end_points.destination,
         ero: hops,
@@ -109,7 +110,7 @@ fn create_of(
     lsp: LspObject,
     mut parts: Parts,
 ) -> Result<Message, MessageFault>
-    ensures { Gives (λ x. x) result (create_or_missing srp lsp parts parts.ero parts.end_points) }
+    ensures { Gives (λ x. x) result (create_or_missing srp lsp (kept parts) parts.ero parts.end_points) }
 {
     let about = about_srp(srp_id(parts.srp));
     let (end_points, ero) = (parts.end_points, parts.ero.take());
@@ -125,7 +126,7 @@ fn create_of(
 
 /// What the parts that are there ask for.
 fn initiate_of(alloc: Global, mut parts: Parts) -> Result<Message, MessageFault>
-    ensures { Gives (λ x. x) result (initiate_of parts) }
+    ensures { Gives (λ x. x) result (initiate_of (kept parts)) }
 {
     let about = about_srp(srp_id(parts.srp));
     let Some(srp) = parts.srp else {

@@ -1,6 +1,8 @@
 //! Messages as bytes: the one spelling, which is read again.
 
-ghost use Rattle.std.specs.Prelude.{◌≡◌, ◌++◌, true, false, IfOk, IfErr, OnOk, OnErr};
+ghost use Rattle.std.specs.Prelude.{◌≡◌, ◌++◌, ℕ, List, true, false, length, take, IfOk, IfErr, OnOk, OnErr};
+ghost use Rattle.std.specs.List.{AllByRecursion};
+ghost use Rattle.pcep_objects.specs.Spelling.{IsByte};
 ghost use Rattle.pcep_messages.specs.Messages.{Reads};
 ghost use Rattle.pcep_messages.specs.Normal.{IsNormal};
 ghost use Rattle.pcep_messages.specs.Spelling.{is_written, kind_number, written, fits};
@@ -44,6 +46,27 @@ fn kind_number(message: &Message) -> u8
     }
 }
 
+/// Appends a message. After an `Err` a part of it may stand behind what was there.
+#[tactic(auto, using(crate::proofs::Fronts::front_same, crate::proofs::Fronts::front_two, crate::proofs::Fronts::front_again, crate::proofs::Mended::mended))]
+fn put_message(message: &Message, out: &mut Vec<u8>) -> Result<(), WriteFault>
+    ensures written { OnOk result (out.new.items ≡ out.old.items ++ written message.now) }
+    ensures fits { IfOk result (λ _. fits message.now ≡ true) }
+    ensures too_long { IfErr result (λ e. e ≡ TooLong → fits message.now ≡ false) }
+    ensures front { OnErr result (take (length out.old.items) out.new.items ≡ out.old.items) }
+{
+    let start = out.len();
+    out.extend_from_slice(&[0x20, kind_number(message), 0, 0])?;
+    put_body(message, out)?;
+    let size = out.len() - start;
+    if size >= 0x10000 {
+        return Err(WriteFault::TooLong);
+    }
+    let [high, low] = (size as u16).to_be_bytes();
+    out[start + 2] = high;
+    out[start + 3] = low;
+    Ok(())
+}
+
 /// Appends the one spelling of a message (RFC 5440 section 6, RFC 8231 section 6, RFC 8281 section 5). P is
 /// set in the RP of a PCRep and clear in those of a PCErr.
 ///
@@ -57,21 +80,28 @@ pub fn write_message(message: &Message, out: &mut Vec<u8>) -> Result<(), WriteFa
     ensures too_long { IfErr result (λ e. e ≡ TooLong → fits message.now ≡ false) }
     ensures unchanged { OnErr result (out.new.items ≡ out.old.items) }
 {
-    let mut spelled = Vec::with_capacity(*out.allocator(), 128)?;
-    spelled.extend_from_slice(&[0x20, kind_number(message), 0, 0])?;
-    put_body(message, &mut spelled)?;
-    if spelled.len() >= 0x10000 {
-        return Err(WriteFault::TooLong);
+    let start = out.len();
+    match put_message(message, out) {
+        Ok(()) => Ok(()),
+        Err(fault) => {
+            out.truncate(start);
+            Err(fault)
+        }
     }
-    let [high, low] = (spelled.len() as u16).to_be_bytes();
-    spelled[2] = high;
-    spelled[3] = low;
-    out.extend_from_slice(&spelled)?;
-    Ok(())
 }
 
-/// The spelling of a message whose fields are in their ranges and whose lengths fit reads as it.
+/// The spelling of a message that is normal and whose lengths fit reads as it.
+///
+/// Normal is what the wire can have: numbers as the fields' types keep them, hops as an ERO gives them (no `Other`
+/// that would read as a host), and a cost that some word reads as. A cost above 2^24 may have no such word: the
+/// least greater one that has is written.
 pub fn messages_are_read_again()
     ensures { (message : Message) → is_written message ≡ true → IsNormal message → fits message ≡ true
         → Reads (written message) message }
+{}
+
+/// Each message that bytes read as is normal: so what was read of a kind that is written, if its lengths fit,
+/// is written as bytes that read as the same.
+pub fn what_is_read_is_normal()
+    ensures { (bytes : List ℕ) (message : Message) → AllByRecursion IsByte bytes → Reads bytes message → IsNormal message }
 {}

@@ -3,7 +3,7 @@ use Rattle.std.proofs.Common.{◌≡◌, ℕ, ◌+◌, ◌*◌, ◌/◌, ◌%◌
 use Rattle.std.proofs.lemmas.Bool.{le-ltb}
 use Rattle.byteorder.specs.Endian.{big_bytes}
 use Rattle.byteorder.specs.Numbers.{big_number-reads_back}
-use Rattle.pcep_word.specs.Word.{bound_of, word_of, IsBandwidth}
+use Rattle.pcep_word.specs.Word.{bound_of, word_of, IsBandwidth, IsBound}
 use Rattle.pcep_word.proofs.Reading as word
 use Rattle.pcep_objects.specs.declared.fault.BodyFault.{BodyFault}
 use Rattle.pcep_objects.specs.declared.object.BandwidthType.{BandwidthType}
@@ -16,12 +16,12 @@ use Rattle.pcep_objects.specs.declared.object.Operational.TheVariants.{Down, Up,
 use Rattle.pcep_objects.specs.declared.object.Object.{Object}
 use Rattle.pcep_objects.specs.declared.object.Object.TheVariants as objects
 use Rattle.pcep_objects.specs.Steps.{field, has, cut}
-use Rattle.pcep_objects.specs.WordTlvs.{skipped_tlvs}
-use Rattle.pcep_objects.specs.Metrics.{metric_of, metric_written, IsMetric}
+use Rattle.pcep_objects.specs.Tlvs.{tlvs_in, skipped_tlvs}
+use Rattle.pcep_objects.specs.Metrics.{metric_of, metric_written}
 use Rattle.pcep_objects.specs.Bodies.{bandwidth_body, lspa_body, lsp_body, operational_of}
 use Rattle.pcep_objects.specs.Spelling.{bandwidth_written, colours_written, lspa_written, IsLspa, operational_number, lsp_word, name_written, identifiers_written, lsp_written, IsLsp}
 use Rattle.pcep_objects.proofs.Flags.{bit_small, weight, has_bit}
-use Rattle.pcep_objects.proofs.TlvAgain.{tlvs_again}
+use Rattle.pcep_objects.proofs.TlvAgain.{name_found, identifiers_found, identifiers_back}
 
 -- ---- BANDWIDTH
 
@@ -35,7 +35,7 @@ bandwidth_again kind bandwidth good =
 -- ---- METRIC
 
 measured : Bool → Bool → ℕ → ℕ → Metric
-measured bound computed kind value = record { bound = bound; computed = computed; kind = kind; value = value }
+measured bound computed kind value = record { bound = bound; computed = computed; metric_type = kind; value = value }
 
 spelled_metric : (bound computed : Bool) (kind value : ℕ) → field 0 4 (big_bytes 4 (word_of value)) ≡ word_of value → bound_of (word_of value) ≡ Some value
     → metric_of (metric_written (measured bound computed kind value)) ≡ Ok (measured bound computed kind value)
@@ -45,12 +45,12 @@ spelled_metric true false kind value w again = rw (w, again) refl
 spelled_metric false true kind value w again = rw (w, again) refl
 spelled_metric false false kind value w again = rw (w, again) refl
 
-pub metric_again : (metric : Metric) → IsMetric metric → metric_of (metric_written metric) ≡ Ok metric
+pub metric_again : (metric : Metric) → IsBound metric.value → metric_of (metric_written metric) ≡ Ok metric
 unfolding measured
 metric_again metric good =
-    let small = word.word_fits metric.value (word.bound_small good.word metric.value good.reads) in
+    let small = word.word_fits metric.value (word.bound_small metric.value good) in
     let w : field 0 4 (big_bytes 4 (word_of metric.value)) ≡ word_of metric.value = big_number-reads_back 4 (word_of metric.value) [] (omega (arith, small)) in
-    spelled_metric metric.bound metric.computed metric.kind metric.value w (word.bound_written good.word metric.value good.reads)
+    spelled_metric metric.bound metric.computed metric.metric_type metric.value w (word.bound_written metric.value good)
 
 -- ---- LSPA
 
@@ -67,7 +67,7 @@ protection_again true = refl
 protection_again false = refl
 
 pub lspa_again : (lspa : Lspa) → IsLspa lspa → lspa_body (lspa_written lspa) ≡ Ok (objects.Lspa lspa)
-unfolding lspa_body skipped_tlvs cut attributes colours_written
+unfolding lspa_body skipped_tlvs tlvs_in cut attributes colours_written
 lspa_again lspa good =
     let colours = lspa.colours in
     let ends = lspa.setup ∷ lspa.hold ∷ cond lspa.local_protection 1 0 ∷ 0 ∷ [] in
@@ -154,4 +154,4 @@ unfolding lsp_body known
 lsp_again lsp good fits =
     let w : field 0 4 (lsp_written lsp) ≡ lsp_word lsp = big_number-reads_back 4 (lsp_word lsp) (name_written lsp.name ++ identifiers_written lsp.identifiers) (word_small lsp good.plsp) in
     let four : ltb (length (lsp_written lsp)) 4 ≡ false = le-ltb _ _ (omega arith) in
-    rw (four, w, tlvs_again lsp.name lsp.identifiers fits good.identifiers) (flags_again lsp.plsp lsp.delegate lsp.sync lsp.remove lsp.admin lsp.created lsp.operational lsp.name lsp.identifiers (lsp_word lsp) refl)
+    rw (four, w, identifiers_found lsp.name lsp.identifiers fits, name_found lsp.name lsp.identifiers fits, identifiers_back lsp.identifiers good.identifiers) (flags_again lsp.plsp lsp.delegate lsp.sync lsp.remove lsp.admin lsp.created lsp.operational lsp.name lsp.identifiers (lsp_word lsp) refl)

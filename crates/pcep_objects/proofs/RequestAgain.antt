@@ -8,8 +8,7 @@ use Rattle.pcep_objects.specs.declared.request_objects.NoPath.{NoPath}
 use Rattle.pcep_objects.specs.declared.request_objects.NoPathVector.{NoPathVector}
 use Rattle.pcep_objects.specs.declared.request_objects.EndPoints.{EndPoints}
 use Rattle.pcep_objects.specs.Steps.{field, has, cut}
-use Rattle.pcep_objects.specs.Tlvs.{tlv_size}
-use Rattle.pcep_objects.specs.WordTlvs.{word_tlv, word_in, skipped_tlvs}
+use Rattle.pcep_objects.specs.Tlvs.{tlv_size, tlvs_in, skipped_tlvs, value_in, word_in}
 use Rattle.pcep_objects.specs.RequestObjects.{rp_of, rp_flags, rp_written, IsRp, no_path_of, no_path_written, end_points_of, end_points_written, IsEndPoints}
 use Rattle.pcep_objects.proofs.Flags.{bit_small, weight, has_bit}
 
@@ -44,7 +43,7 @@ rp_flags_small object small =
     omega arith
 
 pub rp_again : (object : Rp) → IsRp object → rp_of object.p (rp_written object) ≡ Ok object
-unfolding rp_of skipped_tlvs cut
+unfolding rp_of skipped_tlvs tlvs_in cut
 rp_again object normal =
     let flags : field 0 4 (rp_written object) ≡ rp_flags object = big_number-reads_back 4 (rp_flags object) (big_bytes 4 object.id) (rp_flags_small object normal.priority) in
     let id : field 4 4 (rp_written object) ≡ object.id = big_number-reads_back 4 object.id [] normal.id in
@@ -61,7 +60,7 @@ abbrev why : Bool → Bool → Bool → NoPathVector
 why unavailable destination source = record { pce_unavailable = unavailable; unknown_destination = destination; unknown_source = source }
 
 vector_again : (n : ℕ) (c u d s : Bool) → no_path_of (no_path_written (refused n c (Some (why u d s)))) ≡ Ok (refused n c (Some (why u d s)))
-unfolding no_path_of word_in word_tlv cut tlv_size
+unfolding no_path_of word_in value_in tlvs_in cut tlv_size
 vector_again n true true true true = refl
 vector_again n true true true false = refl
 vector_again n true true false true = refl
@@ -80,7 +79,7 @@ vector_again n false false false true = refl
 vector_again n false false false false = refl
 
 refused_again : (n : ℕ) (c : Bool) (vector : Option NoPathVector) → no_path_of (no_path_written (refused n c vector)) ≡ Ok (refused n c vector)
-unfolding no_path_of word_in cut
+unfolding no_path_of word_in value_in tlvs_in cut
 refused_again n true None = refl
 refused_again n false None = refl
 refused_again n c (Some v) = vector_again n c v.pce_unavailable v.unknown_destination v.unknown_source

@@ -1,9 +1,9 @@
 -- The bodies of objects, class by class. Reserved bits and flags without a name are ignored.
 use Rattle.std.specs.Prelude.{ℕ, Bool, ◌/◌, ◌%◌, ◌^◌, min, true, false, not, List, length, drop, slice_index, Option, Some, None, Result, Ok, Err, nat_lt, ◌==◌, if◌then◌else◌}
+use Rattle.std.specs.Option.{option_map}
 use Rattle.pcep_word.specs.Word.{bandwidth_of}
 use Rattle.pcep_objects.specs.Steps.{◌>>=◌, field, has}
-use Rattle.pcep_objects.specs.Tlvs.{lsp_tlvs}
-use Rattle.pcep_objects.specs.WordTlvs.{skipped_tlvs}
+use Rattle.pcep_objects.specs.Tlvs.{skipped_tlvs, value_in, identifiers_of}
 use Rattle.pcep_objects.specs.Routes.{hops_of}
 use Rattle.pcep_objects.specs.declared.fault.BodyFault.{BodyFault}
 use Rattle.pcep_objects.specs.declared.fault.BodyFault.TheVariants.{BadLength, BadNumber}
@@ -39,7 +39,7 @@ rro_body body = do
 unfoldable pub lspa_body : List ℕ → Result Object BodyFault
 lspa_body body =
     if nat_lt (length body) 16 then Err BadLength else (do
-      tlvs ← skipped_tlvs (drop 16 body)
+      skipped ← skipped_tlvs (drop 16 body)
       Ok (Lspa (record {
         colours = record { exclude_any = field 0 4 body; include_any = field 4 4 body; include_all = field 8 4 body };
         setup = min (slice_index body 12) 7;
@@ -57,11 +57,13 @@ operational_of word =
     let o = word / 2 ^ 4 % 8 in
     if o == 0 then Down else (if o == 2 then Active else (if o == 3 then GoingDown else (if o == 4 then GoingUp else Up)))
 
--- LSP (RFC 8231 section 7.3, RFC 8281 section 5.3.1): a PLSP-ID of 20 bits and 12 flags, TLVs
+-- LSP (RFC 8231 section 7.3, RFC 8281 section 5.3.1): a PLSP-ID of 20 bits and 12 flags, and TLVs, of which it
+-- names SYMBOLIC-PATH-NAME (17, RFC 8231 section 7.3.2) and IPV4-LSP-IDENTIFIERS (18, of 16 bytes)
 unfoldable pub lsp_body : List ℕ → Result Object BodyFault
 lsp_body body =
     if nat_lt (length body) 4 then Err BadLength else (do
-      tlvs ← lsp_tlvs (drop 4 body)
+      identifiers ← value_in 18 (Some 16) (drop 4 body)
+      name ← value_in 17 None (drop 4 body)
       Ok (Lsp (record {
         plsp = field 0 4 body / 2 ^ 12;
         delegate = has (field 0 4 body) 0x001;
@@ -70,13 +72,13 @@ lsp_body body =
         admin = has (field 0 4 body) 0x008;
         operational = operational_of (field 0 4 body);
         created = has (field 0 4 body) 0x080;
-        name = tlvs.name;
-        identifiers = tlvs.identifiers;
+        name = name;
+        identifiers = option_map identifiers_of identifiers;
       })))
 
 -- SRP (RFC 8231 section 7.2, RFC 8281 section 5.2): flags (R 0x1) and the SRP-ID, TLVs
 unfoldable pub srp_body : List ℕ → Result Object BodyFault
 srp_body body =
     if nat_lt (length body) 8 then Err BadLength else (do
-      tlvs ← skipped_tlvs (drop 8 body)
+      skipped ← skipped_tlvs (drop 8 body)
       Ok (Srp (record { remove = has (field 0 4 body) 0x1; id = field 4 4 body })))

@@ -3,7 +3,7 @@ use Rattle.std.specs.Prelude.{ℕ, ◌+◌, ◌%◌, ◌^◌, ◌<◌, Bool, not
 use Rattle.std.specs.Option.{option_map}
 use Rattle.byteorder.specs.Endian.{big_bytes}
 use Rattle.pcep_objects.specs.Steps.{◌>>=◌, field, has}
-use Rattle.pcep_objects.specs.WordTlvs.{word_in, skipped_tlvs, word_spelled}
+use Rattle.pcep_objects.specs.Tlvs.{word_in, skipped_tlvs, word_spelled}
 use Rattle.pcep_objects.specs.declared.fault.BodyFault.{BodyFault}
 use Rattle.pcep_objects.specs.declared.fault.BodyFault.TheVariants.{BadLength}
 use Rattle.pcep_objects.specs.declared.request_objects.Rp.{Rp}
@@ -15,7 +15,7 @@ use Rattle.pcep_objects.specs.declared.request_objects.EndPoints.{EndPoints}
 unfoldable pub rp_of : Bool → List ℕ → Result Rp BodyFault
 rp_of p body =
     if nat_lt (length body) 8 then Err BadLength else (do
-      lengths ← skipped_tlvs (drop 8 body)
+      skipped ← skipped_tlvs (drop 8 body)
       Ok (record {
         p = p;
         priority = field 0 4 body % 2 ^ 3;

@@ -2,7 +2,7 @@
 use Rattle.std.specs.Prelude.{ℕ, ◌+◌, List, [], ◌∷◌, ◌++◌, length, drop, slice_index, Option, Some, None, Result, Ok, Err, nat_lt, if◌then◌else◌}
 use Rattle.std.specs.Option.{option_map}
 use Rattle.pcep_objects.specs.Steps.{◌>>=◌, has}
-use Rattle.pcep_objects.specs.WordTlvs.{word_in, skipped_tlvs, word_spelled}
+use Rattle.pcep_objects.specs.Tlvs.{word_in, skipped_tlvs, word_spelled}
 use Rattle.pcep_objects.specs.declared.fault.BodyFault.{BodyFault}
 use Rattle.pcep_objects.specs.declared.fault.BodyFault.TheVariants.{BadLength}
 use Rattle.pcep_objects.specs.declared.object.Capabilities.{Capabilities}
@@ -28,7 +28,7 @@ open_of body =
       Ok (record {
         keepalive = slice_index body 1;
         dead_timer = slice_index body 2;
-        session = slice_index body 3;
+        sid = slice_index body 3;
         capabilities = option_map capabilities_of word;
       }))
 
@@ -38,13 +38,13 @@ capabilities_after (Some capabilities) = capabilities_written capabilities
 
 abbrev pub open_written : Open → List ℕ
 open_written object =
-    (0x20 ∷ object.keepalive ∷ object.dead_timer ∷ object.session ∷ []) ++ capabilities_after object.capabilities
+    (0x20 ∷ object.keepalive ∷ object.dead_timer ∷ object.sid ∷ []) ++ capabilities_after object.capabilities
 
 -- CLOSE (RFC 5440 section 7.17): reserved (16 bits), flags, reason, TLVs
 unfoldable pub close_of : List ℕ → Result Close BodyFault
 close_of body =
     if nat_lt (length body) 4 then Err BadLength else (do
-      lengths ← skipped_tlvs (drop 4 body)
+      skipped ← skipped_tlvs (drop 4 body)
       Ok (record { reason = slice_index body 3 }))
 
 abbrev pub close_written : Close → List ℕ
@@ -54,18 +54,18 @@ close_written object = 0 ∷ 0 ∷ 0 ∷ object.reason ∷ []
 unfoldable pub notification_of : List ℕ → Result Notification BodyFault
 notification_of body =
     if nat_lt (length body) 4 then Err BadLength else (do
-      lengths ← skipped_tlvs (drop 4 body)
-      Ok (record { kind = slice_index body 2; value = slice_index body 3 }))
+      skipped ← skipped_tlvs (drop 4 body)
+      Ok (record { notification_type = slice_index body 2; value = slice_index body 3 }))
 
 abbrev pub notification_written : Notification → List ℕ
-notification_written object = 0 ∷ 0 ∷ object.kind ∷ object.value ∷ []
+notification_written object = 0 ∷ 0 ∷ object.notification_type ∷ object.value ∷ []
 
 -- PCEP-ERROR (RFC 5440 section 7.15): reserved, flags, type, value, TLVs
 unfoldable pub error_of : List ℕ → Result PcepError BodyFault
 error_of body =
     if nat_lt (length body) 4 then Err BadLength else (do
-      lengths ← skipped_tlvs (drop 4 body)
-      Ok (record { kind = slice_index body 2; value = slice_index body 3 }))
+      skipped ← skipped_tlvs (drop 4 body)
+      Ok (record { error_type = slice_index body 2; value = slice_index body 3 }))
 
 abbrev pub error_written : PcepError → List ℕ
-error_written object = 0 ∷ 0 ∷ object.kind ∷ object.value ∷ []
+error_written object = 0 ∷ 0 ∷ object.error_type ∷ object.value ∷ []

@@ -1,13 +1,13 @@
 -- The one spelling of an object: reserved bits, flags without a name and padding are zero.
-use Rattle.std.specs.Prelude.{◌≡◌, ℕ, ◌+◌, ◌-◌, ◌*◌, ◌%◌, ◌^◌, ◌<◌, ◌≤◌, Bool, true, false, ◌&&◌, List, [], ◌∷◌, ◌++◌, length, replicate, Option, Some, None, Ok, nat_lt, if◌then◌else◌}
+use Rattle.std.specs.Prelude.{◌≡◌, ◌≢◌, ◌⊎◌, ℕ, slice_index, ◌+◌, ◌-◌, ◌*◌, ◌%◌, ◌^◌, ◌<◌, ◌≤◌, Bool, true, false, ◌&&◌, List, [], ◌∷◌, ◌++◌, length, replicate, Option, Some, None, nat_lt, if◌then◌else◌}
 use Rattle.std.specs.List.{flat_map, AllByRecursion}
 use Rattle.byteorder.specs.Endian.{big_bytes}
-use Rattle.pcep_word.specs.Word.{word_of, IsBandwidth}
+use Rattle.pcep_word.specs.Word.{word_of, IsBandwidth, IsBound}
 use Rattle.pcep_objects.specs.Tlvs.{padded}
-use Rattle.pcep_objects.specs.Routes.{hop_of}
+use Rattle.pcep_objects.specs.Routes.{plain_type}
 use Rattle.pcep_objects.specs.SessionObjects.{open_written, close_written, notification_written, error_written}
 use Rattle.pcep_objects.specs.RequestObjects.{rp_written, no_path_written, end_points_written, IsRp, IsEndPoints}
-use Rattle.pcep_objects.specs.Metrics.{metric_written, IsMetric}
+use Rattle.pcep_objects.specs.Metrics.{metric_written}
 use Rattle.pcep_objects.specs.Kinds.{class_number, type_number}
 use Rattle.pcep_objects.specs.declared.kind.Kind.{Kind}
 use Rattle.pcep_objects.specs.declared.kind.Kind.TheVariants as kinds
@@ -159,14 +159,22 @@ parts_fit object = true
 abbrev pub fits : Object → Bool
 fits object = parts_fit object && nat_lt (length (body_written object) + 4) (2 ^ 16)
 
--- ---- normal objects: each field in its range, so that it can be spelled
+-- ---- normal objects: those that bytes read as, with P as it is written
 
--- a hop that bytes read as; of an Other it is said that its spelling does
+abbrev pub IsByte : ℕ → Type 0
+IsByte number = number < 256
+
+-- a subobject that is no host: it is of another type than 1, or its prefix length is not 32
+abbrev pub IsOther : Bool → ℕ → List ℕ → Type 0
+IsOther explicit kind bytes =
+    (plain_type explicit kind ≢ 1) ⊎ ((plain_type explicit kind ≡ 1) × (length bytes ≡ 6) × (slice_index bytes 4 ≢ 32))
+
+-- a hop that bytes read as
 abbrev pub IsHop : Bool → Hop → Type 0
 IsHop explicit (Host address true) = (address < 2 ^ 32) × (explicit ≡ true)
 IsHop explicit (Host address false) = address < 2 ^ 32
 IsHop explicit (Other kind bytes) =
-    (2 ≤ length bytes) × ((length bytes + 2) % 4 ≡ 0) × (hop_of explicit (kind ∷ (length bytes + 2) ∷ bytes) ≡ Ok (Other kind bytes))
+    (2 ≤ length bytes) × ((length bytes + 2) % 4 ≡ 0) × IsOther explicit kind bytes
 
 pub record IsLspa (lspa : Lspa) : Type 0 where
   pub exclude_any : lspa.colours.exclude_any < 2 ^ 32
@@ -194,11 +202,17 @@ pub record IsLsp (lsp : LspObject) : Type 0 where
   pub plsp : lsp.plsp < 2 ^ 20
   pub identifiers : MayBeIdentifiers lsp.identifiers
 
+-- P of an object whose P flag the value carries is as it is written
+abbrev pub HasWrittenP : Object → Type 0
+HasWrittenP (objects.EndPoints object) = object.p ≡ true
+HasWrittenP (objects.Kept object) = object.p ≡ false
+HasWrittenP object = Unit {0}
+
 abbrev pub IsNormal : Object → Type 0
 IsNormal (objects.Rp object) = IsRp object
 IsNormal (objects.EndPoints object) = (object.p ≡ true) × IsEndPoints object
 IsNormal (objects.Bandwidth kind bandwidth) = IsBandwidth bandwidth
-IsNormal (objects.Metric object) = IsMetric object
+IsNormal (objects.Metric object) = IsBound object.value
 IsNormal (objects.Ero hops) = AllByRecursion (IsHop true) hops
 IsNormal (objects.Rro hops) = AllByRecursion (IsHop false) hops
 IsNormal (objects.Lspa object) = IsLspa object

@@ -1,14 +1,17 @@
 -- TLVs (RFC 5440 section 7.1): a type and the length of the value, 2 bytes each, the value, and padding
--- up to a multiple of 4 that the length doesn't count.
-use Rattle.std.specs.Prelude.{ℕ, ◌+◌, ◌*◌, ◌/◌, ◌||◌, List, length, take, drop, Some, None, Result, Ok, Err, nat_lt, ◌==◌, if◌then◌else◌}
-use Rattle.pcep_objects.specs.Steps.{◌>>=◌, field, pieces, from_end}
+-- up to a multiple of 4 that the length doesn't count. An object's TLVs are cut from its bytes; of a type
+-- that the object names the first counts, and the others are skipped.
+use Rattle.std.specs.Prelude.{ℕ, ◌+◌, ◌*◌, ◌/◌, Bool, true, not, ◌&&◌, ◌||◌, List, [], ◌∷◌, ◌++◌, length, take, drop, Option, Some, None, Result, Ok, Err, nat_lt, ◌==◌, if◌then◌else◌}
+use Rattle.std.specs.Option.{option_map}
+use Rattle.byteorder.specs.Endian.{big_bytes}
+use Rattle.pcep_objects.specs.Steps.{◌>>=◌, field, pieces}
 use Rattle.pcep_objects.specs.declared.fault.BodyFault.{BodyFault}
 use Rattle.pcep_objects.specs.declared.fault.BodyFault.TheVariants.{BadTlv}
 use Rattle.pcep_objects.specs.declared.object.Identifiers.{Identifiers}
-use Rattle.pcep_objects.specs.declared.object.Tlv.{Tlv}
-use Rattle.pcep_objects.specs.declared.object.Tlv.TheVariants.{Name, Skipped}
-use Rattle.pcep_objects.specs.declared.object.Tlv.TheVariants as tlvs
-use Rattle.pcep_objects.specs.declared.tlvs.NamedTlvs.{NamedTlvs}
+
+pub record Tlv : Type 0 where
+  pub number : ℕ
+  pub value : List ℕ
 
 -- the length of a value with its padding
 abbrev pub padded : ℕ → ℕ
@@ -20,6 +23,50 @@ tlv_size bytes =
     let n = 4 + padded (field 2 2 bytes) in
     if nat_lt (length bytes) 4 || nat_lt (length bytes) n then Err BadTlv else Ok n
 
+-- the TLV at the front
+abbrev pub tlv_at : List ℕ → Tlv
+tlv_at bytes = record { number = field 0 2 bytes; value = take (field 2 2 bytes) (drop 4 bytes) }
+
+-- the TLVs of an object
+unfoldable pub tlvs_in : List ℕ → Result (List Tlv) BodyFault
+tlvs_in bytes = pieces tlv_size (λ tlv. Ok (tlv_at tlv)) bytes
+
+-- an object that names no type: its TLVs only have to be there
+unfoldable pub skipped_tlvs : List ℕ → Result (Unit {0}) BodyFault
+skipped_tlvs bytes = do
+  tlvs ← tlvs_in bytes
+  Ok tt
+
+-- the value of the first TLV of a type
+abbrev pub first_of : ℕ → List Tlv → Option (List ℕ)
+first_of number [] = None
+first_of number (tlv ∷ tlvs) = if tlv.number == number then Some tlv.value else first_of number tlvs
+
+-- whether a value may have n bytes. None: it may have any length
+abbrev pub may_have : Option ℕ → ℕ → Bool
+may_have None n = true
+may_have (Some size) n = n == size
+
+-- whether each TLV of a type has a value of the size that the type has
+abbrev pub are_sized : ℕ → Option ℕ → List Tlv → Bool
+are_sized number size [] = true
+are_sized number size (tlv ∷ tlvs) = (not (tlv.number == number) || may_have size (length tlv.value)) && are_sized number size tlvs
+
+abbrev pub first_sized : ℕ → Option ℕ → List Tlv → Result (Option (List ℕ)) BodyFault
+first_sized number size tlvs = if are_sized number size tlvs then Ok (first_of number tlvs) else Err BadTlv
+
+-- the value that counts of a type, whose values have this size
+unfoldable pub value_in : ℕ → Option ℕ → List ℕ → Result (Option (List ℕ)) BodyFault
+value_in number size bytes = do
+  tlvs ← tlvs_in bytes
+  first_sized number size tlvs
+
+-- the same of a type whose values are words of 32 bits
+unfoldable pub word_in : ℕ → List ℕ → Result (Option ℕ) BodyFault
+word_in number bytes = do
+  value ← value_in number (Some 4) bytes
+  Ok (option_map (field 0 4) value)
+
 -- IPV4-LSP-IDENTIFIERS (RFC 8231 section 7.3.1)
 abbrev pub identifiers_of : List ℕ → Identifiers
 identifiers_of value = record {
@@ -30,30 +77,6 @@ identifiers_of value = record {
   endpoint = field 12 4 value;
 }
 
--- What a TLV says to an LSP, which names SYMBOLIC-PATH-NAME (17, RFC 8231 section 7.3.2) and
--- IPV4-LSP-IDENTIFIERS (18). Any other is skipped.
-abbrev pub tlv_value : ℕ → List ℕ → Result Tlv BodyFault
-tlv_value kind value =
-    if kind == 17 then Ok (Name value)
-    else (if kind == 18 then (if length value == 16 then Ok (tlvs.Identifiers (identifiers_of value)) else Err BadTlv)
-    else Ok Skipped)
-
-unfoldable pub lsp_tlv : List ℕ → Result Tlv BodyFault
-lsp_tlv bytes = do
-  n ← tlv_size bytes
-  tlv_value (field 0 2 bytes) (take (field 2 2 bytes) (drop 4 bytes))
-
-abbrev pub no_tlvs : NamedTlvs
-no_tlvs = record { name = None; identifiers = None }
-
--- a TLV in front of others: it counts, and none of its type behind it
-abbrev pub before : Tlv → NamedTlvs → NamedTlvs
-before (Name value) named = record named { name = Some value }
-before (tlvs.Identifiers identifiers) named = record named { identifiers = Some identifiers }
-before Skipped named = named
-
--- what the TLVs of an LSP say: the first of each type counts
-unfoldable pub lsp_tlvs : List ℕ → Result NamedTlvs BodyFault
-lsp_tlvs bytes = do
-  tlvs ← pieces tlv_size lsp_tlv bytes
-  Ok (from_end before no_tlvs tlvs)
+-- a TLV with a word of 32 bits
+abbrev pub word_spelled : ℕ → ℕ → List ℕ
+word_spelled number word = big_bytes 2 number ++ big_bytes 2 4 ++ big_bytes 4 word

@@ -1,6 +1,6 @@
 //! The bodies of objects, class by class.
 
-ghost use Rattle.std.specs.Prelude.{◌≡◌, Ok};
+ghost use Rattle.std.specs.Prelude.{◌≡◌, Ok, IfOk, option_copied};
 ghost use Rattle.pcep_objects.specs.Steps.{Gives};
 ghost use Rattle.pcep_objects.specs.Bodies.{operational_of, bandwidth_body, ero_body, rro_body, lspa_body, kept, lsp_body, srp_body};
 
@@ -9,12 +9,11 @@ use crate::object::{
     BandwidthType, Colours, Kept, KeptClass, LspObject, Lspa, Object, Operational, Plsp, Srp,
 };
 use crate::routes::read_hops;
-use crate::tlvs::read_lsp_tlvs;
-use crate::word_tlvs::skip_any_tlvs;
+use crate::tlvs::{read_identifiers, skip_tlvs, value_in};
 use byteorder::{BigEndian, ByteOrder};
 use pcep_word::{Bandwidth, Priority};
 use sequence::Sequence;
-use std::alloc::Global;
+use std::alloc::{AllocError, Global};
 
 /// BANDWIDTH (RFC 5440 section 7.7).
 #[tactic(auto, unfolding(crate::specs::Bodies::bandwidth_body))]
@@ -48,13 +47,13 @@ pub fn read_rro(alloc: Global, body: &[u8]) -> Result<Object, BodyFault>
 
 /// LSPA (RFC 5440 section 7.11).
 #[tactic(auto, unfolding(crate::specs::Bodies::lspa_body))]
-pub fn read_lspa(alloc: Global, body: &[u8]) -> Result<Object, BodyFault>
+pub fn read_lspa(body: &[u8]) -> Result<Object, BodyFault>
     ensures { Gives (λ x. x) result (lspa_body body.now) }
 {
     if body.len() < 16 {
         return Err(BodyFault::BadLength);
     }
-    let _skipped = skip_any_tlvs(alloc, &body[16..])?;
+    skip_tlvs(&body[16..])?;
     Ok(Object::Lspa(Lspa {
         colours: Colours {
             exclude_any: BigEndian::read_u32(body),
@@ -90,6 +89,15 @@ fn operational(word: u32) -> Operational
     }
 }
 
+fn copied(alloc: Global, value: Option<&[u8]>) -> Result<Option<Sequence<u8>>, AllocError>
+    ensures { IfOk result (λ copy. copy ≡ option_copied value.entry) }
+{
+    match value {
+        None => Ok(None),
+        Some(value) => Ok(Some(Sequence::from_vec(Vec::from_slice(alloc, value)?))),
+    }
+}
+
 /// LSP (RFC 8231 section 7.3).
 #[tactic(auto, unfolding(crate::specs::Bodies::lsp_body))]
 pub fn read_lsp(alloc: Global, body: &[u8]) -> Result<Object, BodyFault>
@@ -98,7 +106,8 @@ pub fn read_lsp(alloc: Global, body: &[u8]) -> Result<Object, BodyFault>
     if body.len() < 4 {
         return Err(BodyFault::BadLength);
     }
-    let tlvs = read_lsp_tlvs(alloc, &body[4..])?;
+    let identifiers = value_in(18, Some(16), &body[4..])?;
+    let name = value_in(17, None, &body[4..])?;
     let word = BigEndian::read_u32(body);
     Ok(Object::Lsp(LspObject {
         plsp: Plsp::new(word >> 12),
@@ -108,20 +117,20 @@ pub fn read_lsp(alloc: Global, body: &[u8]) -> Result<Object, BodyFault>
         admin: word & 0x008 != 0,
         operational: operational(word),
         created: word & 0x080 != 0,
-        name: tlvs.name,
-        identifiers: tlvs.identifiers,
+        name: copied(alloc, name)?,
+        identifiers: identifiers.map(read_identifiers),
     }))
 }
 
 /// SRP (RFC 8231 section 7.2).
 #[tactic(auto, unfolding(crate::specs::Bodies::srp_body))]
-pub fn read_srp(alloc: Global, body: &[u8]) -> Result<Object, BodyFault>
+pub fn read_srp(body: &[u8]) -> Result<Object, BodyFault>
     ensures { Gives (λ x. x) result (srp_body body.now) }
 {
     if body.len() < 8 {
         return Err(BodyFault::BadLength);
     }
-    let _skipped = skip_any_tlvs(alloc, &body[8..])?;
+    skip_tlvs(&body[8..])?;
     Ok(Object::Srp(Srp {
         remove: BigEndian::read_u32(body) & 1 != 0,
         id: BigEndian::read_u32(&body[4..]),

@@ -4,9 +4,10 @@
 //! section 7). `read_object` gives the object at the front of some bytes with its length, or the first
 //! fault; `write_object` appends an object's one spelling. The layer above may rely on it that the answer is
 //! exactly the one of the definitions, for every list of bytes, that bytes never both read and have a fault,
-//! and that what is spelled is read again.
+//! that each object that bytes read as, with P as it is written, is spelled as bytes that read as it, and that
+//! after a refusal to write the vector is as before.
 //!
-//! The definitions stand in `specs/`: `Kinds` has the classes and types, `Tlvs`, `WordTlvs` and `Routes` cut
+//! The definitions stand in `specs/`: `Kinds` has the classes and types, `Tlvs` and `Routes` cut
 //! an object's lists into pieces, `Bodies`, `SessionObjects`, `RequestObjects` and `Metrics` have the layout
 //! of each class, `Objects` the header, `Reads` and `IsFaulty`, `Spelling` the spelling of each object, the
 //! lengths that fit and the objects that are normal.
@@ -20,8 +21,8 @@
 //! ```
 //!
 //! The modules, lowest first: `object` with `session_objects`, `request_objects` and `metric`, `kind`, `copies`,
-//! `fault`, `pieces`, `tlvs`, `word_tlvs`, `routes`, `bodies`, `header`, `reading`, `sizes`, `putting`, `writing`,
-//! `borrowed`.
+//! `fault`, `tlvs`, `routes`, `bodies`, `header`, `reading`, `sizes`, `spelled`, `putting`,
+//! `paths`, `writing`, `borrowed`. A `put_` function appends one object in place.
 #![tactic(auto)]
 
 mod bodies;
@@ -32,27 +33,34 @@ mod header;
 mod kind;
 mod metric;
 mod object;
-mod pieces;
+mod paths;
 mod putting;
 mod reading;
 mod request_objects;
 mod routes;
 mod session_objects;
 mod sizes;
+mod spelled;
 mod tlvs;
-mod word_tlvs;
 mod writing;
 
 pub use borrowed::{put_ero, put_named_lsp};
 pub use fault::{ObjectFault, WriteFault};
+pub use metric::put_metric;
 pub use object::{
     BandwidthType, Capabilities, Colours, Hop, Identifiers, Kept, KeptClass, LspObject, Lspa,
     Metric, MetricType, MetricValue, Object, Operational, Plsp, Srp,
 };
+pub use paths::put_lsp;
+pub use putting::{put_bandwidth, put_lspa, put_srp};
 pub use reading::{objects_are_read_or_faulty, read_object};
-pub use request_objects::{EndPoints, NoPath, NoPathVector, Rp};
-pub use session_objects::{Close, Notification, Open, PcepError};
-pub use writing::{objects_are_read_again, put_fitting, put_object, write_object};
+pub use request_objects::{
+    EndPoints, NoPath, NoPathVector, Rp, put_end_points, put_no_path, put_rp,
+};
+pub use session_objects::{
+    Close, Notification, Open, PcepError, put_close, put_error, put_notification, put_open,
+};
+pub use writing::{objects_are_read_again, put_fitting, what_is_read_is_normal, write_object};
 
 #[cfg(test)]
 mod borrowed_tests;

@@ -1,11 +1,15 @@
 //! METRIC (RFC 5440 section 7.8).
 
-ghost use Rattle.std.specs.Prelude.{◌≡◌, ◌++◌, OnOk};
+ghost use Rattle.std.specs.Prelude.{◌≡◌, ◌++◌, OnOk, OnErr};
 ghost use Rattle.pcep_objects.specs.Steps.{Gives};
-ghost use Rattle.pcep_objects.specs.Metrics.{metric_of, metric_written};
+ghost use Rattle.pcep_objects.specs.Metrics.{metric_of};
+ghost use Rattle.pcep_objects.specs.Spelling.{written};
+ghost use Rattle.pcep_objects.specs.declared.object.Object.TheVariants as objects;
 
 use crate::fault::BodyFault;
+use crate::kind::Kind;
 use crate::object::{Metric, MetricValue};
+use crate::spelled::put_spelled;
 use byteorder::{BigEndian, ByteOrder};
 use pcep_word::{metric_bound, metric_word};
 use std::alloc::AllocError;
@@ -23,17 +27,19 @@ pub fn read_metric(body: &[u8]) -> Result<Metric, BodyFault>
         Some(value) => Ok(Metric {
             bound: body[2] & 0x01 != 0,
             computed: body[2] & 0x02 != 0,
-            kind: body[3],
+            metric_type: body[3],
             value: MetricValue::new(value),
         }),
     }
 }
 
-/// Appends the body of a METRIC. A value that no word has is rounded up.
-pub fn put_metric(out: &mut Vec<u8>, object: &Metric) -> Result<(), AllocError>
-    ensures { OnOk result (out.new.items ≡ out.old.items ++ metric_written object.now) }
+/// Appends a METRIC. A value that no word has is rounded up. Where memory is lacking, nothing is appended.
+pub fn put_metric(object: Metric, out: &mut Vec<u8>) -> Result<(), AllocError>
+    ensures written { OnOk result (out.new.items ≡ out.old.items ++ written (objects.Metric object)) }
+    ensures unchanged { OnErr result (out.new.items ≡ out.old.items) }
 {
     let flags = u8::from(object.bound) + 0x02 * u8::from(object.computed);
-    out.extend_from_slice(&[0, 0, flags, object.kind])?;
-    out.extend_from_slice(&metric_word(object.value.value()).to_be_bytes())
+    let [a, b, c, d] = metric_word(object.value.value()).to_be_bytes();
+    let body = [0, 0, flags, object.metric_type, a, b, c, d];
+    put_spelled(Kind::Metric, false, &body, out)
 }

@@ -10,7 +10,7 @@ use std::marker::Model;
 
 /// A PLSP-ID: the number, below 2^20, by which a peer names one of its LSPs as long as its session lasts
 /// (RFC 8231 section 7.3). 0 and 0xFFFFF name none.
-#[derive(Clone, Copy, Debug, PartialEq, Eq)]
+#[derive(Clone, Copy, Debug, PartialEq, Eq, Hash)]
 pub struct Plsp {
     number: u32,
 }
@@ -50,7 +50,7 @@ impl Plsp {
 pub enum Hop {
     /// An IPv4 address with prefix length 32, and whether the hop is loose. In a recorded route none is.
     Host(Ipv4, bool),
-    /// Any other subobject: its whole kind byte, and the bytes after the length byte.
+    /// Any other subobject: its whole type byte, and the bytes after the length byte.
     Other(u8, Sequence<u8>),
 }
 
@@ -82,17 +82,6 @@ pub struct Identifiers {
     pub extended: u32,
     /// The address of the tunnel's last node.
     pub endpoint: Ipv4,
-}
-
-/// A TLV that an object names, or one that is skipped.
-#[derive(Debug, Drop)]
-pub enum Tlv {
-    /// SYMBOLIC-PATH-NAME (RFC 8231 section 7.3.2).
-    Name(Sequence<u8>),
-    /// IPV4-LSP-IDENTIFIERS (RFC 8231 section 7.3.1).
-    Identifiers(Identifiers),
-    /// A TLV that its object doesn't name.
-    Skipped,
 }
 
 /// What a peer lets the PCE do: STATEFUL-PCE-CAPABILITY of its Open (RFC 8231 section 7.1.1).
@@ -209,8 +198,11 @@ impl MetricValue {
 /// A metric that a path is to have least of (RFC 5440 section 7.8).
 #[derive(Clone, Copy, Debug, PartialEq, Eq)]
 pub enum MetricType {
+    /// The IGP metric (T 1).
     Igp,
+    /// The TE metric (T 2).
     Te,
+    /// The number of hops (T 3).
     Hops,
 }
 
@@ -221,8 +213,9 @@ pub struct Metric {
     pub bound: bool,
     /// The value is that of a computed path, or it is asked for (flag C).
     pub computed: bool,
-    /// The metric's type T: 1 IGP, 2 TE, 3 hops; any other is free.
-    pub kind: u8,
+    /// T, the metric's type: 1 IGP, 2 TE, 3 hops; any other is free.
+    pub metric_type: u8,
+    /// The bound or the cost, in the units of its type.
     pub value: MetricValue,
 }
 
@@ -240,9 +233,11 @@ pub enum KeptClass {
 /// An object that is kept as the bytes of its body.
 #[derive(Debug, Drop)]
 pub struct Kept {
+    /// Which of the three it is.
     pub class: KeptClass,
     /// The P flag of the object's header: the object has to be taken into account.
     pub p: bool,
+    /// All bytes behind the header.
     pub body: Sequence<u8>,
 }
 

@@ -1,80 +1,98 @@
-//! The bodies of objects as bytes, class by class.
+//! The objects of paths, in place: BANDWIDTH, LSPA, SRP, and the parts of ERO, RRO and LSP.
 
-ghost use Rattle.std.specs.Prelude.{◌≡◌, ◌++◌, ◌<◌, ◌^◌, length, replicate, true, OnOk};
-ghost use Rattle.byteorder.specs.Endian.{big_bytes};
-ghost use Rattle.pcep_objects.specs.Spelling.{bandwidth_written, hop_written, hops_written, colours_written, lspa_written, operational_number, lsp_word, tlv_written, name_written, identifiers_value, identifiers_written, lsp_written, srp_written, hops_fit, hop_fits};
+ghost use Rattle.std.specs.Prelude.{◌≡◌, ◌++◌, ◌<◌, ◌^◌, ◌≤◌, ◌+◌, length, take, replicate, true, vec_len, vec_capacity, IsOk, OnOk, OnErr};
+ghost use Rattle.pcep_objects.specs.Spelling.{bandwidth_kind, hop_written, hops_written, operational_number, lsp_word, tlv_written, identifiers_written, hops_fit, hop_fits, written};
+ghost use Rattle.pcep_objects.specs.declared.object.Object.TheVariants as objects;
 
-use crate::object::{Colours, Hop, Identifiers, LspObject, Lspa, Operational, Srp};
+use crate::kind::Kind;
+use crate::object::{BandwidthType, Hop, Identifiers, LspObject, Lspa, Operational, Srp};
+use crate::spelled::put_spelled;
 use pcep_word::Bandwidth;
-use sequence::Sequence;
 use std::alloc::AllocError;
 
-fn put_u16(out: &mut Vec<u8>, number: u16) -> Result<(), AllocError>
-    ensures { OnOk result (out.new.items ≡ out.old.items ++ big_bytes 2 number) }
+/// The kind of a BANDWIDTH.
+#[inline(always)]
+pub fn bandwidth_kind(bandwidth_type: BandwidthType) -> Kind
+    ensures { result ≡ bandwidth_kind bandwidth_type }
 {
-    out.extend_from_slice(&number.to_be_bytes())
+    match bandwidth_type {
+        BandwidthType::Requested => Kind::RequestedBandwidth,
+        BandwidthType::Current => Kind::CurrentBandwidth,
+    }
 }
 
-pub fn put_u32(out: &mut Vec<u8>, number: u32) -> Result<(), AllocError>
-    ensures { OnOk result (out.new.items ≡ out.old.items ++ big_bytes 4 number) }
+/// Appends a BANDWIDTH. Where memory is lacking, nothing is appended.
+pub fn put_bandwidth(
+    bandwidth_type: BandwidthType,
+    bandwidth: Bandwidth,
+    out: &mut Vec<u8>,
+) -> Result<(), AllocError>
+    ensures written { OnOk result (out.new.items ≡ out.old.items ++ written (objects.Bandwidth bandwidth_type bandwidth)) }
+    ensures unchanged { OnErr result (out.new.items ≡ out.old.items) }
 {
-    out.extend_from_slice(&number.to_be_bytes())
+    let word = bandwidth.word().to_be_bytes();
+    put_spelled(bandwidth_kind(bandwidth_type), false, &word, out)
 }
 
-/// Appends the body of a BANDWIDTH.
-pub fn put_bandwidth(out: &mut Vec<u8>, bandwidth: Bandwidth) -> Result<(), AllocError>
-    ensures { OnOk result (out.new.items ≡ out.old.items ++ bandwidth_written bandwidth) }
+/// Appends an LSPA. Where memory is lacking, nothing is appended.
+#[tactic(auto, unfolding(crate::specs::Spelling::colours_written))]
+pub fn put_lspa(object: &Lspa, out: &mut Vec<u8>) -> Result<(), AllocError>
+    ensures written { OnOk result (out.new.items ≡ out.old.items ++ written (objects.Lspa object.now)) }
+    ensures unchanged { OnErr result (out.new.items ≡ out.old.items) }
 {
-    put_u32(out, bandwidth.word())
+    let [a, b, c, d] = object.colours.exclude_any.to_be_bytes();
+    let [e, f, g, h] = object.colours.include_any.to_be_bytes();
+    let [i, j, k, l] = object.colours.include_all.to_be_bytes();
+    let (setup, hold) = (object.setup.number(), object.hold.number());
+    let flags = u8::from(object.local_protection);
+    let body = [a, b, c, d, e, f, g, h, i, j, k, l, setup, hold, flags, 0];
+    put_spelled(Kind::Lspa, false, &body, out)
 }
 
-fn put_hop(out: &mut Vec<u8>, hop: &Hop) -> Result<(), AllocError>
+/// Appends an SRP. Where memory is lacking, nothing is appended.
+pub fn put_srp(object: Srp, out: &mut Vec<u8>) -> Result<(), AllocError>
+    ensures written { OnOk result (out.new.items ≡ out.old.items ++ written (objects.Srp object)) }
+    ensures unchanged { OnErr result (out.new.items ≡ out.old.items) }
+{
+    let [a, b, c, d] = u32::from(object.remove).to_be_bytes();
+    let [e, f, g, h] = object.id.to_be_bytes();
+    put_spelled(Kind::Srp, false, &[a, b, c, d, e, f, g, h], out)
+}
+
+/// Appends a subobject of a route. Where memory is lacking, nothing is appended.
+#[inline(always)]
+fn put_hop(hop: &Hop, out: &mut Vec<u8>) -> Result<(), AllocError>
     requires { hop_fits hop.now ≡ true }
-    ensures { OnOk result (out.new.items ≡ out.old.items ++ hop_written hop.now) }
+    ensures written { OnOk result (out.new.items ≡ out.old.items ++ hop_written hop.now) }
+    ensures unchanged { OnErr result (out.new.items ≡ out.old.items) }
 {
     match hop {
         Hop::Host(address, loose) => {
             let kind = 1 + 0x80 * u8::from(*loose);
-            out.extend_from_slice(&[kind, 8])?;
-            put_u32(out, address.0)?;
-            out.extend_from_slice(&[32, 0])
+            let [a, b, c, d] = address.bytes();
+            out.extend_from_slice(&[kind, 8, a, b, c, d, 32, 0])
         }
         Hop::Other(kind, bytes) => {
             let bytes = bytes.as_slice();
-            out.extend_from_slice(&[*kind, (bytes.len() + 2) as u8])?;
+            let size = bytes.len() + 2;
+            out.reserve(size)?;
+            out.extend_from_slice(&[*kind, size as u8])?;
             out.extend_from_slice(bytes)
         }
     }
 }
 
-/// Appends the body of an ERO or an RRO.
-#[tactic(auto, unfolding(crate::specs::Spelling::hops_fit))]
-pub fn put_hops(out: &mut Vec<u8>, hops: &[Hop]) -> Result<(), AllocError>
+/// Appends the body of an ERO or an RRO. Where memory is lacking, a part of it may stand behind what was there.
+#[tactic(auto, unfolding(crate::specs::Spelling::hops_fit), using(crate::proofs::Fronts::front))]
+pub fn put_hops(hops: &[Hop], out: &mut Vec<u8>) -> Result<(), AllocError>
     requires { hops_fit hops.now ≡ true }
-    ensures { OnOk result (out.new.items ≡ out.old.items ++ hops_written hops.now) }
+    ensures written { OnOk result (out.new.items ≡ out.old.items ++ hops_written hops.now) }
+    ensures front { OnErr result (take (length out.old.items) out.new.items ≡ out.old.items) }
 {
     for hop in hops {
-        put_hop(out, hop)?;
+        put_hop(hop, out)?;
     }
     Ok(())
-}
-
-#[tactic(auto, unfolding(crate::specs::Spelling::colours_written))]
-fn put_colours(out: &mut Vec<u8>, colours: Colours) -> Result<(), AllocError>
-    ensures { OnOk result (out.new.items ≡ out.old.items ++ colours_written colours) }
-{
-    put_u32(out, colours.exclude_any)?;
-    put_u32(out, colours.include_any)?;
-    put_u32(out, colours.include_all)
-}
-
-/// Appends the body of an LSPA.
-pub fn put_lspa(out: &mut Vec<u8>, lspa: &Lspa) -> Result<(), AllocError>
-    ensures { OnOk result (out.new.items ≡ out.old.items ++ lspa_written lspa.now) }
-{
-    put_colours(out, lspa.colours)?;
-    let (setup, hold) = (lspa.setup.number(), lspa.hold.number());
-    out.extend_from_slice(&[setup, hold, u8::from(lspa.local_protection), 0])
 }
 
 fn operational_number(operational: Operational) -> u32
@@ -89,6 +107,8 @@ fn operational_number(operational: Operational) -> u32
     }
 }
 
+/// The PLSP-ID and the flags of an LSP.
+#[inline(always)]
 pub fn lsp_word(lsp: &LspObject) -> u32
     ensures { result ≡ lsp_word lsp.now }
 {
@@ -101,10 +121,13 @@ pub fn lsp_word(lsp: &LspObject) -> u32
         + 0x080 * u32::from(lsp.created)
 }
 
-/// Appends up to three zeros.
-fn put_zeros(out: &mut Vec<u8>, count: usize) -> Result<(), AllocError>
+/// Appends up to three zeros. Where memory is lacking, nothing is appended.
+#[inline(always)]
+fn put_zeros(count: usize, out: &mut Vec<u8>) -> Result<(), AllocError>
     requires { count < 4 }
-    ensures { OnOk result (out.new.items ≡ out.old.items ++ replicate count 0) }
+    ensures written { OnOk result (out.new.items ≡ out.old.items ++ replicate count 0) }
+    ensures unchanged { OnErr result (out.new.items ≡ out.old.items) }
+    ensures succeeds { vec_len out.old + count ≤ vec_capacity out.old → IsOk result }
 {
     match count {
         0 => Ok(()),
@@ -114,67 +137,39 @@ fn put_zeros(out: &mut Vec<u8>, count: usize) -> Result<(), AllocError>
     }
 }
 
-/// Appends a TLV of less than 2^16 bytes, with its padding.
-pub fn put_tlv(out: &mut Vec<u8>, kind: u16, value: &[u8]) -> Result<(), AllocError>
+/// Appends a TLV of less than 2^16 bytes, with its padding. Where memory is lacking, nothing is appended.
+#[inline(always)]
+pub fn put_tlv(tlv_type: u16, value: &[u8], out: &mut Vec<u8>) -> Result<(), AllocError>
     requires { length value.now < 2 ^ 16 }
-    ensures { OnOk result (out.new.items ≡ out.old.items ++ tlv_written kind value.now) }
+    ensures written { OnOk result (out.new.items ≡ out.old.items ++ tlv_written tlv_type value.now) }
+    ensures unchanged { OnErr result (out.new.items ≡ out.old.items) }
 {
     let len = value.len();
-    put_u16(out, kind)?;
-    put_u16(out, len as u16)?;
+    let padded = (len + 3) / 4 * 4;
+    out.reserve(4 + padded)?;
+    let [a, b] = tlv_type.to_be_bytes();
+    let [c, d] = (len as u16).to_be_bytes();
+    out.extend_from_slice(&[a, b, c, d])?;
     out.extend_from_slice(value)?;
-    put_zeros(out, (len + 3) / 4 * 4 - len)
+    put_zeros(padded - len, out)
 }
 
-fn put_name(out: &mut Vec<u8>, name: &Option<Sequence<u8>>) -> Result<(), AllocError>
-    requires { length (name_written name.now) < 2 ^ 16 }
-    ensures { OnOk result (out.new.items ≡ out.old.items ++ name_written name.now) }
-{
-    match name {
-        Some(name) => put_tlv(out, 17, name.as_slice()),
-        None => Ok(()),
-    }
-}
-
-fn put_value(out: &mut Vec<u8>, identifiers: &Identifiers) -> Result<(), AllocError>
-    ensures { OnOk result (out.new.items ≡ out.old.items ++ identifiers_value identifiers.now) }
-{
-    put_u32(out, identifiers.sender.0)?;
-    put_u16(out, identifiers.lsp)?;
-    put_u16(out, identifiers.tunnel)?;
-    put_u32(out, identifiers.extended)?;
-    put_u32(out, identifiers.endpoint.0)
-}
-
+/// Appends IPV4-LSP-IDENTIFIERS, where they are there. Where memory is lacking, nothing is appended.
+#[inline(always)]
 pub fn put_identifiers(
-    out: &mut Vec<u8>,
     identifiers: &Option<Identifiers>,
+    out: &mut Vec<u8>,
 ) -> Result<(), AllocError>
-    ensures { OnOk result (out.new.items ≡ out.old.items ++ identifiers_written identifiers.now) }
+    ensures written { OnOk result (out.new.items ≡ out.old.items ++ identifiers_written identifiers.now) }
+    ensures unchanged { OnErr result (out.new.items ≡ out.old.items) }
 {
-    match identifiers {
-        Some(identifiers) => {
-            out.extend_from_slice(&[0, 18, 0, 16])?;
-            put_value(out, identifiers)
-        }
-        None => Ok(()),
-    }
-}
-
-/// Appends the body of an LSP.
-pub fn put_lsp(out: &mut Vec<u8>, lsp: &LspObject) -> Result<(), AllocError>
-    requires { length (name_written lsp.now.name) < 2 ^ 16 }
-    ensures { OnOk result (out.new.items ≡ out.old.items ++ lsp_written lsp.now) }
-{
-    put_u32(out, lsp_word(lsp))?;
-    put_name(out, &lsp.name)?;
-    put_identifiers(out, &lsp.identifiers)
-}
-
-/// Appends the body of an SRP.
-pub fn put_srp(out: &mut Vec<u8>, srp: &Srp) -> Result<(), AllocError>
-    ensures { OnOk result (out.new.items ≡ out.old.items ++ srp_written srp.now) }
-{
-    put_u32(out, u32::from(srp.remove))?;
-    put_u32(out, srp.id)
+    let Some(identifiers) = identifiers else {
+        return Ok(());
+    };
+    let [a, b, c, d] = identifiers.sender.bytes();
+    let [e, f] = identifiers.lsp.to_be_bytes();
+    let [g, h] = identifiers.tunnel.to_be_bytes();
+    let [i, j, k, l] = identifiers.extended.to_be_bytes();
+    let [m, n, o, p] = identifiers.endpoint.bytes();
+    out.extend_from_slice(&[0, 18, 0, 16, a, b, c, d, e, f, g, h, i, j, k, l, m, n, o, p])
 }

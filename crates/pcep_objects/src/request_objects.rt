@@ -1,14 +1,18 @@
-//! The objects of requests and replies (RFC 5440): RP, NO-PATH, END-POINTS, and those kept as bytes.
+//! The objects of requests and replies (RFC 5440): RP, NO-PATH, END-POINTS.
 
-ghost use Rattle.std.specs.Prelude.{◌≡◌, ◌++◌, ℕ, OnOk};
+ghost use Rattle.std.specs.Prelude.{◌≡◌, ◌++◌, OnOk, OnErr};
 ghost use Rattle.pcep_objects.specs.Steps.{Gives};
-ghost use Rattle.pcep_objects.specs.RequestObjects.{rp_of, no_path_of, end_points_of, vector_of, rp_written, no_path_written, vector_written, end_points_written};
+ghost use Rattle.pcep_objects.specs.RequestObjects.{rp_of, no_path_of, end_points_of, vector_of};
+ghost use Rattle.pcep_objects.specs.Spelling.{written};
+ghost use Rattle.pcep_objects.specs.declared.object.Object.TheVariants as objects;
 
 use crate::fault::BodyFault;
-use crate::word_tlvs::{read_word_in, skip_any_tlvs};
+use crate::kind::Kind;
+use crate::spelled::put_spelled;
+use crate::tlvs::{skip_tlvs, word_in};
 use byteorder::{BigEndian, ByteOrder};
 use pcep_word::Ipv4;
-use std::alloc::{AllocError, Global};
+use std::alloc::AllocError;
 
 /// RP (RFC 5440 section 7.4): the number of a request, and how it is to be met.
 #[derive(Clone, Copy, Debug, PartialEq, Eq)]
@@ -62,13 +66,13 @@ pub struct EndPoints {
 
 /// Reads the body of an RP, whose header has this P flag.
 #[tactic(auto, unfolding(crate::specs::RequestObjects::rp_of))]
-pub fn read_rp(alloc: Global, p: bool, body: &[u8]) -> Result<Rp, BodyFault>
+pub fn read_rp(p: bool, body: &[u8]) -> Result<Rp, BodyFault>
     ensures { Gives (λ x. x) result (rp_of p body.now) }
 {
     if body.len() < 8 {
         return Err(BodyFault::BadLength);
     }
-    let _skipped = skip_any_tlvs(alloc, &body[8..])?;
+    skip_tlvs(&body[8..])?;
     let flags = BigEndian::read_u32(body);
     Ok(Rp {
         p,
@@ -92,13 +96,13 @@ fn vector(word: u32) -> NoPathVector
 
 /// Reads the body of a NO-PATH.
 #[tactic(auto, unfolding(crate::specs::RequestObjects::no_path_of))]
-pub fn read_no_path(alloc: Global, body: &[u8]) -> Result<NoPath, BodyFault>
+pub fn read_no_path(body: &[u8]) -> Result<NoPath, BodyFault>
     ensures { Gives (λ x. x) result (no_path_of body.now) }
 {
     if body.len() < 4 {
         return Err(BodyFault::BadLength);
     }
-    let word = read_word_in(alloc, 1, &body[4..])?;
+    let word = word_in(1, &body[4..])?;
     Ok(NoPath {
         nature: body[0],
         constraints: body[1] & 0x80 != 0,
@@ -121,43 +125,44 @@ pub fn read_end_points(p: bool, body: &[u8]) -> Result<EndPoints, BodyFault>
     })
 }
 
-/// Appends the body of an RP.
-pub fn put_rp(out: &mut Vec<u8>, object: &Rp) -> Result<(), AllocError>
-    ensures { OnOk result (out.new.items ≡ out.old.items ++ rp_written object.now) }
+/// Appends an RP, with P as it has it. Where memory is lacking, nothing is appended.
+pub fn put_rp(object: Rp, out: &mut Vec<u8>) -> Result<(), AllocError>
+    ensures written { OnOk result (out.new.items ≡ out.old.items ++ written (objects.Rp object)) }
+    ensures unchanged { OnErr result (out.new.items ≡ out.old.items) }
 {
     let flags = u32::from(object.priority)
         + 0x08 * u32::from(object.reoptimize)
         + 0x10 * u32::from(object.bidirectional)
         + 0x20 * u32::from(object.loose);
-    out.extend_from_slice(&flags.to_be_bytes())?;
-    out.extend_from_slice(&object.id.to_be_bytes())
+    let [a, b, c, d] = flags.to_be_bytes();
+    let [e, f, g, h] = object.id.to_be_bytes();
+    put_spelled(Kind::Rp, object.p, &[a, b, c, d, e, f, g, h], out)
 }
 
-/// Appends the body of a NO-PATH.
-pub fn put_no_path(out: &mut Vec<u8>, object: &NoPath) -> Result<(), AllocError>
-    ensures { OnOk result (out.new.items ≡ out.old.items ++ no_path_written object.now) }
+/// Appends a NO-PATH. Where memory is lacking, nothing is appended.
+pub fn put_no_path(object: &NoPath, out: &mut Vec<u8>) -> Result<(), AllocError>
+    ensures written { OnOk result (out.new.items ≡ out.old.items ++ written (objects.NoPath object.now)) }
+    ensures unchanged { OnErr result (out.new.items ≡ out.old.items) }
 {
-    let constraints = 0x80 * u8::from(object.constraints);
-    out.extend_from_slice(&[object.nature, constraints, 0, 0])?;
+    let (nature, constraints) = (object.nature, 0x80 * u8::from(object.constraints));
     match object.vector {
-        Some(vector) => put_vector(out, vector),
-        None => Ok(()),
+        None => put_spelled(Kind::NoPath, false, &[nature, constraints, 0, 0], out),
+        Some(vector) => {
+            let word = u8::from(vector.pce_unavailable)
+                + 0x2 * u8::from(vector.unknown_destination)
+                + 0x4 * u8::from(vector.unknown_source);
+            let body = [nature, constraints, 0, 0, 0, 1, 0, 4, 0, 0, 0, word];
+            put_spelled(Kind::NoPath, false, &body, out)
+        }
     }
 }
 
-fn put_vector(out: &mut Vec<u8>, vector: NoPathVector) -> Result<(), AllocError>
-    ensures { OnOk result (out.new.items ≡ out.old.items ++ vector_written vector) }
+/// Appends an END-POINTS, with P set. Where memory is lacking, nothing is appended.
+pub fn put_end_points(object: EndPoints, out: &mut Vec<u8>) -> Result<(), AllocError>
+    ensures written { OnOk result (out.new.items ≡ out.old.items ++ written (objects.EndPoints object)) }
+    ensures unchanged { OnErr result (out.new.items ≡ out.old.items) }
 {
-    let word = u8::from(vector.pce_unavailable)
-        + 0x2 * u8::from(vector.unknown_destination)
-        + 0x4 * u8::from(vector.unknown_source);
-    out.extend_from_slice(&[0, 1, 0, 4, 0, 0, 0, word])
-}
-
-/// Appends the body of an END-POINTS.
-pub fn put_end_points(out: &mut Vec<u8>, object: &EndPoints) -> Result<(), AllocError>
-    ensures { OnOk result (out.new.items ≡ out.old.items ++ end_points_written object.now) }
-{
-    out.extend_from_slice(&object.source.0.to_be_bytes())?;
-    out.extend_from_slice(&object.destination.0.to_be_bytes())
+    let [a, b, c, d] = object.source.bytes();
+    let [e, f, g, h] = object.destination.bytes();
+    put_spelled(Kind::EndPoints, true, &[a, b, c, d, e, f, g, h], out)
 }

@@ -1,45 +1,21 @@
 //! Routes as lists of subobjects (RFC 3209 sections 4.3.3 and 4.4.1).
 
-ghost use Rattle.std.specs.Prelude.{◌≡◌, ◌<◌, ◌≤◌, length, IfOk};
-ghost use Rattle.pcep_objects.specs.Steps.{Gives};
+ghost use Rattle.std.specs.Prelude.{◌≡◌, ◌≤◌, length, IfOk};
+ghost use Rattle.pcep_objects.specs.Steps.{Gives, pieces};
 ghost use Rattle.pcep_objects.specs.Routes.{hops_of, hop_of, subobject_size};
 
 use crate::fault::BodyFault;
 use crate::object::Hop;
-use crate::pieces::{Pieces, read_all};
 use byteorder::{BigEndian, ByteOrder};
 use pcep_word::Ipv4;
 use sequence::Sequence;
 use std::alloc::Global;
 
-/// Reads the subobjects of an explicit route or of a recorded one.
-#[derive(Drop)]
-struct Hops {
-    alloc: Global,
-    explicit: bool,
-}
-
-impl Pieces for Hops {
-    type Item = Hop;
-
-    ghost size = { subobject_size };
-
-    ghost read = { λ s piece. hop_of s.explicit piece };
-
-    fn size(&self, bytes: &[u8]) -> Result<usize, BodyFault> {
-        size_of_subobject(bytes)
-    }
-
-    fn read(&self, piece: &[u8]) -> Result<Hop, BodyFault> {
-        read_hop(self.alloc, self.explicit, piece)
-    }
-}
-
+/// The length of the subobject at the front.
 #[tactic(auto, unfolding(crate::specs::Routes::subobject_size))]
 fn size_of_subobject(bytes: &[u8]) -> Result<usize, BodyFault>
     ensures gives { Gives (λ n. n) result (subobject_size bytes.now) }
     ensures least { IfOk result (λ n. 4 ≤ n) }
-    ensures positive { IfOk result (λ n. 0 < n) }
     ensures within { IfOk result (λ n. n ≤ length bytes.now) }
 {
     let size = match bytes {
@@ -54,9 +30,9 @@ fn size_of_subobject(bytes: &[u8]) -> Result<usize, BodyFault>
 
 #[tactic(auto, unfolding(crate::specs::Routes::hop_of))]
 fn read_hop(alloc: Global, explicit: bool, piece: &[u8]) -> Result<Hop, BodyFault>
+    requires { 4 ≤ length piece.now }
     ensures { Gives (λ x. x) result (hop_of explicit piece.now) }
 {
-    let _size = size_of_subobject(piece)?;
     let kind = piece[0];
     let loose = explicit && kind & 0x80 != 0;
     let plain = if explicit { kind & 0x7f } else { kind };
@@ -72,11 +48,27 @@ fn read_hop(alloc: Global, explicit: bool, piece: &[u8]) -> Result<Hop, BodyFaul
     ))
 }
 
+fn hops_in(alloc: Global, explicit: bool, bytes: &[u8]) -> Result<Vec<Hop>, BodyFault>
+    ensures { Gives (λ v. v.items) result (pieces subobject_size (hop_of explicit) bytes.now) }
+{
+    // Most subobjects have 8 bytes.
+    let mut hops = Vec::with_capacity(alloc, bytes.len() / 8)?;
+    let mut rest = bytes;
+    while !rest.is_empty() {
+        let size = size_of_subobject(rest)?;
+        let (piece, after) = rest.split_at(size);
+        let hop = read_hop(alloc, explicit, piece)?;
+        hops.push(hop)?;
+        rest = after;
+    }
+    Ok(hops)
+}
+
 /// Reads a whole route, explicit or recorded.
 #[tactic(auto, unfolding(crate::specs::Routes::hops_of))]
 pub fn read_hops(alloc: Global, explicit: bool, body: &[u8]) -> Result<Sequence<Hop>, BodyFault>
     ensures { Gives (λ x. x) result (hops_of explicit body.now) }
 {
-    let hops = read_all(alloc, &Hops { alloc, explicit }, body)?;
+    let hops = hops_in(alloc, explicit, body)?;
     Ok(Sequence::from_vec(hops))
 }

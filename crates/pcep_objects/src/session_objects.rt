@@ -1,15 +1,18 @@
 //! The objects of a session's own messages (RFC 5440): OPEN, CLOSE, NOTIFICATION, PCEP-ERROR.
 
-ghost use Rattle.std.specs.Prelude.{◌≡◌, ◌++◌, ◌∷◌, [], ℕ, OnOk};
-ghost use Rattle.byteorder.specs.Endian.{big_bytes};
+ghost use Rattle.std.specs.Prelude.{◌≡◌, ◌++◌, OnOk, OnErr};
 ghost use Rattle.pcep_objects.specs.Steps.{Gives};
-ghost use Rattle.pcep_objects.specs.SessionObjects.{open_of, close_of, notification_of, error_of, capabilities_of, capabilities_written, open_written, close_written, notification_written, error_written};
+ghost use Rattle.pcep_objects.specs.SessionObjects.{open_of, close_of, notification_of, error_of, capabilities_of};
+ghost use Rattle.pcep_objects.specs.Spelling.{written};
+ghost use Rattle.pcep_objects.specs.declared.object.Object.TheVariants as objects;
 
 use crate::fault::BodyFault;
+use crate::kind::Kind;
 use crate::object::Capabilities;
-use crate::word_tlvs::{read_word_in, skip_any_tlvs};
+use crate::spelled::put_spelled;
+use crate::tlvs::{skip_tlvs, word_in};
 use byteorder::{BigEndian, ByteOrder};
-use std::alloc::{AllocError, Global};
+use std::alloc::AllocError;
 
 /// OPEN (RFC 5440 section 7.3): the timers that a peer of a session asks for, and what it can do.
 #[derive(Clone, Copy, Debug, PartialEq, Eq)]
@@ -18,8 +21,8 @@ pub struct Open {
     pub keepalive: u8,
     /// How long it may send nothing before the session ends, in seconds; 0: for ever.
     pub dead_timer: u8,
-    /// The number that it gave the session (SID).
-    pub session: u8,
+    /// SID, the number that it gave the session.
+    pub sid: u8,
     /// STATEFUL-PCE-CAPABILITY, where it is there.
     pub capabilities: Option<Capabilities>,
 }
@@ -27,6 +30,8 @@ pub struct Open {
 /// CLOSE (RFC 5440 section 7.17): why a session ends.
 #[derive(Clone, Copy, Debug, PartialEq, Eq)]
 pub struct Close {
+    /// Reason: 1 no explanation, 2 DeadTimer expired, 3 malformed message, 4 too many unknown requests or
+    /// replies, 5 too many unrecognized messages.
     pub reason: u8,
 }
 
@@ -34,7 +39,7 @@ pub struct Close {
 #[derive(Clone, Copy, Debug, PartialEq, Eq)]
 pub struct Notification {
     /// Notification-type.
-    pub kind: u8,
+    pub notification_type: u8,
     /// Notification-value.
     pub value: u8,
 }
@@ -43,7 +48,7 @@ pub struct Notification {
 #[derive(Clone, Copy, Debug, PartialEq, Eq)]
 pub struct PcepError {
     /// Error-Type.
-    pub kind: u8,
+    pub error_type: u8,
     /// Error-value.
     pub value: u8,
 }
@@ -59,98 +64,104 @@ fn capabilities(word: u32) -> Capabilities
 
 /// Reads the body of an OPEN. The version isn't tested.
 #[tactic(auto, unfolding(crate::specs::SessionObjects::open_of))]
-pub fn read_open(alloc: Global, body: &[u8]) -> Result<Open, BodyFault>
+pub fn read_open(body: &[u8]) -> Result<Open, BodyFault>
     ensures { Gives (λ x. x) result (open_of body.now) }
 {
     if body.len() < 4 {
         return Err(BodyFault::BadLength);
     }
-    let word = read_word_in(alloc, 16, &body[4..])?;
+    let word = word_in(16, &body[4..])?;
     Ok(Open {
         keepalive: body[1],
         dead_timer: body[2],
-        session: body[3],
+        sid: body[3],
         capabilities: word.map(capabilities),
     })
 }
 
 /// Reads the body of a CLOSE.
 #[tactic(auto, unfolding(crate::specs::SessionObjects::close_of))]
-pub fn read_close(alloc: Global, body: &[u8]) -> Result<Close, BodyFault>
+pub fn read_close(body: &[u8]) -> Result<Close, BodyFault>
     ensures { Gives (λ x. x) result (close_of body.now) }
 {
     if body.len() < 4 {
         return Err(BodyFault::BadLength);
     }
-    let _skipped = skip_any_tlvs(alloc, &body[4..])?;
+    skip_tlvs(&body[4..])?;
     Ok(Close { reason: body[3] })
 }
 
 /// Reads the body of a NOTIFICATION.
 #[tactic(auto, unfolding(crate::specs::SessionObjects::notification_of))]
-pub fn read_notification(alloc: Global, body: &[u8]) -> Result<Notification, BodyFault>
+pub fn read_notification(body: &[u8]) -> Result<Notification, BodyFault>
     ensures { Gives (λ x. x) result (notification_of body.now) }
 {
     if body.len() < 4 {
         return Err(BodyFault::BadLength);
     }
-    let _skipped = skip_any_tlvs(alloc, &body[4..])?;
+    skip_tlvs(&body[4..])?;
     Ok(Notification {
-        kind: body[2],
+        notification_type: body[2],
         value: body[3],
     })
 }
 
 /// Reads the body of a PCEP-ERROR.
 #[tactic(auto, unfolding(crate::specs::SessionObjects::error_of))]
-pub fn read_error(alloc: Global, body: &[u8]) -> Result<PcepError, BodyFault>
+pub fn read_error(body: &[u8]) -> Result<PcepError, BodyFault>
     ensures { Gives (λ x. x) result (error_of body.now) }
 {
     if body.len() < 4 {
         return Err(BodyFault::BadLength);
     }
-    let _skipped = skip_any_tlvs(alloc, &body[4..])?;
+    skip_tlvs(&body[4..])?;
     Ok(PcepError {
-        kind: body[2],
+        error_type: body[2],
         value: body[3],
     })
 }
 
-/// Appends the body of an OPEN, of version 1.
-pub fn put_open(out: &mut Vec<u8>, object: &Open) -> Result<(), AllocError>
-    ensures { OnOk result (out.new.items ≡ out.old.items ++ open_written object.now) }
+/// Appends an OPEN, of version 1. Where memory is lacking, nothing is appended.
+pub fn put_open(object: &Open, out: &mut Vec<u8>) -> Result<(), AllocError>
+    ensures written { OnOk result (out.new.items ≡ out.old.items ++ written (objects.Open object.now)) }
+    ensures unchanged { OnErr result (out.new.items ≡ out.old.items) }
 {
-    out.extend_from_slice(&[0x20, object.keepalive, object.dead_timer, object.session])?;
+    let (keepalive, dead_timer, sid) = (object.keepalive, object.dead_timer, object.sid);
     match object.capabilities {
-        Some(capabilities) => put_capabilities(out, capabilities),
-        None => Ok(()),
+        None => {
+            let body = [0x20, keepalive, dead_timer, sid];
+            put_spelled(Kind::Open, false, &body, out)
+        }
+        Some(capabilities) => {
+            let word = u8::from(capabilities.update) + 4 * u8::from(capabilities.create);
+            let body = [0x20, keepalive, dead_timer, sid, 0, 16, 0, 4, 0, 0, 0, word];
+            put_spelled(Kind::Open, false, &body, out)
+        }
     }
 }
 
-fn put_capabilities(out: &mut Vec<u8>, capabilities: Capabilities) -> Result<(), AllocError>
-    ensures { OnOk result (out.new.items ≡ out.old.items ++ capabilities_written capabilities) }
+/// Appends a CLOSE. Where memory is lacking, nothing is appended.
+pub fn put_close(object: Close, out: &mut Vec<u8>) -> Result<(), AllocError>
+    ensures written { OnOk result (out.new.items ≡ out.old.items ++ written (objects.Close object)) }
+    ensures unchanged { OnErr result (out.new.items ≡ out.old.items) }
 {
-    let word = u8::from(capabilities.update) + 4 * u8::from(capabilities.create);
-    out.extend_from_slice(&[0, 16, 0, 4, 0, 0, 0, word])
+    put_spelled(Kind::Close, false, &[0, 0, 0, object.reason], out)
 }
 
-/// Appends the body of a CLOSE.
-pub fn put_close(out: &mut Vec<u8>, object: &Close) -> Result<(), AllocError>
-    ensures { OnOk result (out.new.items ≡ out.old.items ++ close_written object.now) }
+/// Appends a NOTIFICATION. Where memory is lacking, nothing is appended.
+pub fn put_notification(object: Notification, out: &mut Vec<u8>) -> Result<(), AllocError>
+    ensures written { OnOk result (out.new.items ≡ out.old.items ++ written (objects.Notification object)) }
+    ensures unchanged { OnErr result (out.new.items ≡ out.old.items) }
 {
-    out.extend_from_slice(&[0, 0, 0, object.reason])
+    let body = [0, 0, object.notification_type, object.value];
+    put_spelled(Kind::Notification, false, &body, out)
 }
 
-/// Appends the body of a NOTIFICATION.
-pub fn put_notification(out: &mut Vec<u8>, object: &Notification) -> Result<(), AllocError>
-    ensures { OnOk result (out.new.items ≡ out.old.items ++ notification_written object.now) }
+/// Appends a PCEP-ERROR. Where memory is lacking, nothing is appended.
+pub fn put_error(object: PcepError, out: &mut Vec<u8>) -> Result<(), AllocError>
+    ensures written { OnOk result (out.new.items ≡ out.old.items ++ written (objects.Error object)) }
+    ensures unchanged { OnErr result (out.new.items ≡ out.old.items) }
 {
-    out.extend_from_slice(&[0, 0, object.kind, object.value])
-}
-
-/// Appends the body of a PCEP-ERROR.
-pub fn put_error(out: &mut Vec<u8>, object: &PcepError) -> Result<(), AllocError>
-    ensures { OnOk result (out.new.items ≡ out.old.items ++ error_written object.now) }
-{
-    out.extend_from_slice(&[0, 0, object.kind, object.value])
+    let body = [0, 0, object.error_type, object.value];
+    put_spelled(Kind::Error, false, &body, out)
 }

@@ -1,6 +1,6 @@
 //! The lengths of objects as they are written, before anything is.
 
-ghost use Rattle.std.specs.Prelude.{◌≡◌, ◌^◌, ◌-◌, min, length, Some};
+ghost use Rattle.std.specs.Prelude.{◌≡◌, ◌^◌, ◌-◌, min, length, Some, None, if◌then◌else◌};
 ghost use Rattle.pcep_objects.specs.Spelling.{hop_fits, hop_written, hops_fit, hops_written, parts_fit, fits, name_written, identifiers_written, lsp_written, body_written};
 ghost use Rattle.pcep_objects.specs.SessionObjects.{capabilities_after};
 ghost use Rattle.pcep_objects.specs.RequestObjects.{vector_after};
@@ -72,7 +72,7 @@ fn name_size(name: &Option<Sequence<u8>>) -> usize
     }
 }
 
-pub fn identifiers_size(identifiers: Option<Identifiers>) -> usize
+fn identifiers_size(identifiers: Option<Identifiers>) -> usize
     ensures { result ≡ length (identifiers_written identifiers) }
 {
     match identifiers {
@@ -82,11 +82,35 @@ pub fn identifiers_size(identifiers: Option<Identifiers>) -> usize
 }
 
 /// The length of an LSP, or the greatest number where it is greater.
-fn lsp_size(lsp: &LspObject) -> usize
+pub fn lsp_size(lsp: &LspObject) -> usize
     ensures { result ≡ min (length (lsp_written lsp.now)) (2 ^ 64 - 1) }
 {
     let identifiers = identifiers_size(lsp.identifiers);
     name_size(&lsp.name).saturating_add(4 + identifiers)
+}
+
+/// The length of an LSP with this name, or the greatest number where it is greater.
+pub fn named_size(lsp: &LspObject, name: &[u8]) -> usize
+    ensures { result ≡ min (length (lsp_written (record lsp.now { name = Some name.now }))) (2 ^ 64 - 1) }
+{
+    let identifiers = identifiers_size(lsp.identifiers);
+    (name.len().saturating_add(3) / 4 * 4).saturating_add(8 + identifiers)
+}
+
+/// The length of a route each of whose subobjects fits its length field, or the greatest number where it is
+/// greater.
+#[tactic(auto, unfolding(crate::specs::Spelling::hops_fit))]
+pub fn fitting_size(hops: &[Hop]) -> Option<usize>
+    ensures { result ≡ (if hops_fit hops.now then Some (min (length (hops_written hops.now)) (2 ^ 64 - 1)) else None) }
+{
+    let mut size = 0usize;
+    for hop in hops {
+        if !hop_fits(hop) {
+            return None;
+        }
+        size = size.saturating_add(hop_size(hop));
+    }
+    Some(size)
 }
 
 fn capabilities_size(capabilities: Option<Capabilities>) -> usize
@@ -126,9 +150,11 @@ pub fn body_size(object: &Object) -> usize
     }
 }
 
-/// Whether each length in the object fits its field: a subobject's is below 2^8, the object's below 2^16.
-pub fn fits(object: &Object) -> bool
-    ensures { result ≡ fits object.now }
-{
-    parts_fit(object) && body_size(object) < 0xfffc
+impl Object {
+    /// Whether each length in the object fits its field: a subobject's is below 2^8, the object's below 2^16.
+    pub fn fits(&self) -> bool
+        ensures { result ≡ fits self.now }
+    {
+        parts_fit(self) && body_size(self) < 0xfffc
+    }
 }

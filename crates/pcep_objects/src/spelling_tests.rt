@@ -183,7 +183,7 @@ fn a_metric_is_read_rounded_down(rt: HostRuntime) -> Result<(), Fail> {
             0xffff_ffff_ffff,
         ),
     ];
-    for (text, kind, bound, computed, value) in table {
+    for (text, metric_type, bound, computed, value) in table {
         let Object::Metric(metric) = object_of(&rt, text)? else {
             return Err(Fail::new("no METRIC"));
         };
@@ -192,7 +192,7 @@ fn a_metric_is_read_rounded_down(rt: HostRuntime) -> Result<(), Fail> {
             Metric {
                 bound,
                 computed,
-                kind,
+                metric_type,
                 value: MetricValue::new(value)
             },
             "{text}"

@@ -1,31 +1,32 @@
-//! TLVs (RFC 5440 section 7.1).
+//! TLVs (RFC 5440 section 7.1). They are walked in place, without a list.
 
-ghost use Rattle.std.specs.Prelude.{◌≡◌, ◌<◌, ◌≤◌, ◌+◌, length, IfOk};
-ghost use Rattle.pcep_objects.specs.Steps.{Gives, field, from_end};
-ghost use Rattle.pcep_objects.specs.Tlvs.{padded, tlv_size, tlv_value, lsp_tlv, lsp_tlvs, identifiers_of, no_tlvs, before};
+ghost use Rattle.std.specs.Prelude.{◌≡◌, ◌<◌, ◌≤◌, ◌+◌, true, Ok, Err, length, take, drop, option_copied, IfOk, IfErr, IfSome};
+ghost use Rattle.pcep_objects.specs.Steps.{Gives, field};
+ghost use Rattle.pcep_objects.specs.Tlvs.{padded, tlv_size, skipped_tlvs, may_have, value_in, word_in, identifiers_of};
+ghost use Rattle.pcep_objects.specs.declared.fault.BodyFault.TheVariants.{BadTlv};
 
 use crate::fault::BodyFault;
-use crate::object::{Identifiers, Tlv};
-use crate::pieces::{Pieces, read_all};
+use crate::object::Identifiers;
 use byteorder::{BigEndian, ByteOrder};
 use pcep_word::Ipv4;
-use sequence::Sequence;
-use std::alloc::Global;
 
-/// What the TLVs of an LSP say.
-#[derive(Drop)]
-pub struct NamedTlvs {
-    pub name: Option<Sequence<u8>>,
-    pub identifiers: Option<Identifiers>,
+/// A TLV of an object.
+#[derive(Clone, Copy)]
+struct Tlv<'a> {
+    /// Its type.
+    number: u16,
+    /// Its value, without the padding.
+    value: &'a [u8],
 }
 
 /// The length of the TLV at the front, with its padding.
 #[tactic(auto, unfolding(crate::specs::Tlvs::tlv_size))]
-pub fn size_of_tlv(bytes: &[u8]) -> Result<usize, BodyFault>
-    ensures gives { Gives (λ n. n) result (tlv_size bytes.now) }
+fn size_of_tlv(bytes: &[u8]) -> Result<usize, BodyFault>
+    ensures size { IfOk result (λ n. tlv_size bytes.now ≡ Ok n) }
     ensures value { IfOk result (λ n. n ≡ 4 + padded (field 2 2 bytes.now)) }
-    ensures positive { IfOk result (λ n. 0 < n) }
     ensures within { IfOk result (λ n. n ≤ length bytes.now) }
+    ensures fault { IfErr result (λ e. e ≡ BadTlv) }
+    ensures not_there { IfErr result (λ e. tlv_size bytes.now ≡ Err BadTlv) }
 {
     if bytes.len() < 4 {
         return Err(BodyFault::BadTlv);
@@ -38,7 +39,82 @@ pub fn size_of_tlv(bytes: &[u8]) -> Result<usize, BodyFault>
     Ok(size)
 }
 
-fn read_identifiers(value: &[u8]) -> Identifiers
+/// The TLV at the front, and the bytes behind its padding.
+fn first_tlv(bytes: &[u8]) -> Result<(Tlv<'_>, &[u8]), BodyFault>
+    ensures size { IfOk result (λ x. tlv_size bytes.now ≡ Ok (4 + padded (field 2 2 bytes.now))) }
+    ensures number { IfOk result (λ x. x.0.number ≡ field 0 2 bytes.now) }
+    ensures value { IfOk result (λ x. x.0.value.now ≡ take (field 2 2 bytes.now) (drop 4 bytes.now)) }
+    ensures rest { IfOk result (λ x. x.1.now ≡ drop (4 + padded (field 2 2 bytes.now)) bytes.now) }
+    ensures shorter { IfOk result (λ x. length x.1.now < length bytes.now) }
+    ensures fault { IfErr result (λ e. e ≡ BadTlv) }
+    ensures not_there { IfErr result (λ e. tlv_size bytes.now ≡ Err BadTlv) }
+{
+    let size = size_of_tlv(bytes)?;
+    let number = BigEndian::read_u16(bytes);
+    let len = BigEndian::read_u16(&bytes[2..]) as usize;
+    let (value, _) = bytes[4..].split_at(len);
+    let (_, after) = bytes.split_at(size);
+    Ok((Tlv { number, value }, after))
+}
+
+/// Passes TLVs of which none counts: each only has to be there.
+pub fn skip_tlvs(bytes: &[u8]) -> Result<(), BodyFault>
+    ensures { Gives (λ x. x) result (skipped_tlvs bytes.now) }
+{
+    let mut rest = bytes;
+    while !rest.is_empty() {
+        let (_, after) = first_tlv(rest)?;
+        rest = after;
+    }
+    Ok(())
+}
+
+fn may_have(size: Option<usize>, len: usize) -> bool
+    ensures { result ≡ may_have size len }
+{
+    match size {
+        None => true,
+        Some(size) => len == size,
+    }
+}
+
+/// The value of the first TLV of this type, where there is one. All values of the type have this size; None:
+/// they may have any.
+pub fn value_in(number: u16, size: Option<usize>, bytes: &[u8]) -> Result<Option<&[u8]>, BodyFault>
+    ensures value { Gives option_copied result (value_in number size bytes.now) }
+    ensures sized { IfOk result (λ found. IfSome found (λ value. may_have size (length value.now) ≡ true)) }
+{
+    let mut found = None;
+    let mut rest = bytes;
+    while !rest.is_empty() {
+        let (tlv, after) = first_tlv(rest)?;
+        if tlv.number == number {
+            if !may_have(size, tlv.value.len()) {
+                return Err(BodyFault::BadTlv);
+            }
+            match found {
+                None => found = Some(tlv.value),
+                Some(_) => {}
+            }
+        }
+        rest = after;
+    }
+    Ok(found)
+}
+
+/// The word of the first TLV of this type, where there is one. All values of the type are words.
+#[tactic(auto, unfolding(crate::specs::Tlvs::word_in))]
+pub fn word_in(number: u16, bytes: &[u8]) -> Result<Option<u32>, BodyFault>
+    ensures { Gives (λ x. x) result (word_in number bytes.now) }
+{
+    match value_in(number, Some(4), bytes)? {
+        None => Ok(None),
+        Some(value) => Ok(Some(BigEndian::read_u32(value))),
+    }
+}
+
+/// Reads the value of IPV4-LSP-IDENTIFIERS.
+pub fn read_identifiers(value: &[u8]) -> Identifiers
     requires { length value.now ≡ 16 }
     ensures { result ≡ identifiers_of value.now }
 {
@@ -49,87 +125,4 @@ fn read_identifiers(value: &[u8]) -> Identifiers
         extended: BigEndian::read_u32(&value[8..]),
         endpoint: Ipv4(BigEndian::read_u32(&value[12..])),
     }
-}
-
-fn read_value(alloc: Global, kind: u16, value: &[u8]) -> Result<Tlv, BodyFault>
-    ensures { Gives (λ x. x) result (tlv_value kind value.now) }
-{
-    match kind {
-        17 => Ok(Tlv::Name(Sequence::from_vec(Vec::from_slice(alloc, value)?))),
-        18 if value.len() == 16 => Ok(Tlv::Identifiers(read_identifiers(value))),
-        18 => Err(BodyFault::BadTlv),
-        _ => Ok(Tlv::Skipped),
-    }
-}
-
-#[tactic(auto, unfolding(crate::specs::Tlvs::lsp_tlv))]
-fn read_tlv(alloc: Global, bytes: &[u8]) -> Result<Tlv, BodyFault>
-    ensures { Gives (λ x. x) result (lsp_tlv bytes.now) }
-{
-    let _size = size_of_tlv(bytes)?;
-    let kind = BigEndian::read_u16(bytes);
-    let len = BigEndian::read_u16(&bytes[2..]) as usize;
-    let (value, _) = bytes[4..].split_at(len);
-    read_value(alloc, kind, value)
-}
-
-/// Reads the TLVs of an LSP.
-#[derive(Drop)]
-struct LspTlvs {
-    alloc: Global,
-}
-
-impl Pieces for LspTlvs {
-    type Item = Tlv;
-
-    ghost size = { tlv_size };
-
-    ghost read = { λ _ piece. lsp_tlv piece };
-
-    fn size(&self, bytes: &[u8]) -> Result<usize, BodyFault> {
-        size_of_tlv(bytes)
-    }
-
-    fn read(&self, piece: &[u8]) -> Result<Tlv, BodyFault> {
-        read_tlv(self.alloc, piece)
-    }
-}
-
-fn nothing_named() -> NamedTlvs
-    ensures { result ≡ no_tlvs }
-{
-    NamedTlvs {
-        name: None,
-        identifiers: None,
-    }
-}
-
-fn put(tlv: Tlv, named: &mut NamedTlvs)
-    ensures { named.new ≡ before tlv named.old }
-{
-    match tlv {
-        Tlv::Name(name) => named.name = Some(name),
-        Tlv::Identifiers(identifiers) => named.identifiers = Some(identifiers),
-        Tlv::Skipped => {}
-    }
-}
-
-/// What TLVs say: the first of each type counts.
-fn named_in(mut tlvs: Vec<Tlv>) -> NamedTlvs
-    ensures { result ≡ from_end before no_tlvs tlvs.items }
-{
-    let mut named = nothing_named();
-    while let Some(tlv) = tlvs.pop() {
-        put(tlv, &mut named);
-    }
-    named
-}
-
-/// Reads the TLVs of an LSP.
-#[tactic(auto, unfolding(crate::specs::Tlvs::lsp_tlvs))]
-pub fn read_lsp_tlvs(alloc: Global, bytes: &[u8]) -> Result<NamedTlvs, BodyFault>
-    ensures { Gives (λ x. x) result (lsp_tlvs bytes.now) }
-{
-    let tlvs = read_all(alloc, &LspTlvs { alloc }, bytes)?;
-    Ok(named_in(tlvs))
 }

@@ -8,7 +8,7 @@ use Rattle.pcep_messages.specs.declared.notice.Notice.TheVariants.{Keepalive}
 use Rattle.pcep_messages.specs.declared.notice.PcError.{PcError}
 use Rattle.pcep_session.specs.Framing.{front_of}
 use Rattle.pcep_session.specs.Table.{reaction, due}
-use Rattle.pcep_session.specs.Turns.{Turn, is_closed, next, next_in, after_end, by_front, by_timer, due_in, is_due, is_silent, on_arrival, sending, going_to, kept_bytes, reaction_to, arrival, announced_by, is_fifth}
+use Rattle.pcep_session.specs.Turns.{Turn, is_closed, next, next_in, after_end, by_front, by_timer, due_in, is_due, is_silent, on_arrival, sending, going_to, kept_bytes, reaction_to, arrival, capabilities_of, is_fifth}
 use Rattle.pcep_session.specs.Calls.{sent_in, text_of, ended, output_taken}
 use Rattle.pcep_session.specs.Runs.{Call, Feed, Tick, Next, Send, Report_error, End, Take_output, after_call, inputs_of, given, or_same}
 use Rattle.pcep_session.specs.Ends.{most_turns, after_turns, TurnsEnd, turns_left_in, turns_left, brings_more, TurnsRunOut}
@@ -69,7 +69,7 @@ whole_falls a size c four fits =
     omega (arith, length-drop size c.bytes)
 
 -- a bad header ends the session
-bad_closes : (s : State) (peer : Option Open) (fifth : Bool) → (reaction s (announced_by peer) fifth BadHeader).state ≡ Closed
+bad_closes : (s : State) (peer : Option Open) (fifth : Bool) → (reaction s (capabilities_of peer) fifth BadHeader).state ≡ Closed
 bad_closes OpenWait peer fifth = refl
 bad_closes KeepWait peer fifth = refl
 bad_closes Up peer fifth = refl
@@ -112,7 +112,7 @@ front_falls Waiting c e live =
     (live_left c.state c live)
 front_falls Bad c e live = omega (arith, bad_falls c (bad_header c.bytes e), at_least c.state c live)
 front_falls (Whole size) c e live =
-    omega (arith, whole_falls (arrival c.state (is_some (announced_by c.peer)) (take size c.bytes)) size c (whole_header c.bytes size e) (whole_fits c.bytes size e), at_least c.state c live)
+    omega (arith, whole_falls (arrival c.state (is_some (capabilities_of c.peer)) (take size c.bytes)) size c (whole_header c.bytes size e) (whole_fits c.bytes size e), at_least c.state c live)
 
 down_falls : (pending : Bool) (c : Contents) → c.down_pending ≡ pending → c.state ≡ Closed → left_by (after_end pending c) ≤ turns_left c
 down_falls true c e shut =

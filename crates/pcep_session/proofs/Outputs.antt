@@ -2,7 +2,8 @@
 use Rattle.std.proofs.Common.{◌≡◌, ℕ, Bool, true, false, List, [], ◌∷◌, ◌++◌, refl, sym, ap, ◌∙◌, append_assoc}
 use Rattle.std.specs.Prelude.{Option, Some, None, is_some, take}
 use Rattle.pcep_session.specs.Framing.{front_of}
-use Rattle.pcep_session.specs.Turns.{Turn, is_closed, next, next_in, after_end, by_front, by_timer, due_in, turn_by, on_arrival, received, sending, going_to, reaction_to, arrival, announced_by, notices_text}
+use Rattle.pcep_session.specs.Table.{on_timer}
+use Rattle.pcep_session.specs.Turns.{Turn, is_closed, next, next_in, after_end, by_front, by_timer, due_in, turn_by, on_arrival, received, sending, going_to, reaction_to, arrival, capabilities_of, notices_text}
 use Rattle.pcep_session.specs.Cuts.{Drains, fed_or_same, with_output}
 use Rattle.pcep_session.specs.declared.contents.Contents.{Contents}
 use Rattle.pcep_session.specs.declared.framing.Front.{Front}
@@ -12,6 +13,7 @@ use Rattle.pcep_session.specs.declared.table.Arrival.TheVariants.{BadHeader}
 use Rattle.pcep_session.specs.declared.table.Input.{Input}
 use Rattle.pcep_session.specs.declared.table.Reaction.{Reaction}
 use Rattle.pcep_session.specs.declared.table.State.{State}
+use Rattle.pcep_session.specs.declared.table.Timer.{Timer}
 use Rattle.pcep_session.specs.declared.table.State.TheVariants.{OpenWait, KeepWait, Up, Closed}
 use Rattle.pcep_session.proofs.Pieces.{turn_of}
 
@@ -29,14 +31,14 @@ reaction_with r o c =
 arrival_with : (a : Arrival) (n : ℕ) (o : List ℕ) (c : Contents) → on_arrival a n (with_output o c) ≡ turn_with o (on_arrival a n c)
 arrival_with a n o c = reaction_with (reaction_to a c) o (received a n c)
 
-timer_with : (r : Option Reaction) (o : List ℕ) (c : Contents) → by_timer r (with_output o c) ≡ turn_with o (by_timer r c)
+timer_with : (r : Option Timer) (o : List ℕ) (c : Contents) → by_timer r (with_output o c) ≡ turn_with o (by_timer r c)
 timer_with None o c = refl
-timer_with (Some r) o c = reaction_with r o c
+timer_with (Some r) o c = reaction_with (on_timer r) o c
 
 front_with : (f : Front) (o : List ℕ) (c : Contents) → by_front f (with_output o c) ≡ turn_with o (by_front f c)
 front_with Waiting o c = timer_with (due_in c) o c
 front_with Bad o c = arrival_with BadHeader 0 o c
-front_with (Whole n) o c = arrival_with (arrival c.state (is_some (announced_by c.peer)) (take n c.bytes)) n o c
+front_with (Whole n) o c = arrival_with (arrival c.state (is_some (capabilities_of c.peer)) (take n c.bytes)) n o c
 
 end_with : (b : Bool) (o : List ℕ) (c : Contents) → after_end b (with_output o c) ≡ turn_with o (after_end b c)
 end_with true o c = refl

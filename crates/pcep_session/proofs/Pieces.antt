@@ -4,7 +4,8 @@ use Rattle.std.specs.Prelude.{Option, Some, None, nat_lt, is_some}
 use Rattle.std.proofs.lemmas.Bool.Decides.{nat_tests}
 use Rattle.std.proofs.lemmas.List.{take-append-le, drop-append-le}
 use Rattle.pcep_session.specs.Framing.{front_of, is_bad, message_length}
-use Rattle.pcep_session.specs.Turns.{Turn, is_closed, next, next_in, after_end, by_front, by_timer, due_in, on_arrival, received, sending, going_to, reaction_to, arrival, announced_by}
+use Rattle.pcep_session.specs.Turns.{Turn, is_closed, next, next_in, after_end, by_front, by_timer, due_in, on_arrival, received, sending, going_to, reaction_to, arrival, capabilities_of}
+use Rattle.pcep_session.specs.Table.{on_timer}
 use Rattle.pcep_session.specs.Calls.{fed}
 use Rattle.pcep_session.specs.Cuts.{Drains, NoTimerIsDue, fed_or_same}
 use Rattle.pcep_session.specs.declared.contents.Contents.{Contents}
@@ -16,6 +17,7 @@ use Rattle.pcep_session.specs.declared.table.Input.{Input}
 use Rattle.pcep_session.specs.declared.table.Input.TheVariants as input
 use Rattle.pcep_session.specs.declared.table.Reaction.{Reaction}
 use Rattle.pcep_session.specs.declared.table.State.{State}
+use Rattle.pcep_session.specs.declared.table.Timer.{Timer}
 use Rattle.pcep_session.specs.declared.table.State.TheVariants.{OpenWait, KeepWait, Up, Closed}
 
 abbrev pub with_bytes : Contents → List ℕ → Contents
@@ -120,8 +122,8 @@ front_turn Waiting q c e h = absurd (h refl)
 front_turn Bad q c e h = arrival_more BadHeader 0 q c (omega arith)
 front_turn (Whole n) q c e h =
     let fits : n ≤ length c.bytes = whole_fits c.bytes n e in
-    ap (λ (bs : List ℕ). on_arrival (arrival c.state (is_some (announced_by c.peer)) bs) n (more q c)) (take-append-le n c.bytes q fits)
-    ∙ arrival_more (arrival c.state (is_some (announced_by c.peer)) (take n c.bytes)) n q c fits
+    ap (λ (bs : List ℕ). on_arrival (arrival c.state (is_some (capabilities_of c.peer)) bs) n (more q c)) (take-append-le n c.bytes q fits)
+    ∙ arrival_more (arrival c.state (is_some (capabilities_of c.peer)) (take n c.bytes)) n q c fits
 
 goes_on : (s : State) (c : Contents) → is_closed s ≡ false → next_in s c ≡ by_front (front_of c.bytes) c
 goes_on OpenWait c h = refl
@@ -140,14 +142,14 @@ next_more q c live h =
 pub given : (x : Input) → Some x ≡ None → ⊥
 given x e = (cc)
 
-timer_rests : (r : Option Reaction) (c m : Contents) → by_timer r c ≡ turn_of None m → m ≡ c
+timer_rests : (r : Option Timer) (c m : Contents) → by_timer r c ≡ turn_of None m → m ≡ c
 timer_rests None c m e = sym (ap (λ (t : Turn). t.after) e)
-timer_rests (Some r) c m e = absurd (given r.input (ap (λ (t : Turn). t.input) e))
+timer_rests (Some r) c m e = absurd (given (on_timer r).input (ap (λ (t : Turn). t.input) e))
 
 front_rests : (f : Front) (c m : Contents) → by_front f c ≡ turn_of None m → m ≡ c
 front_rests Waiting c m e = timer_rests (due_in c) c m e
 front_rests Bad c m e = absurd (given (reaction_to BadHeader c).input (ap (λ (t : Turn). t.input) e))
-front_rests (Whole n) c m e = absurd (given (reaction_to (arrival c.state (is_some (announced_by c.peer)) (take n c.bytes)) c).input (ap (λ (t : Turn). t.input) e))
+front_rests (Whole n) c m e = absurd (given (reaction_to (arrival c.state (is_some (capabilities_of c.peer)) (take n c.bytes)) c).input (ap (λ (t : Turn). t.input) e))
 
 down_rests : (b : Bool) (c m : Contents) → after_end b c ≡ turn_of None m → m ≡ c
 down_rests true c m e = absurd (given input.Down (ap (λ (t : Turn). t.input) e))
@@ -163,7 +165,7 @@ pub rests : (c m : Contents) → next c ≡ turn_of None m → m ≡ c
 rests c m e = state_rests c.state c m e
 
 -- a turn takes no time
-timer_moment : (r : Option Reaction) (c : Contents) → (by_timer r c).after.moment_ms ≡ c.moment_ms
+timer_moment : (r : Option Timer) (c : Contents) → (by_timer r c).after.moment_ms ≡ c.moment_ms
 timer_moment None c = refl
 timer_moment (Some r) c = refl
 

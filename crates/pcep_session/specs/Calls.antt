@@ -20,7 +20,7 @@ own_open = 0x20 ∷ 1 ∷ 0 ∷ 20 ∷ 1 ∷ 0x10 ∷ 0 ∷ 16 ∷ 0x20 ∷ 30 �
 
 -- the same as a message
 abbrev pub own_opening : Message
-own_opening = messages.Opening (record { keepalive = 30; dead_timer = 120; session = 0; capabilities = Some (record { update = true; create = true }) })
+own_opening = messages.Opening (record { keepalive = 30; dead_timer = 120; sid = 0; capabilities = Some (record { update = true; create = true }) })
 
 -- new
 abbrev pub begun : ℕ → Contents

@@ -1,5 +1,5 @@
 -- What stands at the front of the bytes that a session has received (RFC 5440 section 6.1).
-use Rattle.std.specs.Prelude.{ℕ, ◌/◌, ◌%◌, ◌^◌, ◌≤◌, Bool, not, ◌||◌, List, length, slice_index, nat_lt, ◌==◌, if◌then◌else◌}
+use Rattle.std.specs.Prelude.{ℕ, ◌/◌, ◌%◌, ◌^◌, ◌≤◌, Bool, true, false, not, ◌||◌, List, length, slice_index, nat_lt, ◌==◌, if◌then◌else◌}
 use Rattle.pcep_objects.specs.Steps.{field}
 use Rattle.pcep_session.specs.declared.framing.Front.{Front}
 use Rattle.pcep_session.specs.declared.framing.Front.TheVariants.{Waiting, Bad, Whole}
@@ -19,6 +19,11 @@ front_of bytes =
     else (if is_bad bytes then Bad
     else (if nat_lt (length bytes) (message_length bytes) then Waiting
     else Whole (message_length bytes)))
+
+-- there is nothing to handle yet
+abbrev pub is_waiting : Front → Bool
+is_waiting Waiting = true
+is_waiting front = false
 
 -- a whole message is within the bytes
 abbrev pub FitsIn : ℕ → Front → Type 0

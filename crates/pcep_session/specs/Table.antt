@@ -19,6 +19,8 @@ use Rattle.pcep_session.specs.declared.table.Notices.TheVariants.{Nothing, One, 
 use Rattle.pcep_session.specs.declared.table.Reaction.{Reaction}
 use Rattle.pcep_session.specs.declared.table.State.{State}
 use Rattle.pcep_session.specs.declared.table.State.TheVariants.{OpenWait, KeepWait, Up, Closed}
+use Rattle.pcep_session.specs.declared.table.Timer.{Timer}
+use Rattle.pcep_session.specs.declared.table.Timer.TheVariants as timers
 
 -- the session goes on, and its caller gets nothing
 abbrev pub goes_on : State → Notices → Reaction
@@ -44,12 +46,12 @@ abbrev pub in_open_wait : Arrival → Reaction
 in_open_wait (Read (messages.Opening open_)) = goes_on KeepWait (One Keepalive)
 in_open_wait arrival = closes (One (error 1 1))
 
--- KeepWait: a Keepalive brings the session up, with the capabilities that the peer announced
+-- KeepWait: a Keepalive brings the session up, with the capabilities of the peer's Open
 abbrev pub in_keep_wait : Option Capabilities → Arrival → Reaction
-in_keep_wait announced (Read messages.Keepalive) = record { notices = Nothing; state = Up; input = input.Up announced }
-in_keep_wait announced (Read (messages.Error errors)) = closes (One (error 1 6))
-in_keep_wait announced (Read (messages.Close reason)) = closes Nothing
-in_keep_wait announced arrival = closes (One (error 1 1))
+in_keep_wait capabilities (Read messages.Keepalive) = record { notices = Nothing; state = Up; input = input.Up capabilities }
+in_keep_wait capabilities (Read (messages.Error errors)) = closes (One (error 1 6))
+in_keep_wait capabilities (Read (messages.Close reason)) = closes Nothing
+in_keep_wait capabilities arrival = closes (One (error 1 1))
 
 -- Up: an object with a fault of its own
 abbrev pub on_object : About → ObjectFault → Reaction
@@ -73,10 +75,10 @@ on_fault (faults.MissingIdentifiers a) = closes (Two (error_about a 6 11) (Close
 on_fault fault = closes (One (Close 3))
 
 -- Up: a message that is accepted
-abbrev pub on_message : Message → Reaction
-on_message (messages.Close reason) = closes Nothing
-on_message messages.Keepalive = goes_on Up Nothing
-on_message message = gives message
+abbrev pub on_accepted : Message → Reaction
+on_accepted (messages.Close reason) = closes Nothing
+on_accepted messages.Keepalive = goes_on Up Nothing
+on_accepted message = gives message
 
 -- Up: an unrecognized message ends the session where it is the fifth within a minute
 abbrev pub on_unrecognized : Bool → Reaction
@@ -87,20 +89,28 @@ abbrev pub in_up : Bool → Arrival → Reaction
 in_up fifth BadHeader = closes (One (Close 3))
 in_up fifth Unrecognized = on_unrecognized fifth
 in_up fifth UnannouncedReport = closes (Two (error 19 5) (Close 1))
-in_up fifth (Read message) = on_message message
+in_up fifth (Read message) = on_accepted message
 in_up fifth (Faulty fault) = on_fault fault
 
 abbrev pub reaction : State → Option Capabilities → Bool → Arrival → Reaction
-reaction OpenWait announced fifth arrival = in_open_wait arrival
-reaction KeepWait announced fifth arrival = in_keep_wait announced arrival
-reaction Up announced fifth arrival = in_up fifth arrival
-reaction Closed announced fifth arrival = closes Nothing
+reaction OpenWait capabilities fifth arrival = in_open_wait arrival
+reaction KeepWait capabilities fifth arrival = in_keep_wait capabilities arrival
+reaction Up capabilities fifth arrival = in_up fifth arrival
+reaction Closed capabilities fifth arrival = closes Nothing
 
--- The timers. Waited: the minute of OpenWait or KeepWait is over (OpenWait and KeepWait timers). Silent: nothing
--- was received for the peer's DeadTimer. Quiet: nothing was sent for the session's Keepalive, 30 s.
-abbrev pub due : State → (waited silent quiet : Bool) → Option Reaction
-due OpenWait true silent quiet = Some (closes (One (error 1 2)))
-due KeepWait true silent quiet = Some (closes (One (error 1 7)))
-due Up waited true quiet = Some (closes (One (Close 2)))
-due Up waited false true = Some (goes_on Up (One Keepalive))
+-- The timers of a session (RFC 5440 section 6.2 and appendix A, 6.3), and which is due in a state. Waited: the
+-- minute of OpenWait or KeepWait is over. Silent: nothing was received for the peer's DeadTimer. Quiet: nothing
+-- was sent for the session's Keepalive, 30 s.
+abbrev pub due : State → (waited silent quiet : Bool) → Option Timer
+due OpenWait true silent quiet = Some timers.OpenWait
+due KeepWait true silent quiet = Some timers.KeepWait
+due Up waited true quiet = Some timers.Dead
+due Up waited false true = Some timers.Keepalive
 due state waited silent quiet = None
+
+-- a timer that is due
+abbrev pub on_timer : Timer → Reaction
+on_timer timers.OpenWait = closes (One (error 1 2))
+on_timer timers.KeepWait = closes (One (error 1 7))
+on_timer timers.Dead = closes (One (Close 2))
+on_timer timers.Keepalive = goes_on Up (One Keepalive)

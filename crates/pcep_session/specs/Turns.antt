@@ -8,7 +8,7 @@ use Rattle.pcep_messages.specs.declared.fault.MessageFault.{MessageFault}
 use Rattle.pcep_messages.specs.declared.message.Message.{Message}
 use Rattle.pcep_messages.specs.declared.message.Message.TheVariants as messages
 use Rattle.pcep_session.specs.Framing.{front_of}
-use Rattle.pcep_session.specs.Table.{reaction, due}
+use Rattle.pcep_session.specs.Table.{reaction, due, on_timer}
 use Rattle.pcep_session.specs.declared.contents.Contents.{Contents}
 use Rattle.pcep_session.specs.declared.framing.Front.{Front}
 use Rattle.pcep_session.specs.declared.framing.Front.TheVariants.{Waiting, Bad, Whole}
@@ -21,15 +21,20 @@ use Rattle.pcep_session.specs.declared.table.Notices.TheVariants.{Nothing, One, 
 use Rattle.pcep_session.specs.declared.table.Reaction.{Reaction}
 use Rattle.pcep_session.specs.declared.table.State.{State}
 use Rattle.pcep_session.specs.declared.table.State.TheVariants.{Up, Closed}
+use Rattle.pcep_session.specs.declared.table.Timer.{Timer}
+
+abbrev pub is_up : State → Bool
+is_up Up = true
+is_up state = false
 
 abbrev pub is_closed : State → Bool
 is_closed Closed = true
 is_closed state = false
 
 -- the capabilities of the peer's Open
-abbrev pub announced_by : Option Open → Option Capabilities
-announced_by None = None
-announced_by (Some open_) = open_.capabilities
+abbrev pub capabilities_of : Option Open → Option Capabilities
+capabilities_of None = None
+capabilities_of (Some open_) = open_.capabilities
 
 -- A session that is up looks at the type first: of an Open, PCRep, PCUpd, PCInitiate and of unknown types the
 -- body isn't read. The others are Keepalive, PCReq, PCNtf, PCErr, Close and PCRpt.
@@ -41,14 +46,14 @@ arrival_of (Ok message) = Read message
 arrival_of (Err fault) = Faulty fault
 
 abbrev pub arrival_when_up : Bool → List ℕ → Arrival
-arrival_when_up announced message =
+arrival_when_up stateful message =
     if not (is_read_when_up (slice_index message 1)) then Unrecognized
-    else (if slice_index message 1 == 10 && not announced then UnannouncedReport else arrival_of (message_in message))
+    else (if slice_index message 1 == 10 && not stateful then UnannouncedReport else arrival_of (message_in message))
 
--- a whole message that comes in this state, of a peer that announced reports or didn't
+-- a whole message that comes in this state. Stateful: the peer's Open had STATEFUL-PCE-CAPABILITY.
 unfoldable pub arrival : State → Bool → List ℕ → Arrival
-arrival Up announced message = arrival_when_up announced message
-arrival state announced message = arrival_of (message_in message)
+arrival Up stateful message = arrival_when_up stateful message
+arrival state stateful message = arrival_of (message_in message)
 
 -- the moments less than 60,000 ms ago
 abbrev pub recent : ℕ → List ℕ → List ℕ
@@ -109,7 +114,7 @@ abbrev pub turn_by : Reaction → Contents → Turn
 turn_by r c = record { input = Some r.input; after = going_to r.state (sending r.notices c) }
 
 abbrev pub reaction_to : Arrival → Contents → Reaction
-reaction_to a c = reaction c.state (announced_by c.peer) (is_fifth c.moment_ms c.unrecognized) a
+reaction_to a c = reaction c.state (capabilities_of c.peer) (is_fifth c.moment_ms c.unrecognized) a
 
 abbrev pub on_arrival : Arrival → ℕ → Contents → Turn
 on_arrival a size c = turn_by (reaction_to a c) (received a size c)
@@ -123,18 +128,18 @@ abbrev pub is_silent : Option Open → ℕ → Bool
 is_silent None age_ms = false
 is_silent (Some open_) age_ms = not (open_.dead_timer == 0) && is_due (open_.dead_timer * 1000) age_ms
 
-abbrev pub due_in : Contents → Option Reaction
+abbrev pub due_in : Contents → Option Timer
 due_in c =
     due c.state (is_due 60000 (c.moment_ms - c.received_ms)) (is_silent c.peer (c.moment_ms - c.received_ms)) (is_due 30000 (c.moment_ms - c.sent_ms))
 
-abbrev pub by_timer : Option Reaction → Contents → Turn
+abbrev pub by_timer : Option Timer → Contents → Turn
 by_timer None c = record { input = None; after = c }
-by_timer (Some r) c = turn_by r c
+by_timer (Some timer) c = turn_by (on_timer timer) c
 
 abbrev pub by_front : Front → Contents → Turn
 by_front Waiting c = by_timer (due_in c) c
 by_front Bad c = on_arrival BadHeader 0 c
-by_front (Whole size) c = on_arrival (arrival c.state (is_some (announced_by c.peer)) (take size c.bytes)) size c
+by_front (Whole size) c = on_arrival (arrival c.state (is_some (capabilities_of c.peer)) (take size c.bytes)) size c
 
 -- a session that was ended gives the Down that is pending
 abbrev pub after_end : Bool → Contents → Turn

@@ -2,7 +2,7 @@
 
 ghost use Rattle.std.specs.Prelude.{◌≡◌, ◌≤◌, ◌-◌, nat_lt, length, IfOk};
 ghost use Rattle.pcep_messages.specs.Messages.{message_in};
-ghost use Rattle.pcep_session.specs.Turns.{is_read_when_up, arrival_of, arrival, announced_by, recent, is_fifth, unrecognized_after, peer_after};
+ghost use Rattle.pcep_session.specs.Turns.{is_read_when_up, arrival_of, arrival, capabilities_of, recent, is_fifth, unrecognized_after, peer_after};
 ghost use Rattle.pcep_session.specs.Changes.{UnrecognizedAfter};
 
 use crate::table::{Arrival, State};
@@ -12,8 +12,8 @@ use sequence::Sequence;
 use std::alloc::{AllocError, Global};
 
 /// The capabilities of the peer's Open.
-pub fn announced_by(peer: Option<Open>) -> Option<Capabilities>
-    ensures { result ≡ announced_by peer }
+pub fn capabilities_of(peer: Option<Open>) -> Option<Capabilities>
+    ensures { result ≡ capabilities_of peer }
 {
     match peer {
         None => None,
@@ -37,16 +37,16 @@ fn read(alloc: Global, message: &[u8]) -> Result<Arrival, AllocError>
     }
 }
 
-/// A whole message that comes in this state, of a peer that announced reports or didn't.
+/// A whole message that comes in this state. `stateful`: the peer's Open had STATEFUL-PCE-CAPABILITY.
 #[tactic(auto, unfolding(crate::specs::Turns::arrival))]
 pub fn arrival(
     alloc: Global,
     state: State,
-    announced: bool,
+    stateful: bool,
     message: &[u8],
 ) -> Result<Arrival, AllocError>
     requires { 4 ≤ length message.now }
-    ensures { IfOk result (λ a. a ≡ arrival state announced message.now) }
+    ensures { IfOk result (λ a. a ≡ arrival state stateful message.now) }
 {
     match state {
         State::Up => {
@@ -54,7 +54,7 @@ pub fn arrival(
             if !is_read_when_up(kind) {
                 return Ok(Arrival::Unrecognized);
             }
-            if kind == 10 && !announced {
+            if kind == 10 && !stateful {
                 return Ok(Arrival::UnannouncedReport);
             }
             read(alloc, message)

@@ -1,6 +1,6 @@
 //! Bytes that come at the end and go at the front.
 
-ghost use Rattle.std.specs.Prelude.{◌≡◌, ◌≤◌, [], ◌++◌, length, drop, OnOk, OnErr, IfErr, true, false};
+ghost use Rattle.std.specs.Prelude.{◌≡◌, ◌≤◌, ◌*◌, [], ◌++◌, length, drop, vec_capacity, OnOk, OnErr, IfErr, true, false};
 ghost use Rattle.pcep_messages.specs.Spelling.{is_written, fits, written};
 ghost use Rattle.pcep_objects.specs.declared.fault.WriteFault.TheVariants.{TooLong};
 
@@ -10,7 +10,11 @@ use std::alloc::{AllocError, Global};
 use std::marker::Model;
 use std::mem;
 
-/// Bytes that were received and not handled yet.
+/// The room that a buffer keeps where nothing waits in it, in bytes: what the longest message takes, rounded up.
+const KEPT_ROOM: usize = 65_536;
+
+/// Bytes that were received and not handled yet. Handled ones are kept in front of them, but never more than
+/// wait, and where none wait, no more room than for a message.
 #[derive(Debug, Drop)]
 pub struct Pending {
     items: Vec<u8>,
@@ -19,13 +23,13 @@ pub struct Pending {
 }
 
 impl Model for Pending {
-    ghost use Rattle.std.specs.Prelude.{List, ℕ, drop, length, ◌≤◌};
+    ghost use Rattle.std.specs.Prelude.{List, ℕ, drop, length, vec_capacity, ◌-◌, ◌≡◌, ◌≤◌};
 
     ghost Value = { List ℕ };
 
     ghost view = { λ p. drop p.start p.items.items };
 
-    ghost invariant = { λ p. p.start ≤ length p.items.items };
+    ghost invariant = { λ p. (p.start ≤ length p.items.items - p.start) × (length p.items.items ≡ 0 → vec_capacity p.items ≤ 65536) };
 }
 
 fn remove_front(items: &mut Vec<u8>, count: usize)
@@ -35,6 +39,16 @@ fn remove_front(items: &mut Vec<u8>, count: usize)
     let len = items.len();
     items.copy_within(count..len, 0);
     items.truncate(len - count);
+}
+
+/// Lets the room of an empty buffer go where it is more than it keeps.
+fn release(items: &mut Vec<u8>)
+    ensures items { items.new.items ≡ items.old.items }
+    ensures released { length items.new.items ≡ 0 → vec_capacity items.new ≤ 65536 }
+{
+    if items.is_empty() && items.capacity() > KEPT_ROOM {
+        items.shrink_to_fit();
+    }
 }
 
 impl Pending {
@@ -53,30 +67,42 @@ impl Pending {
         &self.items[self.start..]
     }
 
-    /// Moves the bytes to the front where the handled ones are at least as many. So each handled byte pays for
-    /// one that is moved, and the moves are linear in the bytes handled.
-    fn compact(&mut self)
-        ensures { self.new ≡ self.old }
+    /// How many bytes are kept: those that wait, and handled ones in front of them.
+    pub fn kept(&self) -> usize
+        ensures at_least { length self.now ≤ result }
+        ensures at_most { result ≤ 2 * length self.now }
     {
-        if self.start >= self.items.len() - self.start {
-            remove_front(&mut self.items, self.start);
-            self.start = 0;
-        }
+        self.items.len()
+    }
+
+    /// For how many bytes there is memory.
+    pub fn room(&self) -> usize
+        ensures { self.now ≡ [] → result ≤ 65536 }
+    {
+        self.items.capacity()
     }
 
     pub fn append(&mut self, piece: &[u8]) -> Result<(), AllocError>
         ensures ok { OnOk result (self.new ≡ self.old ++ piece.now) }
         ensures err { OnErr result (self.new ≡ self.old) }
     {
-        self.compact();
-        self.items.extend_from_slice(piece)
+        let appended = self.items.extend_from_slice(piece);
+        release(&mut self.items);
+        appended
     }
 
+    /// Handles bytes. Once more are handled than wait, those that wait go to the front: each handled byte pays
+    /// for less than one that is moved, so the moves are linear in the bytes handled.
     pub fn skip(&mut self, count: usize)
         requires { count ≤ length self.old }
         ensures { self.new ≡ drop count self.old }
     {
         self.start += count;
+        if self.start > self.items.len() - self.start {
+            remove_front(&mut self.items, self.start);
+            self.start = 0;
+            release(&mut self.items);
+        }
     }
 
     pub fn clear(&mut self)
@@ -84,6 +110,7 @@ impl Pending {
     {
         self.items.clear();
         self.start = 0;
+        release(&mut self.items);
     }
 }
 

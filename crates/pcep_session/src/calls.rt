@@ -9,7 +9,6 @@ use crate::bytes::{Output, Pending};
 use crate::contents::Contents;
 use crate::fault::SessionFault;
 use crate::table::State;
-use crate::turns::is_closed;
 use pcep_messages::{Message, Notice, PcError, put_notice};
 use sequence::Sequence;
 use std::alloc::{AllocError, Global};
@@ -52,7 +51,7 @@ pub fn tick(contents: &mut Contents, now_ms: u64)
 pub fn feed(contents: &mut Contents, piece: &[u8], now_ms: u64) -> Result<(), SessionFault>
     ensures { Does result contents.old contents.new (fed_by piece.now now_ms contents.old) }
 {
-    if is_closed(contents.state) {
+    if contents.state.is_closed() {
         return Err(SessionFault::Closed);
     }
     contents.bytes.append(piece)?;
@@ -145,7 +144,7 @@ pub fn end(
     ensures step { Does result contents.old contents.new (ended_by error reason contents.old) }
     ensures nothing { is_closed contents.old.state ≡ false → error ≡ None → reason ≡ None → IsOk result }
 {
-    if is_closed(contents.state) {
+    if contents.state.is_closed() {
         return Err(SessionFault::Closed);
     }
     put_end(alloc, &mut contents.output, error, reason)?;

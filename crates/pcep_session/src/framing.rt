@@ -1,7 +1,7 @@
 //! What stands at the front of the received bytes.
 
 ghost use Rattle.std.specs.Prelude.{◌≡◌, ◌≤◌, length};
-ghost use Rattle.pcep_session.specs.Framing.{is_bad, front_of, FitsIn};
+ghost use Rattle.pcep_session.specs.Framing.{is_bad, front_of, is_waiting, FitsIn};
 
 use byteorder::{BigEndian, ByteOrder};
 
@@ -41,4 +41,13 @@ pub fn front_in(bytes: &[u8]) -> Front
         return Front::Waiting;
     }
     Front::Whole(size)
+}
+
+pub fn is_waiting(front: Front) -> bool
+    ensures { result ≡ is_waiting front }
+{
+    match front {
+        Front::Waiting => true,
+        _ => false,
+    }
 }

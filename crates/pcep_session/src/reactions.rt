@@ -1,9 +1,9 @@
 //! How a session reacts to what comes, state by state.
 
 ghost use Rattle.std.specs.Prelude.{◌≡◌};
-ghost use Rattle.pcep_session.specs.Table.{goes_on, closes, error_about, error, in_open_wait, in_keep_wait, on_object, missing_value, on_fault, on_message, on_unrecognized, in_up, reaction, due};
+ghost use Rattle.pcep_session.specs.Table.{goes_on, closes, error_about, error, in_open_wait, in_keep_wait, on_object, missing_value, on_fault, on_accepted, on_unrecognized, in_up, reaction, due, on_timer};
 
-use crate::table::{Arrival, Input, Notices, Reaction, State};
+use crate::table::{Arrival, Input, Notices, Reaction, State, Timer};
 use pcep_messages::{About, Message, MessageFault, Notice, PcError};
 use pcep_objects::{Capabilities, ObjectFault};
 
@@ -52,14 +52,14 @@ fn in_open_wait(arrival: Arrival) -> Reaction
     }
 }
 
-fn in_keep_wait(announced: Option<Capabilities>, arrival: Arrival) -> Reaction
-    ensures { result ≡ in_keep_wait announced arrival }
+fn in_keep_wait(capabilities: Option<Capabilities>, arrival: Arrival) -> Reaction
+    ensures { result ≡ in_keep_wait capabilities arrival }
 {
     match arrival {
         Arrival::Read(Message::Keepalive) => Reaction {
             notices: Notices::Nothing,
             state: State::Up,
-            input: Input::Up(announced),
+            input: Input::Up(capabilities),
         },
         Arrival::Read(Message::Error(_)) => closes(Notices::One(error(1, 6))),
         Arrival::Read(Message::Close(_)) => closes(Notices::Nothing),
@@ -113,8 +113,8 @@ fn on_fault(fault: MessageFault) -> Reaction
     }
 }
 
-fn on_message(message: Message) -> Reaction
-    ensures { result ≡ on_message message }
+fn on_accepted(message: Message) -> Reaction
+    ensures { result ≡ on_accepted message }
 {
     match message {
         Message::Close(_) => closes(Notices::Nothing),
@@ -144,39 +144,51 @@ fn in_up(fifth: bool, arrival: Arrival) -> Reaction
         Arrival::BadHeader => closes(Notices::One(Notice::Close(3))),
         Arrival::Unrecognized => on_unrecognized(fifth),
         Arrival::UnannouncedReport => closes(Notices::Two(error(19, 5), Notice::Close(1))),
-        Arrival::Read(message) => on_message(message),
+        Arrival::Read(message) => on_accepted(message),
         Arrival::Faulty(fault) => on_fault(fault),
     }
 }
 
-/// How a session in this state reacts to what comes. `announced`: the capabilities of the peer's Open.
-/// `fifth`: an unrecognized message is the fifth within a minute.
+/// How a session in this state reacts to what comes. `capabilities`: those of the peer's Open. `fifth`: an
+/// unrecognized message is the fifth within a minute.
 pub fn reaction(
     state: State,
-    announced: Option<Capabilities>,
+    capabilities: Option<Capabilities>,
     fifth: bool,
     arrival: Arrival,
 ) -> Reaction
-    ensures { result ≡ reaction state announced fifth arrival }
+    ensures { result ≡ reaction state capabilities fifth arrival }
 {
     match state {
         State::OpenWait => in_open_wait(arrival),
-        State::KeepWait => in_keep_wait(announced, arrival),
+        State::KeepWait => in_keep_wait(capabilities, arrival),
         State::Up => in_up(fifth, arrival),
         State::Closed => closes(Notices::Nothing),
     }
 }
 
-/// What the timers do. `waited`: the minute of OpenWait or KeepWait is over. `silent`: nothing was received for
-/// the peer's DeadTimer. `quiet`: nothing was sent for 30 s.
-pub fn due(state: State, waited: bool, silent: bool, quiet: bool) -> Option<Reaction>
+/// The timer that is due. `waited`: the minute of OpenWait or KeepWait is over. `silent`: nothing was received
+/// for the peer's DeadTimer. `quiet`: nothing was sent for 30 s.
+pub fn due(state: State, waited: bool, silent: bool, quiet: bool) -> Option<Timer>
     ensures { result ≡ due state waited silent quiet }
 {
     match state {
-        State::OpenWait if waited => Some(closes(Notices::One(error(1, 2)))),
-        State::KeepWait if waited => Some(closes(Notices::One(error(1, 7)))),
-        State::Up if silent => Some(closes(Notices::One(Notice::Close(2)))),
-        State::Up if quiet => Some(goes_on(State::Up, Notices::One(Notice::Keepalive))),
+        State::OpenWait if waited => Some(Timer::OpenWait),
+        State::KeepWait if waited => Some(Timer::KeepWait),
+        State::Up if silent => Some(Timer::Dead),
+        State::Up if quiet => Some(Timer::Keepalive),
         _ => None,
+    }
+}
+
+/// How a session reacts to a timer that is due.
+pub fn on_timer(timer: Timer) -> Reaction
+    ensures { result ≡ on_timer timer }
+{
+    match timer {
+        Timer::OpenWait => closes(Notices::One(error(1, 2))),
+        Timer::KeepWait => closes(Notices::One(error(1, 7))),
+        Timer::Dead => closes(Notices::One(Notice::Close(2))),
+        Timer::Keepalive => goes_on(State::Up, Notices::One(Notice::Keepalive)),
     }
 }

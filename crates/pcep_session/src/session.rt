@@ -1,6 +1,6 @@
 //! A session and its calls.
 
-ghost use Rattle.std.specs.Prelude.{◌≡◌, true, false, None, IsOk, IfOk, IfErr, OnErr};
+ghost use Rattle.std.specs.Prelude.{◌≡◌, ◌≤◌, ◌*◌, [], length, true, false, None, IsOk, IfOk, IfErr, OnErr, is_some};
 ghost use Rattle.pcep_session.specs.Turns.{is_closed, next, IsTurn};
 ghost use Rattle.pcep_session.specs.Ends.{most_turns};
 ghost use Rattle.pcep_session.specs.Calls.{begun, ticked, fed_by, sent, error_reported, ended_by, output_taken, Does};
@@ -69,8 +69,15 @@ impl Session {
         ensures only_memory { IfErr result (λ e. e ≡ OutOfMemory) }
         ensures no_memory_once_closed { is_closed self.old.state ≡ true → IsOk result }
     {
-        let input = turns::next(self.alloc, &mut self.contents)?;
-        Ok(input)
+        turns::next(self.alloc, &mut self.contents)
+    }
+
+    /// Whether `next` has an input to give. It costs less than a `next` that answers None, which pays after each
+    /// small piece of a message.
+    pub fn has_input(&self) -> bool
+        ensures { result ≡ is_some (next self.now).input }
+    {
+        turns::has_input(&self.contents)
     }
 
     /// Puts a message into the output. `Closed` where the session has ended; `NotUp` where it isn't up yet;
@@ -113,6 +120,22 @@ impl Session {
         ensures { result ≡ most_turns self.now }
     {
         self.contents.bytes.as_slice().len() + 2
+    }
+
+    /// How many received bytes the session keeps: those that wait to be handled, and handled ones that it hasn't
+    /// let go of, never more than wait.
+    pub fn kept_bytes(&self) -> usize
+        ensures at_least { length self.now.bytes ≤ result }
+        ensures at_most { result ≤ 2 * length self.now.bytes }
+    {
+        self.contents.bytes.kept()
+    }
+
+    /// For how many received bytes the session holds memory: for no more than 65,536 where none wait.
+    pub fn room_for_bytes(&self) -> usize
+        ensures { self.now.bytes ≡ [] → result ≤ 65536 }
+    {
+        self.contents.bytes.room()
     }
 
     /// The state of the session.

@@ -2,6 +2,8 @@
 
 use pcep_messages::{Message, MessageFault, Notice};
 use pcep_objects::Capabilities;
+use sequence::PlainData;
+use std::alloc::AllocError;
 
 /// The state of a session (RFC 5440 section 6.2 and appendix A).
 #[derive(Clone, Copy, Debug, PartialEq, Eq)]
@@ -16,6 +18,25 @@ pub enum State {
     Closed,
 }
 
+impl State {
+    ghost use Rattle.std.specs.Prelude.{◌≡◌};
+    ghost use Rattle.pcep_session.specs.Turns.{is_up, is_closed};
+
+    /// Whether the session is up.
+    pub fn is_up(self) -> bool
+        ensures { result ≡ is_up self }
+    {
+        matches!(self, State::Up)
+    }
+
+    /// Whether the session has ended.
+    pub fn is_closed(self) -> bool
+        ensures { result ≡ is_closed self }
+    {
+        matches!(self, State::Closed)
+    }
+}
+
 /// What a session gives to its caller.
 #[derive(Debug, Drop)]
 pub enum Input {
@@ -28,6 +49,17 @@ pub enum Input {
     Down,
     /// A message or a timer was handled, and there is nothing for the caller.
     Handled,
+}
+
+impl PlainData for Input {
+    fn copy(&self) -> Result<Input, AllocError> {
+        match self {
+            Input::Up(capabilities) => Ok(Input::Up(*capabilities)),
+            Input::Message(message) => Ok(Input::Message(message.copy()?)),
+            Input::Down => Ok(Input::Down),
+            Input::Handled => Ok(Input::Handled),
+        }
+    }
 }
 
 /// What comes to a session.
@@ -59,4 +91,17 @@ pub struct Reaction {
     pub notices: Notices,
     pub state: State,
     pub input: Input,
+}
+
+/// The timers of a session (RFC 5440 sections 6.2 and 6.3, appendix A).
+#[derive(Clone, Copy, Debug, PartialEq, Eq)]
+pub enum Timer {
+    /// A minute without the peer's Open.
+    OpenWait,
+    /// A minute without the peer's Keepalive.
+    KeepWait,
+    /// Nothing received for as long as the peer's Open allows.
+    Dead,
+    /// Nothing sent for 30 s.
+    Keepalive,
 }

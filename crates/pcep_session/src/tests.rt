@@ -1,9 +1,12 @@
 use super::*;
 use pcep_messages::{About, Message, PcError};
+use sequence::PlainData;
 use std::process::Abort;
 use std::test::*;
 
+mod copies;
 mod exchanges;
+mod kept;
 mod memory;
 mod refusals;
 
@@ -54,7 +57,10 @@ fn inputs(rt: &HostRuntime, session: &mut Session) -> Result<Vec<u8>, Fail> {
     for _ in 0..100 {
         match session.next()? {
             Some(input) => letters.push(letter(&input))?,
-            None => return Ok(letters),
+            None => {
+                check(!session.has_input(), "no input, but more to come")?;
+                return Ok(letters);
+            }
         }
     }
     Err(Fail::new("inputs without end"))

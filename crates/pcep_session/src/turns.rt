@@ -1,30 +1,23 @@
 //! One turn of a session: its next whole message, else the timer that is due, else nothing. Each function
 //! makes all its growths before it changes anything that a contract sees.
 
-ghost use Rattle.std.specs.Prelude.{◌≡◌, ◌++◌, ◌≤◌, length, Some, IfOk, OnOk, OnErr, IsOk, true};
+ghost use Rattle.std.specs.Prelude.{◌≡◌, ◌++◌, ◌≤◌, length, Some, is_some, IfOk, IfErr, OnOk, OnErr, IsOk, true};
 ghost use Rattle.pcep_session.specs.Changes.{received_as};
 ghost use Rattle.pcep_session.specs.Framing.{front_of};
 ghost use Rattle.pcep_session.specs.Turns.{is_closed, notices_text, sent_at, sending, going_to, IsTurn, turn_by, on_arrival, is_silent, due_in, by_timer, by_front, after_end, next};
+ghost use Rattle.pcep_session.specs.declared.fault.SessionFault.TheVariants.{OutOfMemory};
 ghost use Rattle.pcep_session.specs.declared.framing.Front.TheVariants as fronts;
 
-use crate::arrivals::{announced_by, arrival, is_fifth, peer_after, unrecognized_after};
+use crate::arrivals::{arrival, capabilities_of, is_fifth, peer_after, unrecognized_after};
 use crate::contents::Contents;
-use crate::framing::{Front, front_in};
-use crate::reactions::{due, reaction};
-use crate::table::{Arrival, Input, Notices, Reaction, State};
+use crate::fault::SessionFault;
+use crate::framing::{Front, front_in, is_waiting};
+use crate::reactions::{due, on_timer, reaction};
+use crate::table::{Arrival, Input, Notices, Reaction, State, Timer};
 use pcep_messages::put_notice;
 use pcep_objects::Open;
 use sequence::Sequence;
 use std::alloc::{AllocError, Global};
-
-pub fn is_closed(state: State) -> bool
-    ensures { result ≡ is_closed state }
-{
-    match state {
-        State::Closed => true,
-        _ => false,
-    }
-}
 
 fn put_notices(out: &mut Vec<u8>, notices: Notices) -> Result<(), AllocError>
     ensures { OnOk result (out.new.items ≡ out.old.items ++ notices_text notices) }
@@ -64,7 +57,7 @@ fn go_to(contents: &mut Contents, state: State)
     ensures { contents.new ≡ going_to state contents.old }
 {
     contents.state = state;
-    if is_closed(state) {
+    if state.is_closed() {
         contents.bytes.clear();
     }
 }
@@ -101,12 +94,12 @@ fn on_arrival(
     let moments = unrecognized_after(alloc, &arrival, now_ms, contents.unrecognized.as_slice())?;
     let fifth = is_fifth(now_ms, contents.unrecognized.as_slice());
     let peer = peer_after(&arrival, contents.peer);
-    let announced = announced_by(contents.peer);
+    let capabilities = capabilities_of(contents.peer);
     let Reaction {
         notices,
         state,
         input,
-    } = reaction(contents.state, announced, fifth, arrival);
+    } = reaction(contents.state, capabilities, fifth, arrival);
     send_notices(alloc, contents, notices)?;
     receive(contents, size, moments, peer);
     go_to(contents, state);
@@ -122,7 +115,7 @@ fn is_silent(peer: Option<Open>, age_ms: u64) -> bool
     }
 }
 
-fn due_in(contents: &Contents) -> Option<Reaction>
+fn due_in(contents: &Contents) -> Option<Timer>
     ensures { result ≡ due_in contents.now }
 {
     let received_ago = contents.moment_ms.saturating_sub(contents.received_ms);
@@ -136,36 +129,53 @@ fn due_in(contents: &Contents) -> Option<Reaction>
     )
 }
 
-fn on_timer(alloc: Global, contents: &mut Contents) -> Result<Option<Input>, AllocError>
+fn expire(alloc: Global, contents: &mut Contents, timer: Timer) -> Result<Option<Input>, AllocError>
+    ensures ok { IfOk result (λ input. IsTurn (by_timer (Some timer) contents.old) input contents.new) }
+    ensures err { OnErr result (contents.new ≡ contents.old) }
+{
+    let Reaction {
+        notices,
+        state,
+        input,
+    } = on_timer(timer);
+    send_notices(alloc, contents, notices)?;
+    go_to(contents, state);
+    Ok(Some(input))
+}
+
+fn by_timer(alloc: Global, contents: &mut Contents) -> Result<Option<Input>, AllocError>
     ensures ok { IfOk result (λ input. IsTurn (by_timer (due_in contents.old) contents.old) input contents.new) }
     ensures err { OnErr result (contents.new ≡ contents.old) }
 {
     match due_in(contents) {
         None => Ok(None),
-        Some(
-            Reaction {
-                notices,
-                state,
-                input,
-            },
-        ) => {
-            send_notices(alloc, contents, notices)?;
-            go_to(contents, state);
-            Ok(Some(input))
-        }
+        Some(timer) => expire(alloc, contents, timer),
     }
 }
 
-fn on_message(alloc: Global, contents: &mut Contents, size: usize) -> Result<Input, AllocError>
-    requires four { 4 ≤ size }
-    requires within { size ≤ length contents.old.bytes }
-    ensures ok { IfOk result (λ input. IsTurn (by_front (fronts.Whole size) contents.old) (Some input) contents.new) }
+fn on_bad_header(alloc: Global, contents: &mut Contents) -> Result<Option<Input>, AllocError>
+    ensures ok { IfOk result (λ input. IsTurn (by_front fronts.Bad contents.old) input contents.new) }
     ensures err { OnErr result (contents.new ≡ contents.old) }
 {
-    let announced = announced_by(contents.peer).is_some();
+    let input = on_arrival(alloc, contents, Arrival::BadHeader, 0)?;
+    Ok(Some(input))
+}
+
+fn on_whole(
+    alloc: Global,
+    contents: &mut Contents,
+    size: usize,
+) -> Result<Option<Input>, AllocError>
+    requires four { 4 ≤ size }
+    requires within { size ≤ length contents.old.bytes }
+    ensures ok { IfOk result (λ input. IsTurn (by_front (fronts.Whole size) contents.old) input contents.new) }
+    ensures err { OnErr result (contents.new ≡ contents.old) }
+{
+    let stateful = capabilities_of(contents.peer).is_some();
     let (message, _) = contents.bytes.as_slice().split_at(size);
-    let arrival = arrival(alloc, contents.state, announced, message)?;
-    on_arrival(alloc, contents, arrival, size)
+    let arrival = arrival(alloc, contents.state, stateful, message)?;
+    let input = on_arrival(alloc, contents, arrival, size)?;
+    Ok(Some(input))
 }
 
 fn on_front(alloc: Global, contents: &mut Contents) -> Result<Option<Input>, AllocError>
@@ -173,15 +183,9 @@ fn on_front(alloc: Global, contents: &mut Contents) -> Result<Option<Input>, All
     ensures err { OnErr result (contents.new ≡ contents.old) }
 {
     match front_in(contents.bytes.as_slice()) {
-        Front::Waiting => on_timer(alloc, contents),
-        Front::Bad => {
-            let input = on_arrival(alloc, contents, Arrival::BadHeader, 0)?;
-            Ok(Some(input))
-        }
-        Front::Whole(size) => {
-            let input = on_message(alloc, contents, size)?;
-            Ok(Some(input))
-        }
+        Front::Waiting => by_timer(alloc, contents),
+        Front::Bad => on_bad_header(alloc, contents),
+        Front::Whole(size) => on_whole(alloc, contents, size),
     }
 }
 
@@ -195,14 +199,41 @@ fn give_down(contents: &mut Contents) -> Option<Input>
     None
 }
 
-/// A session that has ended takes no memory.
-pub fn next(alloc: Global, contents: &mut Contents) -> Result<Option<Input>, AllocError>
+/// Whether a turn gives an input. It looks at little and makes none, so that a session that waits costs little,
+/// as after each piece of a message.
+#[tactic(auto, using(crate::proofs::Resting::live_gives, crate::proofs::Resting::shut_gives))]
+pub fn has_input(contents: &Contents) -> bool
+    ensures { result ≡ is_some (next contents.now).input }
+{
+    if contents.state.is_closed() {
+        return contents.down_pending;
+    }
+    !is_waiting(front_in(contents.bytes.as_slice())) || due_in(contents).is_some()
+}
+
+#[inline(never)]
+fn take_turn(alloc: Global, contents: &mut Contents) -> Result<Option<Input>, SessionFault>
     ensures ok { IfOk result (λ input. IsTurn (next contents.old) input contents.new) }
     ensures err { OnErr result (contents.new ≡ contents.old) }
+    ensures only_memory { IfErr result (λ e. e ≡ OutOfMemory) }
     ensures closed { is_closed contents.old.state ≡ true → IsOk result }
 {
     match contents.state {
         State::Closed => Ok(give_down(contents)),
-        _ => on_front(alloc, contents),
+        _ => Ok(on_front(alloc, contents)?),
     }
+}
+
+/// A session that has ended takes no memory.
+#[tactic(auto, using(crate::proofs::Resting::nothing_given))]
+pub fn next(alloc: Global, contents: &mut Contents) -> Result<Option<Input>, SessionFault>
+    ensures ok { IfOk result (λ input. IsTurn (next contents.old) input contents.new) }
+    ensures err { OnErr result (contents.new ≡ contents.old) }
+    ensures only_memory { IfErr result (λ e. e ≡ OutOfMemory) }
+    ensures closed { is_closed contents.old.state ≡ true → IsOk result }
+{
+    if !has_input(contents) {
+        return Ok(None);
+    }
+    take_turn(alloc, contents)
 }

@@ -5,7 +5,7 @@ use Rattle.std.proofs.Math.Nat.{lt_of_mul-lt-mul_right, le_of_mul-le-mul_right, 
 use Rattle.std.proofs.lemmas.Nat.{pow_pos, div-add-mod', mod_below}
 use Rattle.std.proofs.lemmas.Bool.{cases_lt, eqb-false, ne_eqb, le-leb, lt-ltb, leb-true, ltb-true, not-true, and_parts, cond-false, false_from_ne_true}
 use Rattle.std.proofs.lemmas.Grind.{div_ceil_times}
-use Rattle.pcep_word.specs.Word.{IsNumber, IsLeast, IsGreatest, IsWordOf, IsBandwidth, ReadsBandwidth, ReadsBound, magnitude, is_number, rounded_up, bandwidth_of, bound_of, word_of, mantissa, scale, exponent, units}
+use Rattle.pcep_word.specs.Word.{IsNumber, IsLeast, IsGreatest, IsWordOf, IsBandwidth, IsBound, ReadsBandwidth, ReadsBound, magnitude, is_number, rounded_up, bandwidth_of, bound_of, word_of, mantissa, scale, exponent, units}
 use Rattle.pcep_word.proofs.Rounding.{up_least, shift_is, units_le, units_mono}
 use Rattle.pcep_word.proofs.Forms.{Packed-parts, magnitude_mono}
 use Rattle.pcep_word.proofs.Spelling.{IsExactly, exact_small, units_more, zero_magnitude, exact, word_exact, word_of_is}
@@ -114,6 +114,9 @@ unfolding bound_of
 bound_computes w (Some v) found none = rw (passes w found.number) (ap Some (bound_least (magnitude w) v found.greatest))
 bound_computes w None found none = sym (cond-false (is_number w) (Some (min (magnitude w / 2 ^ 150) (2 ^ 48 - 1))) None (false_from_ne_true (is_number w) (λ e. none (is_passed w e))))
 
+bound_reads_computes : (w v : ℕ) → ReadsBound w v → bound_of w ≡ Some v
+bound_reads_computes w v reads = sym (bound_computes w (Some v) reads tt)
+
 -- ---- what is read is read again
 
 is_bound : (w v : ℕ) (t : Bool) → is_number w ≡ t → cond t (Some (min (magnitude w / 2 ^ 150) (2 ^ 48 - 1))) None ≡ Some v → IsNumber w × (min (magnitude w / 2 ^ 150) (2 ^ 48 - 1) ≡ v)
@@ -123,6 +126,28 @@ is_bound w v false t e = cc
 pub bound_is_of : (w v : ℕ) → bound_of w ≡ Some v → IsNumber w × (min (magnitude w / 2 ^ 150) (2 ^ 48 - 1) ≡ v)
 unfolding bound_of
 bound_is_of w v e = is_bound w v (is_number w) refl e
+
+-- the greatest number of so many units
+bound_greatest : (n : ℕ) → IsGreatest (λ u. (u ≤ 2 ^ 48 - 1) × (units u ≤ n)) (min (n / 2 ^ 150) (2 ^ 48 - 1))
+unfolding units
+bound_greatest n =
+    let b = min (n / 2 ^ 150) (2 ^ 48 - 1) in
+    let d = div-add-mod' n (2 ^ 150) in
+    let r = mod_below n (2 ^ 150) (pow_pos 150) in
+    let down : b ≤ n / 2 ^ 150 = omega arith in
+    let le : b * 2 ^ 150 ≤ n / 2 ^ 150 * 2 ^ 150 = mul-le-mul_right (2 ^ 150) down in
+    record {
+      holds = (omega arith, omega (arith, le, d));
+      greatest = λ u h.
+          let lt : u * 2 ^ 150 < (n / 2 ^ 150 + 1) * 2 ^ 150 = omega (arith, h.1, d, r) in
+          let below : u < n / 2 ^ 150 + 1 = lt_of_mul-lt-mul_right (2 ^ 150) lt in
+          omega (arith, h.0);
+    }
+
+pub bound_is_read : (w v : ℕ) → bound_of w ≡ Some v → ReadsBound w v
+bound_is_read w v e =
+    let b = bound_is_of w v e in
+    record { number = b.0; greatest = rw b.1 at (bound_greatest (magnitude w)) }
 
 is_bandwidth : (w v b : ℕ) (t : Bool) → is_number w && ltb b (2 ^ 48) ≡ t → cond t (Some b) None ≡ Some v → IsNumber w × (b < 2 ^ 48) × (b ≡ v)
 is_bandwidth w v b true t e = let p = and_parts (is_number w) (ltb b (2 ^ 48)) t in (is_passed w p.0, ltb-true _ _ p.1, cc)
@@ -199,21 +224,24 @@ bound_reads v w (inl x) small word =
     record { holds = (omega arith, word.holds.1); greatest = λ u h. units_le u v (omega (arith, a, x.1.same, h.1)) }
 bound_reads v w (inr top) small word = record { holds = (omega arith, word.holds.1); greatest = λ u h. omega (arith, h.0) }
 
-pub bound_again : (x v w : ℕ) → bound_of x ≡ Some v → IsWordOf v w → bound_of w ≡ Some v
-bound_again x v w e word =
-    let b = bound_is_of x v e in
+pub bound_again : (v w : ℕ) → IsBound v → IsWordOf v w → bound_of w ≡ Some v
+bound_again v w known word =
+    let b = bound_is_of known.word v (bound_reads_computes known.word v known.reads) in
     let small : v < 2 ^ 48 = omega (arith, b.1) in
-    let g = bound_reads v w (exact_bound x v b.0 b.1) small word in
-    sym (bound_computes w (Some v) (record { number = word_number v w word; greatest = g }) tt)
+    let g = bound_reads v w (exact_bound known.word v b.0 b.1) small word in
+    bound_reads_computes w v (record { number = word_number v w word; greatest = g })
 
-pub bound_small : (w v : ℕ) → bound_of w ≡ Some v → v < 2 ^ 48
-bound_small w v e = let b = bound_is_of w v e in omega (arith, b.1)
+pub bound_known : (w v : ℕ) → bound_of w ≡ Some v → IsBound v
+bound_known w v e = record { word = w; reads = bound_is_read w v e }
+
+pub bound_small : (v : ℕ) → IsBound v → v < 2 ^ 48
+bound_small v known = omega (arith, known.reads.greatest.holds.0)
 
 pub bandwidth_written : (v : ℕ) → IsBandwidth v → bandwidth_of (word_of v) ≡ Some v
 bandwidth_written v known = bandwidth_again v (word_of v) known (word_of_is v known.reads.small)
 
-pub bound_written : (w v : ℕ) → bound_of w ≡ Some v → bound_of (word_of v) ≡ Some v
-bound_written w v e = bound_again w v (word_of v) e (word_of_is v (bound_small w v e))
+pub bound_written : (v : ℕ) → IsBound v → bound_of (word_of v) ≡ Some v
+bound_written v known = bound_again v (word_of v) known (word_of_is v (bound_small v known))
 
 pub word_fits : (v : ℕ) → v < 2 ^ 48 → word_of v < 2 ^ 31
 word_fits v small = let o = word_of_is v small in omega (arith, o.holds.0)

@@ -1,6 +1,6 @@
 //! Metrics as words, rounded down when read and up when written.
 ghost use Rattle.std.specs.Prelude.{◌≡◌, ◌<◌, ◌≤◌, ◌*◌, ◌+◌, ◌^◌, ℕ, IfSome, IfNone, Some};
-ghost use Rattle.pcep_word.specs.Word.{IsBandwidth, IsNumber, IsWordOf, ReadsBound, bandwidth_of, bound_of, units, word_of};
+ghost use Rattle.pcep_word.specs.Word.{IsBandwidth, IsBound, IsNumber, IsWordOf, ReadsBound, bandwidth_of, bound_of, units, word_of};
 
 use crate::word::{divided_up, is_number, mantissa_and_scale, rounded_down};
 
@@ -26,8 +26,8 @@ fn greatest_below(word: u32) -> Option<u64>
     Some(rounded_down(mantissa, scale))
 }
 
-/// The word that a number is written as: the least whose value is not below it. So a number of more
-/// than 24 significant bits is rounded up.
+/// The word that a number below 2^48 is written as: the least whose value is not below it. So a number of
+/// more than 24 significant bits is rounded up.
 pub fn metric_word(value: u64) -> u32
     requires { value < 2 ^ 48 }
     ensures value { result ≡ word_of value }
@@ -69,8 +69,9 @@ fn leading_bits(value: u64, top: u32) -> u64
 /// What is read from a word is read again from the word that it is written as.
 pub fn words_are_read_again()
     ensures bandwidths { (v : ℕ) → IsBandwidth v → bandwidth_of (word_of v) ≡ Some v }
-    ensures bounds { (w v : ℕ) → bound_of w ≡ Some v → bound_of (word_of v) ≡ Some v }
+    ensures bounds { (v : ℕ) → IsBound v → bound_of (word_of v) ≡ Some v }
     ensures known { (w v : ℕ) → bandwidth_of w ≡ Some v → IsBandwidth v }
-    ensures small { (w v : ℕ) → bound_of w ≡ Some v → v < 2 ^ 48 }
+    ensures known_bounds { (w v : ℕ) → bound_of w ≡ Some v → IsBound v }
+    ensures small { (v : ℕ) → IsBound v → v < 2 ^ 48 }
     ensures fits { (v : ℕ) → v < 2 ^ 48 → word_of v < 2 ^ 31 }
 {}

@@ -1,5 +1,5 @@
 //! Words, texts and addresses whose values come from IEEE 754 and RFC 4632, not from this crate.
-use crate::{Bandwidth, Ipv4, Priority, metric_bound, metric_word};
+use crate::{Bandwidth, Ipv4, Priorities, Priority, metric_bound, metric_word};
 use std::test::Fail;
 
 #[test]
@@ -127,5 +127,14 @@ fn an_address_has_its_text_and_its_bytes(rt: HostRuntime) -> Result<(), Fail> {
 fn a_priority_is_at_most_seven(rt: HostRuntime) {
     for (number, want) in [(0, 0), (7, 7), (8, 7), (255, 7)] {
         assert_eq!(rt; Priority::capped(number).number(), want, "at {number}");
+    }
+}
+
+#[test]
+fn a_holding_priority_is_never_worse_than_the_setup_priority(rt: HostRuntime) {
+    for (setup, hold, want) in [(3, 7, 3), (3, 3, 3), (3, 0, 0), (7, 0, 0)] {
+        let priorities = Priorities::new(Priority::capped(setup), Priority::capped(hold));
+        assert_eq!(rt; priorities.setup().number(), setup);
+        assert_eq!(rt; priorities.hold().number(), want, "at {setup} and {hold}");
     }
 }

@@ -1,4 +1,4 @@
-//! The parts of a word, and units numbers from them.
+//! The parts of a word, and the whole numbers made of them.
 ghost use Rattle.std.specs.Prelude.{◌≡◌, ◌<◌, ◌≤◌, ◌*◌, ◌-◌, ◌+◌, ◌^◌, ◌↔◌, ℕ, IsTrue, IfSome, IfNone};
 ghost use Rattle.pcep_word.specs.Word.{IsNumber, IsLeast, IsGreatest, mantissa, scale, units};
 

@@ -4,7 +4,7 @@ use std::alloc::AllocError;
 
 /// Plain data, which may be copied where there is memory.
 pub trait PlainData: Drop {
-    /// A value equal to this one.
+    /// A value equal to this one. An `Err` where a growth was refused; what was copied until then is freed.
     fn copy(&self) -> Result<Self, AllocError>
         ensures { IfOk result (λ copy. copy ≡ self.now) };
 }

@@ -1,15 +1,19 @@
 -- What changes of one peer's paths, records and sessions leave of the lists of all peers.
-use Rattle.std.proofs.Common.{◌≡◌, ◌==◌, ◌&&◌, ℕ, Bool, true, false, cond, List, [], ◌∷◌, ◌++◌, refl, sym, ◌∙◌, ap, map, arith}
+use Rattle.std.proofs.Common.{◌≡◌, ◌==◌, ◌&&◌, ℕ, Bool, true, false, cond, List, [], ◌∷◌, ◌++◌, IsPermutation, refl, sym, subst, ◌∙◌, ap, map, arith}
 use Rattle.std.specs.Prelude.{filter, not, Option, Some, None, find, unwrap_or}
+use Rattle.std.proofs.lemmas.Bool.{not-true}
 use Rattle.std.proofs.lemmas.List.Elements.{filter-append}
+use Rattle.std.proofs.lemmas.List.Sorted.{IsPermutation-refl, IsPermutation-trans}
 use Rattle.std.proofs.lemmas.Bool.Decides.{nat_tests}
 use Rattle.lsp_base.specs.Same.{same_path}
-use Rattle.lsp_base.specs.Base.{Lsps, without_path, without, is_record_of, put, taken_away, set_record, set_records, changed, made_stale, with_stale}
+use Rattle.lsp_base.specs.Base.{Lsps, AreDistinct, without_path, without, is_record_of, lsp_at, put, taken_away, set_record, set_records, changed, made_stale, with_stale}
 use Rattle.lsp_base.specs.declared.path.Path.{Path}
 use Rattle.lsp_base.specs.declared.lsp.Lsp.{Lsp}
 use Rattle.lsp_base.specs.declared.effect.Record.{Record}
 use Rattle.lsp_base.specs.declared.effect.RecordChange.{RecordChange}
 use Rattle.lsp_base.specs.declared.effect.Effect.{Effect}
+use Rattle.lsp_base.proofs.Swapped.{without_first-others}
+use Rattle.lsp_base.proofs.Distinct.{set_records_known}
 use Rattle.step_core.specs.States.{is_peer, unknown_peer, peer_at, put_peer}
 use Rattle.step_core.specs.declared.peer.Peer.{Peer}
 
@@ -60,17 +64,12 @@ same_path-peer x d = grind (arith, nat_tests)
 own_too : (n p q : ℕ) → (p == q) ≡ true → (q == n) ≡ true → (p == n) ≡ true
 own_too n p q = grind (arith, nat_tests)
 
-drop_one : (n : ℕ) (d x : Path) (xs ys : List Path) (same : Bool) → same_path x d ≡ same → (d.peer == n) ≡ true → other_paths n ys ≡ other_paths n xs → other_paths n (cond same xs (x ∷ ys)) ≡ other_paths n (x ∷ xs)
-drop_one n d x xs ys true is own rest = sym (filter-skip (λ y. not (y.peer == n)) x xs (ap not (own_too n x.peer d.peer (same_path-peer x d is) own)))
-drop_one n d x xs ys false is own rest = filter-both (λ y. not (y.peer == n)) x ys xs rest
+without_path-others : (n : ℕ) (d : Path) (xs : List Path) → (d.peer == n) ≡ true → IsPermutation (other_paths n xs) (other_paths n (without_path d xs))
+without_path-others n d xs own = without_first-others (λ x. not (x.peer == n)) (λ x. same_path x d) (λ x is. ap not (own_too n x.peer d.peer (same_path-peer x d is) own)) xs
 
-without_path-others : (n : ℕ) (d : Path) (xs : List Path) → (d.peer == n) ≡ true → other_paths n (without_path d xs) ≡ other_paths n xs
-without_path-others n d [] own = refl
-without_path-others n d (x ∷ xs) own = drop_one n d x xs (without_path d xs) (same_path x d) refl own (without_path-others n d xs own)
-
-pub without-others : (n : ℕ) (xs ds : List Path) → AllOwn n ds → other_paths n (without xs ds) ≡ other_paths n xs
-without-others n xs [] own = refl
-without-others n xs (d ∷ ds) own = without-others n (without_path d xs) ds own.1 ∙ without_path-others n d xs own.0
+pub without-others : (n : ℕ) (xs ds : List Path) → AllOwn n ds → IsPermutation (other_paths n xs) (other_paths n (without xs ds))
+without-others n xs [] own = IsPermutation-refl (other_paths n xs)
+without-others n xs (d ∷ ds) own = IsPermutation-trans _ _ _ (without_path-others n d xs own.0) (without-others n (without_path d xs) ds own.1)
 
 stale_one : (n : ℕ) (x : Path) (xs ys : List Path) (own : Bool) → (x.peer == n) ≡ own → other_paths n ys ≡ other_paths n xs → other_paths n (cond own (record x { fresh = false }) x ∷ ys) ≡ other_paths n (x ∷ xs)
 stale_one n x xs ys true is rest =
@@ -100,21 +99,16 @@ put-others : (n plsp : ℕ) (lsp : Lsp) (rs : List Record) → other_records n (
 put-others n plsp lsp [] = let set : Record = record { peer = n; plsp = plsp; lsp = lsp } in filter-skip (λ q. not (q.peer == n)) set [] (ap not (same_number n))
 put-others n plsp lsp (r ∷ rs) = put_one n plsp lsp r rs (put rs n plsp lsp) (is_record_of n plsp r) refl (put-others n plsp lsp rs)
 
-take_one : (n plsp : ℕ) (r : Record) (rs ss : List Record) (here : Bool) → is_record_of n plsp r ≡ here → other_records n ss ≡ other_records n rs → other_records n (cond here rs (r ∷ ss)) ≡ other_records n (r ∷ rs)
-take_one n plsp r rs ss true is rest = sym (filter-skip (λ q. not (q.peer == n)) r rs (ap not (record_peer n plsp r is)))
-take_one n plsp r rs ss false is rest = filter-both (λ q. not (q.peer == n)) r ss rs rest
+taken_away-others : (n plsp : ℕ) (rs : List Record) → IsPermutation (other_records n rs) (other_records n (taken_away rs n plsp))
+taken_away-others n plsp rs = without_first-others (λ r. not (r.peer == n)) (is_record_of n plsp) (λ r is. ap not (record_peer n plsp r is)) rs
 
-taken_away-others : (n plsp : ℕ) (rs : List Record) → other_records n (taken_away rs n plsp) ≡ other_records n rs
-taken_away-others n plsp [] = refl
-taken_away-others n plsp (r ∷ rs) = take_one n plsp r rs (taken_away rs n plsp) (is_record_of n plsp r) refl (taken_away-others n plsp rs)
-
-set_record-others : (n : ℕ) (rs : List Record) (plsp : ℕ) (lsp : Option Lsp) → other_records n (set_record n rs plsp lsp) ≡ other_records n rs
+set_record-others : (n : ℕ) (rs : List Record) (plsp : ℕ) (lsp : Option Lsp) → IsPermutation (other_records n rs) (other_records n (set_record n rs plsp lsp))
 set_record-others n rs plsp None = taken_away-others n plsp rs
-set_record-others n rs plsp (Some lsp) = put-others n plsp lsp rs
+set_record-others n rs plsp (Some lsp) = subst (IsPermutation (other_records n rs)) (sym (put-others n plsp lsp rs)) (IsPermutation-refl (other_records n rs))
 
-pub set_records-others : (n : ℕ) (rs : List Record) (cs : List RecordChange) → other_records n (set_records n rs cs) ≡ other_records n rs
-set_records-others n rs [] = refl
-set_records-others n rs (c ∷ cs) = set_records-others n (set_record n rs c.plsp c.lsp) cs ∙ set_record-others n rs c.plsp c.lsp
+pub set_records-others : (n : ℕ) (rs : List Record) (cs : List RecordChange) → IsPermutation (other_records n rs) (other_records n (set_records n rs cs))
+set_records-others n rs [] = IsPermutation-refl (other_records n rs)
+set_records-others n rs (c ∷ cs) = IsPermutation-trans _ _ _ (set_record-others n rs c.plsp c.lsp) (set_records-others n (set_record n rs c.plsp c.lsp) cs)
 
 -- ---- peers
 
@@ -158,22 +152,26 @@ append-nil : {X : Type 0} (xs : List X) → xs ++ [] ≡ xs
 append-nil [] = refl
 append-nil (x ∷ xs) = ap (λ t. x ∷ t) (append-nil xs)
 
-pub changed-paths : (n : ℕ) (base : Lsps) (e : Effect) → IsOwn n e → other_paths n (changed base n e).paths ≡ other_paths n base.paths
+pub changed-paths : (n : ℕ) (base : Lsps) (e : Effect) → IsOwn n e → IsPermutation (other_paths n base.paths) (other_paths n (changed base n e).paths)
 unfolding changed
 changed-paths n base e own =
-    filter-append (λ x. not (x.peer == n)) (without base.paths e.change.dropped) e.change.added
-    ∙ ap (λ t. other_paths n (without base.paths e.change.dropped) ++ t) (other_paths-own n e.change.added own.added)
-    ∙ append-nil (other_paths n (without base.paths e.change.dropped))
-    ∙ without-others n base.paths e.change.dropped own.dropped
+    let left = without base.paths e.change.dropped in
+    let same : other_paths n left ≡ other_paths n (left ++ e.change.added)
+    = sym (filter-append (λ x. not (x.peer == n)) left e.change.added ∙ ap (λ t. other_paths n left ++ t) (other_paths-own n e.change.added own.added) ∙ append-nil (other_paths n left)) in
+    subst (IsPermutation (other_paths n base.paths)) same (without-others n base.paths e.change.dropped own.dropped)
 
-pub changed-records : (n : ℕ) (base : Lsps) (e : Effect) → other_records n (changed base n e).records ≡ other_records n base.records
+pub changed-records : (n : ℕ) (base : Lsps) (e : Effect) → IsPermutation (other_records n base.records) (other_records n (changed base n e).records)
 unfolding changed
 changed-records n base e = set_records-others n base.records e.records
+
+pub changed-known : (n : ℕ) (base : Lsps) (e : Effect) → AreDistinct base.records → (m plsp : ℕ) → not (m == n) ≡ true → lsp_at (changed base n e).records m plsp ≡ lsp_at base.records m plsp
+unfolding changed
+changed-known n base e distinct m plsp other = set_records_known m n (not-true (m == n) other) plsp base.records e.records distinct
 
 pub with_stale-paths : (n : ℕ) (base : Lsps) → other_paths n (with_stale base n).paths ≡ other_paths n base.paths
 unfolding with_stale
 with_stale-paths n base = stale-others n base.paths
 
-pub with_stale-records : (n : ℕ) (base : Lsps) → other_records n (with_stale base n).records ≡ other_records n base.records
+pub with_stale-records : (n : ℕ) (base : Lsps) → (with_stale base n).records ≡ base.records
 unfolding with_stale
 with_stale-records n base = refl

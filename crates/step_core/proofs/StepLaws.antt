@@ -1,9 +1,10 @@
 -- What the layers above use of the step.
-use Rattle.std.proofs.Common.{◌≡◌, ◌∙◌, ℕ, ◌+◌, ◌≤◌, Bool, true, false, cond, List, refl, sym, subst, arith}
+use Rattle.std.proofs.Common.{◌≡◌, ◌∙◌, ℕ, ◌+◌, ◌≤◌, Bool, true, false, cond, List, IsPermutation, refl, sym, subst, ap, arith}
 use Rattle.std.specs.Prelude.{Option, Some, None, Result, Ok, Err, OnOk, OnErr}
+use Rattle.std.proofs.lemmas.List.Sorted.{IsPermutation-refl}
 use Rattle.std.specs.declared.alloc.AllocError.{AllocError}
 use Rattle.pcep_objects.specs.declared.object.Capabilities.{Capabilities}
-use Rattle.lsp_base.specs.Base.{changed}
+use Rattle.lsp_base.specs.Base.{AreDistinct, changed, lsp_at}
 use Rattle.lsp_base.specs.declared.effect.Effect.{Effect}
 use Rattle.lsp_base.specs.declared.why.Why.{Why}
 use Rattle.sync_rules.specs.Peers.{up_effect, marker_effect, down_effect, expire_effect}
@@ -16,7 +17,7 @@ use Rattle.step_core.specs.States.{State, affected, moves_paths, peer_at, in_ses
 use Rattle.step_core.specs.Steps.{Outcome, decided, done, step, booked, ◌⨟◌, must_be_up, must_be_down, must_be_known, may_be_known, after_up, after_marker, after_down, after_expire, drained}
 use Rattle.step_core.specs.Laws.{peer_of, OthersStay, CountsRise}
 use Rattle.step_core.specs.declared.peer.Peer.{Peer}
-use Rattle.step_core.proofs.Others.{IsOwn, other_peers, changed-paths, changed-records, with_stale-paths, with_stale-records, peer_at-number, put_peer-others, forget-others}
+use Rattle.step_core.proofs.Others.{IsOwn, other_paths, other_records, other_peers, changed-paths, changed-records, changed-known, with_stale-paths, with_stale-records, peer_at-number, put_peer-others, forget-others}
 use Rattle.step_core.proofs.Effects.{up-own, marker-own, down-own, expire-own, report-own}
 
 -- what holds of the state, and of what follows where no test fails, holds after
@@ -63,36 +64,40 @@ counts_rise s (Drain n) = decided-has (CountsRise s) s (must_be_up s n) (drained
 
 -- ---- an event changes what is of its own peer alone
 
-all_stay : (n : ℕ) (s : State) → OthersStay n s s
-all_stay n s = record { paths = refl; records = refl; peers = refl }
+all_stay : (peer : Option ℕ) (s : State) → OthersStay peer s s
+all_stay peer s = record { paths = IsPermutation-refl _; records = IsPermutation-refl _; known = λ m plsp other. refl; peers = refl }
 
-affected_others : (n : ℕ) (s : State) (e : Effect) (ps : List Peer) (last : ℕ) → IsOwn n e → other_peers n ps ≡ other_peers n s.peers → OthersStay n s (record (affected s n e) { peers = ps; last_session = last })
-affected_others n s e ps last own peers = record { paths = changed-paths n s.base e own; records = changed-records n s.base e; peers = peers }
+affected_others : (n : ℕ) (s : State) (e : Effect) (ps : List Peer) (last : ℕ) → AreDistinct s.base.records → IsOwn n e → other_peers n ps ≡ other_peers n s.peers → OthersStay (Some n) s (record (affected s n e) { peers = ps; last_session = last })
+affected_others n s e ps last distinct own peers = record { paths = changed-paths n s.base e own; records = changed-records n s.base e; known = changed-known n s.base e distinct; peers = peers }
 
-up_others : (n : ℕ) (s : State) (sent : Option Capabilities) → OthersStay n s (after_up s n sent)
-up_others n s sent = affected_others n s (up_effect s.base n sent) _ _ (up-own n s.base sent) (put_peer-others n (in_session (peer_at s.peers n) (s.last_session + 1) sent) s.peers (peer_at-number n s.peers))
+up_others : (n : ℕ) (s : State) (sent : Option Capabilities) → AreDistinct s.base.records → OthersStay (Some n) s (after_up s n sent)
+up_others n s sent distinct = affected_others n s (up_effect s.base n sent) _ _ distinct (up-own n s.base sent) (put_peer-others n (in_session (peer_at s.peers n) (s.last_session + 1) sent) s.peers (peer_at-number n s.peers))
 
-marker_others : (n : ℕ) (s : State) → OthersStay n s (after_marker s n)
-marker_others n s = affected_others n s (marker_effect s.base n) _ s.last_session (marker-own n s.base) (put_peer-others n (record (peer_at s.peers n) { syncing = false }) s.peers (peer_at-number n s.peers))
+marker_others : (n : ℕ) (s : State) → AreDistinct s.base.records → OthersStay (Some n) s (after_marker s n)
+marker_others n s distinct = affected_others n s (marker_effect s.base n) _ s.last_session distinct (marker-own n s.base) (put_peer-others n (record (peer_at s.peers n) { syncing = false }) s.peers (peer_at-number n s.peers))
 
-down_others : (n : ℕ) (s : State) → OthersStay n s (after_down s n)
-down_others n s = record {
-  paths = with_stale-paths n (changed s.base n (down_effect s.base n)) ∙ changed-paths n s.base (down_effect s.base n) (down-own n s.base);
-  records = with_stale-records n (changed s.base n (down_effect s.base n)) ∙ changed-records n s.base (down_effect s.base n);
-  peers = put_peer-others n (record (peer_at s.peers n) { up = false; syncing = false }) s.peers (peer_at-number n s.peers);
-}
+down_others : (n : ℕ) (s : State) → AreDistinct s.base.records → OthersStay (Some n) s (after_down s n)
+down_others n s distinct =
+    let e = down_effect s.base n in
+    let left = changed s.base n e in
+    record {
+      paths = subst (IsPermutation (other_paths n s.base.paths)) (sym (with_stale-paths n left)) (changed-paths n s.base e (down-own n s.base));
+      records = subst (λ rs. IsPermutation (other_records n s.base.records) (other_records n rs)) (sym (with_stale-records n left)) (changed-records n s.base e);
+      known = λ m plsp other. ap (λ rs. lsp_at rs m plsp) (with_stale-records n left) ∙ changed-known n s.base e distinct m plsp other;
+      peers = put_peer-others n (record (peer_at s.peers n) { up = false; syncing = false }) s.peers (peer_at-number n s.peers);
+    }
 
-expire_others : (n : ℕ) (s : State) → OthersStay n s (after_expire s n)
-expire_others n s = affected_others n s (expire_effect s.base n) _ s.last_session (expire-own n s.base) (forget-others n s.peers)
+expire_others : (n : ℕ) (s : State) → AreDistinct s.base.records → OthersStay (Some n) s (after_expire s n)
+expire_others n s distinct = affected_others n s (expire_effect s.base n) _ s.last_session distinct (expire-own n s.base) (forget-others n s.peers)
 
-pub others_stay : (s : State) (event : Event) → OthersStay (peer_of event) s (step s event).state
+pub others_stay : (s : State) (event : Event) → AreDistinct s.base.records → OthersStay (peer_of s event) s (step s event).state
 unfolding step
-others_stay s (Up n sent) = decided-has (OthersStay n s) s (must_be_down s n ⨟ may_be_known s n) (done (after_up s n sent)) (all_stay n s) (up_others n s sent)
-others_stay s (Report n r) = decided-has (OthersStay n s) s (must_be_up s n) (booked s n (report_result s.base s.te n r)) (all_stay n s) (booked-has (OthersStay n s) s n (report_result s.base s.te n r) (all_stay n s) (λ e is. affected_others n s e s.peers s.last_session (report-own n s.base s.te r e is) refl))
-others_stay s (Marker n) = decided-has (OthersStay n s) s (must_be_up s n) (done (after_marker s n)) (all_stay n s) (marker_others n s)
-others_stay s (Down n) = decided-has (OthersStay n s) s (must_be_up s n) (done (after_down s n)) (all_stay n s) (down_others n s)
-others_stay s (Expire n) = decided-has (OthersStay n s) s (must_be_known s n ⨟ must_be_down s n) (done (after_expire s n)) (all_stay n s) (expire_others n s)
-others_stay s (Drain n) = decided-has (OthersStay n s) s (must_be_up s n) (drained s n) (all_stay n s) (all_stay n s)
+others_stay s (Up n sent) d = decided-has (OthersStay (Some n) s) s (must_be_down s n ⨟ may_be_known s n) (done (after_up s n sent)) (all_stay (Some n) s) (up_others n s sent d)
+others_stay s (Report n r) d = decided-has (OthersStay (Some n) s) s (must_be_up s n) (booked s n (report_result s.base s.te n r)) (all_stay (Some n) s) (booked-has (OthersStay (Some n) s) s n (report_result s.base s.te n r) (all_stay (Some n) s) (λ e is. affected_others n s e s.peers s.last_session d (report-own n s.base s.te r e is) refl))
+others_stay s (Marker n) d = decided-has (OthersStay (Some n) s) s (must_be_up s n) (done (after_marker s n)) (all_stay (Some n) s) (marker_others n s d)
+others_stay s (Down n) d = decided-has (OthersStay (Some n) s) s (must_be_up s n) (done (after_down s n)) (all_stay (Some n) s) (down_others n s d)
+others_stay s (Expire n) d = decided-has (OthersStay (Some n) s) s (must_be_known s n ⨟ must_be_down s n) (done (after_expire s n)) (all_stay (Some n) s) (expire_others n s d)
+others_stay s (Drain n) d = decided-has (OthersStay (Some n) s) s (must_be_up s n) (drained s n) (all_stay (Some n) s) (all_stay (Some n) s)
 
 -- ---- a refused event changes nothing
 
@@ -119,8 +124,8 @@ by_step : (P : State → Type 0) (s t : State) (event : Event) (result : Result 
 by_step P s t event (Ok reply) here there ok err = subst P (sym ok) there
 by_step P s t event (Err e) here there ok err = subst P (sym err) here
 
-pub others_stay-by : (s t : State) (event : Event) (result : Result Reply AllocError) → OnOk result (t ≡ (step s event).state) → OnErr result (t ≡ s) → OthersStay (peer_of event) s t
-others_stay-by s t event result ok err = by_step (OthersStay (peer_of event) s) s t event result (all_stay (peer_of event) s) (others_stay s event) ok err
+pub others_stay-by : (s t : State) (event : Event) (result : Result Reply AllocError) → AreDistinct s.base.records → OnOk result (t ≡ (step s event).state) → OnErr result (t ≡ s) → OthersStay (peer_of s event) s t
+others_stay-by s t event result distinct ok err = by_step (OthersStay (peer_of s event) s) s t event result (all_stay (peer_of s event) s) (others_stay s event distinct) ok err
 
 pub counts_rise-by : (s t : State) (event : Event) (result : Result Reply AllocError) → OnOk result (t ≡ (step s event).state) → OnErr result (t ≡ s) → CountsRise s t
 counts_rise-by s t event result ok err = by_step (CountsRise s) s t event result (no_rise s) (counts_rise s event) ok err

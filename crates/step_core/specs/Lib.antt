@@ -1,3 +1,4 @@
+pub mod Networks
 pub mod States
 pub mod Steps
 pub mod Laws

@@ -5,7 +5,7 @@ use pcep_objects::Capabilities;
 use sequence::{PlainData, Sequence};
 use std::alloc::AllocError;
 
-/// What happens to the database. Every event is of one peer.
+/// What happens to the database.
 #[derive(Debug, Drop)]
 pub enum Event {
     /// A session came up. The capabilities are those of the peer's STATEFUL-PCE-CAPABILITY, if it sent

@@ -2,8 +2,9 @@
 //! down, the end of synchronization, state reports, peers that expire, and the messages that wait for a
 //! peer, which are handed out to be sent. `State::step` is the definition `step` of `specs/Steps.antt` in
 //! full, the state after it and the reply; a refused event changes nothing, and where memory is refused
-//! nothing has changed. An event changes the paths, the records and the session of its own peer alone
-//! (`specs/Laws.antt`). What is left of a link is the share rule of `lsp_base` over the paths of the state.
+//! nothing has changed. An event changes the paths, the records and the session of its own peer alone, if
+//! it is of a peer (`specs/Laws.antt`). What is left of a link is the share rule of `lsp_base` over the paths
+//! of the state, read from the stored sums of a book that stands for them (`specs/Networks.antt`).
 //!
 //! ```text
 //! fn left_after(state: &mut State, event: &Event) -> Result<Option<i64>, AllocError>
@@ -19,6 +20,7 @@
 #![tactic(auto)]
 
 mod event;
+mod network;
 mod peer;
 mod state;
 
@@ -26,3 +28,6 @@ pub use event::{Event, Reply};
 pub use lsp_base::Why;
 pub use peer::{PEER_LIMIT, Peer};
 pub use state::State;
+
+#[cfg(test)]
+mod tests;

@@ -6,8 +6,8 @@ ghost use Rattle.step_core.specs.Steps.{step};
 ghost use Rattle.step_core.specs.Laws.{peer_of, OthersStay, CountsRise};
 
 use crate::event::{Event, Reply};
+use crate::network::Network;
 use crate::peer::{Peer, find_peer};
-use lsp_base::{LspBase, unreserved_on};
 use pcep_word::Priority;
 use std::alloc::{AllocError, Global};
 use std::marker::Model;
@@ -20,8 +20,7 @@ mod sessions;
 #[derive(Drop)]
 pub struct State {
     alloc: Global,
-    te: TeBase,
-    base: LspBase,
+    network: Network,
     peers: Vec<Peer>,
     changes: u64,
     last_session: u64,
@@ -32,7 +31,7 @@ impl Model for State {
 
     ghost Value = { Known };
 
-    ghost view = { λ s. record { te = s.te; base = s.base.content; peers = s.peers.items; changes = s.changes; last_session = s.last_session } };
+    ghost view = { λ s. record { te = s.network.te; base = s.network.base; peers = s.peers.items; changes = s.changes; last_session = s.last_session } };
 }
 
 impl State {
@@ -43,8 +42,7 @@ impl State {
     {
         Ok(State {
             alloc,
-            te,
-            base: LspBase::new(alloc),
+            network: Network::new(alloc, te)?,
             peers: Vec::new(alloc),
             changes: 0,
             last_session: 0,
@@ -76,9 +74,11 @@ impl State {
         ensures reply { IfOk result (λ reply. reply ≡ (step self.old event.now).reply) }
         ensures state { OnOk result (self.new ≡ (step self.old event.now).state) }
         ensures unchanged_without_memory { OnErr result (self.new ≡ self.old) }
-        ensures others_stay { OthersStay (peer_of event.now) self.old self.new }
+        ensures others_stay { OthersStay (peer_of self.old event.now) self.old self.new }
         ensures counts_rise { CountsRise self.old self.new }
     {
+        // of each LSP at most one record stands
+        let _records = self.network.lsps().records();
         self.take_step(event)
     }
 
@@ -90,8 +90,7 @@ impl State {
         ensures no_such_link { IsNone result ↔ (length self.now.te.links ≤ link) }
         ensures left { IfSome result (λ left. left ≡ unreserved self.now.te.links self.now.base.paths link priority) }
     {
-        let _there = self.te.link(link)?;
-        Some(unreserved_on(self.te.links(), self.base.paths(), link, priority))
+        self.network.unreserved(link, priority)
     }
 
     /// Whether a session of the peer is up.
@@ -105,6 +104,6 @@ impl State {
     pub fn te_base(&self) -> &TeBase
         ensures { result.now ≡ self.now.te }
     {
-        &self.te
+        self.network.te_base()
     }
 }

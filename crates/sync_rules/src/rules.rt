@@ -1,4 +1,4 @@
-ghost use Rattle.std.specs.Prelude.{◌≡◌, ◌==◌, [], not, false, map, filter, IfOk};
+ghost use Rattle.std.specs.Prelude.{◌≡◌, ◌==◌, [], not, false, map, filter, IfOk, IsPermutation};
 ghost use Rattle.lsp_base.specs.Base.{changed, effect_of};
 ghost use Rattle.lsp_base.specs.Rooms.{IsWithinLimit};
 ghost use Rattle.sync_rules.specs.Peers.{is_stale_of, is_of_peer, left_alone, marker_effect, up_effect, down_effect, expire_effect};
@@ -45,8 +45,8 @@ impl Choice for OfPeer {
 #[tactic(auto, unfolding(crate::specs::Peers::marker_effect))]
 pub fn on_marker(alloc: Global, base: &LspBase, peer: u32) -> Result<Effect, AllocError>
     ensures effect { IfOk result (λ effect. effect ≡ marker_effect base.now.content peer) }
-    ensures stay { IfOk result (λ effect. (changed base.now.content peer effect).paths
-        ≡ filter (λ x. not (is_stale_of peer x)) base.now.content.paths) }
+    ensures stay { IfOk result (λ effect. IsPermutation (filter (λ x. not (is_stale_of peer x)) base.now.content.paths)
+        (changed base.now.content peer effect).paths) }
     ensures few { IfOk result (λ effect. IsWithinLimit base.now.content effect) }
 {
     dropping_effect(alloc, base, peer, &StaleOf { peer })
@@ -56,8 +56,8 @@ pub fn on_marker(alloc: Global, base: &LspBase, peer: u32) -> Result<Effect, All
 #[tactic(auto, unfolding(crate::specs::Peers::expire_effect))]
 pub fn on_expire(alloc: Global, base: &LspBase, peer: u32) -> Result<Effect, AllocError>
     ensures effect { IfOk result (λ effect. effect ≡ expire_effect base.now.content peer) }
-    ensures stay { IfOk result (λ effect. (changed base.now.content peer effect).paths
-        ≡ filter (λ x. not (is_of_peer peer x)) base.now.content.paths) }
+    ensures stay { IfOk result (λ effect. IsPermutation (filter (λ x. not (is_of_peer peer x)) base.now.content.paths)
+        (changed base.now.content peer effect).paths) }
     ensures few { IfOk result (λ effect. IsWithinLimit base.now.content effect) }
 {
     dropping_effect(alloc, base, peer, &OfPeer { peer })

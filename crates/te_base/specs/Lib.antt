@@ -6,3 +6,6 @@ pub mod Ranges
 pub mod LinkText
 pub mod Views
 pub mod Walk
+pub mod Chains
+pub mod Listed
+pub mod Buckets

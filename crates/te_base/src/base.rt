@@ -10,7 +10,8 @@ ghost use Rattle.toml.specs.View.{table_view};
 
 use crate::fault::TeFault;
 use crate::fields::tables;
-use crate::network::{Link, LinkNumber, NodeNumber, Parts};
+use crate::listed::Listed;
+use crate::network::{Link, LinkNumber, NodeNumber, Owner, Parts};
 use crate::tables::{add_links, add_nodes, owner_in};
 use crate::walk::walk_parts;
 use pcep_objects::Hop;
@@ -46,9 +47,9 @@ fn read_tree(alloc: Global, document: &Table) -> Result<Parts, TeFault>
         return Err(TeFault::TooMany);
     }
     let mut parts = Parts {
-        nodes: Vec::new(alloc),
-        links: Vec::new(alloc),
-        owners: Vec::new(alloc),
+        nodes: Listed::new(alloc)?,
+        links: Listed::new(alloc)?,
+        owners: Listed::new(alloc)?,
     };
     add_nodes(alloc, &mut parts, &nodes)?;
     add_links(&mut parts, &links)?;
@@ -85,7 +86,7 @@ impl TeBase {
         ensures link { result ≡ slice_get self.now.links number }
         ensures sound { IfSome result (IsLinkAmong (length self.now.nodes)) }
     {
-        self.parts.links.get(number).copied()
+        self.parts.links.as_slice().get(number).copied()
     }
 
     /// How many links there are, at most 4,096.
@@ -110,7 +111,15 @@ impl TeBase {
         ensures few { length result.now ≤ 4096 }
         ensures sound { All (IsLinkAmong (length self.now.nodes)) result.now }
     {
-        &self.parts.links
+        self.parts.links.as_slice()
+    }
+
+    /// Who owns which address.
+    pub fn owners(&self) -> &[Owner]
+        ensures owners { result.now ≡ self.now.owners }
+        ensures nodes { All (λ o. o.node < length self.now.nodes) result.now }
+    {
+        self.parts.owners.as_slice()
     }
 
     /// The node that owns an address: the one that has it as its own, as the local address of a link

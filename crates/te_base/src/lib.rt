@@ -23,11 +23,15 @@
 #![tactic(auto)]
 
 mod base;
+mod buckets;
+mod chains;
 mod fault;
 mod fields;
+mod listed;
 mod name;
 mod network;
 mod ranges;
+mod sought;
 mod tables;
 mod walk;
 

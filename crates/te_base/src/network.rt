@@ -1,4 +1,5 @@
 //! Nodes, links and owners of addresses, as plain data.
+use crate::listed::Listed;
 use crate::name::Name;
 use pcep_word::Ipv4;
 
@@ -50,7 +51,7 @@ pub struct Owner {
 /// What was read so far of a link text.
 #[derive(Debug, Drop)]
 pub(crate) struct Parts {
-    pub nodes: Vec<Node>,
-    pub links: Vec<Link>,
-    pub owners: Vec<Owner>,
+    pub nodes: Listed<Node>,
+    pub links: Listed<Link>,
+    pub owners: Listed<Owner>,
 }

@@ -1,5 +1,5 @@
 //! The tables of a link text, one after the other: each adds a node or a link to what was read before.
-ghost use Rattle.std.specs.Prelude.{◌≡◌, map};
+ghost use Rattle.std.specs.Prelude.{◌≡◌, map, option_map, slice_get};
 ghost use Rattle.toml.specs.View.{table_view};
 ghost use Rattle.te_base.specs.Faults.{Gives, Leaves};
 ghost use Rattle.te_base.specs.Owners.{owner_of, owned};
@@ -8,27 +8,38 @@ ghost use Rattle.te_base.specs.Views.{link_texts, base_in};
 
 use crate::fault::TeFault;
 use crate::fields::{LinkFields, link_fields, node_fields};
+use crate::listed::Listed;
 use crate::network::{Link, Node, NodeNumber, Owner, Parts};
 use crate::ranges::{link_in_ranges, node_of};
+use crate::sought::{Named, Owning};
 use pcep_word::Ipv4;
 use std::alloc::Global;
 use toml::Table;
 
+fn node_at(owners: &[Owner], place: usize) -> Option<NodeNumber>
+    ensures { result ≡ option_map (λ o. o.node) (slice_get owners.now place) }
+{
+    owners.get(place).map(|o| o.node)
+}
+
 /// The node that owns an address.
-pub(crate) fn owner_in(owners: &[Owner], address: Ipv4) -> Option<NodeNumber>
+pub(crate) fn owner_in(owners: &Listed<Owner>, address: Ipv4) -> Option<NodeNumber>
     ensures { result ≡ owner_of owners.now address }
 {
-    owners.iter().find(|o| o.address == address).map(|o| o.node)
+    match owners.first(&Owning { address }) {
+        Some(place) => node_at(owners.as_slice(), place),
+        None => None,
+    }
 }
 
-fn node_number(nodes: &[Node], name: &str) -> Option<NodeNumber>
+fn node_number(nodes: &Listed<Node>, name: &str) -> Option<NodeNumber>
     ensures { result ≡ node_named nodes.now name.now }
 {
-    nodes.iter().position(|n| n.name.as_str() == name)
+    nodes.first(&Named { name })
 }
 
-fn own(owners: &mut Vec<Owner>, address: Ipv4, node: NodeNumber) -> Result<(), TeFault>
-    ensures { Leaves result (owned owners.old.items address node) owners.new.items }
+fn own(owners: &mut Listed<Owner>, address: Ipv4, node: NodeNumber) -> Result<(), TeFault>
+    ensures { Leaves result (owned owners.old address node) owners.new }
 {
     match owner_in(owners, address) {
         None => {

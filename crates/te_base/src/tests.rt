@@ -254,6 +254,10 @@ fn the_first_fault_is_told(rt: HostRuntime) {
             0,
             "node = [{name=\"a name of 64 bytes, which are as many as it may have at the most\",id=\"10.0.0.1\"}]",
         ),
+        (
+            0,
+            "node = [{name=\"Aa\",id=\"1.0.0.1\"},{name=\"BB\",id=\"1.0.0.2\"}]",
+        ),
         (3, "node = [{name=\"A\",id=\"0.0.0.0\"}]"),
         (3, "node = [{name=\"A\",id=\"10.0.0.01\"}]"),
         (3, "node = [{name=\"A\",id=\"10.0.0\"}]"),

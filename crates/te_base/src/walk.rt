@@ -3,7 +3,9 @@ ghost use Rattle.std.specs.Prelude.{◌≡◌, IfOk, fold, position, ◌==◌, �
 ghost use Rattle.te_base.specs.Walk.{walk, chosen_link, with_link_once, stepped, hopped, place_of, joins, remembered_link};
 ghost use Rattle.te_base.specs.Views.{base_in};
 
+use crate::listed::Listed;
 use crate::network::{Link, LinkNumber, NodeNumber, Parts};
+use crate::sought::{Joining, WithLocal, WithRemote};
 use crate::tables::owner_in;
 use pcep_objects::Hop;
 use pcep_word::Ipv4;
@@ -17,24 +19,36 @@ struct Walker {
     links: Vec<LinkNumber>,
 }
 
-fn by_remote(links: &[Link], from: NodeNumber, to: NodeNumber, address: Ipv4) -> Option<LinkNumber>
+fn by_remote(
+    links: &Listed<Link>,
+    from: NodeNumber,
+    to: NodeNumber,
+    address: Ipv4,
+) -> Option<LinkNumber>
     ensures { result ≡ position (λ l. joins from to l && l.remote == address) links.now }
 {
-    links
-        .iter()
-        .position(|l| l.from == from && l.to == to && l.remote == address)
+    links.first(&WithRemote {
+        joining: Joining { from, to },
+        remote: address,
+    })
 }
 
-fn by_local(links: &[Link], from: NodeNumber, to: NodeNumber, near: Ipv4) -> Option<LinkNumber>
+fn by_local(
+    links: &Listed<Link>,
+    from: NodeNumber,
+    to: NodeNumber,
+    near: Ipv4,
+) -> Option<LinkNumber>
     ensures { result ≡ position (λ l. joins from to l && l.local == near) links.now }
 {
-    links
-        .iter()
-        .position(|l| l.from == from && l.to == to && l.local == near)
+    links.first(&WithLocal {
+        joining: Joining { from, to },
+        local: near,
+    })
 }
 
 fn by_remembered(
-    links: &[Link],
+    links: &Listed<Link>,
     from: NodeNumber,
     to: NodeNumber,
     remembered: Option<Ipv4>,
@@ -47,15 +61,15 @@ fn by_remembered(
     }
 }
 
-fn any_link(links: &[Link], from: NodeNumber, to: NodeNumber) -> Option<LinkNumber>
+fn any_link(links: &Listed<Link>, from: NodeNumber, to: NodeNumber) -> Option<LinkNumber>
     ensures { result ≡ position (joins from to) links.now }
 {
-    links.iter().position(|l| l.from == from && l.to == to)
+    links.first(&Joining { from, to })
 }
 
 /// Which link leads from one node to another, for the hop at this address.
 fn chosen(
-    links: &[Link],
+    links: &Listed<Link>,
     from: NodeNumber,
     to: NodeNumber,
     address: Ipv4,

@@ -215,3 +215,46 @@ fn a_second_session_of_a_peer_ends(rt: HostRuntime) -> Result<(), Fail> {
     assert_eq!(rt; first.session.state(), State::Up);
     Ok(())
 }
+
+/// A database alone takes the events as steps, and the answers are those over a store.
+#[test]
+fn a_database_alone_is_served(rt: HostRuntime) -> Result<(), Fail> {
+    let alloc = rt.alloc();
+    let mut database = network(alloc)?;
+    let mut client = Client::new(alloc, 0)?;
+    let bytes = greeting_and_report(alloc)?;
+    serve_database(&mut database, &mut client, 1, &bytes, 0)?;
+    let answer = bytes_of(alloc, GREETING)?;
+    assert_eq!(rt; client.session.take_output().as_slice(), answer.as_slice());
+    assert_eq!(rt;
+        (database.steps(), left_by_b(&database)),
+        (4, Some(500_000))
+    );
+    hang_up_database(&mut database, &mut client, 1)?;
+    assert_eq!(rt;
+        (database.steps(), client.session.state()),
+        (5, State::Closed)
+    );
+    Ok(())
+}
+
+fn copy_of<T: PlainData>(data: &T) -> Result<T, AllocError> {
+    data.copy()
+}
+
+#[test]
+fn a_call_is_copied(rt: HostRuntime) -> Result<(), Fail> {
+    let alloc = rt.alloc();
+    let mut database = network(alloc)?;
+    let mut store = Lent::new(alloc, &mut database);
+    let mut client = Client::new(alloc, 0)?;
+    serve(&mut client, 1, &greeting_and_report(alloc)?, 0, &mut store)?;
+    for call in store.calls() {
+        let copy = copy_of(call)?;
+        assert_eq!(rt;
+            format!(in alloc; "{copy:?}")?.as_str(),
+            format!(in alloc; "{call:?}")?.as_str()
+        );
+    }
+    Ok(())
+}

@@ -49,15 +49,6 @@ impl Store for Small {
     }
 }
 
-/// A router's greeting, the end of synchronization and a report.
-fn greeting_and_report(alloc: Global) -> Result<Vec<u8>, Fail> {
-    let mut bytes = bytes_of(alloc, GREETING)?;
-    for text in [END_OF_SYNC, REPORT] {
-        bytes.extend_from_slice(bytes_of(alloc, text)?.as_slice())?;
-    }
-    Ok(bytes)
-}
-
 /// The room of the store, and the events that it then took, in one call.
 const TAKEN: [(u32, &str); 4] = [(0, ""), (1, "U"), (2, "UM"), (3, "UMR")];
 
@@ -75,7 +66,14 @@ fn overfill(rt: &impl Abort, alloc: Global, room: u32, taken: &str) -> Result<()
     assert_eq!(rt; client.session.state(), State::Closed);
     assert_eq!(rt; client.joined, room > 0);
     assert_eq!(rt; letters(alloc, store.calls())?.as_slice(), taken.as_bytes());
-    assert_eq!(rt; hang_up(&mut client, 1, &mut store).is_err(), room > 0);
+    let answer = bytes_of(alloc, GREETING)?;
+    assert_eq!(rt; client.session.take_output().as_slice(), answer.as_slice());
+    let left = if room > 0 {
+        Err(Fault::HistoryFull)
+    } else {
+        Ok(())
+    };
+    assert_eq!(rt; hang_up(&mut client, 1, &mut store), left);
     store.room = 1;
     hang_up(&mut client, 1, &mut store)?;
     assert_eq!(rt; store.room, if room > 0 { 0 } else { 1 });
@@ -83,7 +81,8 @@ fn overfill(rt: &impl Abort, alloc: Global, room: u32, taken: &str) -> Result<()
     Ok(())
 }
 
-/// The events before a fault stay, the session ends, and its Down is submitted once there is room.
+/// The events and the output before a fault stay, the session ends with no Close, and its Down is submitted once
+/// there is room.
 #[test]
 fn a_full_store_ends_the_session(rt: HostRuntime) -> Result<(), Fail> {
     let alloc = rt.alloc();

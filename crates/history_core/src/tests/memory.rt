@@ -56,3 +56,17 @@ fn an_event_may_be_applied_again_after_want_of_memory(rt: HostRuntime) -> Result
     assert_eq!(rt; database.steps(), 11);
     Ok(())
 }
+
+#[test]
+fn faults_have_numbers_and_texts(rt: HostRuntime) -> Result<(), Fail> {
+    let faults = [
+        (Fault::OutOfMemory, 1, "out of memory"),
+        (Fault::HistoryFull, 2, "history full"),
+    ];
+    for (fault, number, text) in faults {
+        assert_eq!(rt; fault.number(), number);
+        let shown = format!(in rt.alloc(); "{fault}")?;
+        assert_eq!(rt; shown.as_str(), text);
+    }
+    Ok(())
+}

@@ -19,7 +19,11 @@ fn a_report_is_booked_and_kept(rt: HostRuntime) -> Result<(), Fail> {
     assert_eq!(rt; database.steps(), 3);
     let mut briefs = Vec::new(alloc);
     for step in database.history() {
-        briefs.push(step.copy()?.brief)?;
+        let copy = step.copy()?;
+        let copied = format!(in alloc; "{copy:?}")?;
+        let printed = format!(in alloc; "{step:?}")?;
+        assert_eq!(rt; copied.as_str(), printed.as_str());
+        briefs.push(copy.brief)?;
     }
     assert_eq!(rt; briefs.as_slice(), KEPT.as_slice());
     Ok(())

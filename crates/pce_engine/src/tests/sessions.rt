@@ -226,6 +226,7 @@ fn bad_session_lines(rt: HostRuntime) -> Result<(), Fail> {
         "up 1",
         "up 2 2",
         "msg 1",
+        "msg a 20",
         "msg 1 2",
         "msg 1 2g",
         "msg 2 20",

@@ -191,7 +191,7 @@ fn has_cost(message: &Message, cost: Cost) -> bool {
 #[test]
 fn what_counts_in_a_reply(rt: HostRuntime) -> Result<(), Fail> {
     let cost = Cost {
-        kind: 1,
+        metric_type: 1,
         value: MetricValue::new(20),
     };
     let message = message_with(&rt, "2004", &[RP, METRIC, OTHER_METRIC, ERO])?;

@@ -65,8 +65,8 @@ fn is_routed(report: &StateReport, expected: &Expected) -> bool {
     report.ero.as_slice().len() == expected.hops
         && report.rro.is_none()
         && report.bandwidth.value() == expected.bandwidth
-        && report.setup.number() == expected.setup
-        && report.hold.number() == expected.hold
+        && report.priorities.setup().number() == expected.setup
+        && report.priorities.hold().number() == expected.hold
         && report.colours == NO_COLOURS
 }
 
@@ -183,8 +183,8 @@ fn has_what_counts(report: &StateReport) -> bool {
         && report.ero.as_slice().len() == 1
         && has_empty_rro(report)
         && report.bandwidth.value() == 500000
-        && report.setup.number() == 2
-        && report.hold.number() == 2
+        && report.priorities.setup().number() == 2
+        && report.priorities.hold().number() == 2
         && report.colours == COLOURS
 }
 

@@ -94,8 +94,7 @@ fn plain_request(request: u32, destination: u32) -> Result<PathRequest, Fail> {
         source: Ipv4(0x0a000001),
         destination: Ipv4(destination),
         bandwidth: bandwidth(0)?,
-        setup: Priority::capped(7),
-        hold: Priority::capped(7),
+        priorities: Priorities::new(Priority::capped(7), Priority::capped(7)),
         colours: NO_COLOURS,
         minimise: MetricType::Te,
         bounds: Bounds {
@@ -160,8 +159,7 @@ fn counted_request() -> Result<PathRequest, Fail> {
     Ok(PathRequest {
         plsp: Some(Plsp::new(1)),
         bandwidth: bandwidth(0x48742400)?,
-        setup: Priority::capped(2),
-        hold: Priority::capped(2),
+        priorities: Priorities::new(Priority::capped(2), Priority::capped(2)),
         colours: Colours {
             exclude_any: 1,
             include_any: 2,

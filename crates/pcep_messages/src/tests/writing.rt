@@ -7,7 +7,7 @@ use crate::{
 use pcep_objects::{
     Capabilities, Colours, Hop, MetricValue, NoPathVector, Open, PcepError, WriteFault,
 };
-use pcep_word::{Bandwidth, Ipv4, Priority};
+use pcep_word::{Bandwidth, Ipv4, Priorities, Priority};
 use sequence::Sequence;
 use std::test::*;
 
@@ -98,8 +98,14 @@ const ERRORS_IN_ORDER: &str =
     "20060044 0210000c 00000000 00000007 0210000c 00000000 ffffffff 2110000c 00000000 00000002 2110000c 00000000 00000000 0d100008 00000603 0d100008 00000a01";
 
 const EXPECTED_ERRORS: [PcepError; 2] = [
-    PcepError { kind: 6, value: 3 },
-    PcepError { kind: 10, value: 1 },
+    PcepError {
+        error_type: 6,
+        value: 3,
+    },
+    PcepError {
+        error_type: 10,
+        value: 1,
+    },
 ];
 
 fn has_all(errors: &Errors) -> bool {
@@ -149,29 +155,78 @@ fn reply_with(rt: &HostRuntime, count: usize) -> Result<Message, Fail> {
     }))
 }
 
-/// Whether a reply with this many hops is written so, and this many bytes stand then.
+/// A new LSP with a name of this many bytes, and a hop with this many bytes behind its length.
+fn create_with(rt: &HostRuntime, name: usize, hop: usize) -> Result<Message, Fail> {
+    let mut route = Vec::new(rt.alloc());
+    route.push(Hop::Other(3, Sequence::from_vec(zeros(rt, hop)?)))?;
+    Ok(Message::Initiate(Initiate::Create(Create {
+        srp: 1,
+        name: Sequence::from_vec(zeros(rt, name)?),
+        source: Ipv4(1),
+        destination: Ipv4(2),
+        ero: Sequence::from_vec(route),
+        attributes: None,
+        bandwidth: None,
+    })))
+}
+
+fn zeros(rt: &HostRuntime, count: usize) -> Result<Vec<u8>, Fail> {
+    let mut bytes = Vec::new(rt.alloc());
+    for _ in 0..count {
+        bytes.push(0)?;
+    }
+    Ok(bytes)
+}
+
+/// Whether a message is answered so when it is written, and this many bytes stand then.
 fn fits(
     rt: &HostRuntime,
-    count: usize,
+    message: &Message,
     fault: Option<WriteFault>,
     len: usize,
 ) -> Result<bool, Fail> {
-    let message = reply_with(rt, count)?;
     if !message.is_written() {
         return Ok(false);
     }
     let mut out = Vec::new(rt.alloc());
     out.push(7)?;
-    let found = write_message(&message, &mut out).err();
+    let found = write_message(message, &mut out).err();
     Ok(found == fault && out.len() == len)
 }
 
-/// A message of 2^16 bytes or more is refused, and leaves the bytes before it as they are.
+const TOO_LONG: Option<WriteFault> = Some(WriteFault::TooLong);
+
+/// Hops of a reply, its answer, and the bytes that stand then: a message and an object have fewer than 2^16.
+const ROUTES: [(usize, Option<WriteFault>, usize); 3] = [
+    (8189, None, 65533),
+    (8190, TOO_LONG, 1),
+    (8192, TOO_LONG, 1),
+];
+
 #[test]
-fn messages_that_do_not_fit_are_refused(rt: HostRuntime) -> Result<(), Fail> {
-    check(fits(&rt, 8189, None, 65533)?, "8189 hops")?;
-    check(fits(&rt, 8190, Some(WriteFault::TooLong), 1)?, "8190 hops")?;
-    check(fits(&rt, 8192, Some(WriteFault::TooLong), 1)?, "8192 hops")
+fn routes_that_do_not_fit_are_refused(rt: HostRuntime) -> Result<(), Fail> {
+    for (count, fault, len) in ROUTES {
+        let message = reply_with(&rt, count)?;
+        check(fits(&rt, &message, fault, len)?, "hops")?;
+    }
+    Ok(())
+}
+
+/// Bytes of a name and of a hop: what is refused leaves the bytes before it as they are.
+const PARTS: [(usize, usize, Option<WriteFault>, usize); 4] = [
+    (4, 6, None, 57),
+    (4, 254, TOO_LONG, 1),
+    (65524, 6, TOO_LONG, 1),
+    (65504, 6, TOO_LONG, 1),
+];
+
+#[test]
+fn parts_that_do_not_fit_are_refused(rt: HostRuntime) -> Result<(), Fail> {
+    for (name, hop, fault, len) in PARTS {
+        let message = create_with(&rt, name, hop)?;
+        check(fits(&rt, &message, fault, len)?, "name or hop")?;
+    }
+    Ok(())
 }
 
 #[test]
@@ -185,7 +240,7 @@ fn copies_of_written_messages(rt: HostRuntime) -> Result<(), Fail> {
 const EXPECTED_OPEN: Open = Open {
     keepalive: 30,
     dead_timer: 120,
-    session: 0,
+    sid: 0,
     capabilities: Some(Capabilities {
         update: true,
         create: true,
@@ -224,8 +279,7 @@ pub(super) fn attributes(setup: u8, hold: u8) -> Attributes {
             include_any: 0,
             include_all: 0,
         },
-        setup: Priority::capped(setup),
-        hold: Priority::capped(hold),
+        priorities: Priorities::new(Priority::capped(setup), Priority::capped(hold)),
     }
 }
 
@@ -350,7 +404,7 @@ fn is_reply_with_path(message: &Message, cost: Cost) -> bool {
 #[test]
 fn what_a_reply_with_a_path_says(rt: HostRuntime) -> Result<(), Fail> {
     let cost = Cost {
-        kind: 2,
+        metric_type: 2,
         value: MetricValue::new(20),
     };
     let message = read_text(&rt, PATH)?;

@@ -1,15 +1,16 @@
 //! Reports, and the effects of all events on LSPs.
 ghost use Rattle.std.specs.Prelude.{◌≡◌, ◌<◌, ◌^◌, ◌+◌, ◌&&◌, not, IfOk, OnOk, OnErr, if◌then◌else◌};
-ghost use Rattle.lsp_base.specs.Base.{changed};
-ghost use Rattle.lsp_base.specs.Rooms.{HasRoom, IsWithinLimit};
+ghost use Rattle.lsp_base.specs.Base.{HasAll, changed};
+ghost use Rattle.lsp_base.specs.Rooms.{IsWithinLimit};
 ghost use Rattle.step_core.specs.States.{moves_paths};
 ghost use Rattle.step_core.specs.Steps.{report_step};
 
 use super::State;
 use crate::event::Reply;
+use crate::network::Network;
 use crate::peer::{Peer, find_peer, knows_peer};
 use delegate_rules::{RuleFault, on_report};
-use lsp_base::{Effect, LspBase, Why};
+use lsp_base::{Effect, Why};
 use pcep_messages::StateReport;
 use std::alloc::AllocError;
 
@@ -25,19 +26,27 @@ fn moves_a_path(effect: &Effect) -> bool
     }
 }
 
-/// Carries out an effect in the room that was made for it, and counts it where it drops or adds a path.
-/// It takes the fields, and not the state, since the room is no part of what a contract sees of a state.
-pub(super) fn change_lsps(base: &mut LspBase, changes: &mut u64, peer: u32, effect: Effect)
-    requires room { HasRoom base.old effect }
-    requires few { IsWithinLimit base.old.content effect }
+/// Carries out an effect on the LSPs of a peer, and counts it where it drops or adds a path.
+pub(super) fn change_lsps(
+    network: &mut Network,
+    changes: &mut u64,
+    peer: u32,
+    effect: Effect,
+) -> Result<(), AllocError>
+    requires few { IsWithinLimit network.old.base effect }
+    requires stand { HasAll network.old.base.paths effect.change.dropped }
     requires count { changes.old < 2 ^ 62 }
-    ensures base { base.new.content ≡ changed base.old.content peer effect }
-    ensures count { changes.new ≡ (if moves_paths effect then changes.old + 1 else changes.old) }
+    ensures network { OnOk result (network.new ≡ record network.old { base = changed network.old.base peer effect }) }
+    ensures count { OnOk result (changes.new ≡ (if moves_paths effect then changes.old + 1 else changes.old)) }
+    ensures same_network { OnErr result (network.new ≡ network.old) }
+    ensures same_count { OnErr result (changes.new ≡ changes.old) }
 {
-    if moves_a_path(&effect) {
+    let moves_paths = moves_a_path(&effect);
+    network.carry_out(peer, effect)?;
+    if moves_paths {
         *changes += 1;
     }
-    base.change(peer, effect);
+    Ok(())
 }
 
 /// The LSP waits for a path, and the PCE may send the peer one.
@@ -63,13 +72,18 @@ impl State {
         if !known.up {
             return Ok(Reply::Refused(Why::PeerDown));
         }
-        match on_report(self.alloc, &self.base, &self.te, peer, report) {
+        match on_report(
+            self.alloc,
+            self.network.lsps(),
+            self.network.te_base(),
+            peer,
+            report,
+        ) {
             Err(RuleFault::OutOfMemory) => Err(AllocError),
             Err(RuleFault::Why(why)) => Ok(Reply::Refused(why)),
             Ok(effect) => {
                 let wants_path = wants_path(&known, &effect);
-                self.base.reserve(&effect)?;
-                change_lsps(&mut self.base, &mut self.changes, peer, effect);
+                change_lsps(&mut self.network, &mut self.changes, peer, effect)?;
                 Ok(Reply::Booked { wants_path })
             }
         }

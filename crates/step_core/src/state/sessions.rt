@@ -28,10 +28,9 @@ impl State {
         if !knows_peer(self.peers.as_slice(), peer) && self.peers.len() >= PEER_LIMIT {
             return Ok(Reply::Refused(Why::TooManyPeers));
         }
-        let effect = on_up(self.alloc, &self.base, peer, sent)?;
+        let effect = on_up(self.alloc, self.network.lsps(), peer, sent)?;
         self.peers.reserve(1)?;
-        self.base.reserve(&effect)?;
-        change_lsps(&mut self.base, &mut self.changes, peer, effect);
+        change_lsps(&mut self.network, &mut self.changes, peer, effect)?;
         self.last_session += 1;
         set_peer(
             &mut self.peers,
@@ -55,10 +54,9 @@ impl State {
             return Ok(Reply::Refused(Why::PeerDown));
         }
         known.syncing = false;
-        let effect = on_marker(self.alloc, &self.base, peer)?;
+        let effect = on_marker(self.alloc, self.network.lsps(), peer)?;
         self.peers.reserve(1)?;
-        self.base.reserve(&effect)?;
-        change_lsps(&mut self.base, &mut self.changes, peer, effect);
+        change_lsps(&mut self.network, &mut self.changes, peer, effect)?;
         set_peer(&mut self.peers, known);
         Ok(Reply::Done)
     }
@@ -78,11 +76,10 @@ impl State {
         }
         known.up = false;
         known.syncing = false;
-        let effect = on_down(self.alloc, &self.base, peer)?;
+        let effect = on_down(self.alloc, self.network.lsps(), peer)?;
         self.peers.reserve(1)?;
-        self.base.reserve(&effect)?;
-        self.base.change(peer, effect);
-        self.base.mark_stale(peer);
+        self.network.carry_out(peer, effect)?;
+        self.network.mark_stale(peer);
         set_peer(&mut self.peers, known);
         Ok(Reply::Done)
     }
@@ -100,9 +97,8 @@ impl State {
         if find_peer(self.peers.as_slice(), peer).up {
             return Ok(Reply::Refused(Why::PeerUp));
         }
-        let effect = on_expire(self.alloc, &self.base, peer)?;
-        self.base.reserve(&effect)?;
-        change_lsps(&mut self.base, &mut self.changes, peer, effect);
+        let effect = on_expire(self.alloc, self.network.lsps(), peer)?;
+        change_lsps(&mut self.network, &mut self.changes, peer, effect)?;
         forget_peer(&mut self.peers, peer);
         Ok(Reply::Done)
     }

@@ -1,7 +1,6 @@
-use Rattle.std.proofs.Common.{subst, sym, ap, ◌∙◌, ◌≤◌, ◌+◌, length, arith, false, not, ◌++◌}
-use Rattle.std.specs.Prelude.{filter}
+use Rattle.std.proofs.Common.{◌≡◌, subst, sym, ap, ◌∙◌, ◌≤◌, ◌+◌, length, arith, false, not, ◌++◌, filter, IsPermutation}
 use Rattle.std.proofs.lemmas.List.{append-nil}
-use Rattle.lsp_base.specs.Base.{changed}
+use Rattle.lsp_base.specs.Base.{effect_of, changed}
 use Rattle.lsp_base.specs.Rooms.{IsWithinLimit}
 use Rattle.lsp_base.proofs.Removal.{IsWithinLimit-effect, paths-changed}
 use Rattle.lsp_base.proofs.drops.dropping_effect.Goals as goal
@@ -22,7 +21,8 @@ returns-clause-stay g c =
     let test = g.C.Choice.chooses c.args.choice.now in
     let stay = filter (λ x. not (test x)) lsps.paths in
     let dropped = c.in_ok-dropped.ensures ∙ ap (filter test) c.paths.ensures.paths in
-    ap (λ e. (changed lsps c.args.peer e).paths) c.new-2.ensures
-    ∙ paths-changed lsps c.args.peer test _ _ c.in_ok-records.records.items false dropped
-    ∙ ap (λ added. stay ++ added) c.new.ensures.items
-    ∙ append-nil stay
+    let none : stay ++ c.new.result.items ≡ stay = ap (λ added. stay ++ added) c.new.ensures.items ∙ append-nil stay in
+    let left = paths-changed lsps c.args.peer test c.in_ok-dropped.dropped.items c.new.result.items c.in_ok-records.records.items false dropped in
+    let same : IsPermutation stay (changed lsps c.args.peer (effect_of c.in_ok-dropped.dropped.items c.new.result.items c.in_ok-records.records.items false)).paths
+    = subst (λ xs. IsPermutation xs (changed lsps c.args.peer (effect_of c.in_ok-dropped.dropped.items c.new.result.items c.in_ok-records.records.items false)).paths) none left in
+    subst (λ e. IsPermutation stay (changed lsps c.args.peer e).paths) (sym c.new-2.ensures) same

@@ -13,4 +13,4 @@ returns g c =
     let added : g.S.Store.calls c.submit.new.self ≡ g.S.Store.calls c.args.store.now ++ call ∷ [] = g.met.S.Store.moves_add c.args.store.now c.submit.new.self (call ∷ []) h.1 in
     let last : c.last_reply.result.now ≡ h.0 = c.last_reply.ensures call (rw added (last_of (g.S.Store.calls c.args.store.now) call)) in
     let text = c.put_reply.ensures ∙ ap (λ (front : List ℕ). front ++ reply_text c.last_reply.result.now) c.in_ok-text.ensures.bytes in
-    rw (sym c.in-Some.ensures) (h.0, h.1, text ∙ ap (λ (r : Reply). reply_text r) last)
+    rw (sym c.in_ok-named.ensures.event ∙ c.in-Some.is) (h.0, h.1, text ∙ ap (λ (r : Reply). reply_text r) last)

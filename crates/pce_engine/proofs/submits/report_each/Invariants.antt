@@ -1,9 +1,10 @@
 use Rattle.std.proofs.Common.{◌≡◌, string_bytes}
 use Rattle.std.specs.Vec.Iter.{into_iter_items}
-use Rattle.pce_engine.specs.Submits.{reported}
+use Rattle.pce_engine.specs.Submits.{reports_told}
+use Rattle.pce_engine.specs.Told.{behind}
 use Rattle.pce_engine.proofs.submits.report_each.Given as goal
 
 -- the reports that are left lead to what all of them lead to
 abbrev pub invariant-loop-report : goal.invariant-loop-report
 invariant-loop-report l =
-    reported l.database l.peer (string_bytes l.text) (into_iter_items l.report-iterator) ≡ reported l.fn.database l.peer (string_bytes l.fn.text) l.fn.reports.items
+    behind (string_bytes l.text) (reports_told l.peer (into_iter_items l.report-iterator) l.database) ≡ behind (string_bytes l.fn.text) (reports_told l.peer l.fn.reports.items l.fn.database)

@@ -1,7 +1,8 @@
 use Rattle.std.proofs.Common.{◌≡◌, ◌<◌, length, rules, arith, sym, ◌∙◌}
 use Rattle.pcep_objects.specs.Objects.{object_at}
 use Rattle.pcep_messages.specs.declared.objects.Next.TheVariants as next
-use Rattle.pcep_messages.specs.Objects.{found_by, next_of}
+use Rattle.pcep_messages.specs.Objects.{found_by}
+use Rattle.pcep_messages.specs.ObjectSteps.{next_of}
 use Rattle.pcep_messages.proofs.Finding.{adds, skips, stops, ends}
 use Rattle.pcep_messages.proofs.objects.objects_by.Goals as goal
 

@@ -1,12 +1,13 @@
 use Rattle.std.proofs.Common.{◌≡◌, false, ◌<◌, length, rules, arith, refl, sym, ◌∙◌}
 use Rattle.pcep_objects.specs.Objects.{object_at}
 use Rattle.pcep_messages.specs.declared.objects.Next.TheVariants as next
-use Rattle.pcep_messages.specs.Objects.{found_in, next_of}
-use Rattle.pcep_messages.proofs.Parting.{goes_on, skips, stops, ends}
+use Rattle.pcep_messages.specs.Objects.{found_in}
+use Rattle.pcep_messages.specs.ObjectSteps.{next_of}
+use Rattle.pcep_messages.proofs.Parting.{begins, goes_on, skips, stops, ends}
 use Rattle.pcep_messages.proofs.parts.parts_in.Goals as goal
 
 pub loop-rest-init : goal.loop-rest-init
-loop-rest-init c = rw c.no_parts-parts.ensures (refl, refl)
+loop-rest-init c = rw c.no_parts-parts.ensures (begins (found_in c.args.bytes.now))
 
 pub loop-rest-preserved-in-Object : goal.loop-rest-preserved-in-Object
 loop-rest-preserved-in-Object c =

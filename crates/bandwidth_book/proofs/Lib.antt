@@ -1,0 +1,14 @@
+pub mod Sums
+pub mod Removed
+pub mod Places
+pub mod Order
+pub mod Totals
+pub mod Counts
+pub mod Same
+pub mod Stands
+pub mod Shares
+pub mod Distinct
+pub mod Reserved
+pub mod Fits
+pub mod Runs
+pub mod Pending

@@ -1,0 +1,56 @@
+-- One element of a list is written.
+use Rattle.std.proofs.Common.{◌≡◌, ◌<◌, ℕ, zero, suc, ◌==◌, Bool, true, false, List, [], ◌∷◌, ◌++◌, Option, Some, None, refl, ap, arith, length, slice_get, slice_set, get_or, if◌then◌else◌, Result, Ok, Err, OnOk}
+use Rattle.std.proofs.lemmas.Bool.{eqb-true}
+use Rattle.std.proofs.lemmas.Bool.Decides.{nat_tests}
+use Rattle.bandwidth_book.specs.declared.held.Held.{Held}
+use Rattle.bandwidth_book.specs.Held.{with_one, with_all, without_one, without_all}
+
+-- what relates the old and the new element, and each element to itself, relates the lists at each place
+related : {A : Type 0} (R : Bool → Option A → Option A → Type 0) (xs : List A) (n : ℕ) (d new : A) → n < length xs → R true (Some (get_or xs n d)) (Some new) → ((o : Option A) → R false o o) → (l : ℕ) (b : Bool) → (b ≡ true → n ≡ l) → (b ≡ false → n ≡ l → ⊥) → R b (slice_get xs l) (slice_get (slice_set xs n new) l)
+related R [] n d new h there others l b same other = absurd (omega arith)
+related R (x ∷ xs) zero d new h there others zero true same other = there
+related R (x ∷ xs) zero d new h there others zero false same other = absurd (other refl refl)
+related R (x ∷ xs) zero d new h there others (suc l) true same other = absurd (omega (arith, same refl))
+related R (x ∷ xs) zero d new h there others (suc l) false same other = others (slice_get xs l)
+related R (x ∷ xs) (suc n) d new h there others zero true same other = absurd (omega (arith, same refl))
+related R (x ∷ xs) (suc n) d new h there others zero false same other = others (Some x)
+related R (x ∷ xs) (suc n) d new h there others (suc l) b same other = related R xs n d new (omega arith) there others l b (λ t. let e : suc n ≡ suc l = same t in omega (arith, e)) (λ f e. other f (ap suc e))
+
+not_same : (a b : ℕ) → (a == b) ≡ false → a ≡ b → ⊥
+not_same a b f e = grind (arith, nat_tests)
+
+pub not_at : (n l : ℕ) → l < n → (n == l) ≡ false
+not_at n l h = grind (arith, nat_tests)
+
+pub set_related : {A : Type 0} (R : Bool → Option A → Option A → Type 0) (xs : List A) (n : ℕ) (d new : A) → n < length xs → R true (Some (get_or xs n d)) (Some new) → ((o : Option A) → R false o o) → (l : ℕ) → R (n == l) (slice_get xs l) (slice_get (slice_set xs n new) l)
+set_related R xs n d new h there others l = related R xs n d new h there others l (n == l) (eqb-true n l) (not_same n l)
+
+pub more_one : (b : Bool) (hs : List Held) (h : Held) → (if b then with_one h hs else hs) ≡ with_all hs (if b then h ∷ [] else [])
+more_one true hs h = refl
+more_one false hs h = refl
+
+pub less_one : (b : Bool) (hs : List Held) (h : Held) → (if b then without_one h hs else hs) ≡ without_all hs (if b then h ∷ [] else [])
+less_one true hs h = refl
+less_one false hs h = refl
+
+pub one_more : (b : Bool) (h : Held) → (if b then 1 else 0) ≡ length (if b then h ∷ [] else [])
+one_more true h = refl
+one_more false h = refl
+
+-- what holds past the end, and of the new element, holds after a push
+pub pushed : {A : Type 0} (P : Option A → Type 0) (xs : List A) (x : A) → P (Some x) → P None → ((n : ℕ) → P (slice_get xs n)) → (n : ℕ) → P (slice_get (xs ++ x ∷ []) n)
+pushed P [] x here past f zero = here
+pushed P [] x here past f (suc n) = past
+pushed P (y ∷ xs) x here past f zero = f 0
+pushed P (y ∷ xs) x here past f (suc n) = pushed P xs x here past (λ m. f (suc m)) n
+
+-- what follows from what holds on success holds on success
+pub on_ok : {T F : Type 0} (r : Result T F) (P Q : Type 0) → OnOk r P → (P → Q) → OnOk r Q
+on_ok (Ok x) P Q h f = f h
+on_ok (Err e) P Q h f = h
+
+-- the element at a place that is there
+pub at_index : {A : Type 0} (xs : List A) (n : ℕ) (d : A) → n < length xs → get_or xs n d ≡ d → slice_get xs n ≡ Some d
+at_index [] n d h e = absurd (omega (arith, h))
+at_index (x ∷ xs) zero d h e = ap Some e
+at_index (x ∷ xs) (suc n) d h e = at_index xs n d (omega (arith, h)) e

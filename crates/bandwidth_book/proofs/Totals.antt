@@ -1,0 +1,62 @@
+-- The total over the entries is the sum over their keys, and small.
+use Rattle.std.proofs.Common.{◌≡◌, ◌≤◌, ◌<◌, ℕ, ◌+◌, ◌-◌, ◌*◌, ◌^◌, Bool, true, false, List, [], ◌∷◌, refl, ◌∙◌, arith, length, nat_le, if◌then◌else◌}
+use Rattle.std.specs.List.{AllByRecursion, IsDistinct}
+use Rattle.std.specs.Cmp.{IsEquivalence}
+use Rattle.std.specs.Map.{keys_of}
+use Rattle.bandwidth_book.specs.declared.held.Held.{Held}
+use Rattle.bandwidth_book.specs.Holdings.{Holdings}
+use Rattle.bandwidth_book.specs.Held.{most, with_one, without_one}
+use Rattle.bandwidth_book.specs.Entries.{total, kept}
+use Rattle.bandwidth_book.proofs.Sums.{most_with_one, most-without_one, at_most}
+
+module _ {K : Type 0} where
+  abbrev pub sum_over : (K → ℕ) → List K → ℕ
+  sum_over f [] = 0
+  sum_over f (t ∷ ts) = f t + sum_over f ts
+
+  pub sum_same : (f g : K → ℕ) (ks : List K) → AllByRecursion (λ k. f k ≡ g k) ks → sum_over f ks ≡ sum_over g ks
+  sum_same f g [] a = refl
+  sum_same f g (k ∷ ks) a = let ih = sum_same f g ks a.1 in let here = a.0 in omega (arith, here, ih)
+
+  sum_small : (f : K → ℕ) (ks : List K) → ((k : K) → f k < 2 ^ 48) → sum_over f ks ≤ length ks * 281474976710655
+  sum_small f [] b = omega arith
+  sum_small f (k ∷ ks) b = let ih = sum_small f ks b in let here = b k in omega (arith, here, ih)
+
+  count_keys : (es : List (K × Holdings)) → length (keys_of es) ≡ length es
+  count_keys [] = refl
+  count_keys (e ∷ es) = let ih = count_keys es in omega (arith, ih)
+
+module _ {K : Type 0} (eq : K → K → Bool) (laws : IsEquivalence eq) where
+  -- another key's entry is looked for behind the first
+  behind : (p : ℕ) (e : K × Holdings) (es : List (K × Holdings)) (ks : List K) → AllByRecursion (λ k. eq e.0 k ≡ false) ks → AllByRecursion (λ k. most (kept eq es k) p ≡ most (kept eq (e ∷ es) k) p) ks
+  behind p e es [] a = tt
+  behind p e es (k ∷ ks) a =
+      let other : eq k e.0 ≡ false = laws.symm k e.0 ∙ a.0 in
+      (rw other refl, behind p e es ks a.1)
+
+  pub total_over_keys : (p : ℕ) (es : List (K × Holdings)) → IsDistinct eq (keys_of es) → total p es ≡ sum_over (λ k. most (kept eq es k) p) (keys_of es)
+  unfolding IsDistinct
+  total_over_keys p [] d = refl
+  total_over_keys p (e ∷ es) d =
+      let ih = total_over_keys p es d.1 in
+      let first : most (kept eq (e ∷ es) e.0) p ≡ most e.1.held p = rw (laws.refl e.0) refl in
+      let rest = sum_same (λ k. most (kept eq es k) p) (λ k. most (kept eq (e ∷ es) k) p) (keys_of es) (behind p e es (keys_of es) d.0) in
+      omega (arith, ih, first, rest)
+
+  pub total_small : (p : ℕ) (es : List (K × Holdings)) → IsDistinct eq (keys_of es) → length es ≤ 30000 → ((k : K) → most (kept eq es k) p < 2 ^ 48) → total p es < 2 ^ 63 - 2 ^ 48
+  total_small p es d n b =
+      let t = total_over_keys p es d in
+      let s = sum_small (λ k. most (kept eq es k) p) (keys_of es) b in
+      let c = count_keys es in
+      omega (arith, t, s, c, n)
+
+pub small_with : (b : Bool) (h : Held) (hs : List Held) (p : ℕ) → h.bandwidth < 2 ^ 48 → most hs p < 2 ^ 48 → most (if b then with_one h hs else hs) p < 2 ^ 48
+small_with false h hs p one old = old
+small_with true h hs p one old =
+    let m = most_with_one h hs p in
+    let n = at_most (nat_le h.hold p) h.bandwidth in
+    omega (arith, m, n, one, old)
+
+pub small_without : (b : Bool) (h : Held) (hs : List Held) (p : ℕ) → most hs p < 2 ^ 48 → most (if b then without_one h hs else hs) p < 2 ^ 48
+small_without false h hs p old = old
+small_without true h hs p old = let m = most-without_one h hs p in omega (arith, m, old)

@@ -1,0 +1,49 @@
+-- When a book stands for a list of paths.
+use Rattle.std.specs.Prelude.{◌≡◌, ◌<◌, ℕ, true, List, [], Option, length}
+use Rattle.std.specs.Arc.{arc_value}
+use Rattle.lsp_base.specs.declared.effect.Change.{Change}
+use Rattle.lsp_base.specs.declared.path.Path.{Path}
+use Rattle.lsp_base.specs.declared.tunnel.Tunnel.{Tunnel}
+use Rattle.te_base.specs.declared.network.Link.{Link}
+use Rattle.te_snapshot.specs.Network.{Network, NetworkState}
+use Rattle.bandwidth_book.specs.declared.book.Book.{Book}
+use Rattle.bandwidth_book.specs.declared.held.Held.{Held}
+use Rattle.bandwidth_book.specs.Ledgers.{has_entry_at, held_at, promised_on}
+use Rattle.bandwidth_book.specs.Paths.{IsHeldBy, IsPromised, tunnel_eq}
+use Rattle.bandwidth_book.specs.Pending.{noted}
+
+-- the network
+abbrev pub network_of : Book → Network
+network_of book = arc_value book.topology
+
+-- the links of the network
+abbrev pub links_of : Book → List Link
+links_of book = (network_of book).links
+
+-- the snapshot that is given again while no path changes
+abbrev pub kept_by : Book → Option NetworkState
+kept_by book = book.kept
+
+-- what a tunnel's paths hold on a link
+abbrev pub held_on : Book → ℕ → Tunnel → List Held
+held_on book = held_at tunnel_eq book.ledgers.items
+
+-- for each link, tunnel, holding priority and bandwidth, the book holds as many as there are such paths
+abbrev pub StandsFor : Book → List Path → Type 0
+StandsFor book paths = IsHeldBy (length book.ledgers.items) (held_at tunnel_eq book.ledgers.items) paths
+
+-- the book has promised room for what the change adds
+abbrev pub IsReady : Book → Change → Type 0
+IsReady book change = IsPromised (length book.ledgers.items) (promised_on tunnel_eq book.ledgers.items) change.added
+
+-- how often a reservation that no change has followed yet notes the tunnel on a link
+abbrev pub pending_on : Book → ℕ → Tunnel → ℕ
+pending_on book = noted book.pending.items
+
+-- the tunnel has an entry on the link, and no path in it
+abbrev pub HasEmptyEntry : Book → ℕ → Tunnel → Type 0
+HasEmptyEntry book l t = (has_entry_at tunnel_eq book.ledgers.items l t ≡ true) × (held_on book l t ≡ [])
+
+-- no link has an entry without paths
+abbrev pub HasNoEmptyEntry : Book → Type 0
+HasNoEmptyEntry book = (l : ℕ) (t : Tunnel) → l < length (links_of book) → HasEmptyEntry book l t → ⊥

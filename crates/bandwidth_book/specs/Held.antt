@@ -1,0 +1,72 @@
+-- What paths of a tunnel hold on a link.
+use Rattle.std.specs.Prelude.{⊤, ◌≡◌, ◌<◌, ℕ, suc, ◌+◌, ◌&&◌, ◌||◌, ◌==◌, nat_le, nat_lt, max, Bool, false, List, [], ◌∷◌, if◌then◌else◌, slice_index}
+use Rattle.std.specs.List.{AllByRecursion}
+use Rattle.lsp_base.specs.declared.path.Path.{Path}
+use Rattle.bandwidth_book.specs.declared.held.Held.{Held}
+
+abbrev pub held_of : Path → Held
+held_of x = record { hold = x.hold; bandwidth = x.bandwidth }
+
+abbrev pub same_held : Held → Held → Bool
+same_held a b = a.hold == b.hold && a.bandwidth == b.bandwidth
+
+-- the greatest bandwidth that is held at the priority or a better one, or 0
+abbrev pub most : List Held → ℕ → ℕ
+most [] priority = 0
+most (h ∷ hs) priority = max (if nat_le h.hold priority then h.bandwidth else 0) (most hs priority)
+
+-- how many are of this holding priority and bandwidth
+abbrev pub times : Held → List Held → ℕ
+times h [] = 0
+times h (x ∷ xs) = (if same_held h x then 1 else 0) + times h xs
+
+-- by holding priority, then by bandwidth
+abbrev pub is_before : Held → Held → Bool
+is_before a b = nat_lt a.hold b.hold || (a.hold == b.hold && nat_lt a.bandwidth b.bandwidth)
+
+-- where it belongs in the order
+abbrev pub place_in : Held → List Held → ℕ
+place_in h [] = 0
+place_in h (x ∷ xs) = if is_before x h then suc (place_in h xs) else 0
+
+-- with one more, in its order
+abbrev pub with_one : Held → List Held → List Held
+with_one h [] = h ∷ []
+with_one h (x ∷ xs) = if is_before x h then x ∷ with_one h xs else h ∷ x ∷ xs
+
+-- with one more for each of them, in turn
+abbrev pub with_all : List Held → List Held → List Held
+with_all hs [] = hs
+with_all hs (x ∷ xs) = with_all (with_one x hs) xs
+
+-- without the first that is the same
+abbrev pub without_one : Held → List Held → List Held
+without_one h [] = []
+without_one h (x ∷ xs) = if same_held h x then xs else x ∷ without_one h xs
+
+-- without the first that is the same as each of them, in turn
+abbrev pub without_all : List Held → List Held → List Held
+without_all hs [] = hs
+without_all hs (x ∷ xs) = without_all (without_one x hs) xs
+
+-- at each priority, the greatest bandwidth
+abbrev pub AreMaxima : List ℕ → List Held → Type 0
+AreMaxima maxima hs = (p : ℕ) → p < 8 → slice_index maxima p ≡ most hs p
+
+-- none stands before an earlier one
+abbrev pub AreInOrder : List Held → Type 0
+AreInOrder [] = ⊤
+AreInOrder (x ∷ xs) = AllByRecursion (λ y. is_before y x ≡ false) xs × AreInOrder xs
+
+-- the greatest bandwidth that is held at a better priority, or 0
+abbrev pub most_below : List Held → ℕ → ℕ
+most_below [] p = 0
+most_below (h ∷ hs) p = max (if nat_lt h.hold p then h.bandwidth else 0) (most_below hs p)
+
+-- it stands after all that is held at the priority or a better one
+abbrev pub after_all : ℕ → Held
+after_all p = record { hold = p + 1; bandwidth = 0 }
+
+-- what one counts at its own priority
+abbrev pub last_counts : Held → ℕ → ℕ
+last_counts h p = if h.hold == p then h.bandwidth else 0

@@ -1,0 +1,25 @@
+-- What lists of paths hold on the links.
+use Rattle.std.specs.Prelude.{◌≡◌, ◌<◌, ◌≤◌, ℕ, Bool, List, [], ◌∷◌, ◌++◌, length}
+use Rattle.lsp_base.specs.contracts.tunnel.TunnelPartialEq.TheImpl.{eq-value}
+use Rattle.lsp_base.specs.declared.path.Path.{Path}
+use Rattle.lsp_base.specs.declared.tunnel.Tunnel.{Tunnel}
+use Rattle.bandwidth_book.specs.declared.held.Held.{Held}
+use Rattle.bandwidth_book.specs.Held.{held_of, times}
+use Rattle.bandwidth_book.specs.Ledgers.{held_by_path}
+
+-- what `==` of tunnels says
+abbrev pub tunnel_eq : Tunnel → Tunnel → Bool
+tunnel_eq = eq-value.it
+
+-- what the tunnel's paths hold on a link, once for each time that a path has it
+abbrev pub held_by : ℕ → Tunnel → List Path → List Held
+held_by l t [] = []
+held_by l t (x ∷ xs) = held_by_path tunnel_eq x.tunnel (held_of x) l t x.links ++ held_by l t xs
+
+-- of each tunnel, holding priority and bandwidth, as much is held on each of n links as the paths hold there
+abbrev pub IsHeldBy : ℕ → (ℕ → Tunnel → List Held) → List Path → Type 0
+IsHeldBy n held paths = (l : ℕ) (t : Tunnel) (h : Held) → l < n → times h (held l t) ≡ times h (held_by l t paths)
+
+-- room is promised for what these paths hold
+abbrev pub IsPromised : ℕ → (ℕ → Tunnel → ℕ) → List Path → Type 0
+IsPromised n promised paths = (l : ℕ) (t : Tunnel) → l < n → length (held_by l t paths) ≤ promised l t

@@ -1,0 +1,89 @@
+//! How a book comes to stand for lists of paths.
+ghost use Rattle.std.specs.Prelude.{◌≡◌, ◌<◌, ◌≤◌, ◌++◌, false, ℕ, List, [], length, IfOk, OnOk};
+ghost use Rattle.std.specs.Arc.{arc_value};
+ghost use Rattle.lsp_base.specs.Base.{HasAll, without};
+ghost use Rattle.lsp_base.specs.declared.path.Path.{Path};
+ghost use Rattle.lsp_base.specs.declared.tunnel.Tunnel.{Tunnel};
+ghost use Rattle.bandwidth_book.specs.Books.{HasEmptyEntry, HasNoEmptyEntry, IsReady, StandsFor, held_on, kept_by, links_of, network_of, pending_on};
+ghost use Rattle.bandwidth_book.specs.Held.{with_all, without_all};
+ghost use Rattle.bandwidth_book.specs.Ledgers.{has_entry_at, held_at};
+ghost use Rattle.bandwidth_book.specs.Paths.{held_by, tunnel_eq};
+
+use crate::book::Book;
+use crate::ledger::Ledger;
+use crate::paths::{change_paths, give_up_room, promise_paths};
+use lsp_base::{Change, Tunnel};
+use std::alloc::{AllocError, Global};
+use std::sync::Arc;
+use te_snapshot::Topology;
+
+/// So many ledgers, on which nothing is held.
+fn empty_ledgers(alloc: Global, count: usize) -> Result<Vec<Ledger<Tunnel>>, AllocError>
+    ensures length { IfOk result (λ ledgers. length ledgers.items ≡ count) }
+    ensures entries { IfOk result (λ ledgers. (l : ℕ) (t : Tunnel) → has_entry_at tunnel_eq ledgers.items l t ≡ false) }
+    ensures empty { IfOk result (λ ledgers. (l : ℕ) (t : Tunnel) → held_at tunnel_eq ledgers.items l t ≡ []) }
+{
+    let mut ledgers = Vec::with_capacity(alloc, count)?;
+    for number in 0..count {
+        ledgers.push(Ledger::new(alloc))?;
+    }
+    Ok(ledgers)
+}
+
+impl Book {
+    /// A book of the network's links, on which nothing is reserved.
+    pub fn new(alloc: Global, topology: Arc<Topology, Global>) -> Result<Book, AllocError>
+        ensures network { IfOk result (λ book. network_of book ≡ arc_value topology) }
+        ensures stands { IfOk result (λ book. StandsFor book []) }
+        ensures tidy { IfOk result HasNoEmptyEntry }
+    {
+        let ledgers = empty_ledgers(alloc, topology.links().len())?;
+        Ok(Book {
+            alloc,
+            topology,
+            ledgers,
+            pending: Vec::new(alloc),
+            kept: None,
+        })
+    }
+
+    /// Makes all the room that `change` needs for this change. Room that was made for an earlier one and
+    /// isn't used is given up, so an entry without paths is one that this change adds to. Where memory is
+    /// refused the book stands for what it stood for.
+    pub fn reserve(&mut self, change: &Change) -> Result<(), AllocError>
+        ensures ready { OnOk result (IsReady self.new change.now) }
+        ensures network { network_of self.new ≡ network_of self.old }
+        ensures kept { kept_by self.new ≡ kept_by self.old }
+        ensures held { (l : ℕ) (t : Tunnel) → held_on self.new l t ≡ held_on self.old l t }
+        ensures stands { (paths : List Path) → StandsFor self.old paths → StandsFor self.new paths }
+        ensures pending { (l : ℕ) (t : Tunnel) → pending_on self.new l t ≤ length (held_by l t change.now.added) }
+        ensures tidy { (l : ℕ) (t : Tunnel) → l < length (links_of self.old) → HasEmptyEntry self.new l t → 0 < length (held_by l t change.now.added) }
+    {
+        give_up_room(&mut self.ledgers, &mut self.pending);
+        let added = change.added.as_slice();
+        promise_paths(self.alloc, &mut self.ledgers, &mut self.pending, added)
+    }
+
+    /// Carries out a change: the dropped paths go, then the added ones come. It takes no memory, and gives
+    /// the room up that isn't used: no entry is left without paths. A change that isn't empty ends the
+    /// snapshot that was kept.
+    pub fn change(&mut self, change: &Change)
+        requires ready { IsReady self.old change.now }
+        ensures network { network_of self.new ≡ network_of self.old }
+        ensures kept { change.now.dropped ≡ [] → change.now.added ≡ [] → kept_by self.new ≡ kept_by self.old }
+        ensures held { (l : ℕ) (t : Tunnel) → l < length (links_of self.old)
+            → held_on self.new l t ≡ with_all (without_all (held_on self.old l t) (held_by l t change.now.dropped)) (held_by l t change.now.added) }
+        ensures stands { (paths : List Path) → StandsFor self.old paths → HasAll paths change.now.dropped
+            → StandsFor self.new (without paths change.now.dropped ++ change.now.added) }
+        ensures pending { (l : ℕ) (t : Tunnel) → pending_on self.new l t ≡ 0 }
+        ensures tidy { HasNoEmptyEntry self.new }
+    {
+        let dropped = change.dropped.as_slice();
+        let added = change.added.as_slice();
+        if !dropped.is_empty() || !added.is_empty() {
+            self.kept = None;
+            change_paths(&mut self.ledgers, dropped, added);
+        }
+        give_up_room(&mut self.ledgers, &mut self.pending);
+    }
+}

@@ -1,0 +1,41 @@
+//! The book of what paths reserve: on each link of a network, for each tunnel the holding priorities and
+//! bandwidths of its paths there, the greatest bandwidth at each priority (the paths of one tunnel share
+//! what they reserve on a common link: shared explicit reservation, RFC 3209 section 2.4.3), and over all
+//! tunnels the sums of these. So what a link can still carry is read from stored numbers.
+//!
+//! A layer above may rely on it that a book stands for a list of paths (`StandsFor` in `specs/Books.antt`):
+//! a new one for none, and after `change` one that stood for paths stands for them without the dropped and
+//! with the added ones, for each list that had the dropped ones. What it says of a list for which it stands
+//! are the definitions of `lsp_base`. `reserve` makes all the room, and `change` takes no memory and leaves
+//! no entry without paths, so that a book keeps memory for standing paths alone (`specs/Pending.antt`).
+//! `snapshot` gives a table of what is left of every link, of which a search can be made while the book goes
+//! on; while no path changes it gives the same one again (`specs/Tables.antt`).
+//!
+//! ```text
+//! fn carry_out(book: &mut Book, change: &Change) -> Result<(), AllocError>
+//!     ensures stands { (paths : List Path) → StandsFor book.old paths → HasAll paths change.now.dropped
+//!         → OnOk result (StandsFor book.new (without paths change.now.dropped ++ change.now.added)) }
+//! {
+//!     book.reserve(change)?;
+//!     book.change(change);
+//!     Ok(())
+//! }
+//! ```
+#![tactic(auto)]
+
+mod book;
+mod changes;
+mod entries;
+mod entry;
+mod held;
+mod ledger;
+mod ledgers;
+mod looks;
+mod paths;
+mod snapshots;
+
+pub use book::Book;
+pub use te_snapshot::{OwnShare, OwnShares, Snapshot, Topology};
+
+#[cfg(test)]
+mod tests;

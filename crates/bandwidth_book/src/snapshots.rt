@@ -1,0 +1,91 @@
+//! Snapshots of what is left of every link.
+ghost use Rattle.std.specs.Prelude.{◌≡◌, ◌<◌, ◌^◌, ◌-ℤ◌, pos, Some, ℕ, List, length, slice_index, slice_index_or, IfOk, OnErr};
+ghost use Rattle.lsp_base.specs.Shares.{reservable, unreserved};
+ghost use Rattle.lsp_base.specs.declared.effect.Change.{Change};
+ghost use Rattle.lsp_base.specs.declared.path.Path.{Path};
+ghost use Rattle.lsp_base.specs.declared.tunnel.Tunnel.{Tunnel};
+ghost use Rattle.te_snapshot.specs.Network.{NetworkState};
+ghost use Rattle.bandwidth_book.specs.Books.{HasNoEmptyEntry, IsReady, StandsFor, held_on, kept_by, links_of, network_of};
+ghost use Rattle.bandwidth_book.specs.Ledgers.{held_at};
+ghost use Rattle.bandwidth_book.specs.Paths.{IsHeldBy, tunnel_eq};
+ghost use Rattle.bandwidth_book.specs.Tables.{AreLeft};
+
+use crate::book::Book;
+use crate::ledger::Ledger;
+use crate::looks::{left_of, reservable_of, sums_at};
+use lsp_base::Tunnel;
+use sequence::PlainData;
+use std::alloc::{AllocError, Global};
+use std::sync::Arc;
+use te_base::{Link, LinkNumber};
+use te_snapshot::Snapshot;
+
+/// What is left of an amount beside each of eight sums.
+fn left_of_each(reservable: u64, sums: &[u64; 8]) -> [i64; 8]
+    requires reservable { reservable < 2 ^ 63 }
+    requires sums { (p : ℕ) → p < 8 → slice_index sums.now p < 2 ^ 63 }
+    ensures { (p : ℕ) → p < 8 → slice_index_or result p (pos 0) ≡ pos reservable -ℤ pos (slice_index sums.now p) }
+{
+    let mut left = [0i64; 8];
+    for priority in 0..8usize {
+        left[priority] = left_of(reservable, sums[priority]);
+    }
+    left
+}
+
+/// What is left of a link at each priority.
+#[tactic(auto, unfolding(lsp_base::specs::Shares::unreserved))]
+fn left_at(links: &[Link], ledgers: &[Ledger<Tunnel>], link: LinkNumber) -> [i64; 8]
+    requires link { link < length links.now }
+    requires ledger { link < length ledgers.now }
+    requires small { reservable links.now link < 2 ^ 48 }
+    ensures { (paths : List Path) → IsHeldBy (length ledgers.now) (held_at tunnel_eq ledgers.now) paths
+        → (p : ℕ) → p < 8 → slice_index_or result p (pos 0) ≡ unreserved links.now paths link p }
+{
+    left_of_each(reservable_of(links, link), sums_at(ledgers, link))
+}
+
+/// What is left of every link.
+fn table_of(
+    alloc: Global,
+    links: &[Link],
+    ledgers: &[Ledger<Tunnel>],
+) -> Result<Vec<[i64; 8]>, AllocError>
+    requires same { length ledgers.now ≡ length links.now }
+    requires small { (l : ℕ) → reservable links.now l < 2 ^ 48 }
+    ensures whole { IfOk result (λ table. length table.items ≡ length links.now) }
+    ensures left { IfOk result (λ table. (paths : List Path) → IsHeldBy (length ledgers.now) (held_at tunnel_eq ledgers.now) paths → AreLeft links.now paths table.items) }
+{
+    let mut table = Vec::with_capacity(alloc, links.len())?;
+    for link in 0..links.len() {
+        table.push(left_at(links, ledgers, link))?;
+    }
+    Ok(table)
+}
+
+impl Book {
+    /// The network, with what is left of every link at each priority, in bytes per second. Where no path
+    /// changed since the last one it is that one, shared, and takes no memory; else only the numbers are
+    /// made anew. Later changes leave it as it is. Where memory is refused nothing has changed.
+    pub fn snapshot(&mut self) -> Result<Snapshot, AllocError>
+        ensures network { IfOk result (λ s. s.network ≡ network_of self.old) }
+        ensures left { IfOk result (λ s. (paths : List Path) → StandsFor self.old paths → AreLeft (links_of self.old) paths s.unreserved) }
+        ensures again { IfOk result (λ s. (kept : NetworkState) → kept_by self.old ≡ Some kept → s ≡ kept) }
+        ensures kept { IfOk result (λ s. kept_by self.new ≡ Some s) }
+        ensures same_network { network_of self.new ≡ network_of self.old }
+        ensures held { (l : ℕ) (t : Tunnel) → held_on self.new l t ≡ held_on self.old l t }
+        ensures stands { (paths : List Path) → StandsFor self.old paths → StandsFor self.new paths }
+        ensures ready { (change : Change) → IsReady self.old change → IsReady self.new change }
+        ensures tidy { HasNoEmptyEntry self.old → HasNoEmptyEntry self.new }
+        ensures unchanged_without_memory { OnErr result (self.new ≡ self.old) }
+    {
+        if let Some(kept) = &self.kept {
+            return kept.copy();
+        }
+        let table = table_of(self.alloc, self.topology.links(), &self.ledgers)?;
+        let topology = Arc::try_clone(&self.topology)?;
+        let snapshot = Snapshot::new(self.alloc, topology, table)?;
+        self.kept = Some(snapshot.copy()?);
+        Ok(snapshot)
+    }
+}

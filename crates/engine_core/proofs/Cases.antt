@@ -1,0 +1,65 @@
+-- The lines of the engine's table, one by one.
+use Rattle.std.proofs.Common.{◌≡◌, ℕ, Bool, false, if◌then◌else◌, List, [], Option, Result, OnOk, OnErr, IfErr, refl, sym, subst}
+use Rattle.sequence.specs.declared.list.Sequence.{Sequence}
+use Rattle.pcep_messages.specs.declared.message.Message.{Message}
+use Rattle.pcep_messages.specs.declared.message.Message.TheVariants as messages
+use Rattle.pcep_messages.specs.declared.message.StateReport.{StateReport}
+use Rattle.pcep_session.specs.Calls.{fed}
+use Rattle.pcep_session.specs.Turns.{is_up, is_closed}
+use Rattle.pcep_session.specs.declared.table.Input.{Input}
+use Rattle.pcep_session.specs.declared.table.Input.TheVariants as input
+use Rattle.lsp_base.specs.declared.why.Why.{Why}
+use Rattle.step_core.specs.declared.event.Event.TheVariants.{Drain}
+use Rattle.step_core.specs.declared.event.Reply.{Reply}
+use Rattle.step_core.specs.declared.event.Reply.TheVariants as replies
+use Rattle.history_core.specs.declared.fault.Fault.{Fault}
+use Rattle.history_core.specs.declared.fault.Fault.TheVariants.{OutOfMemory}
+use Rattle.engine_core.specs.Engine.{client_with, saying, cannot_process, after_report, on_message, on_input, messages_of, sending, draining, served_from, served}
+use Rattle.engine_core.specs.Plans.{Plan, Returns, Reaches, submitting}
+use Rattle.engine_core.specs.Stores.{Carries, Serves}
+use Rattle.engine_core.specs.declared.client.Client.{Client}
+use Rattle.engine_core.specs.declared.store.Call.{Call}
+use Rattle.engine_core.proofs.Carrying.{stays, may_change}
+
+-- a report was refused
+pub report_refused : {X S W : Type 0} (moves : S → List Call → S → Type 0) (is_full : S → Type 0) (r : Result X Fault) (s : S) (c after : Client) (srp : Option ℕ) (reply : Reply) (why : Why) (go_on : Client → Plan W)
+    → reply ≡ replies.Refused why → moves s [] s → OnOk r (after ≡ saying (cannot_process srp) c) → OnErr r (after ≡ c) → IfErr r (λ fault. fault ≡ OutOfMemory)
+    → Serves r moves is_full s s c after (after_report srp reply c go_on) go_on
+unfolding after_report
+report_refused moves is_full r s c after srp reply why go_on is nowhere ok err only =
+    subst (λ (x : Reply). Serves r moves is_full s s c after (after_report srp x c go_on) go_on) (sym is)
+    (may_change moves is_full r s c (saying (cannot_process srp) c) after go_on nowhere ok err only refl)
+
+-- a report was not refused
+pub report_taken : {S W : Type 0} (moves : S → List Call → S → Type 0) (s : S) (c : Client) (srp : Option ℕ) (reply : Reply) (go_on : Client → Plan W)
+    → ((why : Why) → reply ≡ replies.Refused why → ⊥) → moves s [] s → Carries moves s s c c (after_report srp reply c go_on) (go_on c)
+unfolding after_report
+report_taken moves s c srp (replies.Refused why) go_on not nowhere = absurd (not why refl)
+report_taken moves s c srp reply go_on not nowhere = stays moves s c c (go_on c) nowhere refl
+
+-- a message that the engine does nothing for
+pub not_reports : {S W : Type 0} (moves : S → List Call → S → Type 0) (s : S) (c : Client) (peer : ℕ) (message : Message) (go_on : Client → Plan W)
+    → ((reports : Sequence StateReport) → message ≡ messages.Report reports → ⊥) → moves s [] s → Carries moves s s c c (on_message peer message c go_on) (go_on c)
+not_reports moves s c peer (messages.Report reports) go_on not nowhere = absurd (not reports refl)
+not_reports moves s c peer message go_on not nowhere = stays moves s c c (go_on c) nowhere refl
+
+pub handled : {S W : Type 0} (moves : S → List Call → S → Type 0) (s : S) (c : Client) (peer : ℕ) (given : Input) (go_on : Client → Plan W)
+    → given ≡ input.Handled → moves s [] s → Carries moves s s c c (on_input peer given c go_on) (go_on c)
+unfolding on_input
+handled moves s c peer given go_on is nowhere = subst (λ (x : Input). Carries moves s s c c (on_input peer x c go_on) (go_on c)) (sym is) (stays moves s c c (go_on c) nowhere refl)
+
+-- a session that isn't up is sent nothing
+pub not_up : {S W : Type 0} (moves : S → List Call → S → Type 0) (s : S) (c : Client) (peer : ℕ) (go_on : Client → Plan W)
+    → is_up c.session.state ≡ false → moves s [] s → Carries moves s s c c (draining peer c go_on) (go_on c)
+not_up moves s c peer go_on down nowhere =
+    subst (λ (is : Bool). Carries moves s s c c (if is then submitting c (Drain peer) (λ reply. sending (messages_of reply) c go_on) else go_on c) (go_on c)) (sym down)
+    (stays moves s c c (go_on c) nowhere refl)
+
+-- a session that hasn't ended is served
+pub still_open : {X S : Type 0} (moves : S → List Call → S → Type 0) (is_full : S → Type 0) (r : Result X Fault) (s t : S) (c after : Client) (peer : ℕ) (piece : List ℕ) (now_ms : ℕ)
+    → is_closed c.session.state ≡ false
+    → Serves r moves is_full s t c after (Reaches c (served_from peer (client_with (fed piece now_ms c.session) c) (λ (w : Client). Returns w))) (λ (w : Client). Returns w)
+    → Serves r moves is_full s t c after (served peer piece now_ms c) (λ (w : Client). Returns w)
+unfolding served
+still_open moves is_full r s t c after peer piece now_ms going h =
+    subst (λ (is : Bool). Serves r moves is_full s t c after (if is then Returns c else Reaches c (served_from peer (client_with (fed piece now_ms c.session) c) (λ (w : Client). Returns w))) (λ (w : Client). Returns w)) (sym going) h

@@ -1,0 +1,34 @@
+//! Random numbers.
+
+/// Numbers that follow from a seed: the upper half of a linear congruential generator's state.
+#[derive(Clone, Copy, Debug)]
+pub(crate) struct Random {
+    state: u64,
+}
+
+impl Random {
+    ghost use Rattle.std.specs.Prelude.{◌<◌};
+
+    pub(crate) fn new(seed: u64) -> Random {
+        Random { state: seed }
+    }
+
+    /// A number below the limit.
+    pub(crate) fn below(&mut self, limit: u64) -> u64
+        requires { 0 < limit }
+        ensures { result < limit }
+    {
+        self.state = self
+            .state
+            .wrapping_mul(6_364_136_223_846_793_005)
+            .wrapping_add(1_442_695_040_888_963_407);
+        (self.state >> 33) % limit
+    }
+
+    /// True one time in so many.
+    pub(crate) fn one_in(&mut self, many: u64) -> bool
+        requires { 0 < many }
+    {
+        self.below(many) == 0
+    }
+}

@@ -1,0 +1,80 @@
+-- Lists from which the first element that passes a test went, and the last took its place.
+use Rattle.std.proofs.Common.{◌≡◌, ℕ, zero, suc, ◌+◌, ◌-◌, ◌<◌, Bool, true, false, cond, List, [], ◌∷◌, ◌++◌, length, take, drop, get_or, swap_remove, filter, find, Some, None, IsPermutation, refl, sym, subst, ◌∙◌, ap, arith}
+use Rattle.std.proofs.lemmas.List.{take-append-drop, drop_more, drop_all}
+use Rattle.std.proofs.lemmas.List.Elements.{filter-append}
+use Rattle.std.proofs.lemmas.List.Sorted.{IsPermutation-refl, IsPermutation-cons, IsPermutation-trans, IsPermutation-middle, IsPermutation-append_comm}
+use Rattle.lsp_base.specs.Base.{last_in_front, without_first}
+
+-- ---- the place that is filled
+
+removed_head : {X : Type 0} (y x : X) (ys : List X) → swap_remove (y ∷ ys) 0 x ≡ last_in_front ys
+removed_head y x [] = refl
+removed_head y x (z ∷ zs) =
+    let n = length zs in
+    let e : suc (suc n) - 1 ≡ suc n = omega arith in
+    let f : suc n - 1 ≡ n = omega arith in
+    let last : drop n (z ∷ zs) ≡ get_or (z ∷ zs) n x ∷ [] = drop_more (z ∷ zs) n x (omega arith) ∙ ap (λ t. get_or (z ∷ zs) n x ∷ t) (drop_all (n + 1) (z ∷ zs) (omega arith)) in
+    ap (λ k. take k (get_or (y ∷ z ∷ zs) k x ∷ z ∷ zs)) e ∙ sym (ap (λ k. drop k (z ∷ zs) ++ take k (z ∷ zs)) f ∙ ap (λ t. t ++ take n (z ∷ zs)) last)
+
+removed_behind : {X : Type 0} (y z x : X) (zs : List X) (i : ℕ) → swap_remove (y ∷ z ∷ zs) (suc i) x ≡ y ∷ swap_remove (z ∷ zs) i x
+removed_behind y z x zs i =
+    let e : suc (suc (length zs)) - 1 ≡ suc (length zs) = omega arith in
+    let f : suc (length zs) - 1 ≡ length zs = omega arith in
+    rw (e, f) refl
+
+-- `swap_remove` at the first place that passes
+pub swapped_out : {X : Type 0} (test : X → Bool) (xs : List X) (i : ℕ) (x : X) → i < length xs → x ≡ get_or xs i x → test x ≡ true → swap_remove xs i x ≡ take i xs ++ without_first test (drop i xs)
+swapped_out test [] i x within read passes = absurd (omega (arith, within))
+swapped_out test (y ∷ ys) zero x within read passes = removed_head y x ys ∙ sym (ap (λ b. cond b (last_in_front ys) (y ∷ without_first test ys)) (ap test (sym read) ∙ passes))
+swapped_out test (y ∷ []) (suc i) x within read passes = absurd (omega (arith, within))
+swapped_out test (y ∷ z ∷ zs) (suc i) x within read passes = removed_behind y z x zs i ∙ ap (λ t. y ∷ t) (swapped_out test (z ∷ zs) i x (omega (arith, within)) read passes)
+
+-- ---- the same elements, whatever their order
+
+pub last_in_front-permutes : {X : Type 0} (xs : List X) → IsPermutation xs (last_in_front xs)
+last_in_front-permutes xs =
+    let n = length xs - 1 in
+    subst (λ ys. IsPermutation ys (last_in_front xs)) (take-append-drop n xs) (IsPermutation-append_comm (take n xs) (drop n xs))
+
+-- the element that went, and what is left
+pub without_first-permutes : {X : Type 0} (test : X → Bool) (xs : List X) (x : X) → find test xs ≡ Some x → IsPermutation xs (x ∷ without_first test xs)
+without_first-permutes test [] x found = absurd (cc (found))
+without_first-permutes {X} test (y ∷ ys) x found = by (test y) found (without_first-permutes test ys x)
+  where
+    by : (b : Bool) → cond b (Some y) (find test ys) ≡ Some x → (find test ys ≡ Some x → IsPermutation ys (x ∷ without_first test ys)) → IsPermutation (y ∷ ys) (x ∷ cond b (last_in_front ys) (y ∷ without_first test ys))
+    by true here rest =
+        let same : y ≡ x = cc in
+        subst (λ z. IsPermutation (y ∷ ys) (z ∷ last_in_front ys)) same (IsPermutation-cons y _ _ (last_in_front-permutes ys))
+    by false later rest = IsPermutation-trans _ _ _ (IsPermutation-cons y _ _ (rest later)) (IsPermutation-middle (y ∷ []) x (without_first test ys))
+
+-- where none passes, all stay as they are
+pub without_first-none : {X : Type 0} (test : X → Bool) (xs : List X) → find test xs ≡ None → without_first test xs ≡ xs
+without_first-none test [] none = refl
+without_first-none {X} test (y ∷ ys) none = by (test y) none (without_first-none test ys)
+  where
+    by : (b : Bool) → cond b (Some y) (find test ys) ≡ None → (find test ys ≡ None → without_first test ys ≡ ys) → cond b (last_in_front ys) (y ∷ without_first test ys) ≡ y ∷ ys
+    by true here rest = absurd (cc (here))
+    by false later rest = ap (λ t. y ∷ t) (rest later)
+
+pub filter-last_in_front : {X : Type 0} (p : X → Bool) (xs : List X) → IsPermutation (filter p xs) (filter p (last_in_front xs))
+filter-last_in_front p xs =
+    let n = length xs - 1 in
+    let before : filter p (take n xs) ++ filter p (drop n xs) ≡ filter p xs = sym (filter-append p (take n xs) (drop n xs)) ∙ ap (filter p) (take-append-drop n xs) in
+    let after : filter p (drop n xs) ++ filter p (take n xs) ≡ filter p (last_in_front xs) = sym (filter-append p (drop n xs) (take n xs)) in
+    subst (λ ys. IsPermutation ys (filter p (last_in_front xs))) before (subst (IsPermutation (filter p (take n xs) ++ filter p (drop n xs))) after (IsPermutation-append_comm (filter p (take n xs)) (filter p (drop n xs))))
+
+filter-after : {X : Type 0} (p : X → Bool) (x : X) (xs ys : List X) → IsPermutation (filter p xs) (filter p ys) → IsPermutation (filter p (x ∷ xs)) (filter p (x ∷ ys))
+filter-after p x xs ys same = by (p x)
+  where
+    by : (b : Bool) → IsPermutation (cond b (x ∷ filter p xs) (filter p xs)) (cond b (x ∷ filter p ys) (filter p ys))
+    by true = IsPermutation-cons x _ _ same
+    by false = same
+
+-- those of another test are the same, whatever their order
+pub without_first-others : {X : Type 0} (p test : X → Bool) → ((x : X) → test x ≡ true → p x ≡ false) → (xs : List X) → IsPermutation (filter p xs) (filter p (without_first test xs))
+without_first-others p test apart [] = IsPermutation-refl []
+without_first-others {X} p test apart (y ∷ ys) = by (test y) refl (without_first-others p test apart ys)
+  where
+    by : (b : Bool) → test y ≡ b → IsPermutation (filter p ys) (filter p (without_first test ys)) → IsPermutation (filter p (y ∷ ys)) (filter p (cond b (last_in_front ys) (y ∷ without_first test ys)))
+    by true is rest = subst (λ b. IsPermutation (cond b (y ∷ filter p ys) (filter p ys)) (filter p (last_in_front ys))) (sym (apart y is)) (filter-last_in_front p ys)
+    by false is rest = filter-after p y ys (without_first test ys) rest

@@ -1,0 +1,12 @@
+use Rattle.std.proofs.Common.{◌≡◌, ◌+◌, ◌≤◌, length}
+use Rattle.std.specs.Vec.Iter.{into_iter_items, into_iter_len}
+use Rattle.lsp_base.specs.Base.{set_records}
+use Rattle.lsp_base.proofs.record_table.RecordTable.set_all.Given as goal
+
+abbrev pub invariant-loop-change : goal.invariant-loop-change
+invariant-loop-change l = record {
+  rest : set_records l.peer l.self.records (into_iter_items l.change-iterator) ≡ set_records l.peer l.fn.self.records l.fn.changes.items;
+  fits : length l.self.records + length (into_iter_items l.change-iterator) ≤ l.fn.self.room;
+  room : l.self.room ≡ l.fn.self.room;
+  len : into_iter_len l.change-iterator ≡ length (into_iter_items l.change-iterator);
+}

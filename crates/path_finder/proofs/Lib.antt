@@ -1,0 +1,4 @@
+pub mod Fees
+pub mod Certificates
+pub mod Rows
+pub mod Paths

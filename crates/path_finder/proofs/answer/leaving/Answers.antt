@@ -1,0 +1,6 @@
+use Rattle.std.proofs.Common.{sym}
+use Rattle.path_finder.proofs.Paths.{no_destination}
+use Rattle.path_finder.proofs.answer.leaving.Goals as goal
+
+pub returns-in-None-clause-none : goal.returns-in-None-clause-none
+returns-in-None-clause-none c = no_destination c.args.query.now (sym c.in-None.ensures.node)

@@ -1,0 +1,228 @@
+//! The path that a search answers.
+ghost use Rattle.std.specs.Prelude.{◌≡◌, ◌<◌, ◌≤◌, ◌^◌, Some, IfOk, IfSome, IfNone, length, slice_get};
+ghost use Rattle.te_snapshot.specs.Admissible.{IsLeast, IsImpossible, cost_of, is_within, keeps_other_bounds, node_of, metric_of};
+ghost use Rattle.path_finder.specs.Answers.{IsAnswer, IsRefused, searched};
+ghost use Rattle.path_finder.specs.Limits.{limit_of, hops_of};
+
+use crate::found::Found;
+use crate::least::least_walk;
+use crate::query::{Ends, Query};
+use lsp_base::Constraints;
+use pcep_objects::MetricType;
+use pcep_word::Ipv4;
+use std::alloc::{AllocError, Global};
+use te_base::{Link, LinkNumber, NodeNumber};
+use te_snapshot::{OwnShares, Snapshot, Topology};
+
+/// The least cost that is too much.
+fn limit_of(bound: Option<u64>) -> u32
+    ensures limit { result ≡ limit_of bound }
+    ensures small { result ≤ 2 ^ 31 }
+{
+    match bound {
+        Some(bound) if bound < 1 << 31 => bound as u32 + 1,
+        _ => 1 << 31,
+    }
+}
+
+fn hops_of(bound: Option<u64>) -> usize
+    ensures hops { result ≡ hops_of bound }
+    ensures few { result ≤ 64 }
+{
+    match bound {
+        Some(bound) if bound < 64 => bound as usize,
+        _ => 64,
+    }
+}
+
+fn node_of(topology: &Topology, end: Option<Ipv4>) -> Option<NodeNumber>
+    ensures node { result ≡ node_of topology.now end }
+    ensures within { IfSome result (λ n. n < topology.now.nodes) }
+{
+    match end {
+        Some(address) => topology.owner(address),
+        None => None,
+    }
+}
+
+/// A least path between two nodes.
+fn between(
+    alloc: Global,
+    query: &Query<'_>,
+    source: NodeNumber,
+    destination: NodeNumber,
+    fallbacks: &mut u64,
+) -> Result<Option<Found>, AllocError>
+    requires from { node_of query.now.topology.now query.now.constraints.now.source ≡ Some source }
+    requires to { node_of query.now.topology.now query.now.constraints.now.destination ≡ Some destination }
+    requires source { source < query.now.topology.now.nodes }
+    requires destination { destination < query.now.topology.now.nodes }
+    ensures some { IfOk result (λ r. IfSome r (λ f. IsLeast (searched query.now) query.now.constraints.now query.now.own.now f.links f.cost)) }
+    ensures none { IfOk result (λ r. IfNone r (IsImpossible (searched query.now) query.now.constraints.now query.now.own.now)) }
+{
+    let _links = query.topology.links();
+    if source == destination {
+        return Ok(None);
+    }
+    let ends = Ends {
+        source,
+        destination,
+        limit: limit_of(query.constraints.bound),
+    };
+    match least_walk(
+        alloc,
+        query,
+        ends,
+        hops_of(query.constraints.hop_bound),
+        fallbacks,
+    )? {
+        Some(found) => Ok(Some(found)),
+        None => Ok(None),
+    }
+}
+
+/// A least path from a node.
+fn leaving(
+    alloc: Global,
+    query: &Query<'_>,
+    source: NodeNumber,
+    fallbacks: &mut u64,
+) -> Result<Option<Found>, AllocError>
+    requires from { node_of query.now.topology.now query.now.constraints.now.source ≡ Some source }
+    requires source { source < query.now.topology.now.nodes }
+    ensures some { IfOk result (λ r. IfSome r (λ f. IsLeast (searched query.now) query.now.constraints.now query.now.own.now f.links f.cost)) }
+    ensures none { IfOk result (λ r. IfNone r (IsImpossible (searched query.now) query.now.constraints.now query.now.own.now)) }
+{
+    match node_of(query.topology, query.constraints.destination) {
+        None => Ok(None),
+        Some(destination) => between(alloc, query, source, destination, fallbacks),
+    }
+}
+
+/// A least path between the ends that are asked for.
+fn least_path(
+    alloc: Global,
+    query: &Query<'_>,
+    fallbacks: &mut u64,
+) -> Result<Option<Found>, AllocError>
+    ensures some { IfOk result (λ r. IfSome r (λ f. IsLeast (searched query.now) query.now.constraints.now query.now.own.now f.links f.cost)) }
+    ensures none { IfOk result (λ r. IfNone r (IsImpossible (searched query.now) query.now.constraints.now query.now.own.now)) }
+{
+    match node_of(query.topology, query.constraints.source) {
+        None => Ok(None),
+        Some(source) => leaving(alloc, query, source, fallbacks),
+    }
+}
+
+fn metric_on(metric: MetricType, links: &[Link], number: LinkNumber) -> u32
+    ensures value { result ≡ metric_of metric (slice_get links.now number) }
+{
+    match links.get(number) {
+        None => 0,
+        Some(link) => match metric {
+            MetricType::Igp => link.igp,
+            MetricType::Te => link.te,
+            MetricType::Hops => 1,
+        },
+    }
+}
+
+fn cost_of(metric: MetricType, links: &[Link], path: &[LinkNumber]) -> u64
+    requires { length path.now < 2 ^ 20 }
+    ensures { result ≡ cost_of metric links.now path.now }
+{
+    let mut cost = 0;
+    for number in path {
+        cost += u64::from(metric_on(metric, links, *number));
+    }
+    cost
+}
+
+fn is_within(bound: Option<u64>, cost: u64) -> bool
+    ensures { result ≡ is_within bound cost }
+{
+    match bound {
+        Some(bound) => cost <= bound,
+        None => true,
+    }
+}
+
+fn keeps_other_bounds(links: &[Link], constraints: &Constraints, path: &[LinkNumber]) -> bool
+    requires { length path.now < 2 ^ 20 }
+    ensures { result ≡ keeps_other_bounds links.now constraints.now path.now }
+{
+    is_within(
+        constraints.other_bounds.igp,
+        cost_of(MetricType::Igp, links, path),
+    ) && is_within(
+        constraints.other_bounds.te,
+        cost_of(MetricType::Te, links, path),
+    )
+}
+
+/// What is answered to a query.
+fn answer(
+    alloc: Global,
+    query: &Query<'_>,
+    fallbacks: &mut u64,
+) -> Result<Option<Found>, AllocError>
+    ensures some { IfOk result (λ r. IfSome r (IsAnswer (searched query.now) query.now.constraints.now query.now.own.now)) }
+    ensures none { IfOk result (λ r. IfNone r (IsRefused (searched query.now) query.now.constraints.now query.now.own.now)) }
+{
+    match least_path(alloc, query, fallbacks)? {
+        None => Ok(None),
+        Some(found) => {
+            if found.links.as_slice().len() > 64 {
+                unreachable!()
+            }
+            if keeps_other_bounds(
+                query.topology.links(),
+                query.constraints,
+                found.links.as_slice(),
+            ) {
+                Ok(Some(found))
+            } else {
+                Ok(None)
+            }
+        }
+    }
+}
+
+/// The same as `find`, and adds to `fallbacks` 1 where the quick search did not show its answer, so that the
+/// second one ran: where the cheapest walk has too many links.
+pub fn find_counting(
+    alloc: Global,
+    snapshot: &Snapshot,
+    constraints: &Constraints,
+    own: &OwnShares,
+    fallbacks: &mut u64,
+) -> Result<Option<Found>, AllocError>
+    ensures found { IfOk result (λ r. IfSome r (IsAnswer snapshot.now constraints.now own.now)) }
+    ensures none { IfOk result (λ r. IfNone r (IsRefused snapshot.now constraints.now own.now)) }
+{
+    let query = Query {
+        topology: snapshot.topology(),
+        unreserved: snapshot.table(),
+        constraints,
+        own: own.as_slice(),
+    };
+    answer(alloc, &query, fallbacks)
+}
+
+/// A path from the source to the destination that the snapshot admits, of least cost, with its cost, if it keeps
+/// the other bounds.
+///
+/// `None` where an end is not told or no node owns its address, where both ends are one node, where no path is
+/// admissible, and where the least path that was found breaks an other bound. Where several paths are least, any
+/// of them is answered. It takes no lock, and keeps nothing.
+pub fn find(
+    alloc: Global,
+    snapshot: &Snapshot,
+    constraints: &Constraints,
+    own: &OwnShares,
+) -> Result<Option<Found>, AllocError>
+    ensures found { IfOk result (λ r. IfSome r (IsAnswer snapshot.now constraints.now own.now)) }
+    ensures none { IfOk result (λ r. IfNone r (IsRefused snapshot.now constraints.now own.now)) }
+{
+    find_counting(alloc, snapshot, constraints, own, &mut 0)
+}

@@ -1,0 +1,23 @@
+-- Faults of messages: their numbers, and what a function returned against what reading gives.
+use Rattle.std.specs.Prelude.{◌≡◌, ℕ, Result, Ok, Err}
+use Rattle.pcep_messages.specs.declared.fault.MessageFault.{MessageFault}
+use Rattle.pcep_messages.specs.declared.fault.MessageFault.TheVariants.{BadHeader, BadObject, Missing, MissingIdentifiers, BadP, Refused, OutOfMemory}
+
+abbrev pub fault_number : MessageFault → ℕ
+fault_number BadHeader = 1
+fault_number (BadObject fault about) = 2
+fault_number (Missing class about) = 3
+fault_number (MissingIdentifiers about) = 4
+fault_number (BadP about) = 5
+fault_number (Refused kind value about) = 6
+fault_number OutOfMemory = 7
+
+-- a fault that was returned is the one of reading, but want of memory may come in place of any answer
+abbrev pub Fails : {Y : Type 0} → MessageFault → Result Y MessageFault → Type 0
+Fails OutOfMemory read = Unit {0}
+Fails fault read = read ≡ Err fault
+
+-- what was returned, seen by view, is what reading gives, unless memory ran out
+abbrev pub Gives : {X Y : Type 0} → (X → Y) → Result X MessageFault → Result Y MessageFault → Type 0
+Gives view (Ok x) read = read ≡ Ok (view x)
+Gives view (Err fault) read = Fails fault read

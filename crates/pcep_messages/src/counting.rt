@@ -1,0 +1,25 @@
+//! What counts of several objects: the first of a class, and of bandwidths the greatest.
+
+ghost use Rattle.std.specs.Prelude.{◌≡◌, max, Some};
+ghost use Rattle.std.specs.Option.{option_or};
+
+use pcep_word::Bandwidth;
+
+/// Keeps the first of its class.
+pub fn keep_first<T: Drop>(first: &mut Option<T>, next: T)
+    ensures { first.new ≡ option_or first.old (Some next) }
+{
+    if first.is_none() {
+        *first = Some(next);
+    }
+}
+
+pub fn greater(bandwidth: Bandwidth, other: Bandwidth) -> Bandwidth
+    ensures { result ≡ max bandwidth other }
+{
+    if bandwidth.value() < other.value() {
+        other
+    } else {
+        bandwidth
+    }
+}

@@ -1,0 +1,6 @@
+pub mod Network
+pub mod Leaving
+pub mod Inside
+pub mod Shared
+pub mod Room
+pub mod Admissible

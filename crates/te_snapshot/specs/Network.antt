@@ -1,0 +1,28 @@
+-- A network, and how much its links can still carry.
+use Rattle.std.specs.Prelude.{ℕ, ℤ, ◌<◌, ◌≤◌, List, length, All}
+use Rattle.te_base.specs.declared.network.Link.{Link}
+use Rattle.te_base.specs.declared.network.Owner.{Owner}
+use Rattle.te_base.specs.Base.{Base, IsLinkAmong}
+
+-- nodes and links by their numbers, from 0, and who owns which address
+pub record Network : Type 0 where
+  pub nodes : ℕ
+  pub links : List Link
+  pub owners : List Owner
+
+abbrev pub network_of : Base → Network
+network_of base = record { nodes = length base.nodes; links = base.links; owners = base.owners }
+
+pub record IsSoundNetwork (n : Network) : Type 0 where
+  pub few_nodes : n.nodes ≤ 1024
+  pub few_links : length n.links ≤ 4096
+  pub links : All (IsLinkAmong n.nodes) n.links
+  pub owners : All (λ o. o.node < n.nodes) n.owners
+
+-- a network with what is unreserved on each link, by priority
+pub record NetworkState : Type 0 where
+  pub network : Network
+  pub unreserved : List (List ℤ)
+
+abbrev pub state_of : Network → List (List ℤ) → NetworkState
+state_of network unreserved = record { network = network; unreserved = unreserved }

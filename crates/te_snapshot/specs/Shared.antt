@@ -1,0 +1,12 @@
+-- What a snapshot holds, without where it lies in memory.
+use Rattle.std.specs.Prelude.{◌≡◌, length}
+use Rattle.std.specs.Arc.{arc_value}
+use Rattle.te_snapshot.specs.declared.snapshot.Snapshot.TheInside.{Inside}
+use Rattle.te_snapshot.specs.Network.{NetworkState, state_of}
+
+abbrev pub state_in : Inside → NetworkState
+state_in s = state_of (arc_value (arc_value s.table).topology) (arc_value s.table).unreserved.items
+
+-- there are numbers for each link
+abbrev pub IsWhole : Inside → Type 0
+IsWhole s = length (arc_value s.table).unreserved.items ≡ length (arc_value (arc_value s.table).topology).links

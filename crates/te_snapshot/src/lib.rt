@@ -1,0 +1,33 @@
+//! What a path search reads: the network, and how much every link can still carry at a moment.
+//!
+//! A `Topology` is made once from a `TeBase` and never changes: the links, the links that leave each node and
+//! those that enter it, and the owners of addresses. A `Snapshot` joins it with a table of unreserved bandwidth, eight numbers
+//! a link, one for each priority. Both are shared: a snapshot is copied by counting one more owner, so it
+//! can be searched while the network is booked on. `OwnShares` says what a tunnel holds already.
+//!
+//! The layer above may rely on each snapshot being sound: at most 1,024 nodes and 4,096 links, each link
+//! from one node to another with metrics from 1 to 16,777,215, and eight numbers for each link. The
+//! definitions stand in `specs/`: `Network` has the lists, `Leaving` the links that leave or enter a node, and
+//! `Room` says whether a link bears a bandwidth beside what the tunnel holds there.
+//!
+//! ```text
+//! fn snapshot_of(alloc: Global, te: &TeBase, unreserved: Vec<[i64; 8]>) -> Result<Snapshot, AllocError>
+//!     requires { length unreserved.items ≡ length te.now.links }
+//!     ensures { IfOk result (λ s. s ≡ state_of (network_of te.now) unreserved.items) }
+//! {
+//!     let topology = Arc::new(alloc, Topology::new(alloc, te)?)?;
+//!     Snapshot::new(alloc, topology, unreserved)
+//! }
+//! ```
+#![tactic(auto)]
+
+mod leaving;
+mod outgoing;
+mod own;
+mod snapshot;
+mod topology;
+
+pub use outgoing::Outgoing;
+pub use own::{OwnShare, OwnShares, own_share};
+pub use snapshot::Snapshot;
+pub use topology::Topology;

@@ -1,0 +1,95 @@
+//! A network and how much its links can still carry.
+ghost use Rattle.std.specs.Prelude.{◌≡◌, ◌<◌, ◌≤◌, ℤ, IfOk, IfSome, All, length, slice_get, option_map};
+ghost use Rattle.std.specs.Arc.{arc_value};
+ghost use Rattle.te_base.specs.Base.{IsLinkAmong};
+ghost use Rattle.te_base.specs.Owners.{owner_of};
+ghost use Rattle.te_snapshot.specs.Network.{state_of};
+ghost use Rattle.te_snapshot.specs.Room.{left};
+
+use crate::topology::Topology;
+use pcep_word::{Ipv4, Priority};
+use sequence::PlainData;
+use std::alloc::{AllocError, Global};
+use std::marker::Model;
+use std::sync::Arc;
+use te_base::{Link, LinkNumber, NodeNumber};
+
+/// What snapshots share.
+#[derive(Drop)]
+struct Table {
+    topology: Arc<Topology, Global>,
+    unreserved: Vec<[i64; 8]>,
+}
+
+/// A network and the unreserved bandwidth of its links at a moment, in bytes per second for each priority.
+/// It never changes. A contract sees it as a `NetworkState`, with eight numbers for each link.
+#[derive(Drop)]
+pub struct Snapshot {
+    table: Arc<Table, Global>,
+}
+
+impl Model for Snapshot {
+    ghost use Rattle.te_snapshot.specs.Network.{NetworkState};
+
+    ghost Value = { NetworkState };
+
+    ghost use Rattle.te_snapshot.specs.Shared.{state_in, IsWhole};
+
+    ghost view = { state_in };
+
+    ghost invariant = { IsWhole };
+}
+
+impl Snapshot {
+    /// The network with these numbers: the eight at a place are what is unreserved on the link of that
+    /// number, by priority, and below 0 where more was reported than the link bears.
+    pub fn new(
+        alloc: Global,
+        topology: Arc<Topology, Global>,
+        unreserved: Vec<[i64; 8]>,
+    ) -> Result<Snapshot, AllocError>
+        requires { length unreserved.items ≡ length (arc_value topology).links }
+        ensures { IfOk result (λ s. s ≡ state_of (arc_value topology) unreserved.items) }
+    {
+        let table = Arc::new(
+            alloc,
+            Table {
+                topology,
+                unreserved,
+            },
+        )?;
+        Ok(Snapshot { table })
+    }
+
+    /// The network.
+    pub fn topology(&self) -> &Topology
+        ensures { result.now ≡ self.now.network }
+    {
+        &self.table.topology
+    }
+
+    /// What is unreserved on a link at a priority, in bytes per second; None where there is no such link.
+    pub fn unreserved(&self, link: LinkNumber, priority: Priority) -> Option<i64>
+        ensures { result ≡ option_map (λ _. left self.now.unreserved link priority) (slice_get self.now.network.links link) }
+    {
+        let numbers = self.table().get(link)?;
+        Some(numbers[priority.number() as usize])
+    }
+
+    /// What is unreserved on each link: eight numbers at the link's number, by priority.
+    pub fn table(&self) -> &[[i64; 8]]
+        ensures table { result.now ≡ self.now.unreserved }
+        ensures whole { length result.now ≡ length self.now.network.links }
+    {
+        &self.table.unreserved
+    }
+}
+
+impl PlainData for Snapshot {
+    /// The same snapshot, shared: takes no memory.
+    fn copy(&self) -> Result<Snapshot, AllocError> {
+        Ok(Snapshot {
+            table: Arc::try_clone(&self.table)?,
+        })
+    }
+}

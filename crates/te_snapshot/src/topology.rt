@@ -1,0 +1,110 @@
+//! The network that snapshots share.
+ghost use Rattle.std.specs.Prelude.{◌≡◌, ◌<◌, ◌≤◌, IfOk, IfSome, All, length, slice_get};
+ghost use Rattle.te_base.specs.Base.{IsLinkAmong};
+ghost use Rattle.te_base.specs.Owners.{owner_of};
+ghost use Rattle.te_snapshot.specs.Leaving.{entering, leaving, IsArcAmong};
+ghost use Rattle.te_snapshot.specs.Network.{network_of};
+
+use crate::leaving::{entering, leaving, list_at};
+use crate::outgoing::Outgoing;
+use pcep_word::Ipv4;
+use std::alloc::{AllocError, Global};
+use std::marker::Model;
+use te_base::{Link, LinkNumber, NodeNumber, Owner, TeBase};
+
+/// The links, the links that leave each node and those that enter it, and the owners of addresses. A contract
+/// sees it as a `Network` of lists, which is sound.
+#[derive(Debug, Drop)]
+pub struct Topology {
+    nodes: usize,
+    links: Vec<Link>,
+    owners: Vec<Owner>,
+    leaving: Vec<Vec<Outgoing>>,
+    entering: Vec<Vec<Outgoing>>,
+}
+
+impl Model for Topology {
+    ghost use Rattle.te_snapshot.specs.Network.{Network};
+
+    ghost Value = { Network };
+
+    ghost use Rattle.te_snapshot.specs.Inside.{network_in, IsInOrder};
+
+    ghost view = { network_in };
+
+    ghost invariant = { IsInOrder };
+}
+
+fn owner_in(owners: &[Owner], address: Ipv4) -> Option<NodeNumber>
+    ensures { result ≡ owner_of owners.now address }
+{
+    owners.iter().find(|o| o.address == address).map(|o| o.node)
+}
+
+impl Topology {
+    /// The network of a link text. Takes memory of its own.
+    pub fn new(alloc: Global, te: &TeBase) -> Result<Topology, AllocError>
+        ensures { IfOk result (λ t. t ≡ network_of te.now) }
+    {
+        let nodes = te.node_count();
+        Ok(Topology {
+            nodes,
+            links: te.links().to_vec(alloc)?,
+            owners: te.owners().to_vec(alloc)?,
+            leaving: leaving(alloc, te.links(), nodes)?,
+            entering: entering(alloc, te.links(), nodes)?,
+        })
+    }
+
+    /// How many nodes there are, at most 1,024. They are numbered from 0.
+    pub fn node_count(&self) -> usize
+        ensures count { result ≡ self.now.nodes }
+        ensures few { result ≤ 1024 }
+    {
+        self.nodes
+    }
+
+    /// All links, each at its number.
+    pub fn links(&self) -> &[Link]
+        ensures links { result.now ≡ self.now.links }
+        ensures few { length result.now ≤ 4096 }
+        ensures sound { All (IsLinkAmong self.now.nodes) result.now }
+    {
+        &self.links
+    }
+
+    /// The link of a number, None past the last.
+    pub fn link(&self, number: LinkNumber) -> Option<Link>
+        ensures link { result ≡ slice_get self.now.links number }
+        ensures sound { IfSome result (IsLinkAmong self.now.nodes) }
+    {
+        self.links.get(number).copied()
+    }
+
+    /// The node that owns an address, None where no node does.
+    pub fn owner(&self, address: Ipv4) -> Option<NodeNumber>
+        ensures owner { result ≡ owner_of self.now.owners address }
+        ensures node { IfSome result (λ n. n < self.now.nodes) }
+    {
+        owner_in(&self.owners, address)
+    }
+
+    /// The links that leave a node, in the order of their numbers.
+    pub fn leaving(&self, node: NodeNumber) -> &[Outgoing]
+        requires { node < self.now.nodes }
+        ensures links { result.now ≡ leaving self.now.links node }
+        ensures sound { All (IsArcAmong self.now.nodes) result.now }
+    {
+        list_at(&self.leaving, node)
+    }
+
+    /// The links that enter a node, in the order of their numbers. Each is given the other way round: `to` is
+    /// the node that the link leaves.
+    pub fn entering(&self, node: NodeNumber) -> &[Outgoing]
+        requires { node < self.now.nodes }
+        ensures links { result.now ≡ entering self.now.links node }
+        ensures sound { All (IsArcAmong self.now.nodes) result.now }
+    {
+        list_at(&self.entering, node)
+    }
+}
