@@ -190,24 +190,60 @@ fn half_a_message_books_nothing(rt: HostRuntime) -> Result<(), Fail> {
     )
 }
 
-/// A second session of a peer that is up ends with Error-Type 9, and the first one goes on.
+fn send(alloc: Global, client: &mut Client, store: &mut Lent, text: &str) -> Result<(), Fail> {
+    serve(client, 1, &bytes_of(alloc, text)?, 0, store)?;
+    Ok(())
+}
+
+fn is_sent(rt: &impl Abort, alloc: Global, client: &mut Client, text: &str) -> Result<(), Fail> {
+    let answer = bytes_of(alloc, text)?;
+    assert_eq!(rt; client.session.take_output().as_slice(), answer.as_slice());
+    Ok(())
+}
+
+/// The second session ends with Error-Type 9, and the first one stays up.
+fn second_ends(
+    rt: &impl Abort,
+    alloc: Global,
+    first: &Client,
+    second: &mut Client,
+) -> Result<(), Fail> {
+    is_sent(
+        rt,
+        alloc,
+        second,
+        "2001001401100010201e7800001000040000000520020004 2006000c0d10000800000900",
+    )?;
+    assert_eq!(rt; second.session.state(), State::Closed);
+    assert!(rt; !second.joined && first.joined);
+    assert_eq!(rt; first.session.state(), State::Up);
+    Ok(())
+}
+
+/// Of two sessions of a peer that greet, the second ends, and nothing comes of its end.
+fn greet_twice(
+    rt: &impl Abort,
+    alloc: Global,
+    first: &mut Client,
+    second: &mut Client,
+    store: &mut Lent,
+) -> Result<(), Fail> {
+    send(alloc, first, store, GREETING)?;
+    send(alloc, second, store, GREETING)?;
+    second_ends(rt, alloc, first, second)?;
+    send(alloc, first, store, REPORT)?;
+    hang_up(second, 1, store)?;
+    Ok(())
+}
+
+/// A second session of a peer that is up ends, and the first one goes on.
 #[test]
 fn a_second_session_of_a_peer_ends(rt: HostRuntime) -> Result<(), Fail> {
     let alloc = rt.alloc();
     let mut database = network(alloc)?;
     let mut store = Lent::new(alloc, &mut database);
     let (mut first, mut second) = (Client::new(alloc, 0)?, Client::new(alloc, 0)?);
-    serve(&mut first, 1, &bytes_of(alloc, GREETING)?, 0, &mut store)?;
-    serve(&mut second, 1, &bytes_of(alloc, GREETING)?, 0, &mut store)?;
-    let answer = bytes_of(
-        alloc,
-        "2001001401100010201e7800001000040000000520020004 2006000c0d10000800000900",
-    )?;
-    assert_eq!(rt; second.session.take_output().as_slice(), answer.as_slice());
-    assert_eq!(rt; second.session.state(), State::Closed);
-    assert!(rt; !second.joined && first.joined);
-    serve(&mut first, 1, &bytes_of(alloc, REPORT)?, 0, &mut store)?;
-    hang_up(&mut second, 1, &mut store)?;
+    greet_twice(&rt, alloc, &mut first, &mut second, &mut store)?;
     assert_eq!(rt;
         letters(alloc, store.calls())?.as_slice(),
         b"UNURN".as_slice()
@@ -216,45 +252,49 @@ fn a_second_session_of_a_peer_ends(rt: HostRuntime) -> Result<(), Fail> {
     Ok(())
 }
 
+/// So many steps are kept, and so much is left by B.
+fn has_kept(rt: &impl Abort, database: &Database, steps: u64, left: i64) {
+    assert_eq!(rt; database.steps(), steps);
+    assert_eq!(rt; left_by_b(database), Some(left));
+}
+
+/// A router greets, ends its synchronization and reports, over a database alone.
+fn report_to(
+    rt: &impl Abort,
+    alloc: Global,
+    database: &mut Database,
+    client: &mut Client,
+) -> Result<(), Fail> {
+    serve_database(database, client, 1, &greeting_and_report(alloc)?, 0)?;
+    is_sent(rt, alloc, client, GREETING)
+}
+
 /// A database alone takes the events as steps, and the answers are those over a store.
 #[test]
 fn a_database_alone_is_served(rt: HostRuntime) -> Result<(), Fail> {
-    let alloc = rt.alloc();
-    let mut database = network(alloc)?;
-    let mut client = Client::new(alloc, 0)?;
-    let bytes = greeting_and_report(alloc)?;
-    serve_database(&mut database, &mut client, 1, &bytes, 0)?;
-    let answer = bytes_of(alloc, GREETING)?;
-    assert_eq!(rt; client.session.take_output().as_slice(), answer.as_slice());
-    assert_eq!(rt;
-        (database.steps(), left_by_b(&database)),
-        (4, Some(500_000))
-    );
+    let mut database = network(rt.alloc())?;
+    let mut client = Client::new(rt.alloc(), 0)?;
+    report_to(&rt, rt.alloc(), &mut database, &mut client)?;
+    has_kept(&rt, &database, 4, 500_000);
     hang_up_database(&mut database, &mut client, 1)?;
-    assert_eq!(rt;
-        (database.steps(), client.session.state()),
-        (5, State::Closed)
-    );
+    has_kept(&rt, &database, 5, 500_000);
     Ok(())
 }
 
-fn copy_of<T: PlainData>(data: &T) -> Result<T, AllocError> {
-    data.copy()
+/// Whether a copy prints as what it was made of.
+fn is_copied<T: PlainData + Debug>(alloc: Global, value: &T) -> Result<bool, Fail> {
+    let copy = value.copy()?;
+    let copied = format!(in alloc; "{copy:?}")?;
+    let printed = format!(in alloc; "{value:?}")?;
+    Ok(copied.as_str() == printed.as_str())
 }
 
 #[test]
 fn a_call_is_copied(rt: HostRuntime) -> Result<(), Fail> {
-    let alloc = rt.alloc();
-    let mut database = network(alloc)?;
-    let mut store = Lent::new(alloc, &mut database);
-    let mut client = Client::new(alloc, 0)?;
-    serve(&mut client, 1, &greeting_and_report(alloc)?, 0, &mut store)?;
-    for call in store.calls() {
-        let copy = copy_of(call)?;
-        assert_eq!(rt;
-            format!(in alloc; "{copy:?}")?.as_str(),
-            format!(in alloc; "{call:?}")?.as_str()
-        );
-    }
+    let call = Call {
+        event: Event::Marker { peer: 1 },
+        reply: Reply::Refused(Why::PeerDown),
+    };
+    assert!(rt; is_copied(rt.alloc(), &call)?);
     Ok(())
 }
