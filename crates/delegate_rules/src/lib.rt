@@ -21,11 +21,15 @@
 mod fault;
 mod grants;
 mod identity;
+mod refusals;
 mod removals;
 mod reported;
+mod returns;
 mod rules;
 
 pub use fault::RuleFault;
+pub use refusals::on_refused;
+pub use returns::on_return;
 pub use rules::on_report;
 
 #[cfg(test)]

@@ -217,7 +217,7 @@ fn path_and_grants(
     Ok(added)
 }
 
-fn record_of(alloc: Global, plsp: Plsp, lsp: Lsp) -> Result<Vec<RecordChange>, AllocError>
+pub fn record_of(alloc: Global, plsp: Plsp, lsp: Lsp) -> Result<Vec<RecordChange>, AllocError>
     ensures { IfOk result (λ changes. changes.items ≡ one_record plsp lsp) }
 {
     let mut changes = Vec::new(alloc);

@@ -6,3 +6,5 @@ pub mod Rooms
 pub mod Grants
 pub mod Chains
 pub mod Tables
+pub mod Refusals
+pub mod Pending

@@ -8,7 +8,7 @@ use crate::path::Path;
 use crate::tunnel::{Part, is_part_reported};
 use pcep_objects::Plsp;
 
-fn is_the_number(number: Option<u32>, other: u32) -> bool
+pub(crate) fn is_the_number(number: Option<u32>, other: u32) -> bool
     ensures { result ≡ is_number number other }
 {
     match number {

@@ -32,6 +32,7 @@ mod lists;
 mod lsp;
 mod path;
 mod path_table;
+mod pending;
 mod record_table;
 mod tunnel;
 mod why;
@@ -44,6 +45,7 @@ pub use lists::{Choice, Edit, any_chosen, chosen, edit_all};
 pub use lsp::{Constraints, Lsp, OtherBounds};
 pub use path::Path;
 pub use pcep_word::Priorities;
+pub use pending::{GrantAs, is_created, is_delegated, is_pending, is_removed_as, is_removing};
 pub use tunnel::{Part, Tunnel, is_part_reported};
 pub use why::{Ends, Why};
 

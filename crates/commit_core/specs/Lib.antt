@@ -1,0 +1,4 @@
+pub mod Names
+pub mod Offers
+pub mod Routes
+pub mod Verdicts

@@ -1,0 +1,117 @@
+//! What becomes of a ticket when its search answers.
+ghost use Rattle.std.specs.Prelude.{◌≡◌, option_copied};
+ghost use Rattle.te_snapshot.specs.Network.{network_of};
+ghost use Rattle.bandwidth_book.specs.Books as books;
+ghost use Rattle.bandwidth_book.specs.Books.{StandsFor};
+ghost use Rattle.commit_core.specs.Routes.{is_admissible, is_acceptable};
+ghost use Rattle.commit_core.specs.Verdicts.{is_moot, is_gone, unless_tried, cannot_be_granted, accepted, judged, verdict};
+
+use crate::offers::is_request;
+use crate::route::{is_route, keeps_other_bounds};
+use crate::ticket::{Purpose, TRY_LIMIT, Ticket};
+use crate::verdict::{PeerView, Verdict};
+use bandwidth_book::Book;
+use lsp_base::{Constraints, LspBase, PATH_LIMIT, Path, is_delegated, is_pending};
+use te_base::TeBase;
+
+/// Whether there is nothing to update any more.
+fn is_moot(base: &LspBase, peer: u32, purpose: &Purpose) -> bool
+    ensures { result ≡ is_moot base.now.content peer purpose.now }
+{
+    match purpose {
+        Purpose::Update { plsp } => {
+            !is_delegated(base.lsp(peer, *plsp)) || is_pending(base, peer, *plsp)
+        }
+        Purpose::Initiate { .. } | Purpose::Answer { .. } => false,
+    }
+}
+
+fn is_gone(ticket: &Ticket, base: &LspBase, view: PeerView) -> bool
+    ensures { result ≡ is_gone base.now.content ticket.now view }
+{
+    let is_up = view.up && view.session == ticket.session;
+    let is_held_up = !is_request(&ticket.purpose) && view.syncing;
+    !is_up || is_held_up || is_moot(base, ticket.peer, &ticket.purpose)
+}
+
+fn unless_tried(ticket: &Ticket, verdict: Verdict) -> Verdict
+    ensures { result ≡ unless_tried ticket.now verdict }
+{
+    if ticket.tries < TRY_LIMIT {
+        Verdict::Again
+    } else {
+        verdict
+    }
+}
+
+fn cannot_be_granted(base: &LspBase, view: PeerView) -> bool
+    ensures { result ≡ cannot_be_granted base.now.content view }
+{
+    base.paths().len() >= PATH_LIMIT || view.srp_in_use
+}
+
+fn accepted(ticket: &Ticket, base: &LspBase, view: PeerView) -> Verdict
+    ensures { result ≡ accepted base.now.content ticket.now view }
+{
+    if is_request(&ticket.purpose) {
+        Verdict::Answer
+    } else if cannot_be_granted(base, view) {
+        Verdict::GivenUp
+    } else {
+        Verdict::Grant
+    }
+}
+
+/// Whether one more path is admissible now, and within all bounds.
+fn is_acceptable(
+    te: &TeBase,
+    base: &LspBase,
+    book: &Book,
+    constraints: &Constraints,
+    path: &Path,
+) -> bool
+    requires network { books.network_of book.now ≡ network_of te.now }
+    requires stands { StandsFor book.now base.now.content.paths }
+    ensures { result ≡ is_acceptable te.now base.now.content.paths constraints.now path.now }
+{
+    let links = path.links.as_slice();
+    is_route(te, constraints, links)
+        && book.fits(path, constraints.priorities.setup())
+        && keeps_other_bounds(te, constraints, links)
+}
+
+/// What becomes of a taken ticket, as the LSPs are now. `offer` is the path that a grant of what the search found
+/// would add (`offered_path`), or `None` where it found nothing; the search's own numbers play no part. Takes no
+/// memory.
+///
+/// `Gone` where the peer isn't up in the session in which the ticket was asked for, where it synchronizes (not
+/// for a request), or where an LSP to update isn't delegated any more or awaits a grant or a removal. With an
+/// offer that is admissible and within all bounds `Answer` for a request, else `Grant`, or `GivenUp` where 16,384
+/// paths stand or the next SRP-ID is still in use. With any other offer `Again`, and `GivenUp` at the fourth try.
+/// Without an offer `NoPath`, but `Again` where paths came or went since the ticket was taken, up to the fourth
+/// try.
+#[tactic(auto, unfolding(crate::specs::Verdicts::verdict))]
+pub fn judge(
+    ticket: &Ticket,
+    offer: Option<&Path>,
+    base: &LspBase,
+    book: &Book,
+    te: &TeBase,
+    view: PeerView,
+) -> Verdict
+    requires network { books.network_of book.now ≡ network_of te.now }
+    requires stands { StandsFor book.now base.now.content.paths }
+    ensures { result ≡ verdict ticket.now (option_copied offer.entry) base.now.content te.now view }
+{
+    if is_gone(ticket, base, view) {
+        return Verdict::Gone;
+    }
+    match offer {
+        Some(path) if is_acceptable(te, base, book, &ticket.constraints, path) => {
+            accepted(ticket, base, view)
+        }
+        Some(_) => unless_tried(ticket, Verdict::GivenUp),
+        None if view.changes == ticket.seen => Verdict::NoPath,
+        None => unless_tried(ticket, Verdict::NoPath),
+    }
+}

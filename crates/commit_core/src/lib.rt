@@ -1,0 +1,31 @@
+//! What becomes of a ticket when its search answers: `judge` tests the offer against the LSPs as they are now,
+//! whatever the snapshot of the search said. So no grant takes what isn't there: after it, each link that it
+//! charges anew has something left, or nothing, at each priority from holding to setup.
+//!
+//! The layer above may rely on it that the verdict is the definition's in `specs/Verdicts.antt`; `specs/Routes.antt`
+//! says which paths are admissible, `specs/Offers.antt` which path a grant of an offer adds, `specs/Names.antt` what
+//! name an LSP that is asked for may have. Nothing is changed here, and `judge` takes no memory.
+//!
+//! ```text
+//! let path = offered_path(&ticket, base, srp, links);
+//! if judge(&ticket, Some(&path), base, &book, &te, view) == Verdict::Grant {
+//!     let effect = Effect::new(Vec::new(alloc), vec![in alloc; path]?, Vec::new(alloc), false);
+//! }
+//! ```
+#![tactic(auto)]
+
+mod judge;
+mod name;
+mod offers;
+mod route;
+mod ticket;
+mod verdict;
+
+pub use judge::judge;
+pub use name::LspName;
+pub use offers::{is_request, offered_path, own_tunnel};
+pub use ticket::{Purpose, TRY_LIMIT, Ticket};
+pub use verdict::{PeerView, Verdict};
+
+#[cfg(test)]
+mod tests;

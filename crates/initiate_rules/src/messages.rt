@@ -1,0 +1,112 @@
+//! The messages of what the PCE asks for.
+ghost use Rattle.std.specs.Prelude.{◌≡◌, IfOk};
+ghost use Rattle.initiate_rules.specs.Messages.{hops_over, attributes_of, update_message, return_message, initiate_message, delete_message};
+
+use lsp_base::Constraints;
+use pcep_messages::{Attributes, Create, Initiate, Message, Update};
+use pcep_objects::{Hop, Plsp};
+use pcep_word::Ipv4;
+use sequence::Sequence;
+use std::alloc::{AllocError, Global};
+use te_base::{LinkNumber, TeBase};
+
+/// The route over links: for each that is there one strict hop, its remote address (RFC 3209 section 4.3.3).
+fn hops_over(
+    alloc: Global,
+    te: &TeBase,
+    numbers: &[LinkNumber],
+) -> Result<Sequence<Hop>, AllocError>
+    ensures { IfOk result (λ hops. hops ≡ hops_over te.now.links numbers.now) }
+{
+    let mut hops = Vec::new(alloc);
+    for number in numbers {
+        if let Some(link) = te.link(*number) {
+            hops.push(Hop::Host(link.remote, false))?;
+        }
+    }
+    Ok(Sequence::from_vec(hops))
+}
+
+fn attributes_of(constraints: &Constraints) -> Attributes
+    ensures { result ≡ attributes_of constraints.now }
+{
+    Attributes {
+        colours: constraints.colours,
+        priorities: constraints.priorities,
+    }
+}
+
+/// The PCUpd that carries out a grant (RFC 8231 section 6.2): the LSP stays delegated and is to be active, over
+/// the links of these numbers, with the bandwidth, the priorities and the colours that the grant was found for.
+#[tactic(auto, unfolding(crate::specs::Messages::update_message))]
+pub fn update_message(
+    alloc: Global,
+    te: &TeBase,
+    srp: u32,
+    plsp: Plsp,
+    constraints: &Constraints,
+    links: &[LinkNumber],
+) -> Result<Message, AllocError>
+    ensures { IfOk result (λ message. message ≡ update_message te.now.links srp plsp constraints.now links.now) }
+{
+    let ero = hops_over(alloc, te, links)?;
+    Ok(Message::Update(Update {
+        srp,
+        plsp,
+        delegate: true,
+        admin: true,
+        ero,
+        attributes: Some(attributes_of(constraints)),
+        bandwidth: Some(constraints.bandwidth),
+    }))
+}
+
+/// The PCUpd that gives an LSP back (RFC 8231 section 5.7.4): flag D clear, and no route. Takes no memory.
+#[tactic(auto, unfolding(crate::specs::Messages::return_message))]
+pub fn return_message(alloc: Global, srp: u32, plsp: Plsp) -> Message
+    ensures { result ≡ return_message srp plsp }
+{
+    Message::Update(Update {
+        srp,
+        plsp,
+        delegate: false,
+        admin: true,
+        ero: Sequence::from_vec(Vec::new(alloc)),
+        attributes: None,
+        bandwidth: None,
+    })
+}
+
+/// The PCInitiate that sets an LSP up (RFC 8281 section 5.3): its name, its ends, its links, and the bandwidth,
+/// the priorities and the colours that it was asked for with. An end that isn't told is written as 0.0.0.0.
+#[tactic(auto, unfolding(crate::specs::Messages::initiate_message))]
+pub fn initiate_message(
+    alloc: Global,
+    te: &TeBase,
+    srp: u32,
+    name: &[u8],
+    constraints: &Constraints,
+    links: &[LinkNumber],
+) -> Result<Message, AllocError>
+    ensures { IfOk result (λ message. message ≡ initiate_message te.now.links srp name.now constraints.now links.now) }
+{
+    let ero = hops_over(alloc, te, links)?;
+    let name = Sequence::from_vec(Vec::from_slice(alloc, name)?);
+    Ok(Message::Initiate(Initiate::Create(Create {
+        srp,
+        name,
+        source: constraints.source.unwrap_or(Ipv4(0)),
+        destination: constraints.destination.unwrap_or(Ipv4(0)),
+        ero,
+        attributes: Some(attributes_of(constraints)),
+        bandwidth: Some(constraints.bandwidth),
+    })))
+}
+
+/// The PCInitiate that takes an LSP away (RFC 8281 section 5.4): flag R of SRP set.
+#[tactic(auto, unfolding(crate::specs::Messages::delete_message))]
+pub fn delete_message(srp: u32, plsp: Plsp) -> Message
+    ensures { result ≡ delete_message srp plsp }
+{
+    Message::Initiate(Initiate::Remove { srp, plsp })
+}
