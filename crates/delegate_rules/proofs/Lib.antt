@@ -1,3 +1,4 @@
+mod AskedRows
 mod ReportRows
 pub mod Limits
 pub mod Picks

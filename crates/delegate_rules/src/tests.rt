@@ -10,6 +10,8 @@ use std::process::Abort;
 use std::test::Fail;
 use te_base::TeBase;
 
+mod asked;
+
 static DIAMOND: &str = r#"
 node = [
  {name="A",id="10.0.0.1"}, {name="B",id="10.0.0.2"},

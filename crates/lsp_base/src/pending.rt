@@ -66,8 +66,8 @@ impl Choice for GrantAs {
 }
 
 /// Whether the LSP is the peer's, and its removal has this SRP-ID.
-pub fn is_removed_as(record: &Record, peer: u32, srp: u32) -> bool
-    ensures { result ≡ is_removed_as peer srp record.now }
+pub fn is_removed_as(known: &Record, peer: u32, srp: u32) -> bool
+    ensures { result ≡ is_removed_as peer srp known.now }
 {
-    record.peer == peer && is_the_number(record.lsp.removing, srp)
+    known.peer == peer && is_the_number(known.lsp.removing, srp)
 }
