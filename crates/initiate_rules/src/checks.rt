@@ -1,5 +1,5 @@
 //! What an initiation and a deletion are refused for.
-ghost use Rattle.std.specs.Prelude.{◌≡◌, ◌&&◌, tt};
+ghost use Rattle.std.specs.Prelude.{◌≡◌, ◌&&◌};
 ghost use Rattle.std.specs.List.{list_any};
 ghost use Rattle.lsp_base.specs.Refusals.{answered_unless};
 ghost use Rattle.lsp_base.specs.Same.{same_links};
