@@ -1,0 +1,4 @@
+pub mod Nodes
+pub mod Soundness
+pub mod Found
+mod Rows

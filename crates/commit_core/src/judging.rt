@@ -1,9 +1,13 @@
 //! What becomes of a ticket when its search answers.
-ghost use Rattle.std.specs.Prelude.{◌≡◌, option_copied};
+ghost use Rattle.std.specs.Prelude.{◌≡◌, ◌≤◌, false, length, Some, option_copied};
+ghost use Rattle.lsp_base.specs.declared.path.Path.{Path};
 ghost use Rattle.te_snapshot.specs.Network.{network_of};
 ghost use Rattle.bandwidth_book.specs.Books as books;
 ghost use Rattle.bandwidth_book.specs.Books.{StandsFor};
 ghost use Rattle.commit_core.specs.Routes.{is_admissible, is_acceptable};
+ghost use Rattle.commit_core.specs.Searched.{IsFoundNow};
+ghost use Rattle.commit_core.specs.Sound.{LeavesRoom};
+ghost use Rattle.commit_core.specs.declared.verdict.Verdict.TheVariants.{Grant, Answer};
 ghost use Rattle.commit_core.specs.Verdicts.{is_moot, is_gone, unless_tried, cannot_be_granted, accepted, judged, verdict};
 
 use crate::offers::is_request;
@@ -80,18 +84,8 @@ fn is_acceptable(
         && keeps_other_bounds(te, constraints, links)
 }
 
-/// What becomes of a taken ticket, as the LSPs are now. `offer` is the path that a grant of what the search found
-/// would add (`offered_path`), or `None` where it found nothing; the search's own numbers play no part. Takes no
-/// memory.
-///
-/// `Gone` where the peer isn't up in the session in which the ticket was asked for, where it synchronizes (not
-/// for a request), or where an LSP to update isn't delegated any more or awaits a grant or a removal. With an
-/// offer that is admissible and within all bounds `Answer` for a request, else `Grant`, or `GivenUp` where 16,384
-/// paths stand or the next SRP-ID is still in use. With any other offer `Again`, and `GivenUp` at the fourth try.
-/// Without an offer `NoPath`, but `Again` where paths came or went since the ticket was taken, up to the fourth
-/// try.
 #[tactic(auto, unfolding(crate::specs::Verdicts::verdict))]
-pub fn judge(
+fn verdict_of(
     ticket: &Ticket,
     offer: Option<&Path>,
     base: &LspBase,
@@ -114,4 +108,38 @@ pub fn judge(
         None if view.changes == ticket.seen => Verdict::NoPath,
         None => unless_tried(ticket, Verdict::NoPath),
     }
+}
+
+/// What becomes of a taken ticket, as the LSPs are now. `offer` is the path that a grant of what the search found
+/// would add (`offered_path`), or `None` where it found nothing; the search's own numbers play no part. Takes no
+/// memory.
+///
+/// `Gone` where the peer isn't up in the session in which the ticket was asked for, where it synchronizes (not
+/// for a request), or where an LSP to update isn't delegated any more or awaits a grant or a removal. With an
+/// offer that is admissible and within all bounds `Answer` for a request, else `Grant`, or `GivenUp` where 16,384
+/// paths stand or the next SRP-ID is still in use. With any other offer `Again`, and `GivenUp` at the fourth try.
+/// Without an offer `NoPath`, but `Again` where paths came or went since the ticket was taken, up to the fourth
+/// try.
+///
+/// A grant leaves no link below zero at its setup priority or a better one, where it charges it anew. What a search
+/// finds is accepted where nothing changed since.
+pub fn judge(
+    ticket: &Ticket,
+    offer: Option<&Path>,
+    base: &LspBase,
+    book: &Book,
+    te: &TeBase,
+    view: PeerView,
+) -> Verdict
+    requires network { books.network_of book.now ≡ network_of te.now }
+    requires stands { StandsFor book.now base.now.content.paths }
+    ensures verdict { result ≡ verdict ticket.now (option_copied offer.entry) base.now.content te.now view }
+    ensures leaves_room { (g : Path) → option_copied offer.entry ≡ Some g → result ≡ Grant
+        → LeavesRoom te.now.links base.now.content.paths g ticket.now.constraints.priorities.setup }
+    ensures short { (g : Path) → option_copied offer.entry ≡ Some g → result ≡ Answer → length g.links ≤ 64 }
+    ensures found_is_accepted { IsFoundNow te.now base.now.content ticket.now (option_copied offer.entry)
+        → is_gone base.now.content ticket.now view ≡ false → result ≡ accepted base.now.content ticket.now view }
+{
+    let _setup = ticket.constraints.priorities.setup().number();
+    verdict_of(ticket, offer, base, book, te, view)
 }

@@ -14,16 +14,17 @@
 //! ```
 #![tactic(auto)]
 
-mod judge;
+mod judging;
 mod name;
 mod offers;
 mod route;
 mod ticket;
 mod verdict;
 
-pub use judge::judge;
+pub use judging::judge;
 pub use name::LspName;
 pub use offers::{is_request, offered_path, own_tunnel};
+pub use route::cost_of;
 pub use ticket::{Purpose, TRY_LIMIT, Ticket};
 pub use verdict::{PeerView, Verdict};
 

@@ -125,10 +125,11 @@ fn metric_of(te: &TeBase, minimise: MetricType, number: LinkNumber) -> u64
     }
 }
 
-/// The sum of a metric along a path.
+/// The sum of a metric along a path of at most 64 links; a link that isn't there costs nothing. Takes no memory.
 pub fn cost_of(te: &TeBase, minimise: MetricType, path: &[LinkNumber]) -> u64
     requires { length path.now ≤ 64 }
-    ensures { result ≡ cost_of minimise te.now.links path.now }
+    ensures cost { result ≡ cost_of minimise te.now.links path.now }
+    ensures small { result < 2 ^ 48 }
 {
     let mut cost = 0;
     for number in path {

@@ -4,6 +4,9 @@ use Rattle.std.specs.Prelude.{ℕ, true, false, List, [], ◌∷◌, Option, Som
 use Rattle.std.specs.List.{flat_map}
 use Rattle.pcep_objects.specs.declared.object.Hop.{Hop}
 use Rattle.pcep_objects.specs.declared.object.Hop.TheVariants.{Host}
+use Rattle.pcep_objects.specs.declared.object.MetricType.{MetricType}
+use Rattle.pcep_messages.specs.Constraints.{metric_number}
+use Rattle.pcep_messages.specs.declared.message.Answer.TheVariants as answers
 use Rattle.pcep_messages.specs.declared.message.Attributes.{Attributes}
 use Rattle.pcep_messages.specs.declared.message.Initiate.TheVariants as initiates
 use Rattle.pcep_messages.specs.declared.message.Message.{Message}
@@ -61,3 +64,16 @@ initiate_message links srp name c numbers = messages.Initiate (initiates.Create 
 
 unfoldable pub delete_message : ℕ → ℕ → Message
 delete_message srp plsp = messages.Initiate (initiates.Remove srp plsp)
+
+-- ---- what a path request is answered
+
+-- a path, and what it costs by the metric that it was to have least of
+unfoldable pub answer_message : List Link → ℕ → MetricType → ℕ → List ℕ → Message
+answer_message links request minimise cost numbers = messages.Reply (record {
+  request = request;
+  answer = answers.Found (hops_over links numbers) (Some (record { metric_type = metric_number minimise; value = cost }));
+})
+
+-- there is no path, and the PCE doesn't say why
+unfoldable pub no_path_message : ℕ → Message
+no_path_message request = messages.Reply (record { request = request; answer = answers.NoPath None })

@@ -16,7 +16,10 @@ mod messages;
 mod numbers;
 
 pub use checks::{check_delete, check_initiate};
-pub use messages::{delete_message, initiate_message, return_message, update_message};
+pub use messages::{
+    answer_message, delete_message, initiate_message, no_path_message, return_message,
+    update_message,
+};
 pub use numbers::{is_srp_used, next_srp};
 
 #[cfg(test)]

@@ -1,10 +1,11 @@
 //! The messages of what the PCE asks for.
 ghost use Rattle.std.specs.Prelude.{◌≡◌, IfOk};
-ghost use Rattle.initiate_rules.specs.Messages.{hops_over, attributes_of, update_message, return_message, initiate_message, delete_message};
+ghost use Rattle.initiate_rules.specs.Messages.{hops_over, attributes_of, update_message, return_message, initiate_message, delete_message, answer_message, no_path_message};
+ghost use Rattle.pcep_messages.specs.Constraints.{metric_number};
 
 use lsp_base::Constraints;
-use pcep_messages::{Attributes, Create, Initiate, Message, Update};
-use pcep_objects::{Hop, Plsp};
+use pcep_messages::{Answer, Attributes, Cost, Create, Initiate, Message, Reply, Update};
+use pcep_objects::{Hop, MetricType, MetricValue, Plsp};
 use pcep_word::Ipv4;
 use sequence::Sequence;
 use std::alloc::{AllocError, Global};
@@ -109,4 +110,49 @@ pub fn delete_message(srp: u32, plsp: Plsp) -> Message
     ensures { result ≡ delete_message srp plsp }
 {
     Message::Initiate(Initiate::Remove { srp, plsp })
+}
+
+fn metric_number(minimise: MetricType) -> u8
+    ensures { result ≡ metric_number minimise }
+{
+    match minimise {
+        MetricType::Igp => 1,
+        MetricType::Te => 2,
+        MetricType::Hops => 3,
+    }
+}
+
+/// The PCRep that answers a request with the links of these numbers, and with what they cost by the metric that
+/// the path was to have least of (RFC 5440 section 6.5).
+#[tactic(auto, unfolding(crate::specs::Messages::answer_message))]
+pub fn answer_message(
+    alloc: Global,
+    te: &TeBase,
+    request: u32,
+    minimise: MetricType,
+    cost: MetricValue,
+    links: &[LinkNumber],
+) -> Result<Message, AllocError>
+    ensures { IfOk result (λ message. message ≡ answer_message te.now.links request minimise cost links.now) }
+{
+    let hops = hops_over(alloc, te, links)?;
+    let cost = Cost {
+        metric_type: metric_number(minimise),
+        value: cost,
+    };
+    Ok(Message::Reply(Reply {
+        request,
+        answer: Answer::Found(hops, Some(cost)),
+    }))
+}
+
+/// The PCRep that tells of no path (RFC 5440 section 6.5), without NO-PATH-VECTOR. Takes no memory.
+#[tactic(auto, unfolding(crate::specs::Messages::no_path_message))]
+pub fn no_path_message(request: u32) -> Message
+    ensures { result ≡ no_path_message request }
+{
+    Message::Reply(Reply {
+        request,
+        answer: Answer::NoPath(None),
+    })
 }

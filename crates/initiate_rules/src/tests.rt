@@ -5,7 +5,7 @@ use lsp_base::{
     Why,
 };
 use pcep_messages::{Message, write_message};
-use pcep_objects::{Colours, MetricType, Plsp};
+use pcep_objects::{Colours, MetricType, MetricValue, Plsp};
 use pcep_word::{Bandwidth, Ipv4, Priorities, Priority};
 use sequence::Sequence;
 use std::alloc::{AllocError, Global};
@@ -139,6 +139,35 @@ fn lsps_are_given_back_and_deleted_in_these_bytes(rt: HostRuntime) -> Result<(),
     let deleted = [0x200c_0018, 0x2110_000c, 1, 2, 0x2010_0008, 0x0000_5001];
     let deletion = delete_message(2, Plsp::new(5));
     assert!(rt; is_written_as(alloc, &deletion, &deleted)?, "a deletion");
+    Ok(())
+}
+
+#[test]
+fn requests_are_answered_in_these_bytes(rt: HostRuntime) -> Result<(), Fail> {
+    let alloc = rt.alloc();
+    let te = TeBase::read(alloc, DIAMOND)?;
+    let cost = MetricValue::new(20);
+    let path = answer_message(alloc, &te, 8, MetricType::Te, cost, &[0, 1])?;
+    let answered = [
+        0x2004_0030,
+        0x0212_000c,
+        0,
+        8,
+        0x0710_0014,
+        0x0108_0a01,
+        0x0002_2000,
+        0x0108_0a02,
+        0x0002_2000,
+        0x0610_000c,
+        0x0000_0202,
+        0x41a0_0000,
+    ];
+    assert!(rt; is_written_as(alloc, &path, &answered)?, "a path");
+    let none = [0x2004_0018, 0x0212_000c, 0, 7, 0x0310_0008, 0];
+    assert!(rt;
+        is_written_as(alloc, &no_path_message(7), &none)?,
+        "no path"
+    );
     Ok(())
 }
 
