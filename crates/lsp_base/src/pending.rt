@@ -1,6 +1,5 @@
 //! What the PCE asked a peer for and awaits: a grant or a removal.
 ghost use Rattle.std.specs.Prelude.{◌≡◌, option_copied};
-ghost use Rattle.lsp_base.specs.Base.{lsp_at};
 ghost use Rattle.lsp_base.specs.Pending.{is_delegated, is_created, is_removing, is_pending, is_grant_as, is_removed_as};
 
 use crate::base::LspBase;

@@ -1,6 +1,5 @@
 //! What the PCE asked for is given back, or refused.
 ghost use Rattle.std.specs.Prelude.{◌<◌, ◌^◌};
-ghost use Rattle.lsp_base.specs.Rooms.{IsWithinLimit};
 
 use super::*;
 use lsp_base::{Constraints, Effect, Lsp, OtherBounds, PATH_LIMIT, Path, RecordChange, Tunnel};
@@ -54,101 +53,113 @@ fn path(alloc: Global, plsp: u32, part: Part) -> Path
     }
 }
 
-/// Peer 1 with its LSP 5 and these paths.
-fn base_of(
+/// Sets the record of LSP 5 of peer 1.
+fn know(
     rt: &impl Abort,
     alloc: Global,
-    lsp: Lsp,
-    added: Vec<Path>,
-) -> Result<LspBase, AllocError> {
-    let mut base = LspBase::new(alloc);
-    let records = vec![in alloc;
-        RecordChange {
-            plsp: Plsp::new(5),
-            lsp: Some(lsp)
-        },
-    ]?;
-    let effect = Effect::new(Vec::new(alloc), added, records, false);
+    base: &mut LspBase,
+    delegated: bool,
+    removing: Option<u32>,
+) -> Result<(), AllocError> {
+    let mut records = Vec::new(alloc);
+    records.push(RecordChange {
+        plsp: Plsp::new(5),
+        lsp: Some(lsp(alloc, delegated, removing)),
+    })?;
+    let effect = Effect::new(Vec::new(alloc), Vec::new(alloc), records, false);
     base.reserve(&effect)?;
-    assert!(rt; base.paths().is_empty() && effect.change.added.as_slice().len() <= PATH_LIMIT);
-    assert!(rt; effect.change.dropped.as_slice().is_empty());
-    base.change(1, effect);
-    Ok(base)
-}
-
-/// Carries an effect on peer 1 out.
-fn carry_out(base: &mut LspBase, effect: Effect) -> Result<(), AllocError>
-    requires { IsWithinLimit base.old.content effect }
-{
-    base.reserve(&effect)?;
+    assert!(rt; base.paths().len() < PATH_LIMIT);
     base.change(1, effect);
     Ok(())
+}
+
+/// Adds a path of peer 1.
+fn add(
+    rt: &impl Abort,
+    alloc: Global,
+    base: &mut LspBase,
+    plsp: u32,
+    part: Part,
+) -> Result<(), AllocError>
+    requires { plsp < 2 ^ 20 }
+{
+    let mut added = Vec::new(alloc);
+    added.push(path(alloc, plsp, part))?;
+    let effect = Effect::new(Vec::new(alloc), added, Vec::new(alloc), false);
+    base.reserve(&effect)?;
+    assert!(rt; base.paths().len() < PATH_LIMIT);
+    base.change(1, effect);
+    Ok(())
+}
+
+/// The LSP is given back.
+fn give_back(alloc: Global, base: &mut LspBase, peer: u32) -> Result<(), RuleFault> {
+    let effect = on_return(alloc, base, peer, Plsp::new(5))?;
+    base.reserve(&effect)?;
+    base.change(peer, effect);
+    Ok(())
+}
+
+/// A request is refused.
+fn refuse(alloc: Global, base: &mut LspBase, peer: u32, srp: u32) -> Result<(), AllocError> {
+    let effect = on_refused(alloc, base, peer, srp)?;
+    base.reserve(&effect)?;
+    base.change(peer, effect);
+    Ok(())
+}
+
+/// Whether so many paths stand and the LSP has a record, which awaits a removal or doesn't.
+fn stands(base: &LspBase, paths: usize, removing: bool) -> bool {
+    base.paths().len() == paths
+        && base
+            .lsp(1, Plsp::new(5))
+            .is_some_and(|lsp| lsp.removing.is_some() == removing)
+}
+
+/// Whether giving the LSP back is refused for this reason.
+fn is_refused(alloc: Global, base: &mut LspBase, peer: u32, why: Why) -> bool {
+    match give_back(alloc, base, peer) {
+        Err(RuleFault::Why(given)) => given == why,
+        _ => false,
+    }
 }
 
 #[test]
 fn lsps_are_given_back(rt: HostRuntime) -> Result<(), Fail> {
     let alloc = rt.alloc();
-    let plsp = Plsp::new(5);
-    let reported = vec![in alloc; path(alloc, 5, Part::Reported(1))]?;
-    let mut base = base_of(&rt, alloc, lsp(alloc, true, None), reported)?;
-    let effect = on_return(alloc, &base, 1, plsp)?;
-    carry_out(&mut base, effect)?;
-    assert!(rt;
-        base.lsp(1, plsp)
-            .is_some_and(|lsp| !lsp.delegated && lsp.created)
-    );
-    assert_eq!(rt; base.paths().len(), 1);
+    let mut base = LspBase::new(alloc);
+    assert!(rt; is_refused(alloc, &mut base, 1, Why::UnknownLsp));
+    know(&rt, alloc, &mut base, false, Some(3))?;
+    assert!(rt; is_refused(alloc, &mut base, 1, Why::NotDelegated));
+    know(&rt, alloc, &mut base, true, Some(3))?;
+    assert!(rt; is_refused(alloc, &mut base, 1, Why::Pending), "a removal");
+    know(&rt, alloc, &mut base, true, None)?;
+    assert!(rt; is_refused(alloc, &mut base, 2, Why::UnknownLsp));
+    give_back(alloc, &mut base, 1)?;
+    assert!(rt; is_refused(alloc, &mut base, 1, Why::NotDelegated), "again");
+    know(&rt, alloc, &mut base, true, None)?;
+    add(&rt, alloc, &mut base, 5, Part::Granted(7))?;
+    assert!(rt; is_refused(alloc, &mut base, 1, Why::Pending), "a grant");
     Ok(())
 }
 
-#[test]
-fn returns_are_refused_in_order(rt: HostRuntime) -> Result<(), Fail> {
-    let alloc = rt.alloc();
-    let plsp = Plsp::new(5);
-    let granted = vec![in alloc; path(alloc, 5, Part::Granted(7))]?;
-    let removed = base_of(&rt, alloc, lsp(alloc, true, Some(3)), Vec::new(alloc))?;
-    let kept = base_of(&rt, alloc, lsp(alloc, false, Some(3)), Vec::new(alloc))?;
-    let pending = base_of(&rt, alloc, lsp(alloc, true, None), granted)?;
-    for (base, peer, expected) in [
-        (&kept, 2, Why::UnknownLsp),
-        (&kept, 1, Why::NotDelegated),
-        (&removed, 1, Why::Pending),
-        (&pending, 1, Why::Pending),
-    ] {
-        match on_return(alloc, base, peer, plsp) {
-            Err(RuleFault::Why(why)) => assert_eq!(rt; why, expected),
-            _ => panic!(rt; "not {expected:?}"),
-        }
-    }
-    Ok(())
-}
-
-/// A grant that is bound goes with its LSP, one that isn't leaves the LSP, and a removal ends.
+/// A removal ends, a grant that isn't bound leaves the LSP, and one that is bound goes with it.
 #[test]
 fn refused_requests_are_over(rt: HostRuntime) -> Result<(), Fail> {
     let alloc = rt.alloc();
-    let plsp = Plsp::new(5);
-    let grants = vec![in alloc;
-        path(alloc, 5, Part::Granted(7)),
-        path(alloc, 0, Part::Granted(8)),
-    ]?;
-    let mut base = base_of(&rt, alloc, lsp(alloc, true, Some(3)), grants)?;
-    for (peer, srp) in [(2, 7), (2, 3), (1, 9)] {
-        let none = on_refused(alloc, &base, peer, srp)?;
-        assert!(rt; none.change.dropped.as_slice().is_empty());
-        assert!(rt; none.records.as_slice().is_empty());
-    }
-    let effect = on_refused(alloc, &base, 1, 3)?;
-    carry_out(&mut base, effect)?;
-    assert!(rt;
-        base.lsp(1, plsp)
-            .is_some_and(|lsp| lsp.removing.is_none() && lsp.delegated)
-    );
-    let effect = on_refused(alloc, &base, 1, 8)?;
-    carry_out(&mut base, effect)?;
-    assert!(rt; base.paths().len() == 1 && base.lsp(1, plsp).is_some());
-    let effect = on_refused(alloc, &base, 1, 7)?;
-    carry_out(&mut base, effect)?;
-    assert!(rt; base.paths().is_empty() && base.lsp(1, plsp).is_none());
+    let mut base = LspBase::new(alloc);
+    know(&rt, alloc, &mut base, true, Some(3))?;
+    add(&rt, alloc, &mut base, 5, Part::Granted(7))?;
+    add(&rt, alloc, &mut base, 0, Part::Granted(8))?;
+    refuse(alloc, &mut base, 2, 7)?;
+    refuse(alloc, &mut base, 2, 3)?;
+    refuse(alloc, &mut base, 1, 9)?;
+    assert!(rt; stands(&base, 2, true), "another's, and an unknown number");
+    refuse(alloc, &mut base, 1, 3)?;
+    assert!(rt; stands(&base, 2, false), "a removal");
+    refuse(alloc, &mut base, 1, 8)?;
+    assert!(rt; stands(&base, 1, false), "a grant that isn't bound");
+    refuse(alloc, &mut base, 1, 7)?;
+    assert!(rt; base.paths().is_empty() && base.lsp(1, Plsp::new(5)).is_none());
     Ok(())
 }
