@@ -1,5 +1,5 @@
 //! Whether links are a path that constraints allow.
-ghost use Rattle.std.specs.Prelude.{◌≡◌, ◌≤◌, ◌<◌, ◌*◌, ◌^◌, ◌==◌, ◌&&◌, ◌||◌, map, length, slice_get, true};
+ghost use Rattle.std.specs.Prelude.{◌≡◌, ◌≤◌, ◌<◌, ◌*◌, ◌^◌, ◌==◌, ◌&&◌, ◌||◌, not, bit_and, map, length, slice_get, true};
 ghost use Rattle.std.specs.List.{list_any};
 ghost use Rattle.te_snapshot.specs.Network.{network_of};
 ghost use Rattle.te_snapshot.specs.Admissible.{colours_pass, cost_of, end_of, is_distinct, is_within, keeps_other_bounds, metric, metric_of, node_of, nodes_of};
