@@ -12,3 +12,5 @@ pub mod Reserved
 pub mod Fits
 pub mod Runs
 pub mod Pending
+pub mod OwnShares
+pub mod Tables

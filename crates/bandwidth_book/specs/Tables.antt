@@ -4,6 +4,7 @@ use Rattle.lsp_base.specs.Shares.{unreserved}
 use Rattle.lsp_base.specs.declared.path.Path.{Path}
 use Rattle.lsp_base.specs.declared.tunnel.Tunnel.{Tunnel}
 use Rattle.te_base.specs.declared.network.Link.{Link}
+use Rattle.te_snapshot.specs.Left.{all_left}
 use Rattle.te_snapshot.specs.Network.{Network, NetworkState}
 use Rattle.te_snapshot.specs.Room.{left}
 use Rattle.bandwidth_book.specs.declared.held.Held.{Held}
@@ -17,7 +18,7 @@ AreLeft links paths table = (l p : ℕ) → l < length links → p < 8 → left 
 -- of them
 pub record IsLeftOver (n : Network) (count : ℕ) (held : ℕ → Tunnel → List Held) (s : NetworkState) : Type 0 where
   pub network : s.network ≡ n
-  pub left : (paths : List Path) → IsHeldBy count held paths → AreLeft n.links paths s.unreserved
+  pub left : (paths : List Path) → IsHeldBy count held paths → s.unreserved ≡ all_left n.links paths
 
 -- a snapshot that may be kept is of what is held now
 abbrev pub IsKept : Network → ℕ → (ℕ → Tunnel → List Held) → Option NetworkState → Type 0

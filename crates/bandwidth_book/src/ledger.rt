@@ -2,7 +2,7 @@
 ghost use Rattle.std.specs.Prelude.{◌≡◌, ◌<◌, ◌≤◌, ◌+◌, ◌-◌, ◌^◌, [], ℕ, length, slice_index, OnOk, if◌then◌else◌, true, false};
 ghost use Rattle.indexmap.specs.IndexMap.{IsUnique, keys};
 ghost use Rattle.std.proofs.lemmas.Map.Keys.{IsDistinct-prop};
-ghost use Rattle.bandwidth_book.specs.Held.{with_one, without_one, most};
+ghost use Rattle.bandwidth_book.specs.Held.{with_one, without_one, most, AreMaxima};
 ghost use Rattle.bandwidth_book.specs.Entries.{AreSums, has_entry, kept, promised_to};
 
 use crate::entries::{add_held, drop_held, promise_one, withdraw};
@@ -95,6 +95,16 @@ impl<K: Eq + Hash + Copy + Drop> Ledger<K> {
         match self.entries.get(&key) {
             Some(entry) => entry.maxima()[priority as usize],
             None => 0,
+        }
+    }
+
+    /// The greatest bandwidth of the key's paths that are held at each priority or a better one, or 0.
+    pub fn maxima(&self, key: K) -> [u64; 8]
+        ensures { AreMaxima result (kept K.eq self.now.entries.entries key) }
+    {
+        match self.entries.get(&key) {
+            Some(entry) => *entry.maxima(),
+            None => [0; 8],
         }
     }
 }

@@ -1,9 +1,10 @@
 //! Snapshots of what is left of every link.
 ghost use Rattle.std.specs.Prelude.{◌≡◌, ◌<◌, ◌^◌, ◌-ℤ◌, pos, Some, ℕ, List, length, slice_index, slice_index_or, IfOk, OnErr};
-ghost use Rattle.lsp_base.specs.Shares.{reservable, unreserved};
+ghost use Rattle.lsp_base.specs.Shares.{reservable};
 ghost use Rattle.lsp_base.specs.declared.effect.Change.{Change};
 ghost use Rattle.lsp_base.specs.declared.path.Path.{Path};
 ghost use Rattle.lsp_base.specs.declared.tunnel.Tunnel.{Tunnel};
+ghost use Rattle.te_snapshot.specs.Left.{all_left, left_on, state_beside};
 ghost use Rattle.te_snapshot.specs.Network.{NetworkState};
 ghost use Rattle.bandwidth_book.specs.Books.{HasNoEmptyEntry, IsReady, StandsFor, held_on, kept_by, links_of, network_of};
 ghost use Rattle.bandwidth_book.specs.Ledgers.{held_at};
@@ -34,18 +35,18 @@ fn left_of_each(reservable: u64, sums: &[u64; 8]) -> [i64; 8]
 }
 
 /// What is left of a link at each priority.
-#[tactic(auto, unfolding(lsp_base::specs::Shares::unreserved))]
 fn left_at(links: &[Link], ledgers: &[Ledger<Tunnel>], link: LinkNumber) -> [i64; 8]
     requires link { link < length links.now }
     requires ledger { link < length ledgers.now }
     requires small { reservable links.now link < 2 ^ 48 }
     ensures { (paths : List Path) → IsHeldBy (length ledgers.now) (held_at tunnel_eq ledgers.now) paths
-        → (p : ℕ) → p < 8 → slice_index_or result p (pos 0) ≡ unreserved links.now paths link p }
+        → result ≡ left_on links.now paths link }
 {
     left_of_each(reservable_of(links, link), sums_at(ledgers, link))
 }
 
 /// What is left of every link.
+#[tactic(auto, unfolding(te_snapshot::specs::Left::all_left), using(crate::proofs::Tables::one_more_left))]
 fn table_of(
     alloc: Global,
     links: &[Link],
@@ -54,7 +55,7 @@ fn table_of(
     requires same { length ledgers.now ≡ length links.now }
     requires small { (l : ℕ) → reservable links.now l < 2 ^ 48 }
     ensures whole { IfOk result (λ table. length table.items ≡ length links.now) }
-    ensures left { IfOk result (λ table. (paths : List Path) → IsHeldBy (length ledgers.now) (held_at tunnel_eq ledgers.now) paths → AreLeft links.now paths table.items) }
+    ensures left { IfOk result (λ table. (paths : List Path) → IsHeldBy (length ledgers.now) (held_at tunnel_eq ledgers.now) paths → table.items ≡ all_left links.now paths) }
 {
     let mut table = Vec::with_capacity(alloc, links.len())?;
     for link in 0..links.len() {
@@ -69,6 +70,7 @@ impl Book {
     /// made anew. Later changes leave it as it is. Where memory is refused nothing has changed.
     pub fn snapshot(&mut self) -> Result<Snapshot, AllocError>
         ensures network { IfOk result (λ s. s.network ≡ network_of self.old) }
+        ensures whole { IfOk result (λ s. (paths : List Path) → StandsFor self.old paths → s ≡ state_beside (network_of self.old) paths) }
         ensures left { IfOk result (λ s. (paths : List Path) → StandsFor self.old paths → AreLeft (links_of self.old) paths s.unreserved) }
         ensures again { IfOk result (λ s. (kept : NetworkState) → kept_by self.old ≡ Some kept → s ≡ kept) }
         ensures kept { IfOk result (λ s. kept_by self.new ≡ Some s) }

@@ -1,0 +1,22 @@
+use Rattle.std.proofs.Common.{◌≡◌, List, IfOk, ap, rules, ◌∙◌}
+use Rattle.lsp_base.specs.declared.path.Path.{Path}
+use Rattle.te_snapshot.specs.Left.{state_beside}
+use Rattle.te_snapshot.specs.Network.{NetworkState}
+use Rattle.te_snapshot.specs.Room.{left}
+use Rattle.bandwidth_book.specs.Books.{StandsFor, links_of, network_of}
+use Rattle.bandwidth_book.specs.Tables.{AreLeft}
+use Rattle.bandwidth_book.proofs.Tables.{are_left, if_ok}
+use Rattle.bandwidth_book.proofs.book.Book.snapshot.Goals as goal
+
+pub returns-in-Some-clause-left : goal.returns-in-Some-clause-left
+returns-in-Some-clause-left c =
+    let whole : IfOk c.copy.result (λ s. (paths : List Path) → StandsFor c.args.self.now paths → s ≡ state_beside (network_of c.args.self.now) paths) = search rules in
+    if_ok c.copy.result (λ s. (paths : List Path) → StandsFor c.args.self.now paths → s ≡ state_beside (network_of c.args.self.now) paths)
+    (λ s. (paths : List Path) → StandsFor c.args.self.now paths → AreLeft (links_of c.args.self.now) paths s.unreserved) whole
+    (λ s is paths stands l p less small. ap (λ (state : NetworkState). left state.unreserved l p) (is paths stands) ∙ are_left (links_of c.args.self.now) paths l p less small)
+
+pub returns-clause-left : goal.returns-clause-left
+returns-clause-left c =
+    let whole : (paths : List Path) → StandsFor c.args.self.now paths → c.in_ok-snapshot.snapshot ≡ state_beside (network_of c.args.self.now) paths = search rules in
+    λ paths s l p less small.
+    ap (λ (state : NetworkState). left state.unreserved l p) (whole paths s) ∙ are_left (links_of c.args.self.now) paths l p less small
