@@ -310,3 +310,57 @@ fn where_room_is_refused_the_book_stays(rt: HostRuntime) -> Result<(), Fail> {
     assert!(rt; says_the_same(&book, change.added.as_slice()));
     Ok(())
 }
+
+/// What one of the tunnels reserves on a link, by the paths.
+fn plain_own(paths: &[Path], tunnel: u8, link: usize) -> OwnShare {
+    let mut shares = [0u64; 8];
+    for number in 0..8u8 {
+        let priority = Priority::capped(number);
+        shares[number as usize] = plain_share(paths, tunnel_of(tunnel), link, priority);
+    }
+    OwnShare { link, shares }
+}
+
+/// What one of the tunnels reserves on each link on which it reserves something, by the paths.
+fn plain_list(
+    alloc: Global,
+    paths: &[Path],
+    tunnel: u8,
+    links: usize,
+) -> Result<Vec<OwnShare>, AllocError> {
+    let mut listed = Vec::new(alloc);
+    for link in 0..links {
+        let own = plain_own(paths, tunnel, link);
+        if own.shares[7] > 0 {
+            listed.push(own)?;
+        }
+    }
+    Ok(listed)
+}
+
+/// Whether the book lists of each tunnel what its paths reserve, link by link.
+fn lists_the_same(alloc: Global, book: &Book, paths: &[Path]) -> Result<bool, AllocError> {
+    for number in 0..8u8 {
+        let own = book.own_shares(&tunnel_of(number))?;
+        let listed = plain_list(alloc, paths, number, book.link_count())?;
+        if own.as_slice() != listed.as_slice() {
+            return Ok(false);
+        }
+    }
+    Ok(true)
+}
+
+#[test]
+fn own_shares_equal_plain(rt: HostRuntime) -> Result<(), Fail> {
+    let alloc = rt.alloc();
+    let mut book = diamond(alloc)?;
+    let mut draws = Draws { state: 11 };
+    let mut paths = Vec::new(alloc);
+    for _ in 0..100 {
+        let change = drawn_change(&rt, alloc, &mut draws, &mut paths)?;
+        book.reserve(&change)?;
+        book.change(&change);
+        assert!(rt; lists_the_same(alloc, &book, &paths)?);
+    }
+    Ok(())
+}
