@@ -1,7 +1,7 @@
 //! How long the running book takes: `book_bench LINKS PATHS EVENTS` books PATHS paths of four links in half as
 //! many tunnels on LINKS links, then lets EVENTS paths change, and says on standard error how many nanoseconds
-//! one event took (`reserve` and `change`), and one reading of all sums. Then the same for PATHS paths of one
-//! tunnel on one link.
+//! one event took (`reserve` and `change`), one reading of all sums, a snapshot, and the list of what a tunnel
+//! holds already. Then what an event took for PATHS paths of one tunnel on one link.
 #![tactic(auto)]
 
 use anyhow::Result;
@@ -174,6 +174,29 @@ fn measure_snapshots<R: Runtime<A = Global>>(
     say(rt, "snapshot_again", again, rounds * 1000)
 }
 
+/// Measures the lists of what tunnels hold already.
+fn measure_own_shares<R: Runtime<A = Global>>(
+    rt: &R,
+    book: &Book,
+    changes: &[Change],
+) -> Result<()> {
+    let mut listed = 0;
+    let mut count = 0u32;
+    let start = Instant::now(rt)?;
+    for change in changes.iter().take(1000) {
+        for path in change.added.as_slice() {
+            let own = book.own_shares(&path.tunnel)?;
+            listed = own.as_slice().len().max(listed);
+            count = count.wrapping_add(1);
+        }
+    }
+    say(rt, "own_shares", start.elapsed(rt)?, count)?;
+    if listed == 0 {
+        eprintln!(rt; "nothing_listed 0 ns")?;
+    }
+    Ok(())
+}
+
 /// Books the load and measures events on it, and readings.
 fn measure<R: Runtime<A = Global>>(rt: &R, te: &TeBase, load: Load, events: u32) -> Result<u64> {
     let alloc = rt.alloc();
@@ -197,6 +220,7 @@ fn measure<R: Runtime<A = Global>>(rt: &R, te: &TeBase, load: Load, events: u32)
     if !load.crowded {
         say(rt, "all_sums", start.elapsed(rt)?, 100)?;
         measure_snapshots(rt, &mut book, &changes)?;
+        measure_own_shares(rt, &book, &changes)?;
     }
     Ok(total)
 }
