@@ -1,7 +1,7 @@
 -- What a report does to paths and records.
 use Rattle.std.specs.Prelude.{ℕ, ◌+◌, Bool, true, false, ◌==◌, ◌&&◌, ◌||◌, List, [], ◌∷◌, length, map, filter, Option, Some, is_none, Result, Ok, Err, if◌then◌else◌, nat_lt}
 use Rattle.te_base.specs.Base.{Base}
-use Rattle.lsp_base.specs.Base.{Lsps, lsp_at, is_path_of, ended_records, effect_of}
+use Rattle.lsp_base.specs.Base.{Lsps, lsp_at, is_path_of, ended_record, effect_of}
 use Rattle.lsp_base.specs.Grants.{has_grant}
 use Rattle.lsp_base.specs.declared.tunnel.Tunnel.{Tunnel}
 use Rattle.lsp_base.specs.declared.tunnel.Tunnel.TheVariants.{Signalled, Unsignalled, Asked}
@@ -76,14 +76,14 @@ abbrev pub bound_grants : Bool → List Path → ℕ → StateReport → List Pa
 bound_grants granted paths peer r = if are_zero (identifiers_of r) then [] else map (bound_grant r) (filter (is_grant_bound granted peer r) paths)
 
 -- an LSP of which a grant was bound keeps its record
-abbrev pub records_left : Lsps → ℕ → (Path → Bool) → List Path → List RecordChange
-records_left lsps peer goes bound = if is_nil bound then ended_records lsps peer goes else []
+abbrev pub records_left : List Path → ℕ → ℕ → (Path → Bool) → List Path → List RecordChange
+records_left paths peer plsp goes bound = if is_nil bound then ended_record paths peer plsp goes else []
 
 unfoldable pub removal_effect_by : Bool → Lsps → ℕ → StateReport → Effect
 removal_effect_by granted lsps peer r =
     let goes = goes_by_removal granted peer r in
     let bound = bound_grants granted lsps.paths peer r in
-    effect_of (filter goes lsps.paths) bound (records_left lsps peer goes bound) false
+    effect_of (filter goes lsps.paths) bound (records_left lsps.paths peer r.plsp goes bound) false
 
 abbrev pub removal_effect : Lsps → ℕ → StateReport → Effect
 removal_effect lsps peer r = removal_effect_by (has_grant lsps.paths peer r.plsp) lsps peer r

@@ -6,8 +6,9 @@ ghost use Rattle.delegate_rules.specs.Effects.{is_reported_as, is_removed, goes_
 use crate::grants::{grants_bound, meets_grant, settles_grant};
 use crate::identity::{are_all_zero, identifiers};
 use crate::reported::has_no_path;
-use lsp_base::{Choice, Effect, LspBase, Part, Path, RecordChange, ended, is_path_of_lsp};
+use lsp_base::{Choice, Effect, LspBase, Part, Path, RecordChange, ended_record, is_path_of_lsp};
 use pcep_messages::StateReport;
+use pcep_objects::Plsp;
 use std::alloc::{AllocError, Global};
 
 fn is_reported_as(lsp: u16, path: &Path) -> bool
@@ -55,19 +56,21 @@ impl<'a> Choice for GoesByRemoval<'a> {
     }
 }
 
-/// Takes away the peer's records that have no path left, unless a grant was bound.
+/// Takes the LSP's record away where it has no path left, unless a grant was bound. All paths that go are
+/// the LSP's, or were bound to none: so no other record can have lost its last one.
 fn records_after(
     alloc: Global,
     base: &LspBase,
     peer: u32,
+    plsp: Plsp,
     goes: &GoesByRemoval,
     bound: &[Path],
 ) -> Result<Vec<RecordChange>, AllocError>
-    ensures { IfOk result (λ changes. changes.items ≡ records_left base.now.content peer
+    ensures { IfOk result (λ changes. changes.items ≡ records_left base.now.content.paths peer plsp
         (goes_by_removal goes.now.granted goes.now.peer goes.now.report.now) bound.now) }
 {
     if has_no_path(bound) {
-        ended(alloc, base, peer, goes)
+        ended_record(alloc, base, peer, plsp, goes)
     } else {
         Ok(Vec::new(alloc))
     }
@@ -91,6 +94,6 @@ pub fn effect_of_removal(
     };
     let dropped = base.chosen_of(alloc, peer, report.plsp, &goes)?;
     let bound = grants_bound(alloc, base, granted, peer, report)?;
-    let records = records_after(alloc, base, peer, &goes, bound.as_slice())?;
+    let records = records_after(alloc, base, peer, report.plsp, &goes, bound.as_slice())?;
     Ok(Effect::new(dropped, bound, records, false))
 }

@@ -113,6 +113,10 @@ has_none_left test peer paths r = r.peer == peer && not (list_any (λ x. not (te
 abbrev pub ended_records : Lsps → ℕ → (Path → Bool) → List RecordChange
 ended_records lsps peer test = map taking (filter (has_none_left test peer lsps.paths) lsps.records)
 
+-- the LSP's record is taken away where no path of it stays where those that pass the test go
+abbrev pub ended_record : List Path → ℕ → ℕ → (Path → Bool) → List RecordChange
+ended_record paths peer plsp test = if list_any (λ x. not (test x) && is_path_of peer plsp x) paths then [] else record { plsp = plsp; lsp = None } ∷ []
+
 -- the effect that drops the paths that pass the test
 unfoldable pub dropping : Lsps → ℕ → (Path → Bool) → Effect
 dropping lsps peer test = effect_of (filter test lsps.paths) [] (ended_records lsps peer test) false

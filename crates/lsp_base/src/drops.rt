@@ -1,6 +1,7 @@
 //! Paths that go, with the records that then have none.
-ghost use Rattle.std.specs.Prelude.{◌≡◌, not, map, filter, IfOk, IsPermutation};
-ghost use Rattle.lsp_base.specs.Base.{is_path_of, taking, has_none_left, ended_records, changed, dropping};
+ghost use Rattle.std.specs.Prelude.{◌≡◌, ◌&&◌, not, map, filter, IfOk, IsPermutation};
+ghost use Rattle.std.specs.List.{list_any};
+ghost use Rattle.lsp_base.specs.Base.{is_path_of, taking, has_none_left, ended_records, ended_record, changed, dropping};
 ghost use Rattle.lsp_base.specs.Rooms.{IsWithinLimit};
 
 use crate::base::LspBase;
@@ -36,15 +37,38 @@ impl<'a, C: Choice> Choice for StaysOf<'a, C> {
     }
 }
 
+/// Whether a path of the LSP stays where those of the choice go.
+fn keeps_a_path<C: Choice>(base: &LspBase, peer: u32, plsp: Plsp, going: &C) -> bool
+    ensures { result ≡ list_any (λ x. not (C.chooses going.now x) && is_path_of peer plsp x) base.now.content.paths }
+{
+    base.any_chosen_of(peer, plsp, &StaysOf { going, peer, plsp })
+}
+
 fn has_ended<C: Choice>(base: &LspBase, known: &Record, peer: u32, going: &C) -> bool
     ensures { result ≡ has_none_left (C.chooses going.now) peer base.now.content.paths known.now }
 {
-    let plsp = known.plsp;
-    known.peer == peer && !base.any_chosen_of(peer, plsp, &StaysOf { going, peer, plsp })
+    known.peer == peer && !keeps_a_path(base, peer, known.plsp, going)
+}
+
+/// Takes the LSP's record away, where no path of it stays where those of the choice go.
+pub fn ended_record<C: Choice>(
+    alloc: Global,
+    base: &LspBase,
+    peer: u32,
+    plsp: Plsp,
+    going: &C,
+) -> Result<Vec<RecordChange>, AllocError>
+    ensures { IfOk result (λ changes. changes.items ≡ ended_record base.now.content.paths peer plsp (C.chooses going.now)) }
+{
+    let mut changes = Vec::new(alloc);
+    if !keeps_a_path(base, peer, plsp, going) {
+        changes.push(RecordChange { plsp, lsp: None })?;
+    }
+    Ok(changes)
 }
 
 /// Takes away the peer's records of which no path stays where those of the choice go.
-pub fn ended<C: Choice>(
+fn ended<C: Choice>(
     alloc: Global,
     base: &LspBase,
     peer: u32,

@@ -1,9 +1,9 @@
 //! Grants: paths that the PCE granted, until the peer has carried them out or refused them.
 ghost use Rattle.std.specs.Prelude.{◌≡◌};
-ghost use Rattle.lsp_base.specs.Grants.{is_grant_of, has_grant, is_number, has_srp, is_unbound_grant};
+ghost use Rattle.lsp_base.specs.Grants.{is_grant_of, is_number, has_srp, is_unbound_grant};
 
 use crate::drops::is_path_of_lsp;
-use crate::lists::{Choice, any_chosen};
+use crate::lists::Choice;
 use crate::path::Path;
 use crate::tunnel::{Part, is_part_reported};
 use pcep_objects::Plsp;
@@ -56,11 +56,4 @@ impl Choice for GrantOf {
     fn chooses(&self, path: &Path) -> bool {
         is_grant_of_lsp(path, self.peer, self.plsp)
     }
-}
-
-/// Whether the LSP has a grant.
-pub fn has_grant(paths: &[Path], peer: u32, plsp: Plsp) -> bool
-    ensures { result ≡ has_grant paths.now peer plsp }
-{
-    any_chosen(paths, &GrantOf { peer, plsp })
 }
