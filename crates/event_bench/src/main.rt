@@ -1,0 +1,165 @@
+//! How long events take: `event_bench LINKTEXT PEERS LSPS EVENTS [HOPS]` reads a link text, lets LSPs come up
+//! with routes of HOPS hops (4 where it isn't said), at first 100 of four peers, then LSPS of each of PEERS
+//! peers, and says on standard error how many nanoseconds each kind of event took: a report that replaces a
+//! path (the mean of EVENTS, and the slowest), a removal, a new LSP, the first report of a known LSP in a new
+//! session; and what a whole session took that goes down, comes up again and synchronizes, and the expiry of
+//! a peer. Standard output has the number of steps of each history.
+#![tactic(auto)]
+
+mod load;
+mod routes;
+
+use crate::load::{Load, back, filled, known_again, removed, replaced};
+use crate::routes::Routes;
+use anyhow::{Result, bail};
+use history_core::{Database, Event};
+use std::alloc::Global;
+use std::fs;
+use std::rt::Runtime;
+use std::time::{Duration, Instant};
+use te_base::TeBase;
+
+/// Applies the events.
+#[inline(never)]
+fn apply_all(database: &mut Database, events: Vec<Event>) -> Result<()> {
+    for event in events {
+        let _reply = database.apply(event)?;
+    }
+    Ok(())
+}
+
+/// How long the events take in all.
+fn timed<R: Runtime<A = Global>>(
+    rt: &R,
+    database: &mut Database,
+    events: Vec<Event>,
+) -> Result<Duration> {
+    let start = Instant::now(rt)?;
+    apply_all(database, events)?;
+    Ok(start.elapsed(rt)?)
+}
+
+/// How long the slowest of the events takes.
+fn slowest<R: Runtime<A = Global>>(
+    rt: &R,
+    database: &mut Database,
+    events: Vec<Event>,
+) -> Result<Duration> {
+    let mut most = Duration::ZERO;
+    for event in events {
+        let start = Instant::now(rt)?;
+        let _reply = database.apply(event)?;
+        most = start.elapsed(rt)?.max(most);
+    }
+    Ok(most)
+}
+
+fn say<R: Eprint>(rt: &R, load: Load, name: &str, took: Duration, count: u32) -> Result<()> {
+    let each = took.as_nanos() / u128::from(count.max(1));
+    eprintln!(rt; "{} {name} {each} ns", load.paths())?;
+    Ok(())
+}
+
+/// Measures reports that replace a path.
+fn measure_reports<R: Runtime<A = Global>>(
+    rt: &R,
+    database: &mut Database,
+    routes: &Routes,
+    load: Load,
+) -> Result<()> {
+    let alloc = rt.alloc();
+    let took = timed(rt, database, replaced(alloc, routes, load, 1)?)?;
+    say(rt, load, "replaced", took, load.events)?;
+    let most = slowest(rt, database, replaced(alloc, routes, load, 2)?)?;
+    say(rt, load, "slowest", most, 1)
+}
+
+/// Measures LSPs that go, and that come.
+fn measure_lsps<R: Runtime<A = Global>>(
+    rt: &R,
+    database: &mut Database,
+    routes: &Routes,
+    load: Load,
+) -> Result<()> {
+    let alloc = rt.alloc();
+    let mut going = Duration::ZERO;
+    let mut coming = Duration::ZERO;
+    for round in 0..20u32 {
+        going = timed(rt, database, removed(alloc, routes, load, round)?)?.saturating_add(going);
+        coming = timed(rt, database, back(alloc, routes, load, round)?)?.saturating_add(coming);
+    }
+    let count = load.batch().saturating_mul(20);
+    say(rt, load, "removal", going, count)?;
+    say(rt, load, "new_lsp", coming, count)
+}
+
+/// Measures a session that goes down, comes up again and synchronizes, and the expiry of a peer.
+fn measure_sessions<R: Runtime<A = Global>>(
+    rt: &R,
+    database: &mut Database,
+    routes: &Routes,
+    load: Load,
+) -> Result<()> {
+    let alloc = rt.alloc();
+    let peer = 1;
+    let down = timed(rt, database, vec![in alloc; Event::Down { peer }]?)?;
+    let up = timed(rt, database, vec![in alloc; load::up(peer)]?)?;
+    let reports = timed(rt, database, known_again(alloc, routes, load, peer)?)?;
+    let marker = timed(rt, database, vec![in alloc; Event::Marker { peer }]?)?;
+    let around = down.saturating_add(up).saturating_add(marker);
+    say(rt, load, "down", down, 1)?;
+    say(rt, load, "marker", marker, 1)?;
+    say(rt, load, "known_again", reports, load.lsps)?;
+    say(rt, load, "session", around.saturating_add(reports), 1)?;
+    let _down = timed(rt, database, vec![in alloc; Event::Down { peer }]?)?;
+    let expire = timed(rt, database, vec![in alloc; Event::Expire { peer }]?)?;
+    say(rt, load, "expire", expire, 1)
+}
+
+/// Lets the LSPs come up, and measures events on them. The number of steps that are kept.
+fn measure<R: Runtime<A = Global>>(rt: &R, text: &str, load: Load) -> Result<u64> {
+    let alloc = rt.alloc();
+    let te = TeBase::read(alloc, text)?;
+    let routes = Routes::new(alloc, &te, load.hops)?;
+    let mut database = Database::new(alloc, te)?;
+    apply_all(&mut database, filled(alloc, &routes, load)?)?;
+    measure_reports(rt, &mut database, &routes, load)?;
+    measure_lsps(rt, &mut database, &routes, load)?;
+    measure_sessions(rt, &mut database, &routes, load)?;
+    Ok(database.steps())
+}
+
+/// The number that a word says, or another.
+fn number(words: &[String], place: usize, other: u32) -> u32 {
+    words
+        .get(place)
+        .and_then(|word| word.parse::<u32>().ok())
+        .unwrap_or(other)
+}
+
+fn main(rt: HostRuntime) -> Result<()> {
+    let words: Vec<String> = std::env::args(&rt)?.collect(rt.alloc())?;
+    let Some(path) = words.get(1) else {
+        bail!("no link text is named");
+    };
+    let text = fs::read_to_string(&rt, path)?;
+    let events = number(&words, 4, 16);
+    let hops = number(&words, 5, 4);
+    let few = Load {
+        peers: 4,
+        lsps: 25,
+        events,
+        hops,
+    };
+    let many = Load {
+        peers: number(&words, 2, 64),
+        lsps: number(&words, 3, 256),
+        events,
+        hops,
+    };
+    for load in [few, many] {
+        let steps = measure(&rt, &text, load)?;
+        println!(rt; "{} paths: {steps} steps", load.paths())?;
+    }
+    Ok(())
+}
