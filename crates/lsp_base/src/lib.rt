@@ -41,7 +41,7 @@ pub use base::{LspBase, PATH_LIMIT};
 pub use drops::{dropping_effect, ended_record, is_path_of_lsp};
 pub use effect::{Change, Effect, Record, RecordChange};
 pub use grants::{carries_srp, is_grant_of_lsp, is_unbound};
-pub use lists::{Choice, Edit, edit_all};
+pub use lists::{Choice, Edit, any_chosen, chosen, edit_all};
 pub use lsp::{Constraints, Lsp, OtherBounds};
 pub use path::Path;
 pub use pcep_word::Priorities;

@@ -1,5 +1,6 @@
 //! Paths in lists: those that pass a test, and changes of each.
 ghost use Rattle.std.specs.Prelude.{◌≡◌, IfOk, filter, map, vec_capacity};
+ghost use Rattle.std.specs.List.{list_any};
 
 use crate::path::Path;
 use sequence::PlainData;
@@ -37,6 +38,18 @@ pub fn chosen<C: Choice>(alloc: Global, paths: &[Path], choice: &C) -> Result<Ve
         }
     }
     Ok(found)
+}
+
+/// Whether a path passes the test.
+pub fn any_chosen<C: Choice>(paths: &[Path], choice: &C) -> bool
+    ensures { result ≡ list_any (C.chooses choice.now) paths.now }
+{
+    for path in paths {
+        if choice.chooses(path) {
+            return true;
+        }
+    }
+    false
 }
 
 /// Changes each of the paths.
