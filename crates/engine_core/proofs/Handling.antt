@@ -20,7 +20,7 @@ use Rattle.step_core.specs.declared.event.Event.{Event}
 use Rattle.step_core.specs.declared.event.Event.TheVariants as event
 use Rattle.step_core.specs.declared.event.Reply.{Reply}
 use Rattle.step_core.specs.declared.event.Reply.TheVariants as replies
-use Rattle.engine_core.specs.Engine.{client_with, ending, second_session, after_refused_up, after_up, event_of, saying, cannot_process, after_report, on_up, on_report, on_reports, on_message, on_input, turned, turns}
+use Rattle.engine_core.specs.Engine.{client_with, ending, second_session, after_refused_up, after_up, event_of, saying, cannot_process, after_report, on_up, on_report, on_reports, on_refusal, on_refusals, on_message, on_input, turned, turns}
 use Rattle.engine_core.specs.Laws.{AllHandled}
 use Rattle.engine_core.specs.Plans.{Plan, Returns, Reaches, Submits, submitting, LeadsTo}
 use Rattle.engine_core.specs.declared.client.Client.{Client}
@@ -159,9 +159,22 @@ reports_leave peer (r ∷ rs) go_on c calls after h =
     and_then (λ k. on_report peer r c k) (λ a k. on_reports peer rs a k) go_on c calls after (report_leaves peer r (λ a. on_reports peer rs a go_on) c calls after h)
     (λ mid rest m. reports_leave peer rs go_on mid rest after m)
 
+refusal_leaves : (peer srp : ℕ) (go_on : Client → Plan Client) (c : Client) (calls : List Call) (after : Client)
+    → LeadsTo (on_refusal peer srp c go_on) calls (Returns after) → Leaves (λ k. on_refusal peer srp c k) go_on c calls after
+refusal_leaves peer srp go_on c calls after h =
+    submitting_leaves c (event.Refused peer srp) (λ reply k. k c) go_on c calls after (λ reply rest m. at_once go_on c rest after m) h
+
+refusals_leave : (peer : ℕ) (srps : List ℕ) (go_on : Client → Plan Client) (c : Client) (calls : List Call) (after : Client)
+    → LeadsTo (on_refusals peer srps c go_on) calls (Returns after) → Leaves (λ k. on_refusals peer srps c k) go_on c calls after
+refusals_leave peer [] go_on c calls after h = at_once go_on c calls after h
+refusals_leave peer (srp ∷ srps) go_on c calls after h =
+    and_then (λ k. on_refusal peer srp c k) (λ a k. on_refusals peer srps a k) go_on c calls after (refusal_leaves peer srp (λ a. on_refusals peer srps a go_on) c calls after h)
+    (λ mid rest m. refusals_leave peer srps go_on mid rest after m)
+
 message_leaves : (peer : ℕ) (message : Message) (go_on : Client → Plan Client) (c : Client) (calls : List Call) (after : Client)
     → LeadsTo (on_message peer message c go_on) calls (Returns after) → Leaves (λ k. on_message peer message c k) go_on c calls after
 message_leaves peer (messages.Report reports) go_on c calls after h = reports_leave peer reports go_on c calls after h
+message_leaves peer (messages.Error errors) go_on c calls after h = refusals_leave peer errors.srps go_on c calls after h
 message_leaves peer message go_on c calls after h = at_once go_on c calls after h
 
 abbrev down_plan : Bool → ℕ → Client → Going

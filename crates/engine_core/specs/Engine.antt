@@ -97,8 +97,21 @@ abbrev pub on_reports : {W : Type 0} → ℕ → List StateReport → Client →
 on_reports peer [] c go_on = go_on c
 on_reports peer (r ∷ rs) c go_on = on_report peer r c (λ after. on_reports peer rs after go_on)
 
+-- ---- errors (RFC 5440 section 6.7, RFC 8231 section 6.3)
+
+-- the peer refused the request of this SRP-ID; the reply means nothing for the session
+abbrev pub on_refusal : {W : Type 0} → ℕ → ℕ → Client → (Client → Plan W) → Plan W
+on_refusal peer srp c go_on = submitting c (event.Refused peer srp) (λ reply. go_on c)
+
+abbrev pub on_refusals : {W : Type 0} → ℕ → List ℕ → Client → (Client → Plan W) → Plan W
+on_refusals peer [] c go_on = go_on c
+on_refusals peer (srp ∷ srps) c go_on = on_refusal peer srp c (λ after. on_refusals peer srps after go_on)
+
+-- ---- messages
+
 abbrev pub on_message : {W : Type 0} → ℕ → Message → Client → (Client → Plan W) → Plan W
 on_message peer (messages.Report reports) c go_on = on_reports peer reports c go_on
+on_message peer (messages.Error errors) c go_on = on_refusals peer errors.srps c go_on
 on_message peer message c go_on = go_on c
 
 -- ---- Down

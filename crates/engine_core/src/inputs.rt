@@ -1,7 +1,7 @@
 //! What is done with what a session gives.
 
 ghost use Rattle.std.specs.Prelude.{◌≡◌, [], OnErr};
-ghost use Rattle.engine_core.specs.Engine.{event_of, on_up, after_report, on_report, on_reports, on_message, on_down, on_input, turns};
+ghost use Rattle.engine_core.specs.Engine.{event_of, on_up, after_report, on_report, on_reports, on_refusal, on_refusals, on_message, on_down, on_input, turns};
 ghost use Rattle.engine_core.specs.Plans.{Plan};
 ghost use Rattle.engine_core.specs.Stores.{Serves};
 ghost use Rattle.engine_core.specs.declared.client.Client.{Client};
@@ -10,7 +10,7 @@ ghost use Rattle.pcep_session.specs.Ends.{most_turns};
 use crate::client::{Client, after_up, next, refuse_report};
 use crate::sink::Sink;
 use history_core::{Event, Fault, Reply};
-use pcep_messages::{Message, StateReport};
+use pcep_messages::{Errors, Message, StateReport};
 use pcep_objects::Capabilities;
 use pcep_session::Input;
 
@@ -75,6 +75,28 @@ fn on_reports<S: Sink>(
     Ok(())
 }
 
+/// The peer refused the request of an SRP-ID.
+fn on_refusal<S: Sink>(client: &Client, peer: u32, srp: u32, store: &mut S) -> Result<(), Fault>
+    ensures { (go_on : Client → Plan Client) → Serves result S.moves S.is_full store.old store.new client.now client.now (on_refusal peer srp client.now go_on) go_on }
+{
+    store.hand_in(Event::Refused { peer, srp })?;
+    Ok(())
+}
+
+fn on_refusals<S: Sink>(
+    client: &Client,
+    peer: u32,
+    srps: Vec<u32>,
+    store: &mut S,
+) -> Result<(), Fault>
+    ensures { (go_on : Client → Plan Client) → Serves result S.moves S.is_full store.old store.new client.now client.now (on_refusals peer srps.items client.now go_on) go_on }
+{
+    for srp in srps {
+        on_refusal(client, peer, srp, store)?;
+    }
+    Ok(())
+}
+
 fn on_message<S: Sink>(
     client: &mut Client,
     peer: u32,
@@ -85,6 +107,7 @@ fn on_message<S: Sink>(
 {
     match message {
         Message::Report(reports) => on_reports(client, peer, reports.into_vec(), store),
+        Message::Error(Errors { srps, .. }) => on_refusals(client, peer, srps.into_vec(), store),
         _ => Ok(()),
     }
 }

@@ -1,7 +1,7 @@
 //! A state with its history.
 ghost use Rattle.std.specs.Prelude.{◌≡◌, ◌≤◌, ◌+◌, ◌↔◌, IsTrue, [], ◌∷◌, ◌++◌, length, vec_len, vec_capacity, IfOk, OnErr, IsNone, IfSome};
 ghost use Rattle.lsp_base.specs.Shares.{unreserved};
-ghost use Rattle.step_core.specs.States.{is_up};
+ghost use Rattle.step_core.specs.States.{is_up, is_queued};
 ghost use Rattle.step_core.specs.Steps.{step};
 ghost use Rattle.step_core.specs.Laws.{peer_of, OthersStay};
 ghost use Rattle.history_core.specs.Histories.{Replays, nothing_happened, kept_step, stepped, is_full};
@@ -110,6 +110,13 @@ impl Database {
         ensures { result ≡ is_up self.now.state peer }
     {
         self.state.is_up(peer)
+    }
+
+    /// Whether messages wait to be sent to the peer.
+    pub fn queued(&self, peer: u32) -> bool
+        ensures { result ≡ is_queued self.now.state peer }
+    {
+        self.state.queued(peer)
     }
 
     /// The links and nodes.

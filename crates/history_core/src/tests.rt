@@ -2,7 +2,7 @@
 use super::*;
 use crate::step::shortened;
 use pcep_messages::{Message, StateReport, read_message};
-use pcep_objects::Capabilities;
+use pcep_objects::{Capabilities, Plsp};
 use pcep_word::Priority;
 use sequence::PlainData;
 use std::alloc::Global;
@@ -82,6 +82,10 @@ enum Act {
     Down(u32),
     Expire(u32),
     Drain(u32),
+    /// The LSP of PLSP-ID 1 is given back.
+    GiveBack(u32),
+    /// The request of an SRP-ID is refused.
+    Refuse(u32, u32),
 }
 
 /// What happens, the brief of the reply, and what is left by B afterwards, at each priority.
@@ -194,6 +198,11 @@ fn event_of(alloc: Global, act: Act) -> Result<Event, Fail> {
         Act::Down(peer) => Event::Down { peer },
         Act::Expire(peer) => Event::Expire { peer },
         Act::Drain(peer) => Event::Drain { peer },
+        Act::GiveBack(peer) => Event::Return {
+            peer,
+            plsp: Plsp::new(1),
+        },
+        Act::Refuse(peer, srp) => Event::Refused { peer, srp },
     })
 }
 

@@ -1,13 +1,15 @@
 -- A script after its link text: the database, the sessions that live, and the moment.
-use Rattle.std.specs.Prelude.{ℕ, List, [], Option, Some, None, Result, Ok, Err}
+use Rattle.std.specs.Prelude.{ℕ, Bool, true, false, List, [], Option, Some, None, Result, Ok, Err, if◌then◌else◌}
 use Rattle.std.specs.Map.{keys_of}
 use Rattle.history_core.specs.Histories.{Content, nothing_happened}
 use Rattle.te_base.specs.Base.{Base}
+use Rattle.step_core.specs.declared.event.Event.{Event}
+use Rattle.step_core.specs.declared.event.Event.TheVariants.{Return}
 use Rattle.pce_engine.specs.Orders.{order_of}
 use Rattle.pce_engine.specs.SessionLines.{message_line, end_line, open_line, up_line}
 use Rattle.pce_engine.specs.Submits.{report_line, event_line}
 use Rattle.pce_engine.specs.Texts.{book_text, history_text}
-use Rattle.pce_engine.specs.Told.{Told, told, ◌>>=◌, each}
+use Rattle.pce_engine.specs.Told.{Told, told, ◌>>=◌, behind, each}
 use Rattle.pce_engine.specs.declared.commands.CommandFault.{CommandFault}
 use Rattle.pce_engine.specs.declared.commands.CommandFault.TheVariants.{BadLine}
 use Rattle.pce_engine.specs.declared.orders.Order.{Order}
@@ -34,6 +36,19 @@ all_served s = served_in_turn (keys_of s.sessions) s
 unfoldable pub tick_line : ℕ → Standing → Result (Told Standing) CommandFault
 tick_line now_ms s = all_served (record s { moment_ms = now_ms })
 
+-- an operator's event after which messages may wait to be sent
+abbrev pub may_queue : Event → Bool
+may_queue (Return peer plsp) = true
+may_queue event = false
+
+-- then every session is served, behind what was printed
+abbrev pub served_if : Bool → Told Standing → Result (Told Standing) CommandFault
+served_if queues t = if queues then behind t.text (all_served t.after) else Ok t
+
+-- an operator's line
+unfoldable pub operator_line : Event → Standing → Result (Told Standing) CommandFault
+operator_line event s = event_line event s.database >>= λ t. served_if (may_queue event) (with_database s t)
+
 -- what a line prints, and what stands after it
 unfoldable pub obeyed : Order → Standing → Result (Told Standing) CommandFault
 obeyed (Report peer reports) s = report_line s.database peer reports >>= λ t. Ok (with_database s t)
@@ -44,7 +59,7 @@ obeyed (Up peer) s = up_line peer s
 obeyed (Bytes peer piece) s = message_line peer piece s
 obeyed (End peer) s = end_line peer s
 obeyed (Tick now_ms) s = tick_line now_ms s
-obeyed (Submit event) s = event_line event s.database >>= λ t. Ok (with_database s t)
+obeyed (Submit event) s = operator_line event s
 
 abbrev pub ordered : Standing → Option Order → Result (Told Standing) CommandFault
 ordered s None = Err BadLine

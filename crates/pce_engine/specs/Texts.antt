@@ -53,6 +53,8 @@ event_text (event.Marker peer) = codes "marker"
 event_text (event.Down peer) = codes "down"
 event_text (event.Expire peer) = codes "expire"
 event_text (event.Drain peer) = codes "drain"
+event_text (event.Refused peer srp) = codes "refused"
+event_text (event.Return peer plsp) = codes "return"
 
 abbrev pub step_line : ℕ → Step → List ℕ
 step_line number step = codes "step " ++ decimal number ++ codes " " ++ event_text step.event ++ codes " " ++ brief_text step.brief ++ codes "\n"

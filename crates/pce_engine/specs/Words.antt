@@ -21,6 +21,10 @@ number_of_bits bits word =
 abbrev pub number_in : List ℕ → Option ℕ
 number_in word = number_of_bits 32 word
 
+-- a PLSP-ID (RFC 8231 section 7.3)
+abbrev pub plsp_in : List ℕ → Option ℕ
+plsp_in word = number_of_bits 20 word
+
 -- a moment in milliseconds
 abbrev pub moment_in : List ℕ → Option ℕ
 moment_in word = number_of_bits 64 word

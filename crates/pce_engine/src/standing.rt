@@ -1,7 +1,7 @@
 //! A script after its link text.
 
 ghost use Rattle.std.specs.Prelude.{◌≡◌, [], IfOk, string_bytes};
-ghost use Rattle.pce_engine.specs.Standing.{at_start, served_in_turn, all_served, tick_line, obeyed, standing_line};
+ghost use Rattle.pce_engine.specs.Standing.{at_start, served_in_turn, all_served, tick_line, may_queue, operator_line, obeyed, standing_line};
 ghost use Rattle.pce_engine.specs.SessionLines.{message_line};
 ghost use Rattle.pce_engine.specs.Told.{told, behind, Tells, Leaves};
 
@@ -11,7 +11,7 @@ use crate::session_lines::{end_line, message_line, open_line, up_line};
 use crate::sessions::Sessions;
 use crate::submits::{event_line, report_line};
 use crate::texts::{book_text, history_text};
-use history_core::Database;
+use history_core::{Database, Event};
 use std::alloc::{AllocError, Global};
 use te_base::TeBase;
 
@@ -70,6 +70,34 @@ fn tick_line(alloc: Global, standing: &mut Standing, now_ms: u64) -> Result<Stri
     Ok(text)
 }
 
+/// Whether messages may wait to be sent after this event of an operator.
+fn may_queue(event: &Event) -> bool
+    ensures { result ≡ may_queue event.now }
+{
+    match event {
+        Event::Return { .. } => true,
+        _ => false,
+    }
+}
+
+/// Submits an operator's event, and gives its reply on a line. Where messages may wait to be sent then, every
+/// session is served.
+#[tactic(auto, unfolding(crate::specs::Standing::operator_line))]
+fn operator_line(
+    alloc: Global,
+    standing: &mut Standing,
+    event: Event,
+) -> Result<String, CommandFault>
+    ensures { Tells string_bytes result (operator_line event standing.old) standing.new }
+{
+    let queues = may_queue(&event);
+    let mut text = event_line(alloc, &mut standing.database, event)?;
+    if queues {
+        serve_all(alloc, standing, &mut text)?;
+    }
+    Ok(text)
+}
+
 impl Standing {
     /// No session lives, and the moment is 0.
     pub(crate) fn new(alloc: Global, te: TeBase) -> Result<Standing, AllocError>
@@ -96,7 +124,7 @@ impl Standing {
             Order::Bytes(peer, piece) => message_line(alloc, self, peer, piece.as_slice()),
             Order::End(peer) => end_line(alloc, self, peer),
             Order::Tick(now_ms) => tick_line(alloc, self, now_ms),
-            Order::Submit(event) => event_line(alloc, &mut self.database, event),
+            Order::Submit(event) => operator_line(alloc, self, event),
         }
     }
 

@@ -79,6 +79,8 @@ fn event_word(event: &Event) -> &'static str
         Event::Down { .. } => "down",
         Event::Expire { .. } => "expire",
         Event::Drain { .. } => "drain",
+        Event::Refused { .. } => "refused",
+        Event::Return { .. } => "return",
     }
 }
 

@@ -1,9 +1,10 @@
 //! Words of a line: numbers, peers and bytes.
 
 ghost use Rattle.std.specs.Prelude.{◌≡◌, ◌==◌, option_map, slice_index, IfOk};
-ghost use Rattle.pce_engine.specs.Words.{cut_at_space, number_in, moment_in, peer_in, without_spaces, octets};
+ghost use Rattle.pce_engine.specs.Words.{cut_at_space, number_in, plsp_in, moment_in, peer_in, without_spaces, octets};
 
 use hex::FromHexError;
+use pcep_objects::Plsp;
 use pcep_word::Ipv4;
 use std::alloc::{AllocError, Global};
 
@@ -31,6 +32,16 @@ fn number_in(word: &str) -> Option<u32>
         return None;
     }
     word.parse::<u32>().ok()
+}
+
+/// A PLSP-ID: a decimal number below 2^20, with leading zeros or without.
+pub(crate) fn plsp_in(word: &str) -> Option<Plsp>
+    ensures { result ≡ plsp_in word.now }
+{
+    match number_in(word) {
+        Some(number) if number < 1 << 20 => Some(Plsp::new(number)),
+        _ => None,
+    }
 }
 
 /// A moment: a decimal number below 2^64, with leading zeros or without.

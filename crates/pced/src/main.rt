@@ -30,6 +30,7 @@ Standard input is a link text (TOML), a line ---, and lines:
   tick MS          it is now MS milliseconds
   report PEER HEX  state reports of the router, as one PCRpt message
   expire PEER      a router that is down is forgotten
+  return PEER PLSP an LSP is given back to its router
   book             what is left of each link at the priorities 0 to 7
   history          the events so far, with their replies
 PEER is a number or a dotted address. docs/FORMAT.md tells all of it.";

@@ -1,5 +1,5 @@
 -- The paths that stand have each of those that an effect drops.
-use Rattle.std.proofs.Common.{◌≡◌, ℕ, Bool, true, false, List, [], sym, subst, ap, ◌∙◌, arith}
+use Rattle.std.proofs.Common.{◌≡◌, ℕ, Bool, true, false, List, [], ◌∷◌, sym, subst, ap, ◌∙◌, arith}
 use Rattle.std.specs.Prelude.{Option, Some, None, Ok, Err, if◌then◌else◌}
 use Rattle.pcep_objects.specs.declared.object.Capabilities.{Capabilities}
 use Rattle.pcep_messages.specs.declared.message.StateReport.{StateReport}
@@ -12,6 +12,9 @@ use Rattle.lsp_base.specs.declared.lsp.Lsp.{Lsp}
 use Rattle.lsp_base.specs.declared.effect.Effect.{Effect}
 use Rattle.lsp_base.specs.declared.why.Why.TheVariants.{BadReport, TooManyPaths}
 use Rattle.sync_rules.specs.Peers.{is_stale_of, is_of_peer, marker_effect, up_effect, down_effect, expire_effect}
+use Rattle.lsp_base.specs.Pending.{is_grant_as}
+use Rattle.delegate_rules.specs.Refusals.{refused_by, refused_effect}
+use Rattle.delegate_rules.specs.Returns.{given_back}
 use Rattle.delegate_rules.specs.Effects.{goes_by_report, report_effect_by, goes_by_removal, removal_effect_by, told_effect, is_reserved, is_too_many, allowed, report_result}
 
 -- the paths that stand have what the effect drops
@@ -74,6 +77,20 @@ report-has : (base : Lsps) (te : Base) (n : ℕ) (r : StateReport) (e : Effect) 
 unfolding report_result
 report-has base te n r e is = result-has base e (told_effect base te n r) (is_reserved r.plsp) (told-has base te n r) is
 
+-- ---- what the PCE asks a peer for, and what the peer refuses
+
+refused_by-has : (base : Lsps) (n srp : ℕ) (grants : List Path) → HasAll base.paths grants → HasDropped base (refused_by base n srp grants)
+refused_by-has base n srp [] has = has_none base.paths
+refused_by-has base n srp (x ∷ xs) has = has
+
+refused-has : (base : Lsps) (n srp : ℕ) → HasDropped base (refused_effect base n srp)
+unfolding refused_effect
+refused-has base n srp = refused_by-has base n srp _ (has_filter (is_grant_as n srp) base.paths)
+
+pub return-has : (base : Lsps) (plsp : ℕ) (lsp : Option Lsp) → HasDropped base (given_back plsp lsp)
+return-has base plsp None = has_none base.paths
+return-has base plsp (Some lsp) = has_none base.paths
+
 -- ---- the same of an effect that was computed from equal LSPs
 
 has-by : (base given : Lsps) (effect_on : Lsps → Effect) (e : Effect) → given ≡ base → e ≡ effect_on given → HasDropped base (effect_on base) → HasDropped base e
@@ -93,3 +110,6 @@ has_by_up base given n sent e same is = has-by base given (λ b. up_effect b n s
 
 pub has_by_report : (base given : Lsps) (te known : Base) (n : ℕ) (r : StateReport) (e : Effect) → given ≡ base → known ≡ te → report_result given known n r ≡ Ok e → HasDropped base e
 has_by_report base given te known n r e same_base same_te is = report-has base te n r e (ap (λ b. report_result b te n r) (sym same_base) ∙ ap (λ t. report_result given t n r) (sym same_te) ∙ is)
+
+pub has_by_refused : (base given : Lsps) (n srp : ℕ) (e : Effect) → given ≡ base → e ≡ refused_effect given n srp → HasDropped base e
+has_by_refused base given n srp e same is = has-by base given (λ b. refused_effect b n srp) e same is (refused-has base n srp)

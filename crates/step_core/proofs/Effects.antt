@@ -1,5 +1,5 @@
 -- Each effect drops and adds paths of its own peer alone.
-use Rattle.std.proofs.Common.{◌≡◌, ◌==◌, ◌&&◌, ◌||◌, ℕ, Bool, true, false, List, [], refl, map, subst}
+use Rattle.std.proofs.Common.{◌≡◌, ◌==◌, ◌&&◌, ◌||◌, ℕ, Bool, true, false, List, [], ◌∷◌, refl, map, subst}
 use Rattle.std.specs.Prelude.{filter, not, Option, Some, None, Ok, Err, if◌then◌else◌}
 use Rattle.pcep_objects.specs.declared.object.Capabilities.{Capabilities}
 use Rattle.pcep_messages.specs.declared.message.StateReport.{StateReport}
@@ -13,6 +13,9 @@ use Rattle.lsp_base.specs.Grants.{has_grant}
 use Rattle.lsp_base.specs.declared.lsp.Lsp.{Lsp}
 use Rattle.delegate_rules.specs.Reports.{identifiers_of, are_zero, reported_path}
 use Rattle.delegate_rules.specs.Grants.{is_grant_met, is_grant_kept, is_grant_settled, is_grant_bound, moved_grant, bound_grant}
+use Rattle.lsp_base.specs.Pending.{is_grant_as}
+use Rattle.delegate_rules.specs.Refusals.{refused_by, refused_effect}
+use Rattle.delegate_rules.specs.Returns.{given_back}
 use Rattle.delegate_rules.specs.Effects.{is_replaced, goes_by_report, report_effect_by, is_removed, goes_by_removal, removal_effect_by, told_effect, is_reserved, is_too_many, allowed, report_result}
 use Rattle.step_core.proofs.Others.{same_number, first_of_both, AllOwn, AllOwn-filter, AllOwn-map, IsOwn}
 
@@ -103,3 +106,17 @@ result-own n e given base false own is = allowed-own n e given (is_too_many base
 pub report-own : (n : ℕ) (base : Lsps) (te : Base) (r : StateReport) (e : Effect) → report_result base te n r ≡ Ok e → IsOwn n e
 unfolding report_result
 report-own n base te r e is = result-own n e (told_effect base te n r) base (is_reserved r.plsp) (told-own n base te r) is
+
+-- ---- what the PCE asks a peer for, and what the peer refuses
+
+refused_by-own : (n srp : ℕ) (base : Lsps) (grants : List Path) → AllOwn n grants → IsOwn n (refused_by base n srp grants)
+refused_by-own n srp base [] own = record { dropped = tt; added = tt }
+refused_by-own n srp base (x ∷ xs) own = record { dropped = own; added = tt }
+
+pub refused-own : (n srp : ℕ) (base : Lsps) → IsOwn n (refused_effect base n srp)
+unfolding refused_effect
+refused-own n srp base = refused_by-own n srp base _ (AllOwn-filter n (is_grant_as n srp) base.paths (λ x is. first_of_both (x.peer == n) _ is))
+
+pub return-own : (n plsp : ℕ) (lsp : Option Lsp) → IsOwn n (given_back plsp lsp)
+return-own n plsp None = record { dropped = tt; added = tt }
+return-own n plsp (Some lsp) = record { dropped = tt; added = tt }

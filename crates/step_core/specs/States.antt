@@ -1,12 +1,12 @@
 -- What the database knows: the network, peers, and the paths and records of their LSPs.
-use Rattle.std.specs.Prelude.{ℕ, ◌+◌, Bool, true, false, ◌==◌, ◌&&◌, not, List, [], ◌∷◌, find, unwrap_or, Option, is_some, if◌then◌else◌}
-use Rattle.std.specs.List.{list_any}
+use Rattle.std.specs.Prelude.{ℕ, ◌+◌, Bool, true, false, ◌==◌, ◌&&◌, not, List, [], ◌∷◌, ◌++◌, find, unwrap_or, Option, is_some, if◌then◌else◌}
 use Rattle.pcep_objects.specs.declared.object.Capabilities.{Capabilities}
 use Rattle.pcep_messages.specs.declared.message.Message.{Message}
 use Rattle.te_base.specs.Base.{Base}
 use Rattle.lsp_base.specs.Base.{Lsps, no_lsps, changed}
 use Rattle.lsp_base.specs.declared.path.Path.{Path}
 use Rattle.lsp_base.specs.declared.effect.Effect.{Effect}
+use Rattle.initiate_rules.specs.Numbers.{next_srp}
 use Rattle.step_core.specs.declared.peer.Peer.{Peer}
 
 pub record State : Type 0 where
@@ -28,14 +28,14 @@ abbrev pub is_peer : ℕ → Peer → Bool
 is_peer n p = p.number == n
 
 abbrev pub is_known : List Peer → ℕ → Bool
-is_known peers n = list_any (is_peer n) peers
+is_known peers n = is_some (find (is_peer n) peers)
 
 abbrev pub no_capabilities : Capabilities
 no_capabilities = record { update = false; create = false }
 
 -- what counts for a peer that isn't known
 abbrev pub unknown_peer : ℕ → Peer
-unknown_peer n = record { number = n; up = false; session = 0; capabilities = no_capabilities; syncing = false }
+unknown_peer n = record { number = n; up = false; session = 0; capabilities = no_capabilities; syncing = false; last_srp = 0; outgoing = [] }
 
 abbrev pub peer_at : List Peer → ℕ → Peer
 peer_at peers n = unwrap_or (find (is_peer n) peers) (unknown_peer n)
@@ -52,9 +52,36 @@ put_peer (q ∷ ps) p = if is_peer p.number q then p ∷ ps else q ∷ put_peer 
 abbrev pub in_session : Peer → ℕ → Option Capabilities → Peer
 in_session p session sent = record p { up = true; session = session; capabilities = unwrap_or sent no_capabilities; syncing = is_some sent }
 
--- what waits for a peer to be sent: nothing is queued yet
+-- a peer that has reported all that it has
+abbrev pub synchronized : Peer → Peer
+synchronized p = record p { syncing = false }
+
+-- a peer whose session has ended: what waited for it is gone
+abbrev pub out_of_session : Peer → Peer
+out_of_session p = record p { up = false; syncing = false; outgoing = [] }
+
+-- a peer for which nothing waits
+abbrev pub emptied : Peer → Peer
+emptied p = record p { outgoing = [] }
+
+-- a peer that is asked for something, under its next number (RFC 8231 section 7.2): the message waits to be sent
+abbrev pub asked : Peer → Message → Peer
+asked p message = record p { last_srp = next_srp p.last_srp; outgoing = p.outgoing ++ message ∷ [] }
+
+-- what waits for a peer to be sent, oldest first
 abbrev pub outgoing : State → ℕ → List Message
-outgoing s n = []
+outgoing s n = (peer_at s.peers n).outgoing
+
+abbrev pub is_nothing : List Message → Bool
+is_nothing [] = true
+is_nothing (m ∷ ms) = false
+
+abbrev pub is_queued : State → ℕ → Bool
+is_queued s n = not (is_nothing (outgoing s n))
+
+-- the number of the next request to a peer
+abbrev pub next_number : State → ℕ → ℕ
+next_number s n = next_srp (peer_at s.peers n).last_srp
 
 -- ---- effects
 

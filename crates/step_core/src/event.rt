@@ -1,7 +1,7 @@
 //! Events, and what the database answers.
 use lsp_base::Why;
 use pcep_messages::{Message, StateReport};
-use pcep_objects::Capabilities;
+use pcep_objects::{Capabilities, Plsp};
 use sequence::{PlainData, Sequence};
 use std::alloc::AllocError;
 
@@ -35,6 +35,16 @@ pub enum Event {
     Drain {
         peer: u32,
     },
+    /// The peer refused the request of this SRP-ID (a PCErr, RFC 8231 section 6.3).
+    Refused {
+        peer: u32,
+        srp: u32,
+    },
+    /// The LSP is to be given back to the peer (RFC 8231 section 5.7.4).
+    Return {
+        peer: u32,
+        plsp: Plsp,
+    },
 }
 
 impl PlainData for Event {
@@ -52,6 +62,14 @@ impl PlainData for Event {
             Event::Down { peer } => Event::Down { peer: *peer },
             Event::Expire { peer } => Event::Expire { peer: *peer },
             Event::Drain { peer } => Event::Drain { peer: *peer },
+            Event::Refused { peer, srp } => Event::Refused {
+                peer: *peer,
+                srp: *srp,
+            },
+            Event::Return { peer, plsp } => Event::Return {
+                peer: *peer,
+                plsp: *plsp,
+            },
         })
     }
 }
@@ -63,8 +81,7 @@ pub enum Reply {
     /// A report was booked. The LSP waits for a path that the PCE may give it: it is delegated and down,
     /// has no route, and its peer takes updates and isn't synchronizing.
     Booked { wants_path: bool },
-    /// The messages that wait for the peer, to be sent in this order. Nothing is queued yet, so the list is
-    /// empty.
+    /// The messages that waited for the peer, to be sent in this order.
     Out(Sequence<Message>),
     /// The event changed nothing.
     Refused(Why),

@@ -1,9 +1,10 @@
 //! What the database knows at one moment, and what one event does to it: sessions that come up and go
-//! down, the end of synchronization, state reports, peers that expire, and the messages that wait for a
-//! peer, which are handed out to be sent. `State::step` is the definition `step` of `specs/Steps.antt` in
+//! down, the end of synchronization, state reports, peers that expire, LSPs that are given back to their
+//! peers, requests that a peer refuses, and the messages that wait for a peer, which are handed out to be
+//! sent. `State::step` is the definition `step` of `specs/Steps.antt` in
 //! full, the state after it and the reply; a refused event changes nothing, and where memory is refused
-//! nothing has changed. An event changes the paths, the records and the session of its own peer alone, if
-//! it is of a peer (`specs/Laws.antt`). What is left of a link is the share rule of `lsp_base` over the paths
+//! nothing has changed. An event changes the paths, the records, the session and the messages of its own
+//! peer alone, if it is of a peer (`specs/Laws.antt`). What is left of a link is the share rule of `lsp_base` over the paths
 //! of the state, read from the stored sums of a book that stands for them (`specs/Networks.antt`).
 //!
 //! ```text
@@ -22,11 +23,13 @@
 mod event;
 mod network;
 mod peer;
+mod queue;
 mod state;
 
 pub use event::{Event, Reply};
 pub use lsp_base::Why;
 pub use peer::{PEER_LIMIT, Peer};
+pub use queue::Queue;
 pub use state::State;
 
 #[cfg(test)]

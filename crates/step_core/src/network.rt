@@ -1,11 +1,15 @@
 //! A network with the LSPs over it, and the book of what their paths reserve.
-ghost use Rattle.std.specs.Prelude.{◌≡◌, ◌↔◌, ◌≤◌, length, OnOk, OnErr, IsNone, IfOk, IfSome};
-ghost use Rattle.lsp_base.specs.Base.{HasAll, no_lsps, changed, with_stale};
-ghost use Rattle.lsp_base.specs.Rooms.{IsWithinLimit};
+ghost use Rattle.std.specs.Prelude.{◌≡◌, ◌↔◌, ◌≤◌, ◌++◌, ◌∷◌, [], List, length, OnOk, OnErr, IsNone, IfOk, IfSome};
+ghost use Rattle.lsp_base.specs.Base.{HasAll, no_lsps, changed, with_stale, without};
+ghost use Rattle.lsp_base.specs.Rooms.{IsWithinLimit, HasRoom};
 ghost use Rattle.lsp_base.specs.Shares.{unreserved};
+ghost use Rattle.lsp_base.specs.declared.path.Path.{Path};
+ghost use Rattle.bandwidth_book.specs.Books.{IsReady, StandsFor, network_of};
 
+use crate::queue::Queue;
 use bandwidth_book::Book;
 use lsp_base::{Effect, LspBase};
+use pcep_messages::Message;
 use pcep_word::Priority;
 use std::alloc::{AllocError, Global};
 use std::marker::Model;
@@ -32,6 +36,32 @@ impl Model for Network {
     ghost invariant = { λ n. IsBooked n.te n.lsps.content n.book };
 }
 
+/// Makes all the room that an effect needs, and changes nothing.
+fn make_room(lsps: &mut LspBase, book: &mut Book, effect: &Effect) -> Result<(), AllocError>
+    ensures room { OnOk result (HasRoom lsps.new effect.now) }
+    ensures ready { OnOk result (IsReady book.new effect.now.change) }
+    ensures same_lsps { lsps.new.content ≡ lsps.old.content }
+    ensures same_network { network_of book.new ≡ network_of book.old }
+    ensures stands { (paths : List Path) → StandsFor book.old paths → StandsFor book.new paths }
+{
+    lsps.reserve(effect)?;
+    book.reserve(&effect.change)
+}
+
+/// Carries out an effect on the LSPs of a peer, in room that is there.
+fn make_change(lsps: &mut LspBase, book: &mut Book, peer: u32, effect: Effect)
+    requires room { HasRoom lsps.old effect }
+    requires few { IsWithinLimit lsps.old.content effect }
+    requires ready { IsReady book.old effect.change }
+    ensures changed { lsps.new.content ≡ changed lsps.old.content peer effect }
+    ensures same_network { network_of book.new ≡ network_of book.old }
+    ensures stands { (paths : List Path) → StandsFor book.old paths → HasAll paths effect.change.dropped
+        → StandsFor book.new (without paths effect.change.dropped ++ effect.change.added) }
+{
+    book.change(&effect.change);
+    lsps.change(peer, effect);
+}
+
 impl Network {
     /// A network of which nothing was reported yet. The links and nodes are dropped where memory is
     /// refused.
@@ -55,10 +85,30 @@ impl Network {
         ensures changed { OnOk result (self.new ≡ record self.old { base = changed self.old.base peer effect }) }
         ensures unchanged_without_memory { OnErr result (self.new ≡ self.old) }
     {
-        self.lsps.reserve(&effect)?;
-        self.book.reserve(&effect.change)?;
-        self.book.change(&effect.change);
-        self.lsps.change(peer, effect);
+        make_room(&mut self.lsps, &mut self.book, &effect)?;
+        make_change(&mut self.lsps, &mut self.book, peer, effect);
+        Ok(())
+    }
+
+    /// The same, and a message that goes with it waits in a queue from then on. Where memory is refused the
+    /// queue is as before too.
+    pub fn carry_out_saying(
+        &mut self,
+        peer: u32,
+        effect: Effect,
+        queue: &mut Queue,
+        message: Message,
+    ) -> Result<(), AllocError>
+        requires few { IsWithinLimit self.old.base effect }
+        requires stand { HasAll self.old.base.paths effect.change.dropped }
+        ensures changed { OnOk result (self.new ≡ record self.old { base = changed self.old.base peer effect }) }
+        ensures queued { OnOk result (queue.new ≡ queue.old ++ message ∷ []) }
+        ensures unchanged_without_memory { OnErr result (self.new ≡ self.old) }
+        ensures same_queue { OnErr result (queue.new ≡ queue.old) }
+    {
+        make_room(&mut self.lsps, &mut self.book, &effect)?;
+        queue.push(message)?;
+        make_change(&mut self.lsps, &mut self.book, peer, effect);
         Ok(())
     }
 

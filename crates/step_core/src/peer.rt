@@ -1,14 +1,18 @@
 //! Peers, in a list.
-ghost use Rattle.std.specs.Prelude.{◌≡◌, ◌+◌, ◌≤◌, not, filter, vec_len, vec_capacity};
-ghost use Rattle.step_core.specs.States.{is_known, is_peer, peer_at, put_peer, in_session};
+ghost use Rattle.std.specs.Prelude.{◌≡◌, ◌+◌, ◌≤◌, [], true, not, find, filter, position, vec_len, vec_capacity, option_copied};
+ghost use Rattle.step_core.specs.States.{is_known, is_peer, peer_at, put_peer, in_session, synchronized, out_of_session, emptied};
 
+use crate::queue::Queue;
+use pcep_messages::Message;
 use pcep_objects::Capabilities;
+use sequence::Sequence;
+use std::alloc::Global;
 
 /// The greatest number of peers that are known at a time.
 pub const PEER_LIMIT: usize = 64;
 
 /// A peer that the database knows.
-#[derive(Clone, Copy, Debug, PartialEq, Eq)]
+#[derive(Debug, Drop)]
 pub struct Peer {
     pub number: u32,
     pub up: bool,
@@ -18,6 +22,10 @@ pub struct Peer {
     pub capabilities: Capabilities,
     /// It has not yet reported all of its LSPs (RFC 8231 section 5.6).
     pub syncing: bool,
+    /// The SRP-ID of the last request to it (RFC 8231 section 7.2); 0 where there was none.
+    pub last_srp: u32,
+    /// What waits to be sent to it.
+    pub outgoing: Queue,
 }
 
 const NO_CAPABILITIES: Capabilities = Capabilities {
@@ -25,56 +33,85 @@ const NO_CAPABILITIES: Capabilities = Capabilities {
     create: false,
 };
 
-pub(crate) fn knows_peer(peers: &[Peer], number: u32) -> bool
-    ensures { result ≡ is_known peers.now number }
+/// The peer, where it is known.
+pub(crate) fn find_peer(peers: &[Peer], number: u32) -> Option<&Peer>
+    ensures { option_copied result ≡ find (is_peer number) peers.now }
 {
-    peers.iter().any(|p| p.number == number)
+    peers.iter().find(|p| p.number == number)
 }
 
-/// The peer, or one that is down where it isn't known.
-pub(crate) fn find_peer(peers: &[Peer], number: u32) -> Peer
-    ensures { result ≡ peer_at peers.now number }
+/// The place of a peer in the list.
+pub(crate) fn place_of(peers: &[Peer], number: u32) -> Option<usize>
+    ensures { result ≡ position (is_peer number) peers.now }
 {
-    for peer in peers {
-        if peer.number == number {
-            return *peer;
-        }
+    peers.iter().position(|p| p.number == number)
+}
+
+/// A session of the peer begins: in its place where it is known, else it stands as the last.
+pub(crate) fn begin_session(
+    alloc: Global,
+    peers: &mut Vec<Peer>,
+    number: u32,
+    session: u64,
+    sent: Option<Capabilities>,
+)
+    requires { vec_len peers.old + 1 ≤ vec_capacity peers.old }
+    ensures { peers.new.items ≡ put_peer peers.old.items (in_session (peer_at peers.old.items number) session sent) }
+{
+    let capabilities = sent.unwrap_or(NO_CAPABILITIES);
+    let syncing = sent.is_some();
+    if let Some(place) = place_of(peers.as_slice(), number) {
+        let peer = &mut peers[place];
+        peer.up = true;
+        peer.session = session;
+        peer.capabilities = capabilities;
+        peer.syncing = syncing;
+        return;
     }
-    Peer {
+    peers.push_reserved(Peer {
         number,
-        up: false,
-        session: 0,
-        capabilities: NO_CAPABILITIES,
-        syncing: false,
-    }
-}
-
-/// The peer in a new session.
-pub(crate) fn with_session(peer: Peer, session: u64, sent: Option<Capabilities>) -> Peer
-    ensures { result ≡ in_session peer session sent }
-{
-    Peer {
-        number: peer.number,
         up: true,
         session,
-        capabilities: sent.unwrap_or(NO_CAPABILITIES),
-        syncing: sent.is_some(),
+        capabilities,
+        syncing,
+        last_srp: 0,
+        outgoing: Queue::new(alloc),
+    });
+}
+
+/// The peer has reported all that it has.
+pub(crate) fn end_sync(peers: &mut Vec<Peer>, number: u32)
+    requires { is_known peers.old.items number ≡ true }
+    ensures { peers.new.items ≡ put_peer peers.old.items (synchronized (peer_at peers.old.items number)) }
+{
+    if let Some(place) = place_of(peers.as_slice(), number) {
+        peers[place].syncing = false;
     }
 }
 
-/// Sets a peer: in its place where it is known, else as the last.
-pub(crate) fn set_peer(peers: &mut Vec<Peer>, peer: Peer)
-    requires { vec_len peers.old + 1 ≤ vec_capacity peers.old }
-    ensures { peers.new.items ≡ put_peer peers.old.items peer }
+/// The peer's session ends, and what waits for it is dropped.
+pub(crate) fn end_session(peers: &mut Vec<Peer>, number: u32)
+    requires { is_known peers.old.items number ≡ true }
+    ensures { peers.new.items ≡ put_peer peers.old.items (out_of_session (peer_at peers.old.items number)) }
 {
-    for i in 0..peers.len() {
-        let other = &peers[i];
-        if other.number == peer.number {
-            peers[i] = peer;
-            return;
-        }
+    if let Some(place) = place_of(peers.as_slice(), number) {
+        let peer = &mut peers[place];
+        peer.up = false;
+        peer.syncing = false;
+        let _dropped = peer.outgoing.take();
     }
-    peers.push_reserved(peer);
+}
+
+/// What waits for the peer is handed out.
+pub(crate) fn take_outgoing(alloc: Global, peers: &mut Vec<Peer>, number: u32) -> Sequence<Message>
+    requires { is_known peers.old.items number ≡ true }
+    ensures messages { result ≡ (peer_at peers.old.items number).outgoing }
+    ensures peers { peers.new.items ≡ put_peer peers.old.items (emptied (peer_at peers.old.items number)) }
+{
+    match place_of(peers.as_slice(), number) {
+        Some(place) => peers[place].outgoing.take(),
+        None => Sequence::from_vec(Vec::new(alloc)),
+    }
 }
 
 pub(crate) fn forget_peer(peers: &mut Vec<Peer>, number: u32)

@@ -1,7 +1,7 @@
 //! The whole state, looks at it, and one step of it.
 ghost use Rattle.std.specs.Prelude.{◌≡◌, ◌<◌, ◌≤◌, ◌^◌, ◌↔◌, length, IfOk, OnOk, OnErr, IsNone, IfSome};
 ghost use Rattle.lsp_base.specs.Shares.{unreserved};
-ghost use Rattle.step_core.specs.States.{empty, is_up};
+ghost use Rattle.step_core.specs.States.{empty, is_up, is_queued};
 ghost use Rattle.step_core.specs.Steps.{step};
 ghost use Rattle.step_core.specs.Laws.{peer_of, OthersStay, CountsRise};
 
@@ -14,6 +14,7 @@ use std::marker::Model;
 use te_base::{LinkNumber, TeBase};
 
 mod reports;
+mod requests;
 mod sessions;
 
 /// What the database knows at one moment.
@@ -64,6 +65,8 @@ impl State {
             Event::Down { peer } => self.down(*peer),
             Event::Expire { peer } => self.expire(*peer),
             Event::Drain { peer } => Ok(self.drain(*peer)),
+            Event::Refused { peer, srp } => self.refused(*peer, *srp),
+            Event::Return { peer, plsp } => self.give_back(*peer, *plsp),
         }
     }
 
@@ -97,7 +100,20 @@ impl State {
     pub fn is_up(&self, peer: u32) -> bool
         ensures { result ≡ is_up self.now peer }
     {
-        find_peer(self.peers.as_slice(), peer).up
+        match find_peer(self.peers.as_slice(), peer) {
+            Some(known) => known.up,
+            None => false,
+        }
+    }
+
+    /// Whether messages wait to be sent to the peer.
+    pub fn queued(&self, peer: u32) -> bool
+        ensures { result ≡ is_queued self.now peer }
+    {
+        match find_peer(self.peers.as_slice(), peer) {
+            Some(known) => !known.outgoing.is_empty(),
+            None => false,
+        }
     }
 
     /// The links and nodes.

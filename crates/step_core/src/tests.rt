@@ -1,7 +1,7 @@
 //! Copies of events and replies.
 use super::*;
 use pcep_messages::{Message, read_message};
-use pcep_objects::Capabilities;
+use pcep_objects::{Capabilities, Plsp};
 use sequence::{PlainData, Sequence};
 use std::alloc::Global;
 use std::fmt::Debug;
@@ -80,6 +80,11 @@ fn events_are_copied(rt: HostRuntime) -> Result<(), Fail> {
         Event::Down { peer: 3 },
         Event::Expire { peer: 4 },
         Event::Drain { peer: 5 },
+        Event::Refused { peer: 6, srp: 7 },
+        Event::Return {
+            peer: 7,
+            plsp: Plsp::new(8),
+        },
     ] {
         assert!(rt; is_copied(&rt, &event)?, "{event:?}");
     }

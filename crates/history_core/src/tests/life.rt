@@ -166,3 +166,38 @@ fn at_most_16384_paths_stand(rt: HostRuntime) -> Result<(), Fail> {
     assert_eq!(rt; brief, BOOKED);
     Ok(())
 }
+
+/// The first path, of an LSP that is delegated.
+const DELEGATED: Told = Told {
+    plsp: 1,
+    flags: 0x19,
+    identifiers: Some((1, 1)),
+    by_c: false,
+    setup: 7,
+    hold: 0,
+    word: W500K,
+};
+
+const GIVEN_BACK: [Row; 4] = [
+    (Act::GiveBack(1), Brief::Refused(Why::UnknownLsp), FREE),
+    (Act::Tell(1, DELEGATED), BOOKED, HALF),
+    (Act::GiveBack(1), Brief::Done, HALF),
+    (Act::GiveBack(1), Brief::Refused(Why::NotDelegated), HALF),
+];
+
+const SENT: [Row; 3] = [
+    (Act::Drain(1), Brief::Out { messages: 1 }, HALF),
+    (Act::Drain(1), Brief::Out { messages: 0 }, HALF),
+    (Act::Refuse(1, 1), Brief::Done, HALF),
+];
+
+#[test]
+fn an_lsp_is_given_back(rt: HostRuntime) -> Result<(), Fail> {
+    let alloc = rt.alloc();
+    let mut database = opened(&rt, alloc)?;
+    run(&rt, alloc, &mut database, &GIVEN_BACK)?;
+    assert!(rt; database.queued(1));
+    run(&rt, alloc, &mut database, &SENT)?;
+    assert!(rt; !database.queued(1));
+    Ok(())
+}

@@ -215,6 +215,53 @@ fn an_operator(rt: HostRuntime) -> Result<(), Fail> {
     prints(&rt, &lines, &want)
 }
 
+/// The report over B to D, of an LSP that is delegated.
+const DELEGATED: &str =
+    "msg 1 200a0050 2010001c 00001019 00120010 0a000001 00010001 0a000001 0a000004 07100014 01080a01 00022000 01080a02 00022000 09100014 00000000 00000000 00000000 07000000 05100008 48f42400";
+
+#[test]
+fn an_lsp_is_given_back(rt: HostRuntime) -> Result<(), Fail> {
+    let lines = [
+        "up 1",
+        MARKER,
+        DELEGATED,
+        "return 1 1",
+        "return 0.0.0.1 01",
+        "book",
+        "history",
+    ];
+    let want = [
+        UP,
+        "done\nout 1 200b001c2110000c0000000000000001201000080000100807100004\n",
+        "refused 5\n",
+        HALF_OVER_B,
+        FULL_OVER_C,
+        "step 0 up done\nstep 1 drain out 0\nstep 2 marker done\nstep 3 drain out 0\n",
+        "step 4 report booked\nstep 5 drain out 0\nstep 6 return done\nstep 7 drain out 1\n",
+        "step 8 return refused 5\nstep 9 drain out 0\n",
+    ];
+    prints(&rt, &lines, &want)?;
+    let refused = ["return 1 1", DELEGATED_BY_ITSELF, "return 1 2"];
+    prints(&rt, &refused, &["refused 1\n", "booked\n", "refused 4\n"])
+}
+
+/// The same without a session.
+const DELEGATED_BY_ITSELF: &str =
+    "report 1 200a0050 2010001c 00001019 00120010 0a000001 00010001 0a000001 0a000004 07100014 01080a01 00022000 01080a02 00022000 09100014 00000000 00000000 00000000 07000000 05100008 48f42400";
+
+/// A PCErr about the requests 1 and 0, of which nothing is awaited.
+#[test]
+fn a_peer_refuses_what_nobody_asked_for(rt: HostRuntime) -> Result<(), Fail> {
+    let refusal =
+        "msg 1 20060024 2110000c 00000000 00000001 2110000c 00000000 00000000 0d100008 00001801";
+    let lines = ["up 1", refusal, "history"];
+    let want = [
+        UP,
+        "step 0 up done\nstep 1 drain out 0\nstep 2 refused done\nstep 3 refused done\nstep 4 drain out 0\n",
+    ];
+    prints(&rt, &lines, &want)
+}
+
 #[test]
 fn bad_session_lines(rt: HostRuntime) -> Result<(), Fail> {
     let bad = [
@@ -238,6 +285,12 @@ fn bad_session_lines(rt: HostRuntime) -> Result<(), Fail> {
         "tick 18446744073709551616",
         "expire",
         "expire +1",
+        "return",
+        "return 1",
+        "return 1 +1",
+        "return 1 1048576",
+        "return 1 1 1",
+        "return a 1",
     ];
     for line in bad {
         let input = script(rt.alloc(), DIAMOND, &["up 1", line, "book"])?;

@@ -8,13 +8,13 @@ ghost use Rattle.step_core.specs.Steps.{report_step};
 use super::State;
 use crate::event::Reply;
 use crate::network::Network;
-use crate::peer::{Peer, find_peer, knows_peer};
+use crate::peer::{Peer, find_peer};
 use delegate_rules::{RuleFault, on_report};
 use lsp_base::{Effect, Why};
 use pcep_messages::StateReport;
 use std::alloc::AllocError;
 
-fn moves_a_path(effect: &Effect) -> bool
+pub(super) fn moves_a_path(effect: &Effect) -> bool
     ensures { result ≡ moves_paths effect.now }
 {
     match (
@@ -65,10 +65,9 @@ impl State {
         ensures state { OnOk result (self.new ≡ (report_step self.old peer report.now).state) }
         ensures unchanged_without_memory { OnErr result (self.new ≡ self.old) }
     {
-        if !knows_peer(self.peers.as_slice(), peer) {
+        let Some(known) = find_peer(self.peers.as_slice(), peer) else {
             return Ok(Reply::Refused(Why::UnknownPeer));
-        }
-        let known = find_peer(self.peers.as_slice(), peer);
+        };
         if !known.up {
             return Ok(Reply::Refused(Why::PeerDown));
         }
@@ -82,7 +81,7 @@ impl State {
             Err(RuleFault::OutOfMemory) => Err(AllocError),
             Err(RuleFault::Why(why)) => Ok(Reply::Refused(why)),
             Ok(effect) => {
-                let wants_path = wants_path(&known, &effect);
+                let wants_path = wants_path(known, &effect);
                 change_lsps(&mut self.network, &mut self.changes, peer, effect)?;
                 Ok(Reply::Booked { wants_path })
             }

@@ -1,16 +1,54 @@
 //! The life of a peer's session.
 ghost use Rattle.std.specs.Prelude.{◌≡◌, ◌<◌, ◌^◌, IfOk, OnOk, OnErr};
-ghost use Rattle.step_core.specs.Steps.{up_step, marker_step, down_step, expire_step, drain_step};
+ghost use Rattle.lsp_base.specs.Refusals.{◌⨟◌};
+ghost use Rattle.step_core.specs.Steps.{must_be_known, must_be_up, must_be_down, may_be_known, up_step, marker_step, down_step, expire_step, drain_step};
 
 use super::State;
 use super::reports::change_lsps;
 use crate::event::Reply;
-use crate::peer::{PEER_LIMIT, find_peer, forget_peer, knows_peer, set_peer, with_session};
+use crate::peer::{
+    PEER_LIMIT, Peer, begin_session, end_session, end_sync, find_peer, forget_peer, take_outgoing,
+};
 use lsp_base::Why;
 use pcep_objects::Capabilities;
-use sequence::Sequence;
 use std::alloc::AllocError;
 use sync_rules::{on_down, on_expire, on_marker, on_up};
+
+/// Why an event of a peer that is to be up is refused.
+pub(super) fn why_not_up(peers: &[Peer], peer: u32) -> Option<Why>
+    ensures { result ≡ must_be_up peers.now peer }
+{
+    match find_peer(peers, peer) {
+        None => Some(Why::UnknownPeer),
+        Some(known) => { if known.up { None } else { Some(Why::PeerDown) } }
+    }
+}
+
+/// Why no session of the peer can come up.
+fn why_no_session(peers: &[Peer], peer: u32) -> Option<Why>
+    ensures { result ≡ (must_be_down peers.now peer ⨟ may_be_known peers.now peer) }
+{
+    match find_peer(peers, peer) {
+        None => {
+            if peers.len() < PEER_LIMIT {
+                None
+            } else {
+                Some(Why::TooManyPeers)
+            }
+        }
+        Some(known) => { if known.up { Some(Why::PeerUp) } else { None } }
+    }
+}
+
+/// Why the peer can't be forgotten.
+fn why_not_forgotten(peers: &[Peer], peer: u32) -> Option<Why>
+    ensures { result ≡ (must_be_known peers.now peer ⨟ must_be_down peers.now peer) }
+{
+    match find_peer(peers, peer) {
+        None => Some(Why::UnknownPeer),
+        Some(known) => { if known.up { Some(Why::PeerUp) } else { None } }
+    }
+}
 
 impl State {
     /// A session comes up. What a peer that doesn't synchronize left stale is dropped at once.
@@ -21,21 +59,14 @@ impl State {
         ensures state { OnOk result (self.new ≡ (up_step self.old peer sent).state) }
         ensures unchanged_without_memory { OnErr result (self.new ≡ self.old) }
     {
-        let known = find_peer(self.peers.as_slice(), peer);
-        if known.up {
-            return Ok(Reply::Refused(Why::PeerUp));
-        }
-        if !knows_peer(self.peers.as_slice(), peer) && self.peers.len() >= PEER_LIMIT {
-            return Ok(Reply::Refused(Why::TooManyPeers));
+        if let Some(why) = why_no_session(self.peers.as_slice(), peer) {
+            return Ok(Reply::Refused(why));
         }
         let effect = on_up(self.alloc, self.network.lsps(), peer, sent)?;
         self.peers.reserve(1)?;
         change_lsps(&mut self.network, &mut self.changes, peer, effect)?;
         self.last_session += 1;
-        set_peer(
-            &mut self.peers,
-            with_session(known, self.last_session, sent),
-        );
+        begin_session(self.alloc, &mut self.peers, peer, self.last_session, sent);
         Ok(Reply::Done)
     }
 
@@ -46,41 +77,29 @@ impl State {
         ensures state { OnOk result (self.new ≡ (marker_step self.old peer).state) }
         ensures unchanged_without_memory { OnErr result (self.new ≡ self.old) }
     {
-        if !knows_peer(self.peers.as_slice(), peer) {
-            return Ok(Reply::Refused(Why::UnknownPeer));
+        if let Some(why) = why_not_up(self.peers.as_slice(), peer) {
+            return Ok(Reply::Refused(why));
         }
-        let mut known = find_peer(self.peers.as_slice(), peer);
-        if !known.up {
-            return Ok(Reply::Refused(Why::PeerDown));
-        }
-        known.syncing = false;
         let effect = on_marker(self.alloc, self.network.lsps(), peer)?;
-        self.peers.reserve(1)?;
         change_lsps(&mut self.network, &mut self.changes, peer, effect)?;
-        set_peer(&mut self.peers, known);
+        end_sync(&mut self.peers, peer);
         Ok(Reply::Done)
     }
 
-    /// A session ends: the peer's delegations and removals end, and its paths are stale.
+    /// A session ends: the peer's delegations and removals end, what waits to be sent to it is dropped, and
+    /// its paths are stale.
     pub(super) fn down(&mut self, peer: u32) -> Result<Reply, AllocError>
         ensures reply { IfOk result (λ reply. reply ≡ (down_step self.old peer).reply) }
         ensures state { OnOk result (self.new ≡ (down_step self.old peer).state) }
         ensures unchanged_without_memory { OnErr result (self.new ≡ self.old) }
     {
-        if !knows_peer(self.peers.as_slice(), peer) {
-            return Ok(Reply::Refused(Why::UnknownPeer));
+        if let Some(why) = why_not_up(self.peers.as_slice(), peer) {
+            return Ok(Reply::Refused(why));
         }
-        let mut known = find_peer(self.peers.as_slice(), peer);
-        if !known.up {
-            return Ok(Reply::Refused(Why::PeerDown));
-        }
-        known.up = false;
-        known.syncing = false;
         let effect = on_down(self.alloc, self.network.lsps(), peer)?;
-        self.peers.reserve(1)?;
         self.network.carry_out(peer, effect)?;
         self.network.mark_stale(peer);
-        set_peer(&mut self.peers, known);
+        end_session(&mut self.peers, peer);
         Ok(Reply::Done)
     }
 
@@ -91,11 +110,8 @@ impl State {
         ensures state { OnOk result (self.new ≡ (expire_step self.old peer).state) }
         ensures unchanged_without_memory { OnErr result (self.new ≡ self.old) }
     {
-        if !knows_peer(self.peers.as_slice(), peer) {
-            return Ok(Reply::Refused(Why::UnknownPeer));
-        }
-        if find_peer(self.peers.as_slice(), peer).up {
-            return Ok(Reply::Refused(Why::PeerUp));
+        if let Some(why) = why_not_forgotten(self.peers.as_slice(), peer) {
+            return Ok(Reply::Refused(why));
         }
         let effect = on_expire(self.alloc, self.network.lsps(), peer)?;
         change_lsps(&mut self.network, &mut self.changes, peer, effect)?;
@@ -103,18 +119,14 @@ impl State {
         Ok(Reply::Done)
     }
 
-    /// What waits for the peer is handed out to be sent: nothing is queued yet, so the list is empty. It
-    /// takes no memory.
-    pub(super) fn drain(&self, peer: u32) -> Reply
-        ensures reply { result ≡ (drain_step self.now peer).reply }
-        ensures state { self.now ≡ (drain_step self.now peer).state }
+    /// What waits for the peer is handed out to be sent. It takes no memory.
+    pub(super) fn drain(&mut self, peer: u32) -> Reply
+        ensures reply { result ≡ (drain_step self.old peer).reply }
+        ensures state { self.new ≡ (drain_step self.old peer).state }
     {
-        if !knows_peer(self.peers.as_slice(), peer) {
-            return Reply::Refused(Why::UnknownPeer);
+        if let Some(why) = why_not_up(self.peers.as_slice(), peer) {
+            return Reply::Refused(why);
         }
-        if !find_peer(self.peers.as_slice(), peer).up {
-            return Reply::Refused(Why::PeerDown);
-        }
-        Reply::Out(Sequence::from_vec(Vec::new(self.alloc)))
+        Reply::Out(take_outgoing(self.alloc, &mut self.peers, peer))
     }
 }

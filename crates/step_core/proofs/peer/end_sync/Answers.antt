@@ -1,0 +1,10 @@
+use Rattle.std.proofs.Common.{rules, refl}
+use Rattle.step_core.specs.States.{synchronized}
+use Rattle.step_core.proofs.PeerLists.{put_there, not_known}
+use Rattle.step_core.proofs.peer.end_sync.Goals as goal
+
+pub returns-in-Some : goal.returns-in-Some
+returns-in-Some c = put_there c.args.number c.in-Some.place c.args.peers.now.items c.index_mut.result.now synchronized (λ p. refl) (search rules) c.index_mut.ensures.value
+
+pub returns-in_default : goal.returns-in_default
+returns-in_default c = absurd (cc (c.requires, not_known c.args.number c.args.peers.now.items (search rules)))

@@ -1,0 +1,12 @@
+use Rattle.std.proofs.Common.{rules, refl}
+use Rattle.step_core.specs.States.{asked}
+use Rattle.step_core.proofs.PeerLists.{put_there}
+use Rattle.step_core.proofs.state.requests.ask_peer.Goals as goal
+
+pub returns-then-moves_paths-clause-asked : goal.returns-then-moves_paths-clause-asked
+returns-then-moves_paths-clause-asked c =
+    rw (c.next_srp-known.ensures.number, c.in_ok-carry_out_saying.ensures.queued) (put_there c.args.peer c.in-Some.place c.args.peers.now.items c.index_mut-known.result.now (λ p. asked p c.args.message) (λ p. refl) (search rules) c.index_mut-known.ensures.value)
+
+pub returns-else-moves_paths-clause-asked : goal.returns-else-moves_paths-clause-asked
+returns-else-moves_paths-clause-asked c =
+    rw (c.next_srp-known.ensures.number, c.in_ok-carry_out_saying.ensures.queued) (put_there c.args.peer c.in-Some.place c.args.peers.now.items c.index_mut-known.result.now (λ p. asked p c.args.message) (λ p. refl) (search rules) c.index_mut-known.ensures.value)

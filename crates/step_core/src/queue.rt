@@ -1,0 +1,61 @@
+//! Messages that wait.
+ghost use Rattle.std.specs.Prelude.{◌≡◌, ◌++◌, ◌∷◌, [], OnOk, OnErr};
+ghost use Rattle.step_core.specs.States.{is_nothing};
+
+use pcep_messages::Message;
+use sequence::Sequence;
+use std::alloc::{AllocError, Global};
+use std::marker::Model;
+use std::mem;
+
+/// Messages that wait to be sent, oldest first.
+#[derive(Debug, Drop)]
+pub struct Queue {
+    messages: Vec<Message>,
+}
+
+impl Model for Queue {
+    ghost use Rattle.std.specs.Prelude.{List};
+    ghost use Rattle.pcep_messages.specs.declared.message.Message.{Message};
+
+    ghost Value = { List Message };
+
+    ghost view = { λ q. q.messages.items };
+}
+
+impl Queue {
+    /// Nothing waits. Takes no memory.
+    pub fn new(alloc: Global) -> Queue
+        ensures { result ≡ [] }
+    {
+        Queue {
+            messages: Vec::new(alloc),
+        }
+    }
+
+    /// Whether nothing waits.
+    pub fn is_empty(&self) -> bool
+        ensures { result ≡ is_nothing self.now }
+    {
+        self.messages.is_empty()
+    }
+
+    /// One more message waits, behind all others.
+    pub fn push(&mut self, message: Message) -> Result<(), AllocError>
+        ensures added { OnOk result (self.new ≡ self.old ++ message ∷ []) }
+        ensures unchanged { OnErr result (self.new ≡ self.old) }
+    {
+        self.messages.reserve(1)?;
+        self.messages.push_reserved(message);
+        Ok(())
+    }
+
+    /// All that waits is handed out, in order. Takes no memory.
+    pub fn take(&mut self) -> Sequence<Message>
+        ensures taken { result ≡ self.old }
+        ensures empty { self.new ≡ [] }
+    {
+        let alloc = *self.messages.allocator();
+        Sequence::from_vec(mem::replace(&mut self.messages, Vec::new(alloc)))
+    }
+}
