@@ -58,7 +58,7 @@ fn bytes_of(alloc: Global, text: &str) -> Result<Vec<u8>, Fail> {
     }
 }
 
-/// A letter for each event: Up, report, marker, Down, drain.
+/// A letter for each event: Up, report, marker, Down, expire, drain, refused by the peer, given back.
 fn letter(event: &Event) -> u8 {
     match event {
         Event::Up { .. } => b'U',
@@ -67,6 +67,8 @@ fn letter(event: &Event) -> u8 {
         Event::Down { .. } => b'D',
         Event::Expire { .. } => b'E',
         Event::Drain { .. } => b'N',
+        Event::Refused { .. } => b'F',
+        Event::Return { .. } => b'G',
     }
 }
 

@@ -125,6 +125,26 @@ fn a_report_that_is_refused_is_answered(rt: HostRuntime) -> Result<(), Fail> {
     )
 }
 
+/// A PCErr of the requests 1 and 2.
+const REFUSAL: &str = "20060024 2110000c0000000000000001 2110000c0000000000000002 0d10000800001801";
+
+#[test]
+fn each_request_that_is_refused_is_submitted(rt: HostRuntime) -> Result<(), Fail> {
+    exchange(
+        &rt,
+        rt.alloc(),
+        &[
+            (
+                Act::Sends(GREETING),
+                "2001001401100010201e7800001000040000000520020004",
+                "UN",
+                1_000_000,
+            ),
+            (Act::Sends(REFUSAL), "", "FFN", 1_000_000),
+        ],
+    )
+}
+
 #[test]
 fn a_silent_peer_goes_down(rt: HostRuntime) -> Result<(), Fail> {
     exchange(
