@@ -14,3 +14,4 @@ pub mod Runs
 pub mod Pending
 pub mod OwnShares
 pub mod Tables
+pub mod Marked

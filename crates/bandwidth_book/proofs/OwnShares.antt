@@ -100,3 +100,13 @@ own_share_is paths t count l p less small =
           let s7 = share_is_most paths t l 7 in
           ap (λ o. share_in o p) e ∙ omega (arith, last, none, m, s, s7))
     ]
+
+-- what holds nothing on a link reserves nothing there
+pub nothing_there : (paths : List Path) (t : Tunnel) (l : ℕ) (hs : List Held) → hs ≡ [] → ((h : Held) → times h hs ≡ times h (held_by l t paths)) → is_something (own_share_on paths t l) ≡ false
+nothing_there paths t l hs none same =
+    let last : slice_index (own_share_on paths t l).shares 7 ≡ share paths t l 7 = get_or-map-range_with_len (share paths t l) 0 8 7 7 0 (omega arith) (omega arith) in
+    let here : most hs 7 ≡ 0 = ap (λ xs. most xs 7) none in
+    let m = most_same hs (held_by l t paths) 7 same in
+    let s = share_is_most paths t l 7 in
+    let zero : slice_index (own_share_on paths t l).shares 7 ≡ 0 = omega (arith, last, here, m, s) in
+    grind (arith, nat_tests)

@@ -7,7 +7,6 @@ use Rattle.lsp_base.specs.Shares.{unreserved}
 use Rattle.lsp_base.specs.declared.path.Path.{Path}
 use Rattle.te_base.specs.declared.network.Link.{Link}
 use Rattle.te_snapshot.specs.Left.{all_left, left_on}
-use Rattle.te_snapshot.specs.Room.{left}
 use Rattle.bandwidth_book.specs.Tables.{AreLeft}
 
 -- eight numbers that are right are the row

@@ -5,4 +5,5 @@ pub mod Ledgers
 pub mod Paths
 pub mod Pending
 pub mod Tables
+pub mod Marks
 pub mod Books

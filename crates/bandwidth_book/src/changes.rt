@@ -11,6 +11,7 @@ ghost use Rattle.bandwidth_book.specs.Paths.{held_by, tunnel_eq};
 
 use crate::book::Book;
 use crate::ledger::Ledger;
+use crate::marks::Marks;
 use crate::paths::{change_paths, give_up_room, promise_paths};
 use lsp_base::{Change, Tunnel};
 use std::alloc::{AllocError, Global};
@@ -37,11 +38,14 @@ impl Book {
         ensures stands { IfOk result (λ book. StandsFor book []) }
         ensures tidy { IfOk result HasNoEmptyEntry }
     {
-        let ledgers = empty_ledgers(alloc, topology.links().len())?;
+        let count = topology.links().len();
+        let ledgers = empty_ledgers(alloc, count)?;
+        let marks = Marks::new(alloc, count)?;
         Ok(Book {
             alloc,
             topology,
             ledgers,
+            marks,
             pending: Vec::new(alloc),
             kept: None,
         })
@@ -59,9 +63,14 @@ impl Book {
         ensures pending { (l : ℕ) (t : Tunnel) → pending_on self.new l t ≤ length (held_by l t change.now.added) }
         ensures tidy { (l : ℕ) (t : Tunnel) → l < length (links_of self.old) → HasEmptyEntry self.new l t → 0 < length (held_by l t change.now.added) }
     {
-        give_up_room(&mut self.ledgers, &mut self.pending);
-        let added = change.added.as_slice();
-        promise_paths(self.alloc, &mut self.ledgers, &mut self.pending, added)
+        give_up_room(&mut self.ledgers, &mut self.marks, &mut self.pending);
+        promise_paths(
+            self.alloc,
+            &mut self.ledgers,
+            &mut self.marks,
+            &mut self.pending,
+            change.added.as_slice(),
+        )
     }
 
     /// Carries out a change: the dropped paths go, then the added ones come. It takes no memory, and gives
@@ -82,8 +91,8 @@ impl Book {
         let added = change.added.as_slice();
         if !dropped.is_empty() || !added.is_empty() {
             self.kept = None;
-            change_paths(&mut self.ledgers, dropped, added);
+            change_paths(&mut self.ledgers, &mut self.marks, dropped, added);
         }
-        give_up_room(&mut self.ledgers, &mut self.pending);
+        give_up_room(&mut self.ledgers, &mut self.marks, &mut self.pending);
     }
 }

@@ -188,6 +188,7 @@ impl Entry {
     /// Takes the promises back.
     pub fn withdraw(&mut self)
         ensures held { self.new.held ≡ self.old.held }
+        ensures promised { self.new.promised ≡ 0 }
     {
         self.promised = 0;
     }

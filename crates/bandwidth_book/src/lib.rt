@@ -31,6 +31,7 @@ mod held;
 mod ledger;
 mod ledgers;
 mod looks;
+mod marks;
 mod own;
 mod paths;
 mod snapshots;

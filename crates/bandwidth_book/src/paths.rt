@@ -6,12 +6,14 @@ ghost use Rattle.lsp_base.specs.declared.tunnel.Tunnel.{Tunnel};
 ghost use Rattle.bandwidth_book.specs.declared.paths.Place.{Place};
 ghost use Rattle.bandwidth_book.specs.Paths.{IsHeldBy, IsPromised, held_by, tunnel_eq};
 ghost use Rattle.bandwidth_book.specs.Pending.{AreNoted, noted};
+ghost use Rattle.bandwidth_book.specs.Marks.{AreMarked};
 ghost use Rattle.bandwidth_book.specs.Held.{held_of, with_all, without_all};
 ghost use Rattle.bandwidth_book.specs.Ledgers.{has_entry_at, held_at, held_by_path, promised_on};
 
 use crate::held::held_of;
 use crate::ledger::Ledger;
 use crate::ledgers::{add_path, drop_path, promise_if_there, withdraw_if_there, withdraw_path};
+use crate::marks::{Marks, remark, remark_paths};
 use lsp_base::{Path, Tunnel};
 use std::alloc::{AllocError, Global};
 use te_base::LinkNumber;
@@ -57,8 +59,15 @@ fn clear_paths(ledgers: &mut [Ledger<Tunnel>], paths: &[Path])
 }
 
 /// Drops, then adds, and takes out the entries that are left with nothing.
-pub fn change_paths(ledgers: &mut [Ledger<Tunnel>], dropped: &[Path], added: &[Path])
+pub fn change_paths(
+    ledgers: &mut [Ledger<Tunnel>],
+    marks: &mut Marks,
+    dropped: &[Path],
+    added: &[Path],
+)
     requires room { IsPromised (length ledgers.old) (promised_on tunnel_eq ledgers.old) added.now }
+    ensures marked { AreMarked (has_entry_at tunnel_eq ledgers.old) marks.old.words.items → AreMarked (has_entry_at tunnel_eq ledgers.new) marks.new.words.items }
+    ensures count { length marks.new.words.items ≡ length marks.old.words.items }
     ensures noted { (places : List Place) → AreNoted (length ledgers.old) (has_entry_at tunnel_eq ledgers.old) (held_at tunnel_eq ledgers.old) places → AreNoted (length ledgers.old) (has_entry_at tunnel_eq ledgers.new) (held_at tunnel_eq ledgers.new) places }
     ensures kept { (l : ℕ) (t : Tunnel) → l < length ledgers.old → held_at tunnel_eq ledgers.new l t ≡ with_all (without_all (held_at tunnel_eq ledgers.old l t) (held_by l t dropped.now)) (held_by l t added.now) }
     ensures stands { (paths : List Path) → IsHeldBy (length ledgers.old) (held_at tunnel_eq ledgers.old) paths → HasAll paths dropped.now
@@ -67,11 +76,13 @@ pub fn change_paths(ledgers: &mut [Ledger<Tunnel>], dropped: &[Path], added: &[P
     drop_paths(ledgers, dropped);
     add_paths(ledgers, added);
     clear_paths(ledgers, dropped);
+    remark_paths(ledgers, marks, dropped);
 }
 
 /// Takes the promises at these places back, and the entries out that hold nothing.
 fn withdraw_places(ledgers: &mut [Ledger<Tunnel>], places: &[Place])
     requires noted { AreNoted (length ledgers.old) (has_entry_at tunnel_eq ledgers.old) (held_at tunnel_eq ledgers.old) places.now }
+    ensures entries { (l : ℕ) (t : Tunnel) → has_entry_at tunnel_eq ledgers.new l t ≡ true → has_entry_at tunnel_eq ledgers.old l t ≡ true }
     ensures none { AreNoted (length ledgers.old) (has_entry_at tunnel_eq ledgers.new) (held_at tunnel_eq ledgers.new) [] }
     ensures kept { (l : ℕ) (t : Tunnel) → held_at tunnel_eq ledgers.new l t ≡ held_at tunnel_eq ledgers.old l t }
 {
@@ -80,32 +91,49 @@ fn withdraw_places(ledgers: &mut [Ledger<Tunnel>], places: &[Place])
     }
 }
 
+/// Sets the marks anew of the links at these places, where their tunnels have no entries.
+fn remark_places(ledgers: &[Ledger<Tunnel>], marks: &mut Marks, places: &[Place])
+    ensures marked { AreMarked (has_entry_at tunnel_eq ledgers.now) marks.old.words.items → AreMarked (has_entry_at tunnel_eq ledgers.now) marks.new.words.items }
+    ensures count { length marks.new.words.items ≡ length marks.old.words.items }
+{
+    for place in places {
+        remark(ledgers, marks, place.link, &place.tunnel);
+    }
+}
+
 /// Gives the room at these places up that wasn't used, and forgets them.
-pub fn give_up_room(ledgers: &mut [Ledger<Tunnel>], places: &mut Vec<Place>)
+pub fn give_up_room(ledgers: &mut [Ledger<Tunnel>], marks: &mut Marks, places: &mut Vec<Place>)
     requires noted { AreNoted (length ledgers.old) (has_entry_at tunnel_eq ledgers.old) (held_at tunnel_eq ledgers.old) places.old.items }
     ensures none { AreNoted (length ledgers.old) (has_entry_at tunnel_eq ledgers.new) (held_at tunnel_eq ledgers.new) [] }
     ensures forgotten { places.new.items ≡ [] }
+    ensures marked { AreMarked (has_entry_at tunnel_eq ledgers.old) marks.old.words.items → AreMarked (has_entry_at tunnel_eq ledgers.new) marks.new.words.items }
+    ensures count { length marks.new.words.items ≡ length marks.old.words.items }
     ensures kept { (l : ℕ) (t : Tunnel) → held_at tunnel_eq ledgers.new l t ≡ held_at tunnel_eq ledgers.old l t }
 {
     withdraw_places(ledgers, places);
+    remark_places(ledgers, marks, places);
     places.clear();
 }
 
-/// Promises room for one more at a place, which it notes before.
+/// Promises room for one more at a place, which it notes and marks before.
 #[tactic(auto, using(crate::proofs::Pending::noted_push))]
 fn promise_place(
     alloc: Global,
     ledgers: &mut [Ledger<Tunnel>],
+    marks: &mut Marks,
     places: &mut Vec<Place>,
     place: &Place,
 ) -> Result<(), AllocError>
     requires noted { AreNoted (length ledgers.old) (has_entry_at tunnel_eq ledgers.old) (held_at tunnel_eq ledgers.old) places.old.items }
     ensures noted { AreNoted (length ledgers.old) (has_entry_at tunnel_eq ledgers.new) (held_at tunnel_eq ledgers.new) places.new.items }
+    ensures marked { length marks.old.words.items ≡ length ledgers.old → AreMarked (has_entry_at tunnel_eq ledgers.old) marks.old.words.items → AreMarked (has_entry_at tunnel_eq ledgers.new) marks.new.words.items }
+    ensures count { length marks.new.words.items ≡ length marks.old.words.items }
     ensures places { (l : ℕ) (t : Tunnel) → noted places.new.items l t ≤ noted places.old.items l t + (if place.now.link == l && tunnel_eq place.now.tunnel t then 1 else 0) }
     ensures kept { (l : ℕ) (t : Tunnel) → held_at tunnel_eq ledgers.new l t ≡ held_at tunnel_eq ledgers.old l t }
     ensures ok { OnOk result ((l : ℕ) (t : Tunnel) → l < length ledgers.old → promised_on tunnel_eq ledgers.old l t + (if place.now.link == l && tunnel_eq place.now.tunnel t then 1 else 0) ≤ promised_on tunnel_eq ledgers.new l t) }
 {
     places.push(*place)?;
+    marks.mark(place.link, &place.tunnel);
     promise_if_there(alloc, ledgers, place.link, place.tunnel)
 }
 
@@ -113,11 +141,14 @@ fn promise_place(
 fn promise_path(
     alloc: Global,
     ledgers: &mut [Ledger<Tunnel>],
+    marks: &mut Marks,
     places: &mut Vec<Place>,
     path: &Path,
 ) -> Result<(), AllocError>
     requires noted { AreNoted (length ledgers.old) (has_entry_at tunnel_eq ledgers.old) (held_at tunnel_eq ledgers.old) places.old.items }
     ensures noted { AreNoted (length ledgers.old) (has_entry_at tunnel_eq ledgers.new) (held_at tunnel_eq ledgers.new) places.new.items }
+    ensures marked { length marks.old.words.items ≡ length ledgers.old → AreMarked (has_entry_at tunnel_eq ledgers.old) marks.old.words.items → AreMarked (has_entry_at tunnel_eq ledgers.new) marks.new.words.items }
+    ensures count { length marks.new.words.items ≡ length marks.old.words.items }
     ensures places { (l : ℕ) (t : Tunnel) → noted places.new.items l t ≤ noted places.old.items l t + length (held_by_path tunnel_eq path.now.tunnel (held_of path.now) l t path.now.links) }
     ensures kept { (l : ℕ) (t : Tunnel) → held_at tunnel_eq ledgers.new l t ≡ held_at tunnel_eq ledgers.old l t }
     ensures ok { OnOk result ((l : ℕ) (t : Tunnel) → l < length ledgers.old → promised_on tunnel_eq ledgers.old l t + length (held_by_path tunnel_eq path.now.tunnel (held_of path.now) l t path.now.links) ≤ promised_on tunnel_eq ledgers.new l t) }
@@ -127,7 +158,7 @@ fn promise_path(
             link: *link,
             tunnel: path.tunnel,
         };
-        promise_place(alloc, ledgers, places, &place)?;
+        promise_place(alloc, ledgers, marks, places, &place)?;
     }
     Ok(())
 }
@@ -136,17 +167,20 @@ fn promise_path(
 pub fn promise_paths(
     alloc: Global,
     ledgers: &mut [Ledger<Tunnel>],
+    marks: &mut Marks,
     places: &mut Vec<Place>,
     paths: &[Path],
 ) -> Result<(), AllocError>
     requires noted { AreNoted (length ledgers.old) (has_entry_at tunnel_eq ledgers.old) (held_at tunnel_eq ledgers.old) places.old.items }
     ensures noted { AreNoted (length ledgers.old) (has_entry_at tunnel_eq ledgers.new) (held_at tunnel_eq ledgers.new) places.new.items }
+    ensures marked { length marks.old.words.items ≡ length ledgers.old → AreMarked (has_entry_at tunnel_eq ledgers.old) marks.old.words.items → AreMarked (has_entry_at tunnel_eq ledgers.new) marks.new.words.items }
+    ensures count { length marks.new.words.items ≡ length marks.old.words.items }
     ensures places { (l : ℕ) (t : Tunnel) → noted places.new.items l t ≤ noted places.old.items l t + length (held_by l t paths.now) }
     ensures kept { (l : ℕ) (t : Tunnel) → held_at tunnel_eq ledgers.new l t ≡ held_at tunnel_eq ledgers.old l t }
     ensures ok { OnOk result (IsPromised (length ledgers.old) (promised_on tunnel_eq ledgers.new) paths.now) }
 {
     for path in paths {
-        promise_path(alloc, ledgers, places, path)?;
+        promise_path(alloc, ledgers, marks, places, path)?;
     }
     Ok(())
 }

@@ -1,7 +1,7 @@
 //! How long the running book takes: `book_bench LINKS PATHS EVENTS` books PATHS paths of four links in half as
 //! many tunnels on LINKS links, then lets EVENTS paths change, and says on standard error how many nanoseconds
 //! one event took (`reserve` and `change`), one reading of all sums, a snapshot, and the list of what a tunnel
-//! holds already. Then what an event took for PATHS paths of one tunnel on one link.
+//! holds already, of two paths and of one. Then what an event took for PATHS paths of one tunnel on one link.
 #![tactic(auto)]
 
 use anyhow::Result;
@@ -177,6 +177,7 @@ fn measure_snapshots<R: Runtime<A = Global>>(
 /// Measures the lists of what tunnels hold already.
 fn measure_own_shares<R: Runtime<A = Global>>(
     rt: &R,
+    name: &str,
     book: &Book,
     changes: &[Change],
 ) -> Result<()> {
@@ -190,11 +191,23 @@ fn measure_own_shares<R: Runtime<A = Global>>(
             count = count.wrapping_add(1);
         }
     }
-    say(rt, "own_shares", start.elapsed(rt)?, count)?;
+    say(rt, name, start.elapsed(rt)?, count)?;
     if listed == 0 {
         eprintln!(rt; "nothing_listed 0 ns")?;
     }
     Ok(())
+}
+
+/// Every second of the paths that changed goes, so that their tunnels have one path each.
+fn halves(alloc: Global, load: Load, changes: &[Change]) -> Result<Vec<Change>, AllocError> {
+    let mut halves = Vec::new(alloc);
+    for change in changes.iter().take(load.paths as usize).step_by(2) {
+        halves.push(Change {
+            dropped: change.added.copy()?,
+            added: Sequence::from_vec(Vec::new(alloc)),
+        })?;
+    }
+    Ok(halves)
 }
 
 /// Books the load and measures events on it, and readings.
@@ -220,7 +233,9 @@ fn measure<R: Runtime<A = Global>>(rt: &R, te: &TeBase, load: Load, events: u32)
     if !load.crowded {
         say(rt, "all_sums", start.elapsed(rt)?, 100)?;
         measure_snapshots(rt, &mut book, &changes)?;
-        measure_own_shares(rt, &book, &changes)?;
+        measure_own_shares(rt, "own_shares", &book, &changes)?;
+        book_all(&mut book, &halves(alloc, load, changes.as_slice())?)?;
+        measure_own_shares(rt, "own_shares_of_one_path", &book, &changes)?;
     }
     Ok(total)
 }

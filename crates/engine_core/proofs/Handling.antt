@@ -3,7 +3,10 @@ use Rattle.std.proofs.Common.{◌≡◌, inl, inr, ℕ, zero, suc, ◌≤◌, Bo
 use Rattle.std.proofs.Math.Nat.{le_trans}
 use Rattle.pcep_messages.specs.declared.message.Message.{Message}
 use Rattle.pcep_messages.specs.declared.message.Message.TheVariants as messages
+use Rattle.pcep_messages.specs.declared.message.PathRequest.{PathRequest}
 use Rattle.pcep_messages.specs.declared.message.StateReport.{StateReport}
+use Rattle.pcep_objects.specs.declared.request_objects.NoPathVector.{NoPathVector}
+use Rattle.commit_core.specs.declared.ticket.Purpose.TheVariants as purposes
 use Rattle.pcep_messages.specs.declared.notice.PcError.{PcError}
 use Rattle.pcep_session.specs.Ends.{most_turns, turns_left, brings_more}
 use Rattle.pcep_session.specs.Runs.{after_call}
@@ -20,7 +23,8 @@ use Rattle.step_core.specs.declared.event.Event.{Event}
 use Rattle.step_core.specs.declared.event.Event.TheVariants as event
 use Rattle.step_core.specs.declared.event.Reply.{Reply}
 use Rattle.step_core.specs.declared.event.Reply.TheVariants as replies
-use Rattle.engine_core.specs.Engine.{client_with, ending, second_session, after_refused_up, after_up, event_of, saying, cannot_process, after_report, on_up, on_report, on_reports, on_refusal, on_refusals, on_message, on_input, turned, turns}
+use Rattle.engine_core.specs.Engine.{client_with, ending, second_session, after_refused_up, after_up, event_of, saying, cannot_process, on_wanted, after_report, on_up, on_report, on_reports, told_why, refused_request, after_request, on_request, on_requests, on_refusal, on_refusals, on_message, on_input, turned, turns}
+use Rattle.engine_core.specs.Requests.{purpose_of, vector_for, no_path_for}
 use Rattle.engine_core.specs.Laws.{AllHandled}
 use Rattle.engine_core.specs.Plans.{Plan, Returns, Reaches, Submits, submitting, LeadsTo}
 use Rattle.engine_core.specs.declared.client.Client.{Client}
@@ -138,19 +142,26 @@ up_leaves peer capabilities go_on c calls after h =
     submitting_leaves c (event.Up peer capabilities) (λ reply k. k (after_up reply c)) go_on c calls after
     (λ reply rest m. from_next (λ k. k (after_up reply c)) go_on c (after_up reply c) rest after (up_adds_none reply c) (at_once go_on (after_up reply c) rest after m)) h
 
-reply_leaves : (srp : Option ℕ) (reply : Reply) (go_on : Client → Plan Client) (c : Client) (calls : List Call) (after : Client)
-    → LeadsTo (after_report srp reply c go_on) calls (Returns after) → Leaves (λ k. after_report srp reply c k) go_on c calls after
+wants_leave : (wants : Bool) (peer plsp : ℕ) (go_on : Client → Plan Client) (c : Client) (calls : List Call) (after : Client)
+    → LeadsTo (if wants then on_wanted peer plsp c go_on else go_on c) calls (Returns after) → Leaves (λ k. if wants then on_wanted peer plsp c k else k c) go_on c calls after
+wants_leave true peer plsp go_on c calls after h =
+    submitting_leaves c (event.Ask peer (purposes.Update plsp)) (λ reply k. k c) go_on c calls after (λ reply rest m. at_once go_on c rest after m) h
+wants_leave false peer plsp go_on c calls after h = at_once go_on c calls after h
+
+reply_leaves : (peer plsp : ℕ) (srp : Option ℕ) (reply : Reply) (go_on : Client → Plan Client) (c : Client) (calls : List Call) (after : Client)
+    → LeadsTo (after_report peer plsp srp reply c go_on) calls (Returns after) → Leaves (λ k. after_report peer plsp srp reply c k) go_on c calls after
 unfolding after_report
-reply_leaves srp (replies.Refused why) go_on c calls after h =
+reply_leaves peer plsp srp (replies.Booked wants) go_on c calls after h = wants_leave wants peer plsp go_on c calls after h
+reply_leaves peer plsp srp (replies.Refused why) go_on c calls after h =
     let d : Client = saying (cannot_process srp) c in
     past c (λ k. k d) go_on c calls after
     (from_next (λ k. k d) go_on c d calls after (adds_none (runs.Report_error (cannot_process srp)) c.session refl) (at_once go_on d calls after (to_end c (go_on d) calls after h)))
-reply_leaves srp reply go_on c calls after h = at_once go_on c calls after h
+reply_leaves peer plsp srp reply go_on c calls after h = at_once go_on c calls after h
 
 report_leaves : (peer : ℕ) (r : StateReport) (go_on : Client → Plan Client) (c : Client) (calls : List Call) (after : Client)
     → LeadsTo (on_report peer r c go_on) calls (Returns after) → Leaves (λ k. on_report peer r c k) go_on c calls after
 report_leaves peer r go_on c calls after h =
-    submitting_leaves c (event_of peer r) (λ reply k. after_report r.srp reply c k) go_on c calls after (λ reply rest m. reply_leaves r.srp reply go_on c rest after m) h
+    submitting_leaves c (event_of peer r) (λ reply k. after_report peer r.plsp r.srp reply c k) go_on c calls after (λ reply rest m. reply_leaves peer r.plsp r.srp reply go_on c rest after m) h
 
 reports_leave : (peer : ℕ) (reports : List StateReport) (go_on : Client → Plan Client) (c : Client) (calls : List Call) (after : Client)
     → LeadsTo (on_reports peer reports c go_on) calls (Returns after) → Leaves (λ k. on_reports peer reports c k) go_on c calls after
@@ -171,9 +182,35 @@ refusals_leave peer (srp ∷ srps) go_on c calls after h =
     and_then (λ k. on_refusal peer srp c k) (λ a k. on_refusals peer srps a k) go_on c calls after (refusal_leaves peer srp (λ a. on_refusals peer srps a go_on) c calls after h)
     (λ mid rest m. refusals_leave peer srps go_on mid rest after m)
 
+told_adds_none : (request : ℕ) (vector : Option NoPathVector) (c : Client) → turns_left (told_why request vector c).session ≤ turns_left c.session
+told_adds_none request None c = same (turns_left c.session)
+told_adds_none request (Some vector) c = adds_none (runs.Send (no_path_for request vector)) c.session refl
+
+answer_leaves : (request : ℕ) (reply : Reply) (go_on : Client → Plan Client) (c : Client) (calls : List Call) (after : Client)
+    → LeadsTo (after_request request reply c go_on) calls (Returns after) → Leaves (λ k. after_request request reply c k) go_on c calls after
+unfolding after_request
+answer_leaves request (replies.Refused why) go_on c calls after h =
+    let d : Client = refused_request request why c in
+    past c (λ k. k d) go_on c calls after
+    (from_next (λ k. k d) go_on c d calls after (told_adds_none request (vector_for why) c) (at_once go_on d calls after (to_end c (go_on d) calls after h)))
+answer_leaves request reply go_on c calls after h = at_once go_on c calls after h
+
+request_leaves : (peer : ℕ) (r : PathRequest) (go_on : Client → Plan Client) (c : Client) (calls : List Call) (after : Client)
+    → LeadsTo (on_request peer r c go_on) calls (Returns after) → Leaves (λ k. on_request peer r c k) go_on c calls after
+request_leaves peer r go_on c calls after h =
+    submitting_leaves c (event.Ask peer (purpose_of r)) (λ reply k. after_request r.request reply c k) go_on c calls after (λ reply rest m. answer_leaves r.request reply go_on c rest after m) h
+
+requests_leave : (peer : ℕ) (requests : List PathRequest) (go_on : Client → Plan Client) (c : Client) (calls : List Call) (after : Client)
+    → LeadsTo (on_requests peer requests c go_on) calls (Returns after) → Leaves (λ k. on_requests peer requests c k) go_on c calls after
+requests_leave peer [] go_on c calls after h = at_once go_on c calls after h
+requests_leave peer (r ∷ rs) go_on c calls after h =
+    and_then (λ k. on_request peer r c k) (λ a k. on_requests peer rs a k) go_on c calls after (request_leaves peer r (λ a. on_requests peer rs a go_on) c calls after h)
+    (λ mid rest m. requests_leave peer rs go_on mid rest after m)
+
 message_leaves : (peer : ℕ) (message : Message) (go_on : Client → Plan Client) (c : Client) (calls : List Call) (after : Client)
     → LeadsTo (on_message peer message c go_on) calls (Returns after) → Leaves (λ k. on_message peer message c k) go_on c calls after
 message_leaves peer (messages.Report reports) go_on c calls after h = reports_leave peer reports go_on c calls after h
+message_leaves peer (messages.Request requests) go_on c calls after h = requests_leave peer requests go_on c calls after h
 message_leaves peer (messages.Error errors) go_on c calls after h = refusals_leave peer errors.srps go_on c calls after h
 message_leaves peer message go_on c calls after h = at_once go_on c calls after h
 

@@ -8,7 +8,10 @@ use Rattle.pcep_messages.specs.declared.fault.About.{About}
 use Rattle.pcep_messages.specs.declared.fault.About.TheVariants as about
 use Rattle.pcep_messages.specs.declared.message.Message.{Message}
 use Rattle.pcep_messages.specs.declared.message.Message.TheVariants as messages
+use Rattle.pcep_messages.specs.declared.message.PathRequest.{PathRequest}
 use Rattle.pcep_messages.specs.declared.message.StateReport.{StateReport}
+use Rattle.pcep_objects.specs.declared.request_objects.NoPathVector.{NoPathVector}
+use Rattle.commit_core.specs.declared.ticket.Purpose.TheVariants as purposes
 use Rattle.pcep_messages.specs.declared.notice.PcError.{PcError}
 use Rattle.pcep_session.specs.Calls.{begun, fed, sent, error_reported, ended_by}
 use Rattle.pcep_session.specs.Runs.{or_same}
@@ -22,7 +25,8 @@ use Rattle.lsp_base.specs.declared.why.Why.TheVariants.{PeerUp, TooManyPeers}
 use Rattle.step_core.specs.declared.event.Event.{Event}
 use Rattle.step_core.specs.declared.event.Event.TheVariants as event
 use Rattle.step_core.specs.declared.event.Reply.{Reply}
-use Rattle.step_core.specs.declared.event.Reply.TheVariants.{Done, Refused, Out}
+use Rattle.step_core.specs.declared.event.Reply.TheVariants.{Done, Booked, Refused, Out}
+use Rattle.engine_core.specs.Requests.{purpose_of, vector_for, no_path_for}
 use Rattle.engine_core.specs.Plans.{Plan, Returns, Reaches, submitting}
 use Rattle.engine_core.specs.declared.client.Client.{Client}
 
@@ -41,6 +45,10 @@ ending error reason c = client_with (or_same c.session (ended_by error reason c.
 -- a PCErr is sent, and the session goes on
 abbrev pub saying : PcError → Client → Client
 saying error c = client_with (or_same c.session (error_reported error c.session)) c
+
+-- a message whose lengths don't fit is left out
+abbrev pub sending_one : Client → Message → Client
+sending_one c message = client_with (or_same c.session (sent message c.session)) c
 
 -- ---- Up
 
@@ -85,13 +93,19 @@ srp_about (Some id) = if id == 0 then about.Nothing else about.Srp id
 abbrev pub cannot_process : Option ℕ → PcError
 cannot_process srp = record { about = srp_about srp; kind = 20; value = 1 }
 
--- the reply to a report: one that is refused is answered, and the session goes on
-unfoldable pub after_report : {W : Type 0} → Option ℕ → Reply → Client → (Client → Plan W) → Plan W
-after_report srp (Refused why) c go_on = Reaches c (go_on (saying (cannot_process srp) c))
-after_report srp reply c go_on = go_on c
+-- a path is asked for, to update the LSP; the reply means nothing for the session
+abbrev pub on_wanted : {W : Type 0} → ℕ → ℕ → Client → (Client → Plan W) → Plan W
+on_wanted peer plsp c go_on = submitting c (event.Ask peer (purposes.Update plsp)) (λ reply. go_on c)
+
+-- the reply to a report: an LSP that waits for a path is asked for, one that is refused is answered, and the session
+-- goes on
+unfoldable pub after_report : {W : Type 0} → ℕ → ℕ → Option ℕ → Reply → Client → (Client → Plan W) → Plan W
+after_report peer plsp srp (Booked wants) c go_on = if wants then on_wanted peer plsp c go_on else go_on c
+after_report peer plsp srp (Refused why) c go_on = Reaches c (go_on (saying (cannot_process srp) c))
+after_report peer plsp srp reply c go_on = go_on c
 
 abbrev pub on_report : {W : Type 0} → ℕ → StateReport → Client → (Client → Plan W) → Plan W
-on_report peer r c go_on = submitting c (event_of peer r) (λ reply. after_report r.srp reply c go_on)
+on_report peer r c go_on = submitting c (event_of peer r) (λ reply. after_report peer r.plsp r.srp reply c go_on)
 
 abbrev pub on_reports : {W : Type 0} → ℕ → List StateReport → Client → (Client → Plan W) → Plan W
 on_reports peer [] c go_on = go_on c
@@ -107,10 +121,33 @@ abbrev pub on_refusals : {W : Type 0} → ℕ → List ℕ → Client → (Clien
 on_refusals peer [] c go_on = go_on c
 on_refusals peer (srp ∷ srps) c go_on = on_refusal peer srp c (λ after. on_refusals peer srps after go_on)
 
+-- ---- path requests (RFC 5440 section 6.4)
+
+-- a request that is refused is answered, where it is to be told why
+abbrev pub told_why : ℕ → Option NoPathVector → Client → Client
+told_why request None c = c
+told_why request (Some vector) c = sending_one c (no_path_for request vector)
+
+abbrev pub refused_request : ℕ → Why → Client → Client
+refused_request request why c = told_why request (vector_for why) c
+
+-- the reply to a request that is asked for: where there can't be a path it is answered at once
+unfoldable pub after_request : {W : Type 0} → ℕ → Reply → Client → (Client → Plan W) → Plan W
+after_request request (Refused why) c go_on = Reaches c (go_on (refused_request request why c))
+after_request request reply c go_on = go_on c
+
+abbrev pub on_request : {W : Type 0} → ℕ → PathRequest → Client → (Client → Plan W) → Plan W
+on_request peer r c go_on = submitting c (event.Ask peer (purpose_of r)) (λ reply. after_request r.request reply c go_on)
+
+abbrev pub on_requests : {W : Type 0} → ℕ → List PathRequest → Client → (Client → Plan W) → Plan W
+on_requests peer [] c go_on = go_on c
+on_requests peer (r ∷ rs) c go_on = on_request peer r c (λ after. on_requests peer rs after go_on)
+
 -- ---- messages
 
 abbrev pub on_message : {W : Type 0} → ℕ → Message → Client → (Client → Plan W) → Plan W
 on_message peer (messages.Report reports) c go_on = on_reports peer reports c go_on
+on_message peer (messages.Request requests) c go_on = on_requests peer requests c go_on
 on_message peer (messages.Error errors) c go_on = on_refusals peer errors.srps c go_on
 on_message peer message c go_on = go_on c
 
@@ -143,10 +180,6 @@ turns (suc most) peer c go_on =
 abbrev pub messages_of : Reply → List Message
 messages_of (Out messages) = messages
 messages_of reply = []
-
--- a message whose lengths don't fit is left out
-abbrev pub sending_one : Client → Message → Client
-sending_one c message = client_with (or_same c.session (sent message c.session)) c
 
 abbrev pub sending : {W : Type 0} → List Message → Client → (Client → Plan W) → Plan W
 sending [] c go_on = go_on c

@@ -1,3 +1,4 @@
+pub mod Requests
 pub mod Calls
 pub mod Plans
 pub mod Engine

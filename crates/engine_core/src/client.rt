@@ -141,7 +141,7 @@ pub(crate) fn next(client: &mut Client) -> Result<Option<Input>, Fault>
 }
 
 /// Sends a message; one whose lengths don't fit is left out.
-fn send(client: &mut Client, message: &Message) -> Result<(), Fault>
+pub(crate) fn send(client: &mut Client, message: &Message) -> Result<(), Fault>
     ensures sent { OnOk result (client.new ≡ sending_one client.old message.now) }
     ensures unchanged { OnErr result (client.new ≡ client.old) }
     ensures joined { client.new.joined ≡ client.old.joined }

@@ -1,17 +1,19 @@
 //! What is done with what a session gives.
 
-ghost use Rattle.std.specs.Prelude.{◌≡◌, [], OnErr};
-ghost use Rattle.engine_core.specs.Engine.{event_of, on_up, after_report, on_report, on_reports, on_refusal, on_refusals, on_message, on_down, on_input, turns};
+ghost use Rattle.std.specs.Prelude.{◌≡◌, [], OnOk, OnErr, IfErr};
+ghost use Rattle.history_core.specs.declared.fault.Fault.TheVariants.{OutOfMemory};
+ghost use Rattle.engine_core.specs.Engine.{event_of, on_up, on_wanted, after_report, on_report, on_reports, refused_request, after_request, on_request, on_requests, on_refusal, on_refusals, on_message, on_down, on_input, turns};
 ghost use Rattle.engine_core.specs.Plans.{Plan};
 ghost use Rattle.engine_core.specs.Stores.{Serves};
 ghost use Rattle.engine_core.specs.declared.client.Client.{Client};
 ghost use Rattle.pcep_session.specs.Ends.{most_turns};
 
-use crate::client::{Client, after_up, next, refuse_report};
+use crate::client::{Client, after_up, next, refuse_report, send};
+use crate::requests::{no_path_for, purpose_of, vector_for};
 use crate::sink::Sink;
-use history_core::{Event, Fault, Reply};
-use pcep_messages::{Errors, Message, StateReport};
-use pcep_objects::Capabilities;
+use history_core::{Event, Fault, Purpose, Reply, Why};
+use pcep_messages::{Errors, Message, PathRequest, StateReport};
+use pcep_objects::{Capabilities, Plsp};
 use pcep_session::Input;
 
 fn on_up<S: Sink>(
@@ -36,14 +38,35 @@ fn event_of(peer: u32, report: StateReport) -> Event
     Event::Report { peer, report }
 }
 
-/// What the reply to a report means: one that is refused is answered.
+/// A path is asked for, to update the LSP. What the store replies means nothing for the session.
+fn on_wanted<S: Sink>(client: &Client, peer: u32, plsp: Plsp, store: &mut S) -> Result<(), Fault>
+    ensures { (go_on : Client → Plan Client) → Serves result S.moves S.is_full store.old store.new client.now client.now (on_wanted peer plsp client.now go_on) go_on }
+{
+    let purpose = Purpose::Update { plsp };
+    store.hand_in(Event::Ask { peer, purpose })?;
+    Ok(())
+}
+
+/// What the reply to a report means: an LSP that waits for a path is asked for, and a report that is refused is answered.
 #[tactic(auto, unfolding(crate::specs::Engine::after_report))]
-fn after_report<S: Sink>(client: &mut Client, srp: Option<u32>, store: &mut S) -> Result<(), Fault>
+fn after_report<S: Sink>(
+    client: &mut Client,
+    peer: u32,
+    plsp: Plsp,
+    srp: Option<u32>,
+    store: &mut S,
+) -> Result<(), Fault>
     requires { S.is_answered store.old }
-    ensures { (go_on : Client → Plan Client) → Serves result S.moves S.is_full store.old store.new client.old client.new (after_report srp (S.newest store.old) client.old go_on) go_on }
+    ensures { (go_on : Client → Plan Client) → Serves result S.moves S.is_full store.old store.new client.old client.new (after_report peer plsp srp (S.newest store.old) client.old go_on) go_on }
 {
     match store.reply() {
         Reply::Refused(_) => refuse_report(client, srp),
+        Reply::Booked { wants_path } => {
+            if *wants_path {
+                return on_wanted(client, peer, plsp, store);
+            }
+            Ok(())
+        }
         _ => Ok(()),
     }
 }
@@ -56,9 +79,10 @@ fn on_report<S: Sink>(
 ) -> Result<(), Fault>
     ensures { (go_on : Client → Plan Client) → Serves result S.moves S.is_full store.old store.new client.old client.new (on_report peer report client.old go_on) go_on }
 {
+    let plsp = report.plsp;
     let srp = report.srp;
     store.hand_in(event_of(peer, report))?;
-    after_report(client, srp, store)
+    after_report(client, peer, plsp, srp, store)
 }
 
 fn on_reports<S: Sink>(
@@ -97,6 +121,59 @@ fn on_refusals<S: Sink>(
     Ok(())
 }
 
+/// A request that is refused is answered, where it is to be told why.
+fn refuse_request(client: &mut Client, request: u32, why: Why) -> Result<(), Fault>
+    ensures answered { OnOk result (client.new ≡ refused_request request why client.old) }
+    ensures unchanged { OnErr result (client.new ≡ client.old) }
+    ensures joined { client.new.joined ≡ client.old.joined }
+    ensures only_memory { IfErr result (λ fault. fault ≡ OutOfMemory) }
+{
+    match vector_for(why) {
+        Some(vector) => send(client, &no_path_for(request, vector)),
+        None => Ok(()),
+    }
+}
+
+/// What the reply to a request that is asked for means: where there can't be a path it is answered at once.
+#[tactic(auto, unfolding(crate::specs::Engine::after_request))]
+fn after_request<S: Sink>(client: &mut Client, request: u32, store: &S) -> Result<(), Fault>
+    requires { S.is_answered store.now }
+    ensures { (go_on : Client → Plan Client) → Serves result S.moves S.is_full store.now store.now client.old client.new (after_request request (S.newest store.now) client.old go_on) go_on }
+{
+    match store.reply() {
+        Reply::Refused(why) => refuse_request(client, request, *why),
+        _ => Ok(()),
+    }
+}
+
+/// A path is asked for, to answer a request.
+fn on_request<S: Sink>(
+    client: &mut Client,
+    peer: u32,
+    request: PathRequest,
+    store: &mut S,
+) -> Result<(), Fault>
+    ensures { (go_on : Client → Plan Client) → Serves result S.moves S.is_full store.old store.new client.old client.new (on_request peer request client.old go_on) go_on }
+{
+    let purpose = purpose_of(&request);
+    store.hand_in(Event::Ask { peer, purpose })?;
+    after_request(client, request.request, store)
+}
+
+fn on_requests<S: Sink>(
+    client: &mut Client,
+    peer: u32,
+    requests: Vec<PathRequest>,
+    store: &mut S,
+) -> Result<(), Fault>
+    ensures { (go_on : Client → Plan Client) → Serves result S.moves S.is_full store.old store.new client.old client.new (on_requests peer requests.items client.old go_on) go_on }
+{
+    for request in requests {
+        on_request(client, peer, request, store)?;
+    }
+    Ok(())
+}
+
 fn on_message<S: Sink>(
     client: &mut Client,
     peer: u32,
@@ -107,6 +184,7 @@ fn on_message<S: Sink>(
 {
     match message {
         Message::Report(reports) => on_reports(client, peer, reports.into_vec(), store),
+        Message::Request(requests) => on_requests(client, peer, requests.into_vec(), store),
         Message::Error(Errors { srps, .. }) => on_refusals(client, peer, srps.into_vec(), store),
         _ => Ok(()),
     }

@@ -23,13 +23,14 @@
 //! }
 //! ```
 //!
-//! The modules, lowest first: `store`, `sink`, `client`, `inputs`, `serving`, `lent`, `unlisted`.
+//! The modules, lowest first: `store`, `sink`, `client`, `requests`, `inputs`, `serving`, `lent`, `unlisted`.
 #![tactic(auto)]
 
 mod client;
 mod inputs;
 mod laws;
 mod lent;
+mod requests;
 mod serving;
 mod sink;
 mod store;

@@ -58,7 +58,8 @@ fn bytes_of(alloc: Global, text: &str) -> Result<Vec<u8>, Fail> {
     }
 }
 
-/// A letter for each event: Up, report, marker, Down, expire, drain, refused by the peer, given back.
+/// A letter for each event: Up, report, marker, Down, expire, drain, refused by the peer, given back, deleted, asked for,
+/// taken, committed.
 fn letter(event: &Event) -> u8 {
     match event {
         Event::Up { .. } => b'U',
@@ -69,6 +70,10 @@ fn letter(event: &Event) -> u8 {
         Event::Drain { .. } => b'N',
         Event::Refused { .. } => b'F',
         Event::Return { .. } => b'G',
+        Event::Delete { .. } => b'X',
+        Event::Ask { .. } => b'A',
+        Event::Take => b'T',
+        Event::Commit { .. } => b'C',
     }
 }
 

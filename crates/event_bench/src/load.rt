@@ -19,12 +19,12 @@ pub struct Load {
 
 impl Load {
     /// How many paths stand.
-    pub fn paths(&self) -> u32 {
+    pub(crate) fn paths(&self) -> u32 {
         self.peers.saturating_mul(self.lsps)
     }
 
     /// How many LSPs go, and come again.
-    pub fn batch(&self) -> u32 {
+    pub(crate) fn batch(&self) -> u32 {
         self.paths() / 2
     }
 
@@ -97,7 +97,7 @@ fn report(alloc: Global, routes: &Routes, lsp: Lsp, told: Told) -> Result<Event,
 }
 
 /// The session of a peer comes up, and synchronizes.
-pub fn up(peer: u32) -> Event {
+pub(crate) fn up(peer: u32) -> Event {
     Event::Up {
         peer,
         capabilities: Some(Capabilities {
@@ -108,7 +108,7 @@ pub fn up(peer: u32) -> Event {
 }
 
 /// The peer's reports in its synchronization.
-pub fn known_again(
+pub(crate) fn known_again(
     alloc: Global,
     routes: &Routes,
     load: Load,
@@ -131,7 +131,7 @@ pub fn known_again(
 }
 
 /// All peers come up, report their LSPs and end their synchronization.
-pub fn filled(alloc: Global, routes: &Routes, load: Load) -> Result<Vec<Event>, AllocError> {
+pub(crate) fn filled(alloc: Global, routes: &Routes, load: Load) -> Result<Vec<Event>, AllocError> {
     let mut events = Vec::new(alloc);
     for place in 0..load.peers {
         let peer = place.wrapping_add(1);
@@ -158,7 +158,7 @@ fn drawn(
 }
 
 /// Reports that replace the path of an LSP.
-pub fn replaced(
+pub(crate) fn replaced(
     alloc: Global,
     routes: &Routes,
     load: Load,
@@ -173,7 +173,7 @@ pub fn replaced(
 }
 
 /// Half of the LSPs go.
-pub fn removed(
+pub(crate) fn removed(
     alloc: Global,
     routes: &Routes,
     load: Load,
@@ -188,7 +188,7 @@ pub fn removed(
 }
 
 /// The LSPs that went come again.
-pub fn back(
+pub(crate) fn back(
     alloc: Global,
     routes: &Routes,
     load: Load,

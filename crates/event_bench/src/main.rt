@@ -116,17 +116,34 @@ fn measure_sessions<R: Runtime<A = Global>>(
     say(rt, load, "expire", expire, 1)
 }
 
-/// Lets the LSPs come up, and measures events on them. The number of steps that are kept.
+/// Lets the LSPs come up, and measures events on them.
+fn measure_all<R: Runtime<A = Global>>(
+    rt: &R,
+    database: &mut Database,
+    routes: &Routes,
+    load: Load,
+) -> Result<()> {
+    apply_all(database, filled(rt.alloc(), routes, load)?)?;
+    measure_reports(rt, database, routes, load)?;
+    measure_lsps(rt, database, routes, load)?;
+    measure_sessions(rt, database, routes, load)
+}
+
+/// How many steps are kept of what is measured no more.
+fn steps_of(database: Database) -> u64 {
+    database.steps()
+}
+
+/// Lets LSPs come up over a network, and measures events on them. The number of steps that are kept.
 fn measure<R: Runtime<A = Global>>(rt: &R, text: &str, load: Load) -> Result<u64> {
     let alloc = rt.alloc();
     let te = TeBase::read(alloc, text)?;
     let routes = Routes::new(alloc, &te, load.hops)?;
     let mut database = Database::new(alloc, te)?;
-    apply_all(&mut database, filled(alloc, &routes, load)?)?;
-    measure_reports(rt, &mut database, &routes, load)?;
-    measure_lsps(rt, &mut database, &routes, load)?;
-    measure_sessions(rt, &mut database, &routes, load)?;
-    Ok(database.steps())
+    let outcome = measure_all(rt, &mut database, &routes, load);
+    let steps = steps_of(database);
+    outcome?;
+    Ok(steps)
 }
 
 /// The number that a word says, or another.

@@ -36,7 +36,7 @@ fn put_first(first: &mut Vec<Option<Link>>, link: Link) {
 }
 
 impl Routes {
-    pub fn new(alloc: Global, te: &TeBase, hops: u32) -> Result<Routes, AllocError> {
+    pub(crate) fn new(alloc: Global, te: &TeBase, hops: u32) -> Result<Routes, AllocError> {
         let mut first = no_links(alloc, te.node_count())?;
         for link in te.links() {
             put_first(&mut first, *link);
@@ -52,7 +52,7 @@ impl Routes {
     }
 
     /// The route that begins at a node.
-    pub fn route(&self, alloc: Global, start: u32) -> Result<Route, AllocError> {
+    pub(crate) fn route(&self, alloc: Global, start: u32) -> Result<Route, AllocError> {
         let mut node = start as usize % self.first.len().max(1);
         let mut route = Route {
             sender: Ipv4(1),

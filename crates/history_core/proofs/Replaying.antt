@@ -57,3 +57,10 @@ changes_le d kept = omega (arith, ap (λ (s : State). s.changes) kept.leads, cha
 
 pub sessions_le : (d : Content) → Replays d → d.state.last_session ≤ length d.history
 sessions_le d kept = omega (arith, ap (λ (s : State). s.last_session) kept.leads, sessions-replay (empty d.state.te) d.history)
+
+tickets-replay : (s : State) (xs : List Step) → (replay s xs).last_ticket ≤ s.last_ticket + length xs
+tickets-replay s [] = omega arith
+tickets-replay s (y ∷ ys) = omega (arith, tickets-replay (step s y.event).state ys, (counts_rise s y.event).tickets_rise)
+
+pub tickets_le : (d : Content) → Replays d → d.state.last_ticket ≤ length d.history
+tickets_le d kept = omega (arith, ap (λ (s : State). s.last_ticket) kept.leads, tickets-replay (empty d.state.te) d.history)

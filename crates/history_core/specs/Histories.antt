@@ -1,12 +1,15 @@
 -- Histories: the steps that were taken from a state, and the state to which they lead.
 use Rattle.std.specs.Prelude.{ℕ, ◌≡◌, Bool, ◌==◌, List, [], ◌∷◌, ◌++◌, length}
+use Rattle.std.specs.List.{count_by}
 use Rattle.te_base.specs.Base.{Base}
 use Rattle.step_core.specs.declared.event.Event.{Event}
 use Rattle.step_core.specs.declared.event.Reply.{Reply}
 use Rattle.step_core.specs.States.{State, empty}
 use Rattle.step_core.specs.Steps.{step}
 use Rattle.history_core.specs.declared.step.Step.{Step}
-use Rattle.history_core.specs.Briefs.{brief_of}
+use Rattle.step_core.specs.Sound.{IsSoundGrant}
+use Rattle.history_core.specs.Briefs.{brief_of, is_grant}
+use Rattle.history_core.specs.declared.step.Brief.TheVariants as brief
 
 -- the state after the events of these steps, one by one
 abbrev pub replay : State → List Step → State
@@ -17,6 +20,15 @@ replay s (x ∷ xs) = replay (step s x.event).state xs
 abbrev pub IsLegalFrom : State → List Step → Type 0
 IsLegalFrom s [] = Unit {0}
 IsLegalFrom s (x ∷ xs) = (x.brief ≡ brief_of (step s x.event).reply) × IsLegalFrom (step s x.event).state xs
+
+-- each step that was granted is sound in the states around it: the grant takes nothing that isn't there
+abbrev pub IsSoundFrom : State → List Step → Type 0
+IsSoundFrom s [] = Unit {0}
+IsSoundFrom s (x ∷ xs) = ((srp : ℕ) → x.brief ≡ brief.Granted srp → IsSoundGrant s x.event (step s x.event).state) × IsSoundFrom (step s x.event).state xs
+
+-- how many of the steps are grants
+abbrev pub grants_in : List Step → ℕ
+grants_in steps = count_by (λ x. is_grant x.brief) steps
 
 -- the greatest number of steps that are kept
 abbrev pub step_limit : ℕ
@@ -35,6 +47,10 @@ is_full d = length d.history == step_limit
 pub record ReplaysFrom (start : State) (d : Content) : Type 0 where
   pub legal : IsLegalFrom start d.history
   pub leads : replay start d.history ≡ d.state
+
+-- the history, from a network of which nothing was reported yet, is sound
+abbrev pub IsSound : Content → Type 0
+IsSound d = IsSoundFrom (empty d.state.te) d.history
 
 -- the history is that of a network of which nothing was reported yet
 abbrev pub Replays : Content → Type 0

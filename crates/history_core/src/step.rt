@@ -11,6 +11,20 @@ use step_core::{Event, Reply, Why};
 pub enum Brief {
     Done,
     Booked { wants_path: bool },
+    /// The number of the ticket.
+    Asked(u64),
+    /// The number of the ticket that was taken.
+    Job(u64),
+    Idle,
+    /// The SRP-ID of the grant.
+    Granted(u32),
+    Answered,
+    Again,
+    NoPath,
+    GivenUp,
+    Gone,
+    /// The SRP-ID of the removal.
+    Removing(u32),
     /// So many messages were handed out to be sent.
     Out { messages: u64 },
     Refused(Why),
@@ -40,6 +54,16 @@ pub(crate) fn shortened(reply: &Reply) -> Brief
         Reply::Booked { wants_path } => Brief::Booked {
             wants_path: *wants_path,
         },
+        Reply::Asked(ticket) => Brief::Asked(*ticket),
+        Reply::Job(job) => Brief::Job(job.ticket.id),
+        Reply::Idle => Brief::Idle,
+        Reply::Granted(srp) => Brief::Granted(*srp),
+        Reply::Answered => Brief::Answered,
+        Reply::Again => Brief::Again,
+        Reply::NoPath => Brief::NoPath,
+        Reply::GivenUp => Brief::GivenUp,
+        Reply::Gone => Brief::Gone,
+        Reply::Removing(srp) => Brief::Removing(*srp),
         Reply::Out(messages) => Brief::Out {
             messages: messages.as_slice().len() as u64,
         },

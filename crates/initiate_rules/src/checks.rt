@@ -8,7 +8,8 @@ ghost use Rattle.initiate_rules.specs.Checks.{is_named, must_be_new, may_be_dele
 use lsp_base::{LspBase, Record, Why, is_created, is_delegated, is_pending};
 use pcep_objects::Plsp;
 
-fn is_same_name(a: &[u8], b: &[u8]) -> bool
+/// Whether two symbolic path names are the same, byte for byte. Takes no memory.
+pub fn is_same_name(a: &[u8], b: &[u8]) -> bool
     ensures { result ≡ same_links a.now b.now }
 {
     if a.len() != b.len() {

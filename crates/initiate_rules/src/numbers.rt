@@ -29,10 +29,13 @@ fn any_removed_as(records: &[Record], peer: u32, srp: u32) -> bool
     false
 }
 
-/// Whether a grant or a removal of the peer has the SRP-ID. Takes no memory; it goes over all paths, and over
+/// Whether a grant or a removal of the peer has the SRP-ID. Takes no memory. A number that is greater than those
+/// of all the peer's grants and removals is seen to be free at once; for another it goes over all paths, and over
 /// all records where no path has it.
 pub fn is_srp_used(base: &LspBase, peer: u32, srp: u32) -> bool
     ensures { result ≡ is_srp_used base.now.content peer srp }
 {
-    any_chosen(base.paths(), &GrantAs { peer, srp }) || any_removed_as(base.records(), peer, srp)
+    base.may_have_srp(peer, srp)
+        && (any_chosen(base.paths(), &GrantAs { peer, srp })
+            || any_removed_as(base.records(), peer, srp))
 }

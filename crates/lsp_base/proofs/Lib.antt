@@ -4,5 +4,6 @@ pub mod Keys
 pub mod PathLists
 pub mod Removal
 mod ShareRows
+pub mod SrpNumbers
 pub mod Swapped
 pub mod Walks

@@ -8,3 +8,4 @@ pub mod Chains
 pub mod Tables
 pub mod Refusals
 pub mod Pending
+pub mod SrpNumbers

@@ -1,8 +1,9 @@
 //! The paths and the records of all LSPs.
-ghost use Rattle.std.specs.Prelude.{◌≡◌, ◌≤◌, ◌++◌, length, filter, IsPermutation, OnOk, IfOk, option_copied, slice_get};
+ghost use Rattle.std.specs.Prelude.{◌≡◌, ◌≤◌, ◌++◌, false, length, filter, IsPermutation, OnOk, IfOk, option_copied, slice_get};
 ghost use Rattle.std.specs.List.{list_any};
 ghost use Rattle.lsp_base.specs.Base.{AreDistinct, HasAll, no_lsps, lsp_at, changed, with_stale};
 ghost use Rattle.lsp_base.specs.Grants.{has_grant};
+ghost use Rattle.lsp_base.specs.Pending.{is_grant_as, is_removed_as};
 ghost use Rattle.lsp_base.specs.Rooms.{HasRoom, IsWithinLimit};
 ghost use Rattle.lsp_base.specs.Tables.{PicksFrom};
 
@@ -13,6 +14,7 @@ use crate::lsp::Lsp;
 use crate::path::Path;
 use crate::path_table::PathTable;
 use crate::record_table::RecordTable;
+use crate::srp_table::SrpTable;
 use pcep_objects::Plsp;
 use std::alloc::{AllocError, Global};
 use std::marker::Model;
@@ -26,12 +28,15 @@ pub const PATH_LIMIT: usize = 16384;
 pub struct LspBase {
     paths: PathTable,
     records: RecordTable,
+    srps: SrpTable,
 }
 
 impl Model for LspBase {
     ghost use Rattle.std.specs.Prelude.{◌≤◌, length};
     ghost use Rattle.lsp_base.specs.Base.{AreDistinct};
+    ghost use Rattle.lsp_base.specs.Pending.{is_grant_as, is_removed_as};
     ghost use Rattle.lsp_base.specs.Rooms.{Rooms};
+    ghost use Rattle.lsp_base.specs.SrpNumbers.{NoneAbove};
 
     ghost Value = { Rooms };
 
@@ -41,7 +46,8 @@ impl Model for LspBase {
       record_room = b.records.room;
     } };
 
-    ghost invariant = { λ b. (length b.paths.paths ≤ 16384) × AreDistinct b.records.records };
+    ghost invariant = { λ b. (length b.paths.paths ≤ 16384) × AreDistinct b.records.records
+        × NoneAbove b.srps.numbers is_grant_as b.paths.paths × NoneAbove b.srps.numbers is_removed_as b.records.records };
 }
 
 impl LspBase {
@@ -52,6 +58,7 @@ impl LspBase {
         LspBase {
             paths: PathTable::new(alloc),
             records: RecordTable::new(alloc),
+            srps: SrpTable::new(),
         }
     }
 
@@ -84,6 +91,8 @@ impl LspBase {
             wants_path: _,
         } = effect;
         let Change { dropped, added } = change;
+        self.srps.raise_for_grants(added.as_slice());
+        self.srps.raise_for_removals(peer, records.as_slice());
         self.paths.change(dropped.as_slice(), added.into_vec());
         self.records.set_all(peer, records.into_vec());
     }
@@ -134,6 +143,15 @@ impl LspBase {
         ensures { result ≡ has_grant self.now.content.paths peer plsp }
     {
         self.any_chosen_of(peer, plsp, &GrantOf { peer, plsp })
+    }
+
+    /// Whether a grant or an awaited removal of the peer may have the SRP-ID: where not, none has. Takes no
+    /// memory, and makes no pass over all.
+    pub fn may_have_srp(&self, peer: u32, srp: u32) -> bool
+        ensures no_grant { result ≡ false → list_any (is_grant_as peer srp) self.now.content.paths ≡ false }
+        ensures no_removal { result ≡ false → list_any (is_removed_as peer srp) self.now.content.records ≡ false }
+    {
+        srp <= self.srps.greatest_of(peer)
     }
 
     /// What is known of the LSP.

@@ -6,7 +6,8 @@
 //! most 16,384 paths ever stand. What paths reserve is defined in `specs/Shares.antt` (shared explicit
 //! reservation, RFC 3209), the lists after a change in `specs/Base.antt`. An LSP's paths and its record are
 //! found by chains through the two lists, with no pass over all: hints, of which `specs/Chains.antt` says
-//! that they skip nothing.
+//! that they skip nothing. Of the SRP-IDs of grants and removals a number is kept for each peer that none of
+//! them exceeds (`specs/SrpNumbers.antt`).
 //!
 //! ```text
 //! fn carry_out(base: &mut LspBase, peer: u32, effect: Effect) -> Result<(), AllocError>
@@ -34,6 +35,7 @@ mod path;
 mod path_table;
 mod pending;
 mod record_table;
+mod srp_table;
 mod tunnel;
 mod why;
 

@@ -198,6 +198,24 @@ fn records_are_found(rt: HostRuntime) -> Result<(), Fail> {
     Ok(())
 }
 
+/// The number that is kept for a peer is that of its greatest SRP-ID, of grants and of removals.
+#[test]
+fn greater_srp_ids_are_free(rt: HostRuntime) -> Result<(), Fail> {
+    let alloc = rt.alloc();
+    let mut base = LspBase::new(alloc);
+    assert!(rt; !base.may_have_srp(1, 1));
+    let mut granted = path(&rt, alloc, 1, 1, 1)?;
+    granted.part = Part::Granted(7);
+    add(&rt, alloc, &mut base, granted, lsp(alloc, b"one")?)?;
+    assert!(rt; base.may_have_srp(1, 7) && !base.may_have_srp(1, 8));
+    let mut removed = lsp(alloc, b"two")?;
+    removed.removing = Some(9);
+    add(&rt, alloc, &mut base, path(&rt, alloc, 2, 2, 1)?, removed)?;
+    assert!(rt; base.may_have_srp(1, 9) && !base.may_have_srp(1, 10));
+    assert!(rt; !base.may_have_srp(2, 1));
+    Ok(())
+}
+
 /// A copy prints as the value does.
 fn is_copied<T: PlainData + Debug>(rt: &HostRuntime, value: &T) -> Result<bool, Fail> {
     let copy = value.copy()?;

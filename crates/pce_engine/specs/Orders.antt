@@ -6,7 +6,7 @@ use Rattle.pcep_messages.specs.declared.fault.MessageFault.{MessageFault}
 use Rattle.pcep_messages.specs.declared.message.Message.{Message}
 use Rattle.pcep_messages.specs.declared.message.Message.TheVariants as messages
 use Rattle.pcep_messages.specs.declared.message.StateReport.{StateReport}
-use Rattle.pce_engine.specs.Words.{cut_at_space, peer_in, moment_in, octets}
+use Rattle.pce_engine.specs.Words.{cut_at_space, peer_in, long_number_in, octets}
 use Rattle.pce_engine.specs.Commands.{◌>>=◌, event_with}
 use Rattle.pce_engine.specs.declared.orders.Order.{Order}
 use Rattle.pce_engine.specs.declared.orders.Order.TheVariants.{Report, Book, History, Open, Up, Bytes, End, Tick, Submit}
@@ -39,7 +39,7 @@ message_order line = do
 -- `tick MS`
 unfoldable pub tick_order : List ℕ → Option Order
 tick_order line = do
-  now_ms ← moment_in line
+  now_ms ← long_number_in line
   Some (Tick now_ms)
 
 -- `open PEER`, `up PEER` and `end PEER`

@@ -4,7 +4,7 @@ use Rattle.std.specs.Map.{keys_of}
 use Rattle.history_core.specs.Histories.{Content, nothing_happened}
 use Rattle.te_base.specs.Base.{Base}
 use Rattle.step_core.specs.declared.event.Event.{Event}
-use Rattle.step_core.specs.declared.event.Event.TheVariants.{Return}
+use Rattle.step_core.specs.declared.event.Event.TheVariants.{Commit, Return, Delete}
 use Rattle.pce_engine.specs.Orders.{order_of}
 use Rattle.pce_engine.specs.SessionLines.{message_line, end_line, open_line, up_line}
 use Rattle.pce_engine.specs.Submits.{report_line, event_line}
@@ -38,7 +38,9 @@ tick_line now_ms s = all_served (record s { moment_ms = now_ms })
 
 -- an operator's event after which messages may wait to be sent
 abbrev pub may_queue : Event → Bool
+may_queue (Commit ticket offer) = true
 may_queue (Return peer plsp) = true
+may_queue (Delete peer plsp) = true
 may_queue event = false
 
 -- then every session is served, behind what was printed

@@ -34,15 +34,48 @@ out_text messages = codes "out " ++ decimal messages
 abbrev pub refused_text : Why → List ℕ
 refused_text why = codes "refused " ++ decimal (number_of why)
 
+-- a path is asked for by a ticket, a ticket was taken, a grant or a removal has an SRP-ID
+abbrev pub asked_text : ℕ → List ℕ
+asked_text ticket = codes "asked " ++ decimal ticket
+
+abbrev pub job_text : ℕ → List ℕ
+job_text ticket = codes "job " ++ decimal ticket
+
+abbrev pub granted_text : ℕ → List ℕ
+granted_text srp = codes "granted " ++ decimal srp
+
+abbrev pub removing_text : ℕ → List ℕ
+removing_text srp = codes "removing " ++ decimal srp
+
 abbrev pub reply_text : Reply → List ℕ
 reply_text reply.Done = codes "done"
 reply_text (reply.Booked wants) = booked_text wants
+reply_text (reply.Asked ticket) = asked_text ticket
+reply_text (reply.Job job) = job_text (job.ticket).id
+reply_text reply.Idle = codes "idle"
+reply_text (reply.Granted srp) = granted_text srp
+reply_text reply.Answered = codes "answered"
+reply_text reply.Again = codes "again"
+reply_text reply.NoPath = codes "nopath"
+reply_text reply.GivenUp = codes "givenup"
+reply_text reply.Gone = codes "gone"
+reply_text (reply.Removing srp) = removing_text srp
 reply_text (reply.Out messages) = out_text (length messages)
 reply_text (reply.Refused why) = refused_text why
 
 abbrev pub brief_text : Brief → List ℕ
 brief_text brief.Done = codes "done"
 brief_text (brief.Booked wants) = booked_text wants
+brief_text (brief.Asked ticket) = asked_text ticket
+brief_text (brief.Job ticket) = job_text ticket
+brief_text brief.Idle = codes "idle"
+brief_text (brief.Granted srp) = granted_text srp
+brief_text brief.Answered = codes "answered"
+brief_text brief.Again = codes "again"
+brief_text brief.NoPath = codes "nopath"
+brief_text brief.GivenUp = codes "givenup"
+brief_text brief.Gone = codes "gone"
+brief_text (brief.Removing srp) = removing_text srp
 brief_text (brief.Out messages) = out_text messages
 brief_text (brief.Refused why) = refused_text why
 
@@ -52,9 +85,13 @@ event_text (event.Report peer report) = codes "report"
 event_text (event.Marker peer) = codes "marker"
 event_text (event.Down peer) = codes "down"
 event_text (event.Expire peer) = codes "expire"
+event_text (event.Ask peer purpose) = codes "ask"
+event_text event.Take = codes "take"
+event_text (event.Commit ticket offer) = codes "commit"
 event_text (event.Drain peer) = codes "drain"
 event_text (event.Refused peer srp) = codes "refused"
 event_text (event.Return peer plsp) = codes "return"
+event_text (event.Delete peer plsp) = codes "delete"
 
 abbrev pub step_line : ℕ → Step → List ℕ
 step_line number step = codes "step " ++ decimal number ++ codes " " ++ event_text step.event ++ codes " " ++ brief_text step.brief ++ codes "\n"

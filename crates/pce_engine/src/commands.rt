@@ -1,16 +1,16 @@
 //! The lines of an operator.
 
-ghost use Rattle.std.specs.Prelude.{◌≡◌, ◌≤◌, ◌+◌, ◌++◌, Some, IfOk, IsOk, string_bytes, string_len, string_capacity};
+ghost use Rattle.std.specs.Prelude.{◌≡◌, ◌≤◌, ◌+◌, ◌++◌, Some, string_bytes, string_len, string_capacity};
 ghost use Rattle.pce_engine.specs.declared.commands.CommandFault.TheVariants.{Store as Stored};
-ghost use Rattle.pce_engine.specs.Commands.{expire_event, return_event, event_with, event_in, fault_number, command_text};
+ghost use Rattle.pce_engine.specs.Commands.{event_in, fault_number, command_text};
 ghost use Rattle.pce_engine.specs.Answered.{Answers};
 ghost use Rattle.pce_engine.specs.Texts.{reply_room, reply_text};
 ghost use Rattle.history_core.specs.declared.fault.Fault.TheVariants.{OutOfMemory};
 
+use crate::events::event_in;
 use crate::texts::{REPLY_ROOM, add_reply};
-use crate::words::{cut_at_space, peer_in, plsp_in};
 use engine_core::{Store, last_reply};
-use history_core::{Event, Fault, Reply};
+use history_core::{Fault, Reply};
 use std::alloc::{AllocError, Global};
 use std::{error, fmt};
 
@@ -65,58 +65,6 @@ impl From<Fault> for CommandFault {
     }
 }
 
-#[tactic(auto, unfolding(crate::specs::Commands::expire_event))]
-fn expire_event(line: &str) -> Option<Event>
-    ensures { result ≡ expire_event line.now }
-{
-    let Some(peer) = peer_in(line) else {
-        return None;
-    };
-    Some(Event::Expire { peer })
-}
-
-#[tactic(auto, unfolding(crate::specs::Commands::return_event))]
-fn return_event(line: &str) -> Option<Event>
-    ensures { result ≡ return_event line.now }
-{
-    let Some((peer, plsp)) = cut_at_space(line) else {
-        return None;
-    };
-    let Some(peer) = peer_in(peer) else {
-        return None;
-    };
-    let Some(plsp) = plsp_in(plsp) else {
-        return None;
-    };
-    Some(Event::Return { peer, plsp })
-}
-
-/// The event that an operator's line names by its first word and its rest. No line of today takes memory.
-#[tactic(auto, unfolding(crate::specs::Commands::event_with))]
-pub(crate) fn event_with(word: &str, rest: &str) -> Result<Option<Event>, AllocError>
-    ensures event { IfOk result (λ event. event ≡ event_with word.now rest.now) }
-    ensures succeeds { IsOk result }
-{
-    if word == "expire" {
-        return Ok(expire_event(rest));
-    }
-    if word == "return" {
-        return Ok(return_event(rest));
-    }
-    Ok(None)
-}
-
-#[tactic(auto, unfolding(crate::specs::Commands::event_in))]
-fn event_in(line: &str) -> Result<Option<Event>, AllocError>
-    ensures event { IfOk result (λ event. event ≡ event_in line.now) }
-    ensures succeeds { IsOk result }
-{
-    match cut_at_space(line) {
-        Some((word, rest)) => event_with(word, rest),
-        None => Ok(None),
-    }
-}
-
 /// Adds the text of a reply, in room that is there.
 fn put_reply(text: &mut String, reply: &Reply)
     requires { string_len text.old + reply_room ≤ string_capacity text.old }
@@ -126,13 +74,13 @@ fn put_reply(text: &mut String, reply: &Reply)
     prove!(added.is_ok());
 }
 
-/// Submits the one event that an operator's line names (docs/FORMAT.md: `expire PEER`, `return PEER PLSP`), and answers the
-/// text of its reply. `BadLine` where the line names none: then nothing is submitted. After a fault of the
+/// Submits the one event that an operator's line names (docs/FORMAT.md: `expire`, `initiate`, `update`, `return`,
+/// `delete` and `commit` with their words), and answers the text of its reply. `BadLine` where the line names none: then nothing is submitted. After a fault of the
 /// store, which tells want of memory too, it is as before.
 pub fn command<S: Store>(alloc: Global, line: &str, store: &mut S) -> Result<String, CommandFault>
     ensures { Answers string_bytes S.moves S.is_full (event_in line.now) result store.old store.new }
 {
-    let named = event_in(line)?;
+    let named = event_in(alloc, line)?;
     let Some(event) = named else {
         return Err(CommandFault::BadLine);
     };

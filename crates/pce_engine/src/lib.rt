@@ -21,6 +21,7 @@
 #![tactic(auto)]
 
 mod commands;
+mod events;
 mod fault;
 mod orders;
 mod script;

@@ -4,8 +4,8 @@ ghost use Rattle.std.specs.Prelude.{◌≡◌, IfOk};
 ghost use Rattle.pce_engine.specs.Orders.{reports_in, report_order, message_order, tick_order, event_order, session_order, order_with, long_order, order_in, order_of, peer_order};
 ghost use Rattle.pce_engine.specs.declared.orders.Order.TheVariants.{Open, Up, End};
 
-use crate::commands::event_with;
-use crate::words::{cut_at_space, moment_in, octets_in, peer_in};
+use crate::events::event_with;
+use crate::words::{cut_at_space, long_number_in, octets_in, peer_in};
 use history_core::Event;
 use pcep_messages::{Message, MessageFault, StateReport, read_message};
 use sequence::Sequence;
@@ -84,17 +84,17 @@ fn message_order(alloc: Global, line: &str) -> Result<Option<Order>, AllocError>
 fn tick_order(line: &str) -> Option<Order>
     ensures { result ≡ tick_order line.now }
 {
-    let Some(now_ms) = moment_in(line) else {
+    let Some(now_ms) = long_number_in(line) else {
         return None;
     };
     Some(Order::Tick(now_ms))
 }
 
 #[tactic(auto, unfolding(crate::specs::Orders::event_order))]
-fn event_order(word: &str, rest: &str) -> Result<Option<Order>, AllocError>
+fn event_order(alloc: Global, word: &str, rest: &str) -> Result<Option<Order>, AllocError>
     ensures { IfOk result (λ order. order ≡ event_order word.now rest.now) }
 {
-    let Some(event) = event_with(word, rest)? else {
+    let Some(event) = event_with(alloc, word, rest)? else {
         return Ok(None);
     };
     Ok(Some(Order::Submit(event)))
@@ -131,7 +131,7 @@ fn end_order(line: &str) -> Option<Order>
 }
 
 #[tactic(auto, unfolding(crate::specs::Orders::session_order))]
-fn session_order(word: &str, rest: &str) -> Result<Option<Order>, AllocError>
+fn session_order(alloc: Global, word: &str, rest: &str) -> Result<Option<Order>, AllocError>
     ensures { IfOk result (λ order. order ≡ session_order word.now rest.now) }
 {
     if word == "open" {
@@ -143,7 +143,7 @@ fn session_order(word: &str, rest: &str) -> Result<Option<Order>, AllocError>
     if word == "end" {
         return Ok(end_order(rest));
     }
-    event_order(word, rest)
+    event_order(alloc, word, rest)
 }
 
 #[tactic(auto, unfolding(crate::specs::Orders::order_with))]
@@ -159,7 +159,7 @@ fn order_with(alloc: Global, word: &str, rest: &str) -> Result<Option<Order>, Al
     if word == "tick" {
         return Ok(tick_order(rest));
     }
-    session_order(word, rest)
+    session_order(alloc, word, rest)
 }
 
 #[tactic(auto, unfolding(crate::specs::Orders::long_order))]

@@ -75,7 +75,7 @@ fn may_queue(event: &Event) -> bool
     ensures { result ≡ may_queue event.now }
 {
     match event {
-        Event::Return { .. } => true,
+        Event::Commit { .. } | Event::Return { .. } | Event::Delete { .. } => true,
         _ => false,
     }
 }

@@ -8,6 +8,7 @@ use te_base::TeFault;
 
 mod commands;
 mod faults;
+mod operators;
 mod sessions;
 
 /// Four nodes, and two ways from A to D: links 0 and 1 over B, links 2 and 3 over C.

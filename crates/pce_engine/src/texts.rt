@@ -53,6 +53,16 @@ pub(crate) fn add_reply(text: &mut String, reply: &Reply) -> Result<(), AllocErr
     match reply {
         Reply::Done => text.push_str("done"),
         Reply::Booked { wants_path } => text.push_str(booked_word(*wants_path)),
+        Reply::Asked(ticket) => add_number(text, "asked ", *ticket),
+        Reply::Job(job) => add_number(text, "job ", job.ticket.id),
+        Reply::Idle => text.push_str("idle"),
+        Reply::Granted(srp) => add_number(text, "granted ", u64::from(*srp)),
+        Reply::Answered => text.push_str("answered"),
+        Reply::Again => text.push_str("again"),
+        Reply::NoPath => text.push_str("nopath"),
+        Reply::GivenUp => text.push_str("givenup"),
+        Reply::Gone => text.push_str("gone"),
+        Reply::Removing(srp) => add_number(text, "removing ", u64::from(*srp)),
         Reply::Out(messages) => add_out(text, messages.as_slice().len() as u64),
         Reply::Refused(why) => add_refusal(text, *why),
     }
@@ -64,6 +74,16 @@ fn add_brief(text: &mut String, brief: Brief) -> Result<(), AllocError>
     match brief {
         Brief::Done => text.push_str("done"),
         Brief::Booked { wants_path } => text.push_str(booked_word(wants_path)),
+        Brief::Asked(ticket) => add_number(text, "asked ", ticket),
+        Brief::Job(ticket) => add_number(text, "job ", ticket),
+        Brief::Idle => text.push_str("idle"),
+        Brief::Granted(srp) => add_number(text, "granted ", u64::from(srp)),
+        Brief::Answered => text.push_str("answered"),
+        Brief::Again => text.push_str("again"),
+        Brief::NoPath => text.push_str("nopath"),
+        Brief::GivenUp => text.push_str("givenup"),
+        Brief::Gone => text.push_str("gone"),
+        Brief::Removing(srp) => add_number(text, "removing ", u64::from(srp)),
         Brief::Out { messages } => add_out(text, messages),
         Brief::Refused(why) => add_refusal(text, why),
     }
@@ -78,9 +98,13 @@ fn event_word(event: &Event) -> &'static str
         Event::Marker { .. } => "marker",
         Event::Down { .. } => "down",
         Event::Expire { .. } => "expire",
+        Event::Ask { .. } => "ask",
+        Event::Take => "take",
+        Event::Commit { .. } => "commit",
         Event::Drain { .. } => "drain",
         Event::Refused { .. } => "refused",
         Event::Return { .. } => "return",
+        Event::Delete { .. } => "delete",
     }
 }
 

@@ -30,7 +30,12 @@ Standard input is a link text (TOML), a line ---, and lines:
   tick MS          it is now MS milliseconds
   report PEER HEX  state reports of the router, as one PCRpt message
   expire PEER      a router that is down is forgotten
+  initiate PEER NAME FROM TO BW SETUP HOLD
+                   a path is asked for, to set an LSP up
+  update PEER PLSP a path is asked for, to update an LSP
+  commit N LINKS   what the search for ticket N answered: none, or links joined by commas
   return PEER PLSP an LSP is given back to its router
+  delete PEER PLSP an LSP that was initiated is to be removed
   book             what is left of each link at the priorities 0 to 7
   history          the events so far, with their replies
 PEER is a number or a dotted address. docs/FORMAT.md tells all of it.";

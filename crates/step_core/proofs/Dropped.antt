@@ -4,7 +4,7 @@ use Rattle.std.specs.Prelude.{Option, Some, None, Ok, Err, if◌then◌else◌}
 use Rattle.pcep_objects.specs.declared.object.Capabilities.{Capabilities}
 use Rattle.pcep_messages.specs.declared.message.StateReport.{StateReport}
 use Rattle.te_base.specs.Base.{Base}
-use Rattle.lsp_base.specs.Base.{Lsps, HasAll, dropping}
+use Rattle.lsp_base.specs.Base.{Lsps, HasAll, dropping, lsp_at}
 use Rattle.lsp_base.proofs.Removal.{has_filter}
 use Rattle.lsp_base.specs.Grants.{has_grant}
 use Rattle.lsp_base.specs.declared.path.Path.{Path}
@@ -16,12 +16,13 @@ use Rattle.lsp_base.specs.Pending.{is_grant_as}
 use Rattle.delegate_rules.specs.Refusals.{refused_by, refused_effect}
 use Rattle.delegate_rules.specs.Returns.{given_back}
 use Rattle.delegate_rules.specs.Effects.{goes_by_report, report_effect_by, goes_by_removal, removal_effect_by, told_effect, is_reserved, is_too_many, allowed, report_result}
+use Rattle.step_core.specs.Steps.{removal_asked}
 
 -- the paths that stand have what the effect drops
 abbrev pub HasDropped : Lsps → Effect → Type 0
 HasDropped base e = HasAll base.paths e.change.dropped
 
-has_none : (paths : List Path) → HasAll paths []
+pub has_none : (paths : List Path) → HasAll paths []
 has_none paths x = omega arith
 
 -- ---- the life of a session
@@ -113,3 +114,10 @@ has_by_report base given te known n r e same_base same_te is = report-has base t
 
 pub has_by_refused : (base given : Lsps) (n srp : ℕ) (e : Effect) → given ≡ base → e ≡ refused_effect given n srp → HasDropped base e
 has_by_refused base given n srp e same is = has-by base given (λ b. refused_effect b n srp) e same is (refused-has base n srp)
+
+pub removal_asked-has : (base : Lsps) (srp plsp : ℕ) (lsp : Option Lsp) → HasDropped base (removal_asked srp plsp lsp)
+removal_asked-has base srp plsp None = has_none base.paths
+removal_asked-has base srp plsp (Some lsp) = has_none base.paths
+
+pub has_by_removal : (base given : Lsps) (n srp plsp : ℕ) (e : Effect) → given ≡ base → e ≡ removal_asked srp plsp (lsp_at given.records n plsp) → HasDropped base e
+has_by_removal base given n srp plsp e same is = has-by base given (λ b. removal_asked srp plsp (lsp_at b.records n plsp)) e same is (removal_asked-has base srp plsp (lsp_at base.records n plsp))

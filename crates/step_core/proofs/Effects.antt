@@ -17,6 +17,8 @@ use Rattle.lsp_base.specs.Pending.{is_grant_as}
 use Rattle.delegate_rules.specs.Refusals.{refused_by, refused_effect}
 use Rattle.delegate_rules.specs.Returns.{given_back}
 use Rattle.delegate_rules.specs.Effects.{is_replaced, goes_by_report, report_effect_by, is_removed, goes_by_removal, removal_effect_by, told_effect, is_reserved, is_too_many, allowed, report_result}
+use Rattle.step_core.specs.Grants.{granting}
+use Rattle.step_core.specs.Steps.{removal_asked}
 use Rattle.step_core.proofs.Others.{same_number, first_of_both, AllOwn, AllOwn-filter, AllOwn-map, IsOwn}
 
 -- paths of the peer that a test chooses go
@@ -120,3 +122,12 @@ refused-own n srp base = refused_by-own n srp base _ (AllOwn-filter n (is_grant_
 pub return-own : (n plsp : ℕ) (lsp : Option Lsp) → IsOwn n (given_back plsp lsp)
 return-own n plsp None = record { dropped = tt; added = tt }
 return-own n plsp (Some lsp) = record { dropped = tt; added = tt }
+
+pub removal_asked-own : (n srp plsp : ℕ) (lsp : Option Lsp) → IsOwn n (removal_asked srp plsp lsp)
+removal_asked-own n srp plsp None = record { dropped = tt; added = tt }
+removal_asked-own n srp plsp (Some lsp) = record { dropped = tt; added = tt }
+
+-- ---- what the PCE grants
+
+pub granting-own : (n : ℕ) (g : Path) → (g.peer == n) ≡ true → IsOwn n (granting g)
+granting-own n g own = record { dropped = tt; added = (own, tt) }

@@ -148,7 +148,7 @@ pub record IsOwn (n : ℕ) (e : Effect) : Type 0 where
   pub dropped : AllOwn n e.change.dropped
   pub added : AllOwn n e.change.added
 
-append-nil : {X : Type 0} (xs : List X) → xs ++ [] ≡ xs
+pub append-nil : {X : Type 0} (xs : List X) → xs ++ [] ≡ xs
 append-nil [] = refl
 append-nil (x ∷ xs) = ap (λ t. x ∷ t) (append-nil xs)
 

@@ -5,15 +5,15 @@ use Rattle.lsp_base.specs.Base.{Lsps, HasAll, lsp_at}
 use Rattle.lsp_base.specs.Refusals.{answered_unless}
 use Rattle.lsp_base.specs.declared.effect.Effect.{Effect}
 use Rattle.lsp_base.specs.declared.why.Why.{Why}
-use Rattle.lsp_base.specs.declared.why.Why.TheVariants.{SrpInUse}
 use Rattle.delegate_rules.specs.Returns.{must_be_held, given_back, return_result}
-use Rattle.initiate_rules.specs.Numbers.{next_srp, is_srp_used}
 use Rattle.initiate_rules.specs.Messages.{return_message}
 use Rattle.step_core.specs.declared.event.Reply.TheVariants.{Done, Refused}
 use Rattle.pcep_messages.specs.declared.message.Message.{Message}
 use Rattle.step_core.specs.declared.peer.Peer.{Peer}
 use Rattle.step_core.specs.States.{State, peer_at, next_number}
-use Rattle.step_core.specs.Steps.{Outcome, must_take_updates, asking, return_step}
+use Rattle.step_core.specs.Grants.{asking}
+use Rattle.step_core.specs.Outcomes.{Outcome, must_take_updates, must_have_a_number}
+use Rattle.step_core.specs.Steps.{return_step}
 use Rattle.step_core.proofs.Dropped.{return-has}
 
 answered_ok : (whys : Option Why) (a e : Effect) → answered_unless whys a ≡ Ok e → (whys ≡ None) × (e ≡ a)
@@ -50,29 +50,26 @@ pub refused_state : (s : State) (n plsp : ℕ) (why : Why) → must_take_updates
 refused_state s n plsp why taken is = sym (ap (λ (o : Outcome). o.state) (refused_return s n plsp why taken is))
 
 -- the peer's next number is in use
-pub no_number_reply : (s : State) (n plsp : ℕ) (e : Effect) → must_take_updates s.peers n ≡ None → return_result s.base n plsp ≡ Ok e → is_srp_used s.base n (next_number s n) ≡ true → Refused SrpInUse ≡ (return_step s n plsp).reply
-no_number_reply s n plsp e taken is used = rw (taken, (held_by s.base s.base n plsp e refl is).0, used) refl
+no_number : (s : State) (n plsp : ℕ) (e : Effect) (why : Why) → must_take_updates s.peers n ≡ None → return_result s.base n plsp ≡ Ok e → must_have_a_number s n ≡ Some why → return_step s n plsp ≡ record { state = s; reply = Refused why }
+no_number s n plsp e why taken is used = rw (taken, (held_by s.base s.base n plsp e refl is).0, used) refl
+
+pub no_number_reply : (s : State) (n plsp : ℕ) (e : Effect) (why : Why) → must_take_updates s.peers n ≡ None → return_result s.base n plsp ≡ Ok e → must_have_a_number s n ≡ Some why → Refused why ≡ (return_step s n plsp).reply
+no_number_reply s n plsp e why taken is used = sym (ap (λ (o : Outcome). o.reply) (no_number s n plsp e why taken is used))
+
+pub no_number_state : (s : State) (n plsp : ℕ) (e : Effect) (why : Why) → must_take_updates s.peers n ≡ None → return_result s.base n plsp ≡ Ok e → must_have_a_number s n ≡ Some why → s ≡ (return_step s n plsp).state
+no_number_state s n plsp e why taken is used = sym (ap (λ (o : Outcome). o.state) (no_number s n plsp e why taken is used))
 
 -- all tests pass
-pub returned_reply : (s : State) (n plsp : ℕ) (e : Effect) → must_take_updates s.peers n ≡ None → return_result s.base n plsp ≡ Ok e → is_srp_used s.base n (next_number s n) ≡ false → Done ≡ (return_step s n plsp).reply
+pub returned_reply : (s : State) (n plsp : ℕ) (e : Effect) → must_take_updates s.peers n ≡ None → return_result s.base n plsp ≡ Ok e → must_have_a_number s n ≡ None → Done ≡ (return_step s n plsp).reply
 returned_reply s n plsp e taken is free = rw (taken, (held_by s.base s.base n plsp e refl is).0, free) refl
 
-pub returned_state : (s t : State) (n plsp : ℕ) (e : Effect) → must_take_updates s.peers n ≡ None → return_result s.base n plsp ≡ Ok e → is_srp_used s.base n (next_number s n) ≡ false
+pub returned_state : (s t : State) (n plsp : ℕ) (e : Effect) → must_take_updates s.peers n ≡ None → return_result s.base n plsp ≡ Ok e → must_have_a_number s n ≡ None
     → t ≡ asking s n e (return_message (next_number s n) plsp) → t ≡ (return_step s n plsp).state
 returned_state s t n plsp e taken is free same =
     let tests = held_by s.base s.base n plsp e refl is in
     same ∙ ap (λ x. asking s n x (return_message (next_number s n) plsp)) tests.1 ∙ rw (taken, tests.0, free) refl
 
 -- ---- the same where the number was computed from parts of the state
-
-pub used_by : (s : State) (base : Lsps) (peers : List Peer) (n number : ℕ) (used b : Bool) → base ≡ s.base → peers ≡ s.peers → number ≡ next_srp (peer_at peers n).last_srp → used ≡ is_srp_used base n number → used ≡ b
-    → is_srp_used s.base n (next_number s n) ≡ b
-used_by s base peers n number used b same_base same_peers is used_is b_is =
-    ap (λ (x : Lsps). is_srp_used x n (next_srp (peer_at s.peers n).last_srp)) (sym same_base)
-    ∙ ap (λ (ps : List Peer). is_srp_used base n (next_srp (peer_at ps n).last_srp)) (sym same_peers)
-    ∙ ap (λ (k : ℕ). is_srp_used base n k) (sym is)
-    ∙ sym used_is
-    ∙ b_is
 
 pub asking_by : (s u t : State) (n plsp number : ℕ) (e : Effect) (message : Message) → u ≡ s → number ≡ next_number u n → message ≡ return_message number plsp → t ≡ asking u n e message → t ≡ asking s n e (return_message (next_number s n) plsp)
 asking_by s u t n plsp number e message same number_is message_is is =

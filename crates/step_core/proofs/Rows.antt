@@ -41,7 +41,7 @@ abbrev known : List Path → List Record → Lsps
 known paths records = record { paths = paths; records = records }
 
 abbrev at : Base → Lsps → List Peer → State
-at te base peers = record { te = te; base = base; peers = peers; changes = 4; last_session = 1 }
+at te base peers = record { te = te; base = base; names = []; peers = peers; tickets = []; changes = 4; last_session = 1; last_ticket = 0 }
 
 -- ---- a return: each refusal in its order
 

@@ -1,11 +1,16 @@
 -- What holds of every step.
-use Rattle.std.specs.Prelude.{ℕ, ◌≡◌, ◌+◌, ◌≤◌, Bool, true, ◌==◌, not, filter, Option, Some, None, IsPermutation}
+use Rattle.std.specs.Prelude.{ℕ, ◌≡◌, ◌+◌, ◌≤◌, Bool, true, ◌==◌, not, filter, Option, Some, None, option_map, IsPermutation}
 use Rattle.lsp_base.specs.Base.{lsp_at}
 use Rattle.step_core.specs.declared.event.Event.{Event}
-use Rattle.step_core.specs.declared.event.Event.TheVariants.{Up, Report, Marker, Down, Expire, Drain, Refused, Return}
+use Rattle.step_core.specs.declared.event.Event.TheVariants.{Up, Report, Marker, Down, Expire, Drain, Refused, Return, Delete, Ask, Take, Commit}
+use Rattle.commit_core.specs.declared.ticket.Ticket.{Ticket}
 use Rattle.step_core.specs.States.{State}
+use Rattle.step_core.specs.Tickets.{first_waiting, ticket_at}
 
--- the peer that an event is of, in a state; an event may be of none
+abbrev pub peer_of_ticket : Option Ticket → Option ℕ
+peer_of_ticket ticket = option_map (λ t. t.peer) ticket
+
+-- the peer that an event is of, in a state: that of a ticket is the ticket's, and where there is no ticket it is of none
 abbrev pub peer_of : State → Event → Option ℕ
 peer_of s (Up n sent) = Some n
 peer_of s (Report n r) = Some n
@@ -15,6 +20,10 @@ peer_of s (Expire n) = Some n
 peer_of s (Drain n) = Some n
 peer_of s (Refused n srp) = Some n
 peer_of s (Return n plsp) = Some n
+peer_of s (Delete n plsp) = Some n
+peer_of s (Ask n purpose) = Some n
+peer_of s Take = peer_of_ticket (first_waiting s.tickets)
+peer_of s (Commit id offer) = peer_of_ticket (ticket_at s.tickets id)
 
 -- the number is another peer's; where an event is of no peer, each number is
 abbrev pub is_other : Option ℕ → ℕ → Bool
@@ -22,16 +31,21 @@ is_other None m = true
 is_other (Some n) m = not (m == n)
 
 -- the paths and the records of all other peers are the same, whatever their order; what is known of each of
--- their LSPs is as it was; and so are their sessions and what waits for them to be sent, in the same order
+-- their LSPs is as it was; and so are their sessions, what waits for them to be sent, the names and the tickets of what
+-- they were asked for or are to be asked for, in the same order
 pub record OthersStay (peer : Option ℕ) (old new : State) : Type 0 where
   pub paths : IsPermutation (filter (λ x. is_other peer x.peer) old.base.paths) (filter (λ x. is_other peer x.peer) new.base.paths)
   pub records : IsPermutation (filter (λ r. is_other peer r.peer) old.base.records) (filter (λ r. is_other peer r.peer) new.base.records)
   pub known : (m plsp : ℕ) → is_other peer m ≡ true → lsp_at new.base.records m plsp ≡ lsp_at old.base.records m plsp
   pub peers : filter (λ p. is_other peer p.number) new.peers ≡ filter (λ p. is_other peer p.number) old.peers
+  pub names : filter (λ a. is_other peer a.peer) new.names ≡ filter (λ a. is_other peer a.peer) old.names
+  pub tickets : filter (λ t. is_other peer t.peer) new.tickets ≡ filter (λ t. is_other peer t.peer) old.tickets
 
--- both counts rise by one at most, and neither falls: a session's number is never used again
+-- the three counts rise by one at most, and none falls: a number of a session or a ticket is never used again
 pub record CountsRise (old new : State) : Type 0 where
   pub changes_kept : old.changes ≤ new.changes
   pub changes_rise : new.changes ≤ old.changes + 1
   pub sessions_kept : old.last_session ≤ new.last_session
   pub sessions_rise : new.last_session ≤ old.last_session + 1
+  pub tickets_kept : old.last_ticket ≤ new.last_ticket
+  pub tickets_rise : new.last_ticket ≤ old.last_ticket + 1

@@ -1,4 +1,9 @@
-pub mod Networks
+pub mod Tickets
 pub mod States
+pub mod Networks
+pub mod Outcomes
+pub mod Asks
+pub mod Grants
 pub mod Steps
 pub mod Laws
+pub mod Sound

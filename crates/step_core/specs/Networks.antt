@@ -1,15 +1,23 @@
 -- A network with the LSPs over it.
-use Rattle.std.specs.Prelude.{◌≡◌}
+use Rattle.std.specs.Prelude.{ℕ, ◌≡◌, List}
 use Rattle.te_base.specs.Base.{Base}
-use Rattle.lsp_base.specs.Base.{Lsps}
+use Rattle.lsp_base.specs.Base.{Lsps, changed}
+use Rattle.lsp_base.specs.declared.effect.Effect.{Effect}
 use Rattle.te_snapshot.specs.Network.{network_of}
 use Rattle.bandwidth_book.specs.Books as books
 use Rattle.bandwidth_book.specs.Books.{StandsFor}
 use Rattle.bandwidth_book.specs.declared.book.Book.{Book}
+use Rattle.step_core.specs.States.{names_without}
+use Rattle.step_core.specs.declared.names.AwaitedName.{AwaitedName}
 
 pub record Network : Type 0 where
   pub te : Base
   pub base : Lsps
+  pub names : List AwaitedName
+
+-- the network after an effect on a peer's LSPs: a name goes with its grant
+abbrev pub carried_out : Network → ℕ → Effect → Network
+carried_out n peer e = record n { base = changed n.base peer e; names = names_without n.names e.change.dropped }
 
 -- the book is of the network, and stands for the paths of all LSPs
 pub record IsBooked (te : Base) (base : Lsps) (book : Book) : Type 0 where

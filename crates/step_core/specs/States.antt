@@ -1,26 +1,37 @@
--- What the database knows: the network, peers, and the paths and records of their LSPs.
-use Rattle.std.specs.Prelude.{ℕ, ◌+◌, Bool, true, false, ◌==◌, ◌&&◌, not, List, [], ◌∷◌, ◌++◌, find, unwrap_or, Option, is_some, if◌then◌else◌}
+-- What the database knows: the network, peers, the paths and records of their LSPs, and what is asked for.
+use Rattle.std.specs.Prelude.{ℕ, ◌+◌, Bool, true, false, ◌==◌, ◌&&◌, not, List, [], ◌∷◌, ◌++◌, filter, find, unwrap_or, Option, Some, is_some, if◌then◌else◌}
+use Rattle.std.specs.List.{list_any}
 use Rattle.pcep_objects.specs.declared.object.Capabilities.{Capabilities}
 use Rattle.pcep_messages.specs.declared.message.Message.{Message}
 use Rattle.te_base.specs.Base.{Base}
 use Rattle.lsp_base.specs.Base.{Lsps, no_lsps, changed}
+use Rattle.lsp_base.specs.Grants.{is_unbound_grant}
+use Rattle.lsp_base.specs.Same.{same_links}
 use Rattle.lsp_base.specs.declared.path.Path.{Path}
 use Rattle.lsp_base.specs.declared.effect.Effect.{Effect}
 use Rattle.initiate_rules.specs.Numbers.{next_srp}
+use Rattle.commit_core.specs.declared.ticket.Ticket.{Ticket}
+use Rattle.step_core.specs.Tickets.{first_waiting}
+use Rattle.step_core.specs.declared.names.AwaitedName.{AwaitedName}
 use Rattle.step_core.specs.declared.peer.Peer.{Peer}
 
 pub record State : Type 0 where
   pub te : Base
   pub base : Lsps
+  -- the names of granted initiations that no report told of yet
+  pub names : List AwaitedName
   pub peers : List Peer
+  -- in the order in which they were asked for
+  pub tickets : List Ticket
   -- how many events dropped or added a path
   pub changes : ℕ
   -- counted over all peers, and never used again
   pub last_session : ℕ
+  pub last_ticket : ℕ
 
 -- nothing was reported yet
 abbrev pub empty : Base → State
-empty te = record { te = te; base = no_lsps; peers = []; changes = 0; last_session = 0 }
+empty te = record { te = te; base = no_lsps; names = []; peers = []; tickets = []; changes = 0; last_session = 0; last_ticket = 0 }
 
 -- ---- peers
 
@@ -68,6 +79,10 @@ emptied p = record p { outgoing = [] }
 abbrev pub asked : Peer → Message → Peer
 asked p message = record p { last_srp = next_srp p.last_srp; outgoing = p.outgoing ++ message ∷ [] }
 
+-- a peer to which a message waits to be sent that takes no number
+abbrev pub told : Peer → Message → Peer
+told p message = record p { outgoing = p.outgoing ++ message ∷ [] }
+
 -- what waits for a peer to be sent, oldest first
 abbrev pub outgoing : State → ℕ → List Message
 outgoing s n = (peer_at s.peers n).outgoing
@@ -83,6 +98,24 @@ is_queued s n = not (is_nothing (outgoing s n))
 abbrev pub next_number : State → ℕ → ℕ
 next_number s n = next_srp (peer_at s.peers n).last_srp
 
+-- a ticket waits to be searched for
+abbrev pub has_waiting : State → Bool
+has_waiting s = is_some (first_waiting s.tickets)
+
+-- ---- names of initiations
+
+-- a granted initiation of the peer that no report told of yet has the name
+abbrev pub is_awaited_as : ℕ → List ℕ → AwaitedName → Bool
+is_awaited_as peer name a = a.peer == peer && same_links a.name name
+
+-- the path is the grant whose LSP is to have the name: no report has bound it yet
+abbrev pub is_grant_of_name : AwaitedName → Path → Bool
+is_grant_of_name a x = is_unbound_grant a.peer (Some a.srp) x
+
+-- a name goes with its grant
+abbrev pub names_without : List AwaitedName → List Path → List AwaitedName
+names_without names gone = filter (λ a. not (list_any (is_grant_of_name a) gone)) names
+
 -- ---- effects
 
 abbrev pub is_empty : List Path → Bool
@@ -94,4 +127,4 @@ moves_paths e = not (is_empty e.change.dropped && is_empty e.change.added)
 
 -- the state after an effect on a peer's LSPs
 abbrev pub affected : State → ℕ → Effect → State
-affected s n e = record s { base = changed s.base n e; changes = if moves_paths e then s.changes + 1 else s.changes }
+affected s n e = record s { base = changed s.base n e; names = names_without s.names e.change.dropped; changes = if moves_paths e then s.changes + 1 else s.changes }

@@ -1,9 +1,12 @@
 //! Events, and what the database answers.
+use crate::job::Job;
+use commit_core::Purpose;
 use lsp_base::Why;
 use pcep_messages::{Message, StateReport};
 use pcep_objects::{Capabilities, Plsp};
 use sequence::{PlainData, Sequence};
 use std::alloc::AllocError;
+use te_base::LinkNumber;
 
 /// What happens to the database.
 #[derive(Debug, Drop)]
@@ -31,6 +34,18 @@ pub enum Event {
     Expire {
         peer: u32,
     },
+    /// A path is asked for.
+    Ask {
+        peer: u32,
+        purpose: Purpose,
+    },
+    /// The ticket of the least number that waits is to be searched for.
+    Take,
+    /// The search for a ticket has answered: with the links of a path, or with none.
+    Commit {
+        ticket: u64,
+        offer: Option<Sequence<LinkNumber>>,
+    },
     /// What waits for the peer is to be sent.
     Drain {
         peer: u32,
@@ -42,6 +57,11 @@ pub enum Event {
     },
     /// The LSP is to be given back to the peer (RFC 8231 section 5.7.4).
     Return {
+        peer: u32,
+        plsp: Plsp,
+    },
+    /// The LSP, which the PCE initiated, is to be removed (RFC 8281 section 5.4).
+    Delete {
         peer: u32,
         plsp: Plsp,
     },
@@ -61,12 +81,25 @@ impl PlainData for Event {
             Event::Marker { peer } => Event::Marker { peer: *peer },
             Event::Down { peer } => Event::Down { peer: *peer },
             Event::Expire { peer } => Event::Expire { peer: *peer },
+            Event::Ask { peer, purpose } => Event::Ask {
+                peer: *peer,
+                purpose: purpose.copy()?,
+            },
+            Event::Take => Event::Take,
+            Event::Commit { ticket, offer } => Event::Commit {
+                ticket: *ticket,
+                offer: offer.copy()?,
+            },
             Event::Drain { peer } => Event::Drain { peer: *peer },
             Event::Refused { peer, srp } => Event::Refused {
                 peer: *peer,
                 srp: *srp,
             },
             Event::Return { peer, plsp } => Event::Return {
+                peer: *peer,
+                plsp: *plsp,
+            },
+            Event::Delete { peer, plsp } => Event::Delete {
                 peer: *peer,
                 plsp: *plsp,
             },
@@ -81,6 +114,26 @@ pub enum Reply {
     /// A report was booked. The LSP waits for a path that the PCE may give it: it is delegated and down,
     /// has no route, and its peer takes updates and isn't synchronizing.
     Booked { wants_path: bool },
+    /// A path is asked for, by the ticket of this number.
+    Asked(u64),
+    /// A ticket was taken, with what its search needs.
+    Job(Job),
+    /// No ticket waits.
+    Idle,
+    /// The offer was granted, and the peer is asked for it under this SRP-ID.
+    Granted(u32),
+    /// The offer answers the peer's request.
+    Answered,
+    /// The offer isn't good any more: its ticket waits to be searched for again.
+    Again,
+    /// There is no path; the ticket has ended.
+    NoPath,
+    /// Four searches were in vain, or the grant can't be kept; the ticket has ended.
+    GivenUp,
+    /// Nobody waits for the path any more; the ticket has ended.
+    Gone,
+    /// The peer is asked to remove the LSP, under this SRP-ID.
+    Removing(u32),
     /// The messages that waited for the peer, to be sent in this order.
     Out(Sequence<Message>),
     /// The event changed nothing.
@@ -94,6 +147,16 @@ impl PlainData for Reply {
             Reply::Booked { wants_path } => Reply::Booked {
                 wants_path: *wants_path,
             },
+            Reply::Asked(ticket) => Reply::Asked(*ticket),
+            Reply::Job(job) => Reply::Job(job.copy()?),
+            Reply::Idle => Reply::Idle,
+            Reply::Granted(srp) => Reply::Granted(*srp),
+            Reply::Answered => Reply::Answered,
+            Reply::Again => Reply::Again,
+            Reply::NoPath => Reply::NoPath,
+            Reply::GivenUp => Reply::GivenUp,
+            Reply::Gone => Reply::Gone,
+            Reply::Removing(srp) => Reply::Removing(*srp),
             Reply::Out(messages) => Reply::Out(messages.copy()?),
             Reply::Refused(why) => Reply::Refused(*why),
         })

@@ -21,16 +21,23 @@
 #![tactic(auto)]
 
 mod event;
+mod job;
+mod names;
 mod network;
 mod peer;
 mod queue;
 mod state;
+mod ticket_list;
 
+pub use commit_core::{LspName, Purpose, Ticket};
 pub use event::{Event, Reply};
+pub use job::Job;
 pub use lsp_base::Why;
+pub use names::AwaitedName;
 pub use peer::{PEER_LIMIT, Peer};
 pub use queue::Queue;
 pub use state::State;
+pub use ticket_list::TICKET_LIMIT;
 
 #[cfg(test)]
 mod tests;

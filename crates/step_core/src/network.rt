@@ -1,28 +1,37 @@
 //! A network with the LSPs over it, and the book of what their paths reserve.
-ghost use Rattle.std.specs.Prelude.{◌≡◌, ◌↔◌, ◌≤◌, ◌++◌, ◌∷◌, [], List, length, OnOk, OnErr, IsNone, IfOk, IfSome};
+ghost use Rattle.std.specs.Prelude.{◌≡◌, ◌↔◌, ◌<◌, ◌≤◌, ◌++◌, ◌∷◌, [], List, length, vec_len, vec_capacity, ◌+◌, OnOk, OnErr, IsNone, IfOk, IfSome, option_copied};
 ghost use Rattle.lsp_base.specs.Base.{HasAll, no_lsps, changed, with_stale, without};
 ghost use Rattle.lsp_base.specs.Rooms.{IsWithinLimit, HasRoom};
 ghost use Rattle.lsp_base.specs.Shares.{unreserved};
 ghost use Rattle.lsp_base.specs.declared.path.Path.{Path};
 ghost use Rattle.bandwidth_book.specs.Books.{IsReady, StandsFor, network_of};
+ghost use Rattle.commit_core.specs.Verdicts.{verdict};
+ghost use Rattle.step_core.specs.Grants.{granting, own_of, snapshot_of, with_name};
+ghost use Rattle.step_core.specs.Networks.{carried_out};
 
+use crate::names::{AwaitedName, drop_names};
 use crate::queue::Queue;
 use bandwidth_book::Book;
-use lsp_base::{Effect, LspBase};
+use commit_core::{PeerView, Ticket, Verdict, judge, own_tunnel};
+use lsp_base::{Effect, LspBase, Path};
 use pcep_messages::Message;
 use pcep_word::Priority;
+use sequence::Sequence;
 use std::alloc::{AllocError, Global};
 use std::marker::Model;
 use std::sync::Arc;
 use te_base::{LinkNumber, TeBase};
-use te_snapshot::Topology;
+use te_snapshot::{OwnShares, Snapshot, Topology};
 
-/// The links and nodes, what is known of the LSPs over them, and the book of what their paths reserve. A
-/// contract sees no book: of every value of `Network` it holds that the book stands for its paths.
+/// The links and nodes, what is known of the LSPs over them, the names of granted initiations that no report told of
+/// yet, and the book of what the paths reserve. A contract sees no book: of every value of `Network` it holds that the
+/// book stands for its paths.
 #[derive(Drop)]
 pub struct Network {
+    alloc: Global,
     te: TeBase,
     lsps: LspBase,
+    names: Vec<AwaitedName>,
     book: Book,
 }
 
@@ -31,7 +40,7 @@ impl Model for Network {
 
     ghost Value = { Known };
 
-    ghost view = { λ n. record { te = n.te; base = n.lsps.content } };
+    ghost view = { λ n. record { te = n.te; base = n.lsps.content; names = n.names.items } };
 
     ghost invariant = { λ n. IsBooked n.te n.lsps.content n.book };
 }
@@ -62,17 +71,37 @@ fn make_change(lsps: &mut LspBase, book: &mut Book, peer: u32, effect: Effect)
     lsps.change(peer, effect);
 }
 
+/// The effect that adds a path, and nothing else.
+fn granting(alloc: Global, path: Path) -> Result<Effect, AllocError>
+    ensures { IfOk result (λ effect. effect ≡ granting path) }
+{
+    let added = vec![in alloc; path]?;
+    Ok(Effect::new(Vec::new(alloc), added, Vec::new(alloc), false))
+}
+
+/// Holds a name from now on, if there is one, in room that is there.
+fn hold_name(names: &mut Vec<AwaitedName>, name: Option<AwaitedName>)
+    requires { vec_len names.old + 1 ≤ vec_capacity names.old }
+    ensures { names.new.items ≡ with_name names.old.items name }
+{
+    if let Some(name) = name {
+        names.push_reserved(name);
+    }
+}
+
 impl Network {
     /// A network of which nothing was reported yet. The links and nodes are dropped where memory is
     /// refused.
     pub fn new(alloc: Global, te: TeBase) -> Result<Network, AllocError>
-        ensures { IfOk result (λ network. network ≡ record { te = te; base = no_lsps }) }
+        ensures { IfOk result (λ network. network ≡ record { te = te; base = no_lsps; names = [] }) }
     {
         let topology = Arc::new(alloc, Topology::new(alloc, &te)?)?;
         let book = Book::new(alloc, topology)?;
         Ok(Network {
+            alloc,
             te,
             lsps: LspBase::new(alloc),
+            names: Vec::new(alloc),
             book,
         })
     }
@@ -82,10 +111,11 @@ impl Network {
     pub fn carry_out(&mut self, peer: u32, effect: Effect) -> Result<(), AllocError>
         requires few { IsWithinLimit self.old.base effect }
         requires stand { HasAll self.old.base.paths effect.change.dropped }
-        ensures changed { OnOk result (self.new ≡ record self.old { base = changed self.old.base peer effect }) }
+        ensures changed { OnOk result (self.new ≡ carried_out self.old peer effect) }
         ensures unchanged_without_memory { OnErr result (self.new ≡ self.old) }
     {
         make_room(&mut self.lsps, &mut self.book, &effect)?;
+        drop_names(&mut self.names, effect.change.dropped.as_slice());
         make_change(&mut self.lsps, &mut self.book, peer, effect);
         Ok(())
     }
@@ -101,14 +131,40 @@ impl Network {
     ) -> Result<(), AllocError>
         requires few { IsWithinLimit self.old.base effect }
         requires stand { HasAll self.old.base.paths effect.change.dropped }
-        ensures changed { OnOk result (self.new ≡ record self.old { base = changed self.old.base peer effect }) }
+        ensures changed { OnOk result (self.new ≡ carried_out self.old peer effect) }
         ensures queued { OnOk result (queue.new ≡ queue.old ++ message ∷ []) }
         ensures unchanged_without_memory { OnErr result (self.new ≡ self.old) }
         ensures same_queue { OnErr result (queue.new ≡ queue.old) }
     {
         make_room(&mut self.lsps, &mut self.book, &effect)?;
         queue.push(message)?;
+        drop_names(&mut self.names, effect.change.dropped.as_slice());
         make_change(&mut self.lsps, &mut self.book, peer, effect);
+        Ok(())
+    }
+
+    /// One path more, which is granted to a peer; the name that its LSP is to have is held, and the message that asks the
+    /// peer for it waits in a queue. It makes all the room that it needs before it changes anything.
+    pub fn grant(
+        &mut self,
+        peer: u32,
+        path: Path,
+        name: Option<AwaitedName>,
+        queue: &mut Queue,
+        message: Message,
+    ) -> Result<(), AllocError>
+        requires few { length self.old.base.paths < 16384 }
+        ensures granted { OnOk result (self.new ≡ record self.old { base = changed self.old.base peer (granting path); names = with_name self.old.names name }) }
+        ensures queued { OnOk result (queue.new ≡ queue.old ++ message ∷ []) }
+        ensures unchanged_without_memory { OnErr result (self.new ≡ self.old) }
+        ensures same_queue { OnErr result (queue.new ≡ queue.old) }
+    {
+        let effect = granting(self.alloc, path)?;
+        make_room(&mut self.lsps, &mut self.book, &effect)?;
+        self.names.reserve(1)?;
+        queue.push(message)?;
+        make_change(&mut self.lsps, &mut self.book, peer, effect);
+        hold_name(&mut self.names, name);
         Ok(())
     }
 
@@ -127,6 +183,39 @@ impl Network {
     {
         let _there = self.te.link(link)?;
         Some(self.book.unreserved(link, priority))
+    }
+
+    /// The network with what is left of every link: the last snapshot again where no path changed since. Where memory is
+    /// refused nothing has changed.
+    pub fn snapshot(&mut self) -> Result<Snapshot, AllocError>
+        ensures snapshot { IfOk result (λ snapshot. snapshot ≡ snapshot_of self.old.te self.old.base) }
+        ensures same { self.new ≡ self.old }
+    {
+        self.book.snapshot()
+    }
+
+    /// What the tunnel of the ticket's LSP reserves already, link by link.
+    pub fn own_shares(&self, ticket: &Ticket) -> Result<OwnShares, AllocError>
+        ensures { IfOk result (λ own. own ≡ own_of self.now.te self.now.base ticket.now) }
+    {
+        match own_tunnel(&self.lsps, ticket.peer, &ticket.purpose) {
+            Some(tunnel) => self.book.own_shares(&tunnel),
+            None => Ok(Sequence::from_vec(Vec::new(self.alloc))),
+        }
+    }
+
+    /// What becomes of a ticket whose search has answered. Takes no memory.
+    pub fn judge(&self, ticket: &Ticket, offer: Option<&Path>, view: PeerView) -> Verdict
+        ensures { result ≡ verdict ticket.now (option_copied offer.entry) self.now.base self.now.te view }
+    {
+        judge(ticket, offer, &self.lsps, &self.book, &self.te, view)
+    }
+
+    /// The names of granted initiations that no report told of yet.
+    pub fn names(&self) -> &[AwaitedName]
+        ensures { result.now ≡ self.now.names }
+    {
+        self.names.as_slice()
     }
 
     /// What is known of the LSPs.

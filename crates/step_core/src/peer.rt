@@ -1,12 +1,12 @@
 //! Peers, in a list.
-ghost use Rattle.std.specs.Prelude.{◌≡◌, ◌+◌, ◌≤◌, [], true, not, find, filter, position, vec_len, vec_capacity, option_copied};
-ghost use Rattle.step_core.specs.States.{is_known, is_peer, peer_at, put_peer, in_session, synchronized, out_of_session, emptied};
+ghost use Rattle.std.specs.Prelude.{◌≡◌, ◌+◌, ◌≤◌, [], true, not, find, filter, position, vec_len, vec_capacity, option_copied, OnOk, OnErr};
+ghost use Rattle.step_core.specs.States.{is_known, is_peer, peer_at, put_peer, in_session, synchronized, out_of_session, emptied, told};
 
 use crate::queue::Queue;
 use pcep_messages::Message;
 use pcep_objects::Capabilities;
 use sequence::Sequence;
-use std::alloc::Global;
+use std::alloc::{AllocError, Global};
 
 /// The greatest number of peers that are known at a time.
 pub const PEER_LIMIT: usize = 64;
@@ -100,6 +100,24 @@ pub(crate) fn end_session(peers: &mut Vec<Peer>, number: u32)
         peer.syncing = false;
         let _dropped = peer.outgoing.take();
     }
+}
+
+/// A message waits for the peer that takes no number.
+pub(crate) fn tell_peer(
+    peers: &mut Vec<Peer>,
+    number: u32,
+    message: Message,
+) -> Result<(), AllocError>
+    requires { is_known peers.old.items number ≡ true }
+    ensures told { OnOk result (peers.new.items ≡ put_peer peers.old.items (told (peer_at peers.old.items number) message)) }
+    ensures unchanged { OnErr result (peers.new.items ≡ peers.old.items) }
+{
+    let Some(place) = place_of(peers.as_slice(), number) else {
+        return Err(AllocError);
+    };
+    let peer = &mut peers[place];
+    peer.outgoing.push(message)?;
+    Ok(())
 }
 
 /// What waits for the peer is handed out.

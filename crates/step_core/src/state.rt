@@ -1,18 +1,22 @@
 //! The whole state, looks at it, and one step of it.
-ghost use Rattle.std.specs.Prelude.{◌≡◌, ◌<◌, ◌≤◌, ◌^◌, ◌↔◌, length, IfOk, OnOk, OnErr, IsNone, IfSome};
+ghost use Rattle.std.specs.Prelude.{ℕ, Ok, ◌≡◌, ◌<◌, ◌≤◌, ◌^◌, ◌↔◌, length, IfOk, OnOk, OnErr, IsNone, IfSome};
 ghost use Rattle.lsp_base.specs.Shares.{unreserved};
-ghost use Rattle.step_core.specs.States.{empty, is_up, is_queued};
+ghost use Rattle.step_core.specs.States.{empty, is_up, is_queued, has_waiting};
 ghost use Rattle.step_core.specs.Steps.{step};
 ghost use Rattle.step_core.specs.Laws.{peer_of, OthersStay, CountsRise};
+ghost use Rattle.step_core.specs.Sound.{IsSoundGrant};
 
 use crate::event::{Event, Reply};
 use crate::network::Network;
 use crate::peer::{Peer, find_peer};
+use crate::ticket_list::TicketList;
 use pcep_word::Priority;
 use std::alloc::{AllocError, Global};
 use std::marker::Model;
 use te_base::{LinkNumber, TeBase};
 
+mod asks;
+mod grants;
 mod reports;
 mod requests;
 mod sessions;
@@ -23,8 +27,10 @@ pub struct State {
     alloc: Global,
     network: Network,
     peers: Vec<Peer>,
+    tickets: TicketList,
     changes: u64,
     last_session: u64,
+    last_ticket: u64,
 }
 
 impl Model for State {
@@ -32,7 +38,16 @@ impl Model for State {
 
     ghost Value = { Known };
 
-    ghost view = { λ s. record { te = s.network.te; base = s.network.base; peers = s.peers.items; changes = s.changes; last_session = s.last_session } };
+    ghost view = { λ s. record {
+      te = s.network.te;
+      base = s.network.base;
+      names = s.network.names;
+      peers = s.peers.items;
+      tickets = s.tickets;
+      changes = s.changes;
+      last_session = s.last_session;
+      last_ticket = s.last_ticket;
+    } };
 }
 
 impl State {
@@ -45,8 +60,10 @@ impl State {
             alloc,
             network: Network::new(alloc, te)?,
             peers: Vec::new(alloc),
+            tickets: TicketList::new(alloc),
             changes: 0,
             last_session: 0,
+            last_ticket: 0,
         })
     }
 
@@ -54,6 +71,7 @@ impl State {
     fn take_step(&mut self, event: &Event) -> Result<Reply, AllocError>
         requires changes { self.old.changes < 2 ^ 62 }
         requires sessions { self.old.last_session < 2 ^ 62 }
+        requires tickets { self.old.last_ticket < 2 ^ 62 }
         ensures reply { IfOk result (λ reply. reply ≡ (step self.old event.now).reply) }
         ensures state { OnOk result (self.new ≡ (step self.old event.now).state) }
         ensures unchanged_without_memory { OnErr result (self.new ≡ self.old) }
@@ -64,9 +82,13 @@ impl State {
             Event::Marker { peer } => self.marker(*peer),
             Event::Down { peer } => self.down(*peer),
             Event::Expire { peer } => self.expire(*peer),
+            Event::Ask { peer, purpose } => self.ask(*peer, purpose),
+            Event::Take => self.take(),
+            Event::Commit { ticket, offer } => self.commit(*ticket, offer),
             Event::Drain { peer } => Ok(self.drain(*peer)),
             Event::Refused { peer, srp } => self.refused(*peer, *srp),
             Event::Return { peer, plsp } => self.give_back(*peer, *plsp),
+            Event::Delete { peer, plsp } => self.delete(*peer, *plsp),
         }
     }
 
@@ -74,11 +96,13 @@ impl State {
     pub fn step(&mut self, event: &Event) -> Result<Reply, AllocError>
         requires changes { self.old.changes < 2 ^ 62 }
         requires sessions { self.old.last_session < 2 ^ 62 }
+        requires tickets { self.old.last_ticket < 2 ^ 62 }
         ensures reply { IfOk result (λ reply. reply ≡ (step self.old event.now).reply) }
         ensures state { OnOk result (self.new ≡ (step self.old event.now).state) }
         ensures unchanged_without_memory { OnErr result (self.new ≡ self.old) }
         ensures others_stay { OthersStay (peer_of self.old event.now) self.old self.new }
         ensures counts_rise { CountsRise self.old self.new }
+        ensures sound { (srp : ℕ) → result ≡ Ok (Reply.Granted srp) → IsSoundGrant self.old event.now self.new }
     {
         // of each LSP at most one record stands
         let _records = self.network.lsps().records();
@@ -104,6 +128,13 @@ impl State {
             Some(known) => known.up,
             None => false,
         }
+    }
+
+    /// Whether a ticket waits to be searched for.
+    pub fn waiting(&self) -> bool
+        ensures { result ≡ has_waiting self.now }
+    {
+        self.tickets.first_waiting().is_some()
     }
 
     /// Whether messages wait to be sent to the peer.

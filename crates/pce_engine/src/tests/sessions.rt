@@ -1,7 +1,7 @@
 //! Sessions in a script: the bytes of routers, and what is sent to them.
 use super::*;
 
-const UP: &str = "out 1 2001001401100010201e7800001000040000000520020004\nup 1\n";
+pub(crate) const UP: &str = "out 1 2001001401100010201e7800001000040000000520020004\nup 1\n";
 
 const OPEN: &str = "out 1 2001001401100010201e78000010000400000005\n";
 
@@ -11,7 +11,7 @@ const KEEPALIVE: &str = "out 1 20020004\n";
 const CLOSED: &str = "out 1 2007000c0f10000800000003\ndown 1\n";
 
 /// The end of synchronization.
-const MARKER: &str =
+pub(crate) const MARKER: &str =
     "msg 1 200a0024 2010001c 00000000 00120010 00000000 00000000 00000000 00000000 07100004";
 
 /// The message of the report over B to D.

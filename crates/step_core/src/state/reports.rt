@@ -1,17 +1,21 @@
 //! Reports, and the effects of all events on LSPs.
 ghost use Rattle.std.specs.Prelude.{◌≡◌, ◌<◌, ◌^◌, ◌+◌, ◌&&◌, not, IfOk, OnOk, OnErr, if◌then◌else◌};
-ghost use Rattle.lsp_base.specs.Base.{HasAll, changed};
+ghost use Rattle.lsp_base.specs.Base.{HasAll};
 ghost use Rattle.lsp_base.specs.Rooms.{IsWithinLimit};
 ghost use Rattle.step_core.specs.States.{moves_paths};
+ghost use Rattle.step_core.specs.Networks.{carried_out};
 ghost use Rattle.step_core.specs.Steps.{report_step};
+ghost use Rattle.step_core.specs.Tickets.{is_update_asked};
 
 use super::State;
 use crate::event::Reply;
 use crate::network::Network;
 use crate::peer::{Peer, find_peer};
+use crate::ticket_list::TicketList;
 use delegate_rules::{RuleFault, on_report};
 use lsp_base::{Effect, Why};
 use pcep_messages::StateReport;
+use pcep_objects::Plsp;
 use std::alloc::AllocError;
 
 pub(super) fn moves_a_path(effect: &Effect) -> bool
@@ -36,7 +40,7 @@ pub(super) fn change_lsps(
     requires few { IsWithinLimit network.old.base effect }
     requires stand { HasAll network.old.base.paths effect.change.dropped }
     requires count { changes.old < 2 ^ 62 }
-    ensures network { OnOk result (network.new ≡ record network.old { base = changed network.old.base peer effect }) }
+    ensures network { OnOk result (network.new ≡ carried_out network.old peer effect) }
     ensures count { OnOk result (changes.new ≡ (if moves_paths effect then changes.old + 1 else changes.old)) }
     ensures same_network { OnErr result (network.new ≡ network.old) }
     ensures same_count { OnErr result (changes.new ≡ changes.old) }
@@ -49,11 +53,14 @@ pub(super) fn change_lsps(
     Ok(())
 }
 
-/// The LSP waits for a path, and the PCE may send the peer one.
-fn wants_path(peer: &Peer, effect: &Effect) -> bool
-    ensures { result ≡ (effect.now.wants_path && (peer.now.capabilities).update && not peer.now.syncing) }
+/// The LSP waits for a path, none is asked for, and the PCE may send the peer one.
+fn wants_path(known: &Peer, tickets: &TicketList, peer: u32, plsp: Plsp, effect: &Effect) -> bool
+    ensures { result ≡ (effect.now.wants_path && (known.now.capabilities).update && not known.now.syncing && not (is_update_asked tickets.now peer plsp)) }
 {
-    effect.wants_path && peer.capabilities.update && !peer.syncing
+    effect.wants_path
+        && known.capabilities.update
+        && !known.syncing
+        && !tickets.is_update_asked(peer, plsp)
 }
 
 impl State {
@@ -81,7 +88,7 @@ impl State {
             Err(RuleFault::OutOfMemory) => Err(AllocError),
             Err(RuleFault::Why(why)) => Ok(Reply::Refused(why)),
             Ok(effect) => {
-                let wants_path = wants_path(known, &effect);
+                let wants_path = wants_path(known, &self.tickets, peer, report.plsp, &effect);
                 change_lsps(&mut self.network, &mut self.changes, peer, effect)?;
                 Ok(Reply::Booked { wants_path })
             }

@@ -1,12 +1,15 @@
 //! What the PCE asks a peer for, and what the peer refuses.
 ghost use Rattle.std.specs.Prelude.{◌≡◌, ◌<◌, ◌^◌, ◌+◌, true, not, IfOk, OnOk, OnErr, if◌then◌else◌};
-ghost use Rattle.lsp_base.specs.Base.{HasAll, changed};
+ghost use Rattle.lsp_base.specs.Base.{HasAll, lsp_at};
 ghost use Rattle.lsp_base.specs.Rooms.{IsWithinLimit};
 ghost use Rattle.lsp_base.specs.Refusals.{unless, ◌⨟◌};
-ghost use Rattle.lsp_base.specs.declared.why.Why.TheVariants.{PeerDown, NoUpdate, Syncing};
-ghost use Rattle.step_core.specs.States.{is_known, peer_at, put_peer, asked, moves_paths};
-ghost use Rattle.step_core.specs.Steps.{must_take_updates, refused_step, return_step};
-ghost use Rattle.initiate_rules.specs.Numbers.{next_srp};
+ghost use Rattle.lsp_base.specs.declared.why.Why.TheVariants.{PeerDown, Syncing, NoUpdate, NoInitiate};
+ghost use Rattle.step_core.specs.Networks.{carried_out};
+ghost use Rattle.step_core.specs.Outcomes.{must_be_in_sync, must_take_updates, must_take_initiations, must_have_a_number};
+ghost use Rattle.step_core.specs.States.{is_known, peer_at, put_peer, asked, moves_paths, next_number};
+ghost use Rattle.step_core.specs.Steps.{refused_step, return_step, delete_step, removing, removal_asked};
+ghost use Rattle.initiate_rules.specs.Checks.{may_be_deleted};
+ghost use Rattle.initiate_rules.specs.Numbers.{next_srp, is_srp_used};
 
 use super::State;
 use super::reports::{change_lsps, moves_a_path};
@@ -15,38 +18,56 @@ use crate::event::Reply;
 use crate::network::Network;
 use crate::peer::{Peer, find_peer, place_of};
 use delegate_rules::{RuleFault, on_refused, on_return};
-use initiate_rules::{is_srp_used, next_srp, return_message};
-use lsp_base::{Effect, Why};
+use initiate_rules::{check_delete, delete_message, is_srp_used, next_srp, return_message};
+use lsp_base::{Effect, Lsp, LspBase, RecordChange, Why};
 use pcep_messages::Message;
 use pcep_objects::Plsp;
-use std::alloc::AllocError;
+use sequence::PlainData;
+use std::alloc::{AllocError, Global};
 
-fn why_not_updatable(known: &Peer) -> Option<Why>
-    ensures { result ≡ (unless known.now.up PeerDown ⨟ unless (not known.now.syncing) Syncing ⨟ unless (known.now.capabilities).update NoUpdate) }
+/// Why the peer can't be asked for anything about its LSPs.
+fn why_not_in_sync(known: &Peer) -> Option<Why>
+    ensures { result ≡ (unless known.now.up PeerDown ⨟ unless (not known.now.syncing) Syncing) }
 {
     if !known.up {
         Some(Why::PeerDown)
     } else if known.syncing {
         Some(Why::Syncing)
-    } else if !known.capabilities.update {
-        Some(Why::NoUpdate)
     } else {
         None
     }
 }
 
 /// Why an event that updates an LSP of the peer is refused.
-fn why_not_updated(peers: &[Peer], peer: u32) -> Option<Why>
+pub(super) fn why_not_updated(peers: &[Peer], peer: u32) -> Option<Why>
     ensures { result ≡ must_take_updates peers.now peer }
 {
-    match find_peer(peers, peer) {
-        None => Some(Why::UnknownPeer),
-        Some(known) => why_not_updatable(known),
+    let Some(known) = find_peer(peers, peer) else {
+        return Some(Why::UnknownPeer);
+    };
+    match why_not_in_sync(known) {
+        Some(why) => Some(why),
+        None if known.capabilities.update => None,
+        None => Some(Why::NoUpdate),
+    }
+}
+
+/// Why an event that initiates or removes an LSP of the peer is refused.
+pub(super) fn why_not_initiated(peers: &[Peer], peer: u32) -> Option<Why>
+    ensures { result ≡ must_take_initiations peers.now peer }
+{
+    let Some(known) = find_peer(peers, peer) else {
+        return Some(Why::UnknownPeer);
+    };
+    match why_not_in_sync(known) {
+        Some(why) => Some(why),
+        None if known.capabilities.create => None,
+        None => Some(Why::NoInitiate),
     }
 }
 
 /// The SRP-ID of the next request to the peer.
-fn next_number(peers: &[Peer], peer: u32) -> u32
+pub(super) fn next_number(peers: &[Peer], peer: u32) -> u32
     ensures { result ≡ next_srp (peer_at peers.now peer).last_srp }
 {
     match find_peer(peers, peer) {
@@ -69,7 +90,7 @@ pub(super) fn ask_peer(
     requires stand { HasAll network.old.base.paths effect.change.dropped }
     requires count { changes.old < 2 ^ 62 }
     requires known { is_known peers.old.items peer ≡ true }
-    ensures network { OnOk result (network.new ≡ record network.old { base = changed network.old.base peer effect }) }
+    ensures network { OnOk result (network.new ≡ carried_out network.old peer effect) }
     ensures count { OnOk result (changes.new ≡ (if moves_paths effect then changes.old + 1 else changes.old)) }
     ensures asked { OnOk result (peers.new.items ≡ put_peer peers.old.items (asked (peer_at peers.old.items peer) message)) }
     ensures same_network { OnErr result (network.new ≡ network.old) }
@@ -89,7 +110,68 @@ pub(super) fn ask_peer(
     Ok(())
 }
 
+/// The LSP, whose removal is awaited under this SRP-ID.
+fn removing(lsp: &Lsp, srp: u32) -> Result<Lsp, AllocError>
+    ensures { IfOk result (λ new. new ≡ removing srp lsp.now) }
+{
+    let mut removed = lsp.copy()?;
+    removed.removing = Some(srp);
+    Ok(removed)
+}
+
+/// The removal of the LSP is awaited under this SRP-ID, and nothing else changes.
+fn removal_asked(
+    alloc: Global,
+    base: &LspBase,
+    peer: u32,
+    plsp: Plsp,
+    srp: u32,
+) -> Result<Effect, AllocError>
+    ensures effect { IfOk result (λ effect. effect ≡ removal_asked srp plsp (lsp_at base.now.content.records peer plsp)) }
+    ensures few { IfOk result (λ effect. IsWithinLimit base.now.content effect) }
+{
+    let _few = base.paths();
+    let mut records = Vec::new(alloc);
+    if let Some(lsp) = base.lsp(peer, plsp) {
+        let lsp = Some(removing(lsp, srp)?);
+        records.push(RecordChange { plsp, lsp })?;
+    }
+    Ok(Effect::new(Vec::new(alloc), Vec::new(alloc), records, false))
+}
+
 impl State {
+    /// Whether the number of the next request to the peer is still that of one that is awaited.
+    pub(super) fn is_number_used(&self, peer: u32) -> bool
+        ensures { result ≡ is_srp_used self.now.base peer (next_number self.now peer) }
+    {
+        let number = next_number(self.peers.as_slice(), peer);
+        is_srp_used(self.network.lsps(), peer, number)
+    }
+
+    /// Why the peer can't be asked for anything, if its next number is still that of another request.
+    fn why_no_number(&self, peer: u32) -> Option<Why>
+        ensures { result ≡ must_have_a_number self.now peer }
+    {
+        if self.is_number_used(peer) {
+            Some(Why::SrpInUse)
+        } else {
+            None
+        }
+    }
+
+    /// Why the LSP isn't removed.
+    fn why_not_deleted(&self, peer: u32, plsp: Plsp) -> Option<Why>
+        ensures { result ≡ (must_take_initiations self.now.peers peer ⨟ may_be_deleted self.now.base peer plsp ⨟ must_have_a_number self.now peer) }
+    {
+        if let Some(why) = why_not_initiated(self.peers.as_slice(), peer) {
+            return Some(why);
+        }
+        match check_delete(self.network.lsps(), peer, plsp) {
+            Err(why) => Some(why),
+            Ok(()) => self.why_no_number(peer),
+        }
+    }
+
     /// A peer refused a request: the grant of its number is dropped, or the removal of its number isn't
     /// awaited any more. A number that neither has changes nothing.
     pub(super) fn refused(&mut self, peer: u32, srp: u32) -> Result<Reply, AllocError>
@@ -121,10 +203,10 @@ impl State {
             Err(RuleFault::Why(why)) => return Ok(Reply::Refused(why)),
             Ok(effect) => effect,
         };
-        let number = next_number(self.peers.as_slice(), peer);
-        if is_srp_used(self.network.lsps(), peer, number) {
-            return Ok(Reply::Refused(Why::SrpInUse));
+        if let Some(why) = self.why_no_number(peer) {
+            return Ok(Reply::Refused(why));
         }
+        let number = next_number(self.peers.as_slice(), peer);
         let message = return_message(self.alloc, number, plsp);
         ask_peer(
             &mut self.network,
@@ -135,5 +217,29 @@ impl State {
             message,
         )?;
         Ok(Reply::Done)
+    }
+
+    /// An LSP that the PCE initiated is to be removed: its removal is awaited from now on, and the message that asks the
+    /// peer for it waits to be sent.
+    pub(super) fn delete(&mut self, peer: u32, plsp: Plsp) -> Result<Reply, AllocError>
+        requires { self.old.changes < 2 ^ 62 }
+        ensures reply { IfOk result (λ reply. reply ≡ (delete_step self.old peer plsp).reply) }
+        ensures state { OnOk result (self.new ≡ (delete_step self.old peer plsp).state) }
+        ensures unchanged_without_memory { OnErr result (self.new ≡ self.old) }
+    {
+        if let Some(why) = self.why_not_deleted(peer, plsp) {
+            return Ok(Reply::Refused(why));
+        }
+        let number = next_number(self.peers.as_slice(), peer);
+        let effect = removal_asked(self.alloc, self.network.lsps(), peer, plsp, number)?;
+        ask_peer(
+            &mut self.network,
+            &mut self.changes,
+            &mut self.peers,
+            peer,
+            effect,
+            delete_message(number, plsp),
+        )?;
+        Ok(Reply::Removing(number))
     }
 }

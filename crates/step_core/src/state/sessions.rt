@@ -1,7 +1,8 @@
 //! The life of a peer's session.
 ghost use Rattle.std.specs.Prelude.{◌≡◌, ◌<◌, ◌^◌, IfOk, OnOk, OnErr};
 ghost use Rattle.lsp_base.specs.Refusals.{◌⨟◌};
-ghost use Rattle.step_core.specs.Steps.{must_be_known, must_be_up, must_be_down, may_be_known, up_step, marker_step, down_step, expire_step, drain_step};
+ghost use Rattle.step_core.specs.Outcomes.{must_be_known, must_be_up, must_be_down};
+ghost use Rattle.step_core.specs.Steps.{may_be_known, up_step, marker_step, down_step, expire_step, drain_step};
 
 use super::State;
 use super::reports::change_lsps;
@@ -89,6 +90,7 @@ impl State {
     /// A session ends: the peer's delegations and removals end, what waits to be sent to it is dropped, and
     /// its paths are stale.
     pub(super) fn down(&mut self, peer: u32) -> Result<Reply, AllocError>
+        requires { self.old.changes < 2 ^ 62 }
         ensures reply { IfOk result (λ reply. reply ≡ (down_step self.old peer).reply) }
         ensures state { OnOk result (self.new ≡ (down_step self.old peer).state) }
         ensures unchanged_without_memory { OnErr result (self.new ≡ self.old) }
@@ -97,7 +99,7 @@ impl State {
             return Ok(Reply::Refused(why));
         }
         let effect = on_down(self.alloc, self.network.lsps(), peer)?;
-        self.network.carry_out(peer, effect)?;
+        change_lsps(&mut self.network, &mut self.changes, peer, effect)?;
         self.network.mark_stale(peer);
         end_session(&mut self.peers, peer);
         Ok(Reply::Done)

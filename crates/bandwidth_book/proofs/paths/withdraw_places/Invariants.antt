@@ -1,4 +1,4 @@
-use Rattle.std.proofs.Common.{◌≡◌, ℕ, length, drop}
+use Rattle.std.proofs.Common.{◌≡◌, ℕ, true, length, drop}
 use Rattle.lsp_base.specs.declared.tunnel.Tunnel.{Tunnel}
 use Rattle.bandwidth_book.specs.Paths.{tunnel_eq}
 use Rattle.bandwidth_book.specs.Ledgers.{has_entry_at, held_at}
@@ -8,5 +8,6 @@ use Rattle.bandwidth_book.proofs.paths.withdraw_places.Given as goal
 abbrev pub invariant-loop-place : goal.invariant-loop-place
 invariant-loop-place l = record {
   kept : (n : ℕ) (k : Tunnel) → held_at tunnel_eq l.ledgers n k ≡ held_at tunnel_eq l.fn.ledgers n k;
+  entries : (n : ℕ) (k : Tunnel) → has_entry_at tunnel_eq l.ledgers n k ≡ true → has_entry_at tunnel_eq l.fn.ledgers n k ≡ true;
   noted : AreNoted (length l.fn.ledgers) (has_entry_at tunnel_eq l.ledgers) (held_at tunnel_eq l.ledgers) (drop l.place-index l.places);
 }

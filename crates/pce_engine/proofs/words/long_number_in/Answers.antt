@@ -1,6 +1,6 @@
 use Rattle.std.proofs.Common.{sym, ◌∙◌}
 use Rattle.pce_engine.proofs.Numbers.{plus_is_none, by_parse}
-use Rattle.pce_engine.proofs.words.moment_in.Goals as goal
+use Rattle.pce_engine.proofs.words.long_number_in.Goals as goal
 
 pub returns-then-has_plus : goal.returns-then-has_plus
 returns-then-has_plus c =

@@ -1,0 +1,107 @@
+-- What names and tickets that come, change and go leave of the lists of all peers.
+use Rattle.std.proofs.Common.{◌≡◌, ◌==◌, ◌&&◌, ◌||◌, ℕ, Bool, true, false, cond, List, [], ◌∷◌, ◌++◌, refl, sym, subst, ◌∙◌, ap, arith, true≢false}
+use Rattle.std.specs.Prelude.{filter, not, Option, Some, None, IfSome, find, if◌then◌else◌}
+use Rattle.std.specs.List.{list_any}
+use Rattle.std.proofs.lemmas.List.Elements.{filter-append}
+use Rattle.std.proofs.lemmas.Bool.Decides.{nat_tests}
+use Rattle.lsp_base.specs.declared.path.Path.{Path}
+use Rattle.commit_core.specs.declared.ticket.Ticket.{Ticket}
+use Rattle.step_core.specs.Grants.{with_name}
+use Rattle.step_core.specs.States.{is_grant_of_name, names_without}
+use Rattle.step_core.specs.Tickets.{edit_first, drop_first, is_ticket, ticket_at}
+use Rattle.step_core.specs.declared.names.AwaitedName.{AwaitedName}
+use Rattle.step_core.proofs.Others.{first_of_both, filter-skip, filter-both, append-nil, AllOwn}
+
+-- ---- names
+
+abbrev pub other_names : ℕ → List AwaitedName → List AwaitedName
+other_names n names = filter (λ a. not (a.peer == n)) names
+
+another : (n p q : ℕ) → (p == n) ≡ true → (q == n) ≡ false → (p == q) ≡ true → true ≡ false
+another n p q own other same = grind (arith, nat_tests)
+
+none_of : (n : ℕ) (a : AwaitedName) (x : Path) (b : Bool) → is_grant_of_name a x ≡ b → (x.peer == n) ≡ true → (a.peer == n) ≡ false → b ≡ false
+none_of n a x true is own other = another n x.peer a.peer own other (first_of_both (x.peer == a.peer) _ (first_of_both (x.peer == a.peer && x.plsp == 0) _ is))
+none_of n a x false is own other = refl
+
+-- no path of the peer is the grant of another peer's name
+none_own : (n : ℕ) (a : AwaitedName) (gone : List Path) → AllOwn n gone → (a.peer == n) ≡ false → list_any (is_grant_of_name a) gone ≡ false
+none_own n a [] own other = refl
+none_own n a (x ∷ xs) own other = ap (λ b. b || list_any (is_grant_of_name a) xs) (none_of n a x (is_grant_of_name a x) refl own.0 other) ∙ none_own n a xs own.1 other
+
+keep_own : (n : ℕ) (a : AwaitedName) (names kept : List AwaitedName) (b : Bool) → not (a.peer == n) ≡ false → other_names n kept ≡ other_names n names → other_names n (cond b (a ∷ kept) kept) ≡ other_names n (a ∷ names)
+keep_own n a names kept true own rest = filter-skip (λ y. not (y.peer == n)) a kept own ∙ rest ∙ sym (filter-skip (λ y. not (y.peer == n)) a names own)
+keep_own n a names kept false own rest = rest ∙ sym (filter-skip (λ y. not (y.peer == n)) a names own)
+
+keep_other : (n : ℕ) (a : AwaitedName) (names kept : List AwaitedName) (b : Bool) → b ≡ true → other_names n kept ≡ other_names n names → other_names n (cond b (a ∷ kept) kept) ≡ other_names n (a ∷ names)
+keep_other n a names kept true is rest = filter-both (λ y. not (y.peer == n)) a kept names rest
+keep_other n a names kept false is rest = absurd (true≢false (sym is))
+
+keep_one : (n : ℕ) (a : AwaitedName) (names : List AwaitedName) (gone : List Path) (own : Bool) → (a.peer == n) ≡ own → AllOwn n gone → other_names n (names_without names gone) ≡ other_names n names → other_names n (names_without (a ∷ names) gone) ≡ other_names n (a ∷ names)
+keep_one n a names gone true is all rest = keep_own n a names (names_without names gone) (not (list_any (is_grant_of_name a) gone)) (ap not is) rest
+keep_one n a names gone false is all rest = keep_other n a names (names_without names gone) (not (list_any (is_grant_of_name a) gone)) (ap not (none_own n a gone all is)) rest
+
+pub names_without-others : (n : ℕ) (names : List AwaitedName) (gone : List Path) → AllOwn n gone → other_names n (names_without names gone) ≡ other_names n names
+names_without-others n [] gone own = refl
+names_without-others n (a ∷ names) gone own = keep_one n a names gone (a.peer == n) refl own (names_without-others n names gone own)
+
+pub with_name-others : (n : ℕ) (names : List AwaitedName) (name : Option AwaitedName) → IfSome name (λ a. (a.peer == n) ≡ true) → other_names n (with_name names name) ≡ other_names n names
+with_name-others n names None own = refl
+with_name-others n names (Some a) own =
+    filter-append (λ y. not (y.peer == n)) names (a ∷ []) ∙ ap (λ t. other_names n names ++ t) (filter-skip (λ y. not (y.peer == n)) a [] (ap not own)) ∙ append-nil (other_names n names)
+
+-- ---- tickets
+
+abbrev pub other_tickets : ℕ → List Ticket → List Ticket
+other_tickets n tickets = filter (λ t. not (t.peer == n)) tickets
+
+pub with_ticket-others : (n : ℕ) (tickets : List Ticket) (t : Ticket) → (t.peer == n) ≡ true → other_tickets n (tickets ++ t ∷ []) ≡ other_tickets n tickets
+with_ticket-others n tickets t own =
+    filter-append (λ y. not (y.peer == n)) tickets (t ∷ []) ∙ ap (λ ts. other_tickets n tickets ++ ts) (filter-skip (λ y. not (y.peer == n)) t [] (ap not own)) ∙ append-nil (other_tickets n tickets)
+
+-- what is found passes the test
+found_by_test : (test : Ticket → Bool) (x t : Ticket) (o : Option Ticket) (b : Bool) → test x ≡ b → cond b (Some x) o ≡ Some t → (o ≡ Some t → test t ≡ true) → test t ≡ true
+found_by_test test x t o true is found rest = let same : x ≡ t = cc in subst (λ (y : Ticket). test y ≡ true) same is
+found_by_test test x t o false is found rest = rest found
+
+pub found_passes : (test : Ticket → Bool) (xs : List Ticket) (t : Ticket) → find test xs ≡ Some t → test t ≡ true
+found_passes test [] t found = absurd (cc (found))
+found_passes test (x ∷ xs) t found = found_by_test test x t (find test xs) (test x) refl found (found_passes test xs t)
+
+same_id : (a b : ℕ) → (a == b) ≡ true → a ≡ b
+same_id a b is = grind (arith, nat_tests)
+
+-- a ticket that is found by a number is found by its own
+pub found_by_own : (id : ℕ) (xs : List Ticket) (t : Ticket) → ticket_at xs id ≡ Some t → ticket_at xs t.id ≡ Some t
+found_by_own id xs t found = ap (λ (k : ℕ). ticket_at xs k) (same_id t.id id (found_passes (is_ticket id) xs t found)) ∙ found
+
+edit_by_test : (n : ℕ) (test : Ticket → Bool) (edit : Ticket → Ticket) (x : Ticket) (xs : List Ticket) (b : Bool) → test x ≡ b → ((t : Ticket) → (edit t).peer ≡ t.peer) → (test x ≡ true → (x.peer == n) ≡ true)
+    → (test x ≡ false → other_tickets n (edit_first test edit xs) ≡ other_tickets n xs) → other_tickets n (if b then edit x ∷ xs else x ∷ edit_first test edit xs) ≡ other_tickets n (x ∷ xs)
+edit_by_test n test edit x xs true is keeps own rest =
+    filter-skip (λ y. not (y.peer == n)) (edit x) xs (ap not (ap (λ (p : ℕ). p == n) (keeps x) ∙ own is)) ∙ sym (filter-skip (λ y. not (y.peer == n)) x xs (ap not (own is)))
+edit_by_test n test edit x xs false is keeps own rest = filter-both (λ y. not (y.peer == n)) x (edit_first test edit xs) xs (rest is)
+
+-- the first that passes the test is the peer's, and stays so
+pub edit-others : (n : ℕ) (test : Ticket → Bool) (edit : Ticket → Ticket) (xs : List Ticket) → ((t : Ticket) → (edit t).peer ≡ t.peer) → ((t : Ticket) → find test xs ≡ Some t → (t.peer == n) ≡ true) → other_tickets n (edit_first test edit xs) ≡ other_tickets n xs
+edit-others n test edit [] keeps own = refl
+edit-others n test edit (x ∷ xs) keeps own =
+    edit_by_test n test edit x xs (test x) refl keeps (λ is. own x (ap (λ b. cond b (Some x) (find test xs)) is))
+    (λ is. edit-others n test edit xs keeps (λ t found. own t (ap (λ b. cond b (Some x) (find test xs)) is ∙ found)))
+
+drop_by_test : (n : ℕ) (test : Ticket → Bool) (x : Ticket) (xs : List Ticket) (b : Bool) → test x ≡ b → (test x ≡ true → (x.peer == n) ≡ true)
+    → (test x ≡ false → other_tickets n (drop_first test xs) ≡ other_tickets n xs) → other_tickets n (if b then xs else x ∷ drop_first test xs) ≡ other_tickets n (x ∷ xs)
+drop_by_test n test x xs true is own rest = sym (filter-skip (λ y. not (y.peer == n)) x xs (ap not (own is)))
+drop_by_test n test x xs false is own rest = filter-both (λ y. not (y.peer == n)) x (drop_first test xs) xs (rest is)
+
+pub drop-others : (n : ℕ) (test : Ticket → Bool) (xs : List Ticket) → ((t : Ticket) → find test xs ≡ Some t → (t.peer == n) ≡ true) → other_tickets n (drop_first test xs) ≡ other_tickets n xs
+drop-others n test [] own = refl
+drop-others n test (x ∷ xs) own =
+    drop_by_test n test x xs (test x) refl (λ is. own x (ap (λ b. cond b (Some x) (find test xs)) is))
+    (λ is. drop-others n test xs (λ t found. own t (ap (λ b. cond b (Some x) (find test xs)) is ∙ found)))
+
+some_is : (o : Option Ticket) (t u : Ticket) (n : ℕ) → o ≡ Some t → o ≡ Some u → (t.peer == n) ≡ true → (u.peer == n) ≡ true
+some_is o t u n is also own = let same : t ≡ u = cc (is, also) in subst (λ (y : Ticket). (y.peer == n) ≡ true) same own
+
+-- the one that is found is the peer's
+pub only_own : (n : ℕ) (test : Ticket → Bool) (xs : List Ticket) (t : Ticket) → find test xs ≡ Some t → (t.peer == n) ≡ true → (u : Ticket) → find test xs ≡ Some u → (u.peer == n) ≡ true
+only_own n test xs t found own u also = some_is (find test xs) t u n found also own
