@@ -1,16 +1,9 @@
 -- A plan that is carried out against one database, on one thread.
-use Rattle.std.specs.Prelude.{◌≡◌, Result, Ok, Err, if◌then◌else◌}
-use Rattle.step_core.specs.Steps.{step}
-use Rattle.step_core.specs.declared.event.Event.{Event}
-use Rattle.step_core.specs.declared.event.Reply.{Reply}
-use Rattle.history_core.specs.Histories.{Content, stepped, is_full}
+use Rattle.std.specs.Prelude.{◌≡◌, Result, Ok, Err}
+use Rattle.history_core.specs.Histories.{Content, applied}
 use Rattle.history_core.specs.declared.fault.Fault.{Fault}
 use Rattle.history_core.specs.declared.fault.Fault.TheVariants.{OutOfMemory, HistoryFull}
 use Rattle.engine_core.specs.Plans.{Plan, Returns, Reaches, Submits}
-
--- one event: its reply, and the database after it, unless no further step can be kept
-abbrev pub applied : Content → Event → Result (Reply × Content) Fault
-applied d event = if is_full d then Err HistoryFull else Ok ((step d.state event).reply, stepped d event (step d.state event).reply)
 
 abbrev pub and_then : {A B : Type 0} → Result A Fault → (A → Result B Fault) → Result B Fault
 and_then (Ok a) go_on = go_on a

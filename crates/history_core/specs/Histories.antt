@@ -1,5 +1,5 @@
 -- Histories: the steps that were taken from a state, and the state to which they lead.
-use Rattle.std.specs.Prelude.{ℕ, ◌≡◌, Bool, ◌==◌, List, [], ◌∷◌, ◌++◌, length}
+use Rattle.std.specs.Prelude.{ℕ, ◌≡◌, Bool, ◌==◌, List, [], ◌∷◌, ◌++◌, length, Result, Ok, Err, if◌then◌else◌}
 use Rattle.std.specs.List.{count_by}
 use Rattle.te_base.specs.Base.{Base}
 use Rattle.step_core.specs.declared.event.Event.{Event}
@@ -7,6 +7,8 @@ use Rattle.step_core.specs.declared.event.Reply.{Reply}
 use Rattle.step_core.specs.States.{State, empty}
 use Rattle.step_core.specs.Steps.{step}
 use Rattle.history_core.specs.declared.step.Step.{Step}
+use Rattle.history_core.specs.declared.fault.Fault.{Fault}
+use Rattle.history_core.specs.declared.fault.Fault.TheVariants.{HistoryFull}
 use Rattle.step_core.specs.Sound.{IsSoundGrant}
 use Rattle.history_core.specs.Briefs.{brief_of, is_grant}
 use Rattle.history_core.specs.declared.step.Brief.TheVariants as brief
@@ -65,3 +67,7 @@ kept_step event reply = record { event = event; brief = brief_of reply }
 -- the state after one more event, and the history with it and the brief of its reply
 abbrev pub stepped : Content → Event → Reply → Content
 stepped d event reply = record d { state = (step d.state event).state; history = d.history ++ kept_step event reply ∷ [] }
+
+-- one event: its reply, and the database after it, unless no further step can be kept
+abbrev pub applied : Content → Event → Result (Reply × Content) Fault
+applied d event = if is_full d then Err HistoryFull else Ok ((step d.state event).reply, stepped d event (step d.state event).reply)

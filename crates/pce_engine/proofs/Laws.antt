@@ -4,25 +4,25 @@ use Rattle.std.proofs.lemmas.List.{append-nil, length-append, take_more}
 use Rattle.std.specs.Io.KnownBytes.{Appends}
 use Rattle.pce_engine.specs.declared.fault.ScriptFault.{ScriptFault}
 use Rattle.pce_engine.specs.declared.fault.ScriptFault.TheVariants.{BadLine, Te, ReadFault, WriteFault, OutOfMemory, HistoryFull}
-use Rattle.pce_engine.specs.Told.{Told, told, ◌>>=◌}
-use Rattle.pce_engine.specs.Script.{Cut, cut_at, with_rest, Stage, start, answered, counted, line_told, Outcome, on_told, printed, script, next_number, text_of_lines}
+use Rattle.script_lines.specs.Told.{Told, told, ◌>>=◌}
+use Rattle.pce_engine.specs.Script.{Searches, Cut, cut_at, with_rest, Stage, start, answered, counted, line_told, Outcome, on_told, printed, script, next_number, text_of_lines}
 use Rattle.pce_engine.specs.Machine.{Machine, started, Fed, after_line, took, fed_on, fed, Leads, Halts, Breaks, completed}
 
 -- the lines of what was cut, and of the bytes after it
 abbrev pub cut_on : Cut → List ℕ → List (List ℕ)
 cut_on c bytes = with_rest (fold cut_at c bytes).0 (fold cut_at c bytes).1
 
-cut_break : (ls : List (List ℕ)) (p : List ℕ) (b : ℕ) → (b == 10) ≡ true → cut_at (ls, p) b ≡ (ls ++ p ∷ [], [])
+pub cut_break : (ls : List (List ℕ)) (p : List ℕ) (b : ℕ) → (b == 10) ≡ true → cut_at (ls, p) b ≡ (ls ++ p ∷ [], [])
 cut_break ls p b e = rw e
 
-cut_other : (ls : List (List ℕ)) (p : List ℕ) (b : ℕ) → (b == 10) ≡ false → cut_at (ls, p) b ≡ (ls, p ++ b ∷ [])
+pub cut_other : (ls : List (List ℕ)) (p : List ℕ) (b : ℕ) → (b == 10) ≡ false → cut_at (ls, p) b ≡ (ls, p ++ b ∷ [])
 cut_other ls p b e = rw e
 
-took_break : (m : Machine) (b : ℕ) → (b == 10) ≡ true → took m b ≡ after_line (line_told m.stage m.pending)
-took_break m b e = rw e
+pub took_break : (answer : Option (List ℕ)) (m : Machine) (b : ℕ) → (b == 10) ≡ true → took answer m b ≡ after_line (line_told answer m.stage m.pending)
+took_break answer m b e = rw e
 
-took_other : (m : Machine) (b : ℕ) → (b == 10) ≡ false → took m b ≡ Ok (told [] (record { stage = m.stage; pending = m.pending ++ b ∷ [] }))
-took_other m b e = rw e
+pub took_other : (answer : Option (List ℕ)) (m : Machine) (b : ℕ) → (b == 10) ≡ false → took answer m b ≡ Ok (told [] (record { stage = m.stage; pending = m.pending ++ b ∷ [] }))
+took_other answer m b e = rw e
 
 abbrev Keeps_front : List ℕ → Type 0
 Keeps_front bytes = (ls : List (List ℕ)) (p : List ℕ) → (more : List (List ℕ)) × (cut_on (ls, p) bytes ≡ ls ++ more)
@@ -36,194 +36,158 @@ front_at false b bytes e ih ls p =
     (h.0, ap (λ (c : Cut). cut_on c bytes) (cut_other ls p b e) ∙ h.1)
 
 -- whole lines stay in front of what follows
-front_of : (bytes : List ℕ) → Keeps_front bytes
+pub front_of : (bytes : List ℕ) → Keeps_front bytes
 front_of [] ls [] = ([], sym (append-nil ls))
 front_of [] ls (b ∷ p) = ((b ∷ p) ∷ [], refl)
 front_of (b ∷ bytes) ls p = front_at (b == 10) b bytes refl (λ ls p. front_of bytes ls p) ls p
-
--- after these lines the script goes on from this text and stage
-abbrev GoesOn : List (List ℕ) → List ℕ → Stage → Type 0
-GoesOn ls text s = (more : List (List ℕ)) → printed (ls ++ more) [] start ≡ printed more text s
-
--- one line more
-goes_on : (ls : List (List ℕ)) (p text : List ℕ) (s : Stage) (r : Told Stage) → line_told s p ≡ Ok r → GoesOn ls text s → GoesOn (ls ++ p ∷ []) (text ++ r.text) r.after
-goes_on ls p text s r e goes more =
-    ap (λ (all : List (List ℕ)). printed all [] start) (append_assoc ls (p ∷ []) more) ∙ goes (p ∷ more) ∙ ap (λ t. on_told text t (printed more)) e
-
-abbrev Agrees : List ℕ → Type 0
-Agrees bytes = (ls : List (List ℕ)) (p text : List ℕ) (s : Stage) → GoesOn ls text s
-    → printed (cut_on (ls, p) bytes) [] start ≡ completed (fed bytes text (record { stage = s; pending = p }))
-
-agrees_told : (r : Result (Told Stage) ScriptFault) (bytes : List ℕ) (ls : List (List ℕ)) (p text : List ℕ) (s : Stage) → line_told s p ≡ r → Agrees bytes → GoesOn ls text s
-    → printed (cut_on (ls ++ p ∷ [], []) bytes) [] start ≡ completed (fed_on text (record { stage = s; pending = p }) (after_line r) (fed bytes))
-agrees_told (Ok r) bytes ls p text s e ih goes =
-    ih (ls ++ p ∷ []) [] (text ++ r.text) r.after (goes_on ls p text s r e goes)
-agrees_told (Err fault) bytes ls p text s e ih goes =
-    let h = front_of bytes (ls ++ p ∷ []) [] in
-    ap (λ (all : List (List ℕ)). printed all [] start) (h.1 ∙ append_assoc ls (p ∷ []) h.0) ∙ goes (p ∷ h.0) ∙ ap (λ t. on_told text t (printed h.0)) e
-
-agrees_at : (t : Bool) (b : ℕ) (bytes : List ℕ) → (b == 10) ≡ t → Agrees bytes → Agrees (b ∷ bytes)
-agrees_at true b bytes e ih ls p text s goes =
-    let m : Machine = record { stage = s; pending = p } in
-    ap (λ (c : Cut). printed (cut_on c bytes) [] start) (cut_break ls p b e)
-    ∙ agrees_told (line_told s p) bytes ls p text s refl ih goes
-    ∙ sym (ap (λ t. completed (fed_on text m t (fed bytes))) (took_break m b e))
-agrees_at false b bytes e ih ls p text s goes =
-    let m : Machine = record { stage = s; pending = p } in
-    let n : Machine = record { stage = s; pending = p ++ b ∷ [] } in
-    ap (λ (c : Cut). printed (cut_on c bytes) [] start) (cut_other ls p b e)
-    ∙ ih ls (p ++ b ∷ []) text s goes
-    ∙ ap (λ (t : List ℕ). completed (fed bytes t n)) (sym (append-nil text))
-    ∙ sym (ap (λ t. completed (fed_on text m t (fed bytes))) (took_other m b e))
-
-agrees : (bytes : List ℕ) → Agrees bytes
-agrees [] ls [] text s goes = ap (λ (all : List (List ℕ)). printed all [] start) (sym (append-nil ls)) ∙ goes []
-agrees [] ls (b ∷ p) text s goes = goes ((b ∷ p) ∷ [])
-agrees (b ∷ bytes) ls p text s goes = agrees_at (b == 10) b bytes refl (λ ls p text s goes. agrees bytes ls p text s goes) ls p text s goes
-
--- what is fed byte by byte and then completed is the script
-pub script_by_bytes : (bytes : List ℕ) → script bytes ≡ completed (fed bytes [] started)
-script_by_bytes bytes = agrees bytes [] [] [] start (λ more. refl)
-
--- ---- the whole lines of a front
-
--- where no fault stops the bytes, their whole lines lead to the same text
-abbrev Prints : List ℕ → Type 0
-Prints bytes = (ls : List (List ℕ)) (p text : List ℕ) (s : Stage) (all : List ℕ) (n : Machine) → GoesOn ls text s → Leads bytes text (record { stage = s; pending = p }) all n
-    → (printed (fold cut_at (ls, p) bytes).0 [] start).text ≡ all
-
-prints_told : (r : Result (Told Stage) ScriptFault) (bytes : List ℕ) (ls : List (List ℕ)) (p text : List ℕ) (s : Stage) (all : List ℕ) (n : Machine) → line_told s p ≡ r → Prints bytes → GoesOn ls text s
-    → fed_on text (record { stage = s; pending = p }) (after_line r) (fed bytes) ≡ record { text = all; machine = n; fault = None } → (printed (fold cut_at (ls ++ p ∷ [], []) bytes).0 [] start).text ≡ all
-prints_told (Ok r) bytes ls p text s all n e ih goes h = ih (ls ++ p ∷ []) [] (text ++ r.text) r.after all n (goes_on ls p text s r e goes) h
-prints_told (Err fault) bytes ls p text s all n e ih goes h = let bad : Some fault ≡ None = ap (λ (f : Fed). f.fault) h in cc
-
-prints_at : (t : Bool) (b : ℕ) (bytes : List ℕ) → (b == 10) ≡ t → Prints bytes → Prints (b ∷ bytes)
-prints_at true b bytes e ih ls p text s all n goes h =
-    let m : Machine = record { stage = s; pending = p } in
-    ap (λ (c : Cut). (printed (fold cut_at c bytes).0 [] start).text) (cut_break ls p b e)
-    ∙ prints_told (line_told s p) bytes ls p text s all n refl ih goes (sym (ap (λ t. fed_on text m t (fed bytes)) (took_break m b e)) ∙ h)
-prints_at false b bytes e ih ls p text s all n goes h =
-    let m : Machine = record { stage = s; pending = p } in
-    let k : Machine = record { stage = s; pending = p ++ b ∷ [] } in
-    ap (λ (c : Cut). (printed (fold cut_at c bytes).0 [] start).text) (cut_other ls p b e)
-    ∙ ih ls (p ++ b ∷ []) text s all n goes (ap (λ (t : List ℕ). fed bytes t k) (sym (append-nil text)) ∙ sym (ap (λ t. fed_on text m t (fed bytes)) (took_other m b e)) ∙ h)
-
-prints : (bytes : List ℕ) → Prints bytes
-prints [] ls p text s all n goes h =
-    ap (λ (all : List (List ℕ)). (printed all [] start).text) (sym (append-nil ls)) ∙ ap (λ (o : Outcome). o.text) (goes []) ∙ ap (λ (f : Fed). f.text) h
-prints (b ∷ bytes) ls p text s all n goes h = prints_at (b == 10) b bytes refl (λ ls p text s all n goes h. prints bytes ls p text s all n goes h) ls p text s all n goes h
-
-pub text_of_front : (front text : List ℕ) (m : Machine) → Leads front [] started text m → text_of_lines front ≡ text
-text_of_front front text m h = prints front [] [] [] start text m (λ more. refl) h
-
--- ---- the number of the next line
 
 number_after : (answer : Result (Told Stage) ScriptFault) (number : ℕ) (r : Told Stage) → (answer >>= λ t. Ok (told t.text (counted number t.after))) ≡ Ok r → r.after.number ≡ number + 1
 number_after (Ok t) number r e = let same : r ≡ told t.text (counted number t.after) = cc in ap (λ (next : Told Stage). next.after.number) same
 number_after (Err fault) number r e = cc
 
-next_told : (s : Stage) (line : List ℕ) (r : Told Stage) → line_told s line ≡ Ok r → r.after.number ≡ s.number + 1
+pub next_told : (answer : Option (List ℕ)) (s : Stage) (line : List ℕ) (r : Told Stage) → line_told answer s line ≡ Ok r → r.after.number ≡ s.number + 1
 unfolding line_told
-next_told s line r e = number_after (answered s line) s.number r e
-
--- where no fault stops the bytes, each of their whole lines is counted
-abbrev Counts : List ℕ → Type 0
-Counts bytes = (ls : List (List ℕ)) (p text : List ℕ) (s : Stage) (all : List ℕ) (n : Machine) → s.number ≡ length ls + 1 → Leads bytes text (record { stage = s; pending = p }) all n
-    → n.stage.number ≡ length (fold cut_at (ls, p) bytes).0 + 1
-
-counts_told : (r : Result (Told Stage) ScriptFault) (bytes : List ℕ) (ls : List (List ℕ)) (p text : List ℕ) (s : Stage) (all : List ℕ) (n : Machine) → line_told s p ≡ r → Counts bytes → s.number ≡ length ls + 1
-    → fed_on text (record { stage = s; pending = p }) (after_line r) (fed bytes) ≡ record { text = all; machine = n; fault = None } → n.stage.number ≡ length (fold cut_at (ls ++ p ∷ [], []) bytes).0 + 1
-counts_told (Ok r) bytes ls p text s all n e ih at h =
-    ih (ls ++ p ∷ []) [] (text ++ r.text) r.after all n (next_told s p r e ∙ ap (λ (k : ℕ). k + 1) (at ∙ sym (length-append ls (p ∷ [])))) h
-counts_told (Err fault) bytes ls p text s all n e ih at h = let bad : Some fault ≡ None = ap (λ (f : Fed). f.fault) h in cc
-
-counts_at : (t : Bool) (b : ℕ) (bytes : List ℕ) → (b == 10) ≡ t → Counts bytes → Counts (b ∷ bytes)
-counts_at true b bytes e ih ls p text s all n at h =
-    let m : Machine = record { stage = s; pending = p } in
-    counts_told (line_told s p) bytes ls p text s all n refl ih at (sym (ap (λ t. fed_on text m t (fed bytes)) (took_break m b e)) ∙ h)
-    ∙ ap (λ (c : Cut). length (fold cut_at c bytes).0 + 1) (sym (cut_break ls p b e))
-counts_at false b bytes e ih ls p text s all n at h =
-    let m : Machine = record { stage = s; pending = p } in
-    let k : Machine = record { stage = s; pending = p ++ b ∷ [] } in
-    ih ls (p ++ b ∷ []) text s all n at (ap (λ (t : List ℕ). fed bytes t k) (sym (append-nil text)) ∙ sym (ap (λ t. fed_on text m t (fed bytes)) (took_other m b e)) ∙ h)
-    ∙ ap (λ (c : Cut). length (fold cut_at c bytes).0 + 1) (sym (cut_other ls p b e))
-
-counts : (bytes : List ℕ) → Counts bytes
-counts [] ls p text s all n at h = ap (λ (f : Fed). f.machine.stage.number) (sym h) ∙ at
-counts (b ∷ bytes) ls p text s all n at h = counts_at (b == 10) b bytes refl (λ ls p text s all n at h. counts bytes ls p text s all n at h) ls p text s all n at h
-
-pub number_of_front : (front text : List ℕ) (m : Machine) → Leads front [] started text m → m.stage.number ≡ next_number front
-number_of_front front text m h = counts front [] [] [] start text m refl h
-
--- ---- pieces
-
-abbrev Splits : List ℕ → Type 0
-Splits a = (b text : List ℕ) (m : Machine) (t : List ℕ) (n : Machine) → Leads a text m t n → fed (a ++ b) text m ≡ fed b t n
-
-splits_at : (r : Result (Told Machine) ScriptFault) (a b text : List ℕ) (m : Machine) (t : List ℕ) (n : Machine) → Splits a
-    → fed_on text m r (fed a) ≡ record { text = t; machine = n; fault = None } → fed_on text m r (fed (a ++ b)) ≡ fed b t n
-splits_at (Ok r) a b text m t n ih e = ih b (text ++ r.text) r.after t n e
-splits_at (Err fault) a b text m t n ih e = let bad : Some fault ≡ None = ap (λ (f : Fed). f.fault) e in cc
-
--- a second piece goes on where the first one ended
-pub fed_append : (a : List ℕ) → Splits a
-fed_append [] b text m t n e = sym (ap (λ (f : Fed). fed b f.text f.machine) (sym e))
-fed_append (x ∷ a) b text m t n e = splits_at (took m x) a b text m t n (λ b text m t n e. fed_append a b text m t n e) e
-
--- one byte more
-pub leads_more : (bytes : List ℕ) (i : ℕ) (old : List ℕ) (m : Machine) (text : List ℕ) (n : Machine) (line new : List ℕ) (k : Machine) → i < length bytes
-    → Leads (take i bytes) old m text n → took n (get_or bytes i 0) ≡ Ok (told line k) → new ≡ text ++ line → Leads (take (i + 1) bytes) old m new k
-leads_more bytes i old m text n line new k within so_far e more =
-    ap (λ (front : List ℕ). fed front old m) (take_more bytes i 0 within)
-    ∙ fed_append (take i bytes) (get_or bytes i 0 ∷ []) old m text n so_far
-    ∙ ap (λ t. fed_on text n t (fed [])) e
-    ∙ ap (λ (t : List ℕ). record { text = t; machine = k; fault = None }) (sym more)
-
--- a byte that meets a fault
-halted : (bytes : List ℕ) (i : ℕ) (old : List ℕ) (m : Machine) (text : List ℕ) (n : Machine) (e : ScriptFault) → i < length bytes
-    → Leads (take i bytes) old m text n → took n (get_or bytes i 0) ≡ Err e → fed bytes old m ≡ record { text = text; machine = n; fault = Some e }
-halted bytes i old m text n e within so_far is =
-    ap (λ (all : List ℕ). fed all old m) (sym (take-append-drop i bytes))
-    ∙ fed_append (take i bytes) (drop i bytes) old m text n so_far
-    ∙ ap (λ (rest : List ℕ). fed rest text n) (drop-cons bytes i 0 within)
-    ∙ ap (λ t. fed_on text n t (fed (drop (suc i) bytes))) is
-
-halted_as : (bytes : List ℕ) (i : ℕ) (old : List ℕ) (m : Machine) (text : List ℕ) (n : Machine) (new : List ℕ) (e : ScriptFault) → i < length bytes
-    → Leads (take i bytes) old m text n → took n (get_or bytes i 0) ≡ Err e → new ≡ text → ((fed bytes old m).text ≡ new) × ((fed bytes old m).fault ≡ Some e)
-halted_as bytes i old m text n new e within so_far is same =
-    let h = halted bytes i old m text n e within so_far is in (ap (λ (f : Fed). f.text) h ∙ sym same, ap (λ (f : Fed). f.fault) h)
-
-pub breaks : (e : ScriptFault) (bytes : List ℕ) (i : ℕ) (old : List ℕ) (m : Machine) (text : List ℕ) (n : Machine) (new : List ℕ) → i < length bytes
-    → Leads (take i bytes) old m text n → Halts n.stage.number e (took n (get_or bytes i 0)) text new → Breaks e bytes old m new
-breaks (OutOfMemory line) bytes i old m text n new within so_far h = record {
-  front = take i bytes;
-  rest = drop i bytes;
-  machine = n;
-  whole = sym (take-append-drop i bytes);
-  leads = so_far ∙ ap (λ (t : List ℕ). record { text = t; machine = n; fault = None }) (sym h.0);
-  numbered = sym h.1;
-}
-breaks ReadFault bytes i old m text n new within so_far h = absurd h
-breaks WriteFault bytes i old m text n new within so_far h = absurd h
-breaks (BadLine k) bytes i old m text n new within so_far h = halted_as bytes i old m text n new (BadLine k) within so_far h.0 h.1
-breaks (Te f) bytes i old m text n new within so_far h = halted_as bytes i old m text n new (Te f) within so_far h.0 h.1
-breaks HistoryFull bytes i old m text n new within so_far h = halted_as bytes i old m text n new HistoryFull within so_far h.0 h.1
+next_told answer s line r e = number_after (answered answer s line) s.number r e
 
 -- text that was written before stays in front
 abbrev pub after : List ℕ → Fed → Fed
 after front f = record { text = front ++ f.text; machine = f.machine; fault = f.fault }
 
-abbrev Fronts : List ℕ → Type 0
-Fronts bytes = (front text : List ℕ) (m : Machine) → fed bytes (front ++ text) m ≡ after front (fed bytes text m)
+-- ---- where the searches answer so
 
-fronts_at : (r : Result (Told Machine) ScriptFault) (bytes front text : List ℕ) (m : Machine) → Fronts bytes
-    → fed_on (front ++ text) m r (fed bytes) ≡ after front (fed_on text m r (fed bytes))
-fronts_at (Ok r) bytes front text m ih = ap (λ (t : List ℕ). fed bytes t r.after) (append_assoc front text r.text) ∙ ih front (text ++ r.text) r.after
-fronts_at (Err fault) bytes front text m ih = refl
+module _ (answers : Searches) where
+  -- after these lines the script goes on from this text and stage
+  abbrev GoesOn : List (List ℕ) → List ℕ → Stage → Type 0
+  GoesOn ls text s = (more : List (List ℕ)) → printed answers (ls ++ more) [] start ≡ printed answers more text s
 
-pub fed_front : (bytes : List ℕ) → Fronts bytes
-fed_front [] front text m = refl
-fed_front (b ∷ bytes) front text m = fronts_at (took m b) bytes front text m (λ front text m. fed_front bytes front text m)
+  -- one line more
+  goes_on : (ls : List (List ℕ)) (p text : List ℕ) (s : Stage) (r : Told Stage) → line_told (answers s.number) s p ≡ Ok r → GoesOn ls text s → GoesOn (ls ++ p ∷ []) (text ++ r.text) r.after
+  goes_on ls p text s r e goes more =
+      ap (λ (all : List (List ℕ)). printed answers all [] start) (append_assoc ls (p ∷ []) more) ∙ goes (p ∷ more) ∙ ap (λ t. on_told text t (printed answers more)) e
+
+  abbrev Agrees : List ℕ → Type 0
+  Agrees bytes = (ls : List (List ℕ)) (p text : List ℕ) (s : Stage) → GoesOn ls text s
+      → printed answers (cut_on (ls, p) bytes) [] start ≡ completed answers (fed answers bytes text (record { stage = s; pending = p }))
+
+  agrees_told : (r : Result (Told Stage) ScriptFault) (bytes : List ℕ) (ls : List (List ℕ)) (p text : List ℕ) (s : Stage) → line_told (answers s.number) s p ≡ r → Agrees bytes → GoesOn ls text s
+      → printed answers (cut_on (ls ++ p ∷ [], []) bytes) [] start ≡ completed answers (fed_on text (record { stage = s; pending = p }) (after_line r) (fed answers bytes))
+  agrees_told (Ok r) bytes ls p text s e ih goes =
+      ih (ls ++ p ∷ []) [] (text ++ r.text) r.after (goes_on ls p text s r e goes)
+  agrees_told (Err fault) bytes ls p text s e ih goes =
+      let h = front_of bytes (ls ++ p ∷ []) [] in
+      ap (λ (all : List (List ℕ)). printed answers all [] start) (h.1 ∙ append_assoc ls (p ∷ []) h.0) ∙ goes (p ∷ h.0) ∙ ap (λ t. on_told text t (printed answers h.0)) e
+
+  agrees_at : (t : Bool) (b : ℕ) (bytes : List ℕ) → (b == 10) ≡ t → Agrees bytes → Agrees (b ∷ bytes)
+  agrees_at true b bytes e ih ls p text s goes =
+      let m : Machine = record { stage = s; pending = p } in
+      ap (λ (c : Cut). printed answers (cut_on c bytes) [] start) (cut_break ls p b e)
+      ∙ agrees_told (line_told (answers s.number) s p) bytes ls p text s refl ih goes
+      ∙ sym (ap (λ t. completed answers (fed_on text m t (fed answers bytes))) (took_break (answers m.stage.number) m b e))
+  agrees_at false b bytes e ih ls p text s goes =
+      let m : Machine = record { stage = s; pending = p } in
+      let n : Machine = record { stage = s; pending = p ++ b ∷ [] } in
+      ap (λ (c : Cut). printed answers (cut_on c bytes) [] start) (cut_other ls p b e)
+      ∙ ih ls (p ++ b ∷ []) text s goes
+      ∙ ap (λ (t : List ℕ). completed answers (fed answers bytes t n)) (sym (append-nil text))
+      ∙ sym (ap (λ t. completed answers (fed_on text m t (fed answers bytes))) (took_other (answers m.stage.number) m b e))
+
+  agrees : (bytes : List ℕ) → Agrees bytes
+  agrees [] ls [] text s goes = ap (λ (all : List (List ℕ)). printed answers all [] start) (sym (append-nil ls)) ∙ goes []
+  agrees [] ls (b ∷ p) text s goes = goes ((b ∷ p) ∷ [])
+  agrees (b ∷ bytes) ls p text s goes = agrees_at (b == 10) b bytes refl (λ ls p text s goes. agrees bytes ls p text s goes) ls p text s goes
+
+  -- what is fed byte by byte and then completed is the script
+  pub script_by_bytes : (bytes : List ℕ) → script answers bytes ≡ completed answers (fed answers bytes [] started)
+  script_by_bytes bytes = agrees bytes [] [] [] start (λ more. refl)
+
+  -- ---- the whole lines of a front
+
+  -- where no fault stops the bytes, their whole lines lead to the same text
+  abbrev Prints : List ℕ → Type 0
+  Prints bytes = (ls : List (List ℕ)) (p text : List ℕ) (s : Stage) (all : List ℕ) (n : Machine) → GoesOn ls text s → Leads answers bytes text (record { stage = s; pending = p }) all n
+      → (printed answers (fold cut_at (ls, p) bytes).0 [] start).text ≡ all
+
+  prints_told : (r : Result (Told Stage) ScriptFault) (bytes : List ℕ) (ls : List (List ℕ)) (p text : List ℕ) (s : Stage) (all : List ℕ) (n : Machine) → line_told (answers s.number) s p ≡ r → Prints bytes → GoesOn ls text s
+      → fed_on text (record { stage = s; pending = p }) (after_line r) (fed answers bytes) ≡ record { text = all; machine = n; fault = None } → (printed answers (fold cut_at (ls ++ p ∷ [], []) bytes).0 [] start).text ≡ all
+  prints_told (Ok r) bytes ls p text s all n e ih goes h = ih (ls ++ p ∷ []) [] (text ++ r.text) r.after all n (goes_on ls p text s r e goes) h
+  prints_told (Err fault) bytes ls p text s all n e ih goes h = let bad : Some fault ≡ None = ap (λ (f : Fed). f.fault) h in cc
+
+  prints_at : (t : Bool) (b : ℕ) (bytes : List ℕ) → (b == 10) ≡ t → Prints bytes → Prints (b ∷ bytes)
+  prints_at true b bytes e ih ls p text s all n goes h =
+      let m : Machine = record { stage = s; pending = p } in
+      ap (λ (c : Cut). (printed answers (fold cut_at c bytes).0 [] start).text) (cut_break ls p b e)
+      ∙ prints_told (line_told (answers s.number) s p) bytes ls p text s all n refl ih goes (sym (ap (λ t. fed_on text m t (fed answers bytes)) (took_break (answers m.stage.number) m b e)) ∙ h)
+  prints_at false b bytes e ih ls p text s all n goes h =
+      let m : Machine = record { stage = s; pending = p } in
+      let k : Machine = record { stage = s; pending = p ++ b ∷ [] } in
+      ap (λ (c : Cut). (printed answers (fold cut_at c bytes).0 [] start).text) (cut_other ls p b e)
+      ∙ ih ls (p ++ b ∷ []) text s all n goes (ap (λ (t : List ℕ). fed answers bytes t k) (sym (append-nil text)) ∙ sym (ap (λ t. fed_on text m t (fed answers bytes)) (took_other (answers m.stage.number) m b e)) ∙ h)
+
+  prints : (bytes : List ℕ) → Prints bytes
+  prints [] ls p text s all n goes h =
+      ap (λ (all : List (List ℕ)). (printed answers all [] start).text) (sym (append-nil ls)) ∙ ap (λ (o : Outcome). o.text) (goes []) ∙ ap (λ (f : Fed). f.text) h
+  prints (b ∷ bytes) ls p text s all n goes h = prints_at (b == 10) b bytes refl (λ ls p text s all n goes h. prints bytes ls p text s all n goes h) ls p text s all n goes h
+
+  pub text_of_front : (front text : List ℕ) (m : Machine) → Leads answers front [] started text m → text_of_lines answers front ≡ text
+  text_of_front front text m h = prints front [] [] [] start text m (λ more. refl) h
+
+  -- ---- the number of the next line
+
+  -- where no fault stops the bytes, each of their whole lines is counted
+  abbrev Counts : List ℕ → Type 0
+  Counts bytes = (ls : List (List ℕ)) (p text : List ℕ) (s : Stage) (all : List ℕ) (n : Machine) → s.number ≡ length ls + 1 → Leads answers bytes text (record { stage = s; pending = p }) all n
+      → n.stage.number ≡ length (fold cut_at (ls, p) bytes).0 + 1
+
+  counts_told : (r : Result (Told Stage) ScriptFault) (bytes : List ℕ) (ls : List (List ℕ)) (p text : List ℕ) (s : Stage) (all : List ℕ) (n : Machine) → line_told (answers s.number) s p ≡ r → Counts bytes → s.number ≡ length ls + 1
+      → fed_on text (record { stage = s; pending = p }) (after_line r) (fed answers bytes) ≡ record { text = all; machine = n; fault = None } → n.stage.number ≡ length (fold cut_at (ls ++ p ∷ [], []) bytes).0 + 1
+  counts_told (Ok r) bytes ls p text s all n e ih at h =
+      ih (ls ++ p ∷ []) [] (text ++ r.text) r.after all n (next_told (answers s.number) s p r e ∙ ap (λ (k : ℕ). k + 1) (at ∙ sym (length-append ls (p ∷ [])))) h
+  counts_told (Err fault) bytes ls p text s all n e ih at h = let bad : Some fault ≡ None = ap (λ (f : Fed). f.fault) h in cc
+
+  counts_at : (t : Bool) (b : ℕ) (bytes : List ℕ) → (b == 10) ≡ t → Counts bytes → Counts (b ∷ bytes)
+  counts_at true b bytes e ih ls p text s all n at h =
+      let m : Machine = record { stage = s; pending = p } in
+      counts_told (line_told (answers s.number) s p) bytes ls p text s all n refl ih at (sym (ap (λ t. fed_on text m t (fed answers bytes)) (took_break (answers m.stage.number) m b e)) ∙ h)
+      ∙ ap (λ (c : Cut). length (fold cut_at c bytes).0 + 1) (sym (cut_break ls p b e))
+  counts_at false b bytes e ih ls p text s all n at h =
+      let m : Machine = record { stage = s; pending = p } in
+      let k : Machine = record { stage = s; pending = p ++ b ∷ [] } in
+      ih ls (p ++ b ∷ []) text s all n at (ap (λ (t : List ℕ). fed answers bytes t k) (sym (append-nil text)) ∙ sym (ap (λ t. fed_on text m t (fed answers bytes)) (took_other (answers m.stage.number) m b e)) ∙ h)
+      ∙ ap (λ (c : Cut). length (fold cut_at c bytes).0 + 1) (sym (cut_other ls p b e))
+
+  counts : (bytes : List ℕ) → Counts bytes
+  counts [] ls p text s all n at h = ap (λ (f : Fed). f.machine.stage.number) (sym h) ∙ at
+  counts (b ∷ bytes) ls p text s all n at h = counts_at (b == 10) b bytes refl (λ ls p text s all n at h. counts bytes ls p text s all n at h) ls p text s all n at h
+
+  pub number_of_front : (front text : List ℕ) (m : Machine) → Leads answers front [] started text m → m.stage.number ≡ next_number front
+  number_of_front front text m h = counts front [] [] [] start text m refl h
+
+  -- ---- pieces
+
+  abbrev Splits : List ℕ → Type 0
+  Splits a = (b text : List ℕ) (m : Machine) (t : List ℕ) (n : Machine) → Leads answers a text m t n → fed answers (a ++ b) text m ≡ fed answers b t n
+
+  splits_at : (r : Result (Told Machine) ScriptFault) (a b text : List ℕ) (m : Machine) (t : List ℕ) (n : Machine) → Splits a
+      → fed_on text m r (fed answers a) ≡ record { text = t; machine = n; fault = None } → fed_on text m r (fed answers (a ++ b)) ≡ fed answers b t n
+  splits_at (Ok r) a b text m t n ih e = ih b (text ++ r.text) r.after t n e
+  splits_at (Err fault) a b text m t n ih e = let bad : Some fault ≡ None = ap (λ (f : Fed). f.fault) e in cc
+
+  -- a second piece goes on where the first one ended
+  pub fed_append : (a : List ℕ) → Splits a
+  fed_append [] b text m t n e = sym (ap (λ (f : Fed). fed answers b f.text f.machine) (sym e))
+  fed_append (x ∷ a) b text m t n e = splits_at (took (answers m.stage.number) m x) a b text m t n (λ b text m t n e. fed_append a b text m t n e) e
+
+  abbrev Fronts : List ℕ → Type 0
+  Fronts bytes = (front text : List ℕ) (m : Machine) → fed answers bytes (front ++ text) m ≡ after front (fed answers bytes text m)
+
+  fronts_at : (r : Result (Told Machine) ScriptFault) (bytes front text : List ℕ) (m : Machine) → Fronts bytes
+      → fed_on (front ++ text) m r (fed answers bytes) ≡ after front (fed_on text m r (fed answers bytes))
+  fronts_at (Ok r) bytes front text m ih = ap (λ (t : List ℕ). fed answers bytes t r.after) (append_assoc front text r.text) ∙ ih front (text ++ r.text) r.after
+  fronts_at (Err fault) bytes front text m ih = refl
+
+  pub fed_front : (bytes : List ℕ) → Fronts bytes
+  fed_front [] front text m = refl
+  fed_front (b ∷ bytes) front text m = fronts_at (took (answers m.stage.number) m b) bytes front text m (λ front text m. fed_front bytes front text m)
 
 pub appends_more : (a b c : Option (List ℕ)) (x y : List ℕ) → Appends a b x → Appends b c y → Appends a c (x ++ y)
 appends_more None b c x y h k = tt

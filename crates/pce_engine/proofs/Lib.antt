@@ -1,5 +1,6 @@
-pub mod Numbers
+mod AllowedLines
+mod Joins
 pub mod Laws
-pub mod Runs
-pub mod Telling
 mod Placing
+pub mod Runs
+mod Searching

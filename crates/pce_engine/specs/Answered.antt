@@ -5,9 +5,9 @@ use Rattle.step_core.specs.declared.event.Reply.{Reply}
 use Rattle.history_core.specs.declared.fault.Fault.TheVariants.{OutOfMemory, HistoryFull}
 use Rattle.engine_core.specs.Calls.{called}
 use Rattle.engine_core.specs.declared.store.Call.{Call}
-use Rattle.pce_engine.specs.Texts.{reply_text}
-use Rattle.pce_engine.specs.declared.commands.CommandFault.{CommandFault}
-use Rattle.pce_engine.specs.declared.commands.CommandFault.TheVariants.{BadLine, Store}
+use Rattle.script_lines.specs.Texts.{reply_text}
+use Rattle.script_lines.specs.declared.fault.CommandFault.{CommandFault}
+use Rattle.script_lines.specs.declared.fault.CommandFault.TheVariants.{BadLine, Store}
 
 -- the event was submitted, and this is the text of its reply
 abbrev pub Replied : {S : Type 0} → (S → List Call → S → Type 0) → Event → List ℕ → S → S → Type 0

@@ -1,35 +1,45 @@
 -- How a run ends.
-use Rattle.std.specs.Prelude.{◌≡◌, ℕ, ◌+◌, ◌≤◌, List, length, ◌++◌, Option, Some, None, Result, Ok, Err}
+use Rattle.std.specs.Prelude.{◌≡◌, ℕ, ◌+◌, ◌≤◌, List, [], ◌∷◌, length, ◌++◌, Option, Some, None, Result, Ok, Err, IfOk}
 use Rattle.std.specs.Io.KnownBytes.{Appends, Consumes}
 use Rattle.pce_engine.specs.declared.fault.ScriptFault.{ScriptFault}
 use Rattle.pce_engine.specs.declared.fault.ScriptFault.TheVariants.{ReadFault, WriteFault, OutOfMemory}
-use Rattle.pce_engine.specs.Script.{Outcome, script, next_number, text_of_lines}
+use Rattle.pce_engine.specs.Script.{Searches, Outcome, Stage, start, cut, lines_of, script, next_number, text_of_lines, line_told, MayFind, Allowed}
+use Rattle.pce_engine.specs.Machine.{closed_with}
 
 -- a whole outcome was written
 abbrev pub Writes : Option (List ℕ) → Option (List ℕ) → Option ScriptFault → Outcome → Type 0
 Writes old new fault outcome = Appends old new outcome.text × (outcome.fault ≡ fault)
 
+-- for answers that the searches of its lines may give, the whole script was written
+abbrev pub WritesScript : Option (List ℕ) → Option (List ℕ) → Option ScriptFault → List ℕ → Type 0
+WritesScript old new fault input = (answers : Searches) × Allowed answers (lines_of input) start × Writes old new fault (script answers input)
+
 -- the bytes that the reader is asked for at once
 abbrev pub piece_bound : ℕ
 piece_bound = 4096
 
--- What all lines before the one with this number print was written: those that end in a front of the input. Of the
--- bytes that were read, those that the front lacks are of the last piece.
+-- What all lines before the one with this number print was written, for answers that their searches may give: those
+-- lines end in a front of the input. Of the bytes that were read, those that the front lacks are of the last piece.
 pub record WritesBefore (number : ℕ) (old new left : Option (List ℕ)) (input : List ℕ) : Type 0 where
   pub front : List ℕ
   pub rest : List ℕ
   pub unread : List ℕ
   pub whole : input ≡ front ++ rest
+  pub answers : Searches
   pub numbered : number ≡ next_number front
-  pub written : Appends old new (text_of_lines front)
+  pub allowed : Allowed answers (cut front).0 start
+  pub written : Appends old new (text_of_lines answers front)
   pub known : left ≡ Some unread
   pub behind : length rest ≤ piece_bound + length unread
 
--- what the whole lines print that came before the bytes which the reader has left was written
+-- what the whole lines print that came before the bytes which the reader has left was written, for answers that their
+-- searches may give
 pub record WritesRead (old new left : Option (List ℕ)) (input : List ℕ) : Type 0 where
   pub front : List ℕ
+  pub answers : Searches
   pub read : Consumes (Some input) left front
-  pub written : Appends old new (text_of_lines front)
+  pub allowed : Allowed answers (cut front).0 start
+  pub written : Appends old new (text_of_lines answers front)
 
 -- A bad line, a link text's fault and a full history come where they are the script's, after the text of
 -- all lines before. Where a read failed, the whole lines that were read stand, and where memory ran out, those
@@ -38,27 +48,38 @@ abbrev pub EndsBy : ScriptFault → Option (List ℕ) → Option (List ℕ) → 
 EndsBy (OutOfMemory line) old new left input = WritesBefore line old new left input
 EndsBy ReadFault old new left input = WritesRead old new left input
 EndsBy WriteFault old new left input = Unit {0}
-EndsBy e old new left input = Writes old new (Some e) (script input)
+EndsBy e old new left input = WritesScript old new (Some e) input
 
 -- `Ok` comes where the script has no fault. `left` is what the reader has left.
 abbrev pub EndsAs : {X : Type 0} → Result X ScriptFault → Option (List ℕ) → Option (List ℕ) → Option (List ℕ) → List ℕ → Type 0
-EndsAs (Ok x) old new left input = Writes old new None (script input)
+EndsAs (Ok x) old new left input = WritesScript old new None input
 EndsAs (Err e) old new left input = EndsBy e old new left input
 
--- A fault at the end of the input, whose last line has this number: this outcome was written, or nothing where memory
--- ran out.
-abbrev pub ClosesBy : ℕ → ScriptFault → Option (List ℕ) → Option (List ℕ) → Outcome → Type 0
-ClosesBy number (OutOfMemory line) old new outcome = (new ≡ old) × (line ≡ number)
-ClosesBy number ReadFault old new outcome = ⊥
-ClosesBy number WriteFault old new outcome = Unit {0}
-ClosesBy number e old new outcome = Writes old new (Some e) outcome
+-- the search of the last line, where no line break follows it, may answer this
+abbrev pub MayClose : Option (List ℕ) → Stage → List ℕ → Type 0
+MayClose answer s [] = Unit {0}
+MayClose answer s (b ∷ bs) = IfOk (line_told answer s (b ∷ bs)) (λ _. MayFind answer s.standing (b ∷ bs))
 
--- What the end of the input leaves.
-abbrev pub Closes : {X : Type 0} → ℕ → Result X ScriptFault → Option (List ℕ) → Option (List ℕ) → Outcome → Type 0
-Closes number (Ok x) old new outcome = Writes old new None outcome
-Closes number (Err e) old new outcome = ClosesBy number e old new outcome
+-- for an answer that its search may give, what the last line prints was written
+abbrev pub WritesLast : Option (List ℕ) → Option (List ℕ) → Option ScriptFault → Stage → List ℕ → Type 0
+WritesLast old new fault s line = (answer : Option (List ℕ)) × MayClose answer s line × Writes old new fault (closed_with answer [] s line)
 
--- the same where no memory is taken
-abbrev pub ClosesAt : {X : Type 0} → ℕ → Result X ScriptFault → Option (List ℕ) → Option (List ℕ) → Outcome → Type 0
-ClosesAt number (Err (OutOfMemory line)) old new outcome = ⊥
-ClosesAt number r old new outcome = Closes number r old new outcome
+-- A fault at the end of the input: what the last line prints was written, or nothing where memory ran out.
+abbrev pub ClosesBy : ScriptFault → Option (List ℕ) → Option (List ℕ) → Stage → List ℕ → Type 0
+ClosesBy (OutOfMemory number) old new s line = (new ≡ old) × (number ≡ s.number)
+ClosesBy ReadFault old new s line = ⊥
+ClosesBy WriteFault old new s line = Unit {0}
+ClosesBy e old new s line = WritesLast old new (Some e) s line
+
+-- What the end of the input leaves, whose last line is this.
+abbrev pub Closes : {X : Type 0} → Result X ScriptFault → Option (List ℕ) → Option (List ℕ) → Stage → List ℕ → Type 0
+Closes (Ok x) old new s line = WritesLast old new None s line
+Closes (Err e) old new s line = ClosesBy e old new s line
+
+-- What the end of the input leaves behind its last line, where this fault is the script's: no memory is taken.
+abbrev pub ClosesAt : {X : Type 0} → Result X ScriptFault → Option (List ℕ) → Option (List ℕ) → Option ScriptFault → Type 0
+ClosesAt (Ok x) old new fault = Appends old new [] × (fault ≡ None)
+ClosesAt (Err (OutOfMemory number)) old new fault = ⊥
+ClosesAt (Err ReadFault) old new fault = ⊥
+ClosesAt (Err WriteFault) old new fault = Unit {0}
+ClosesAt (Err e) old new fault = Appends old new [] × (fault ≡ Some e)

@@ -5,8 +5,8 @@ use Rattle.te_base.specs.Faults.{fault_number}
 use Rattle.te_base.specs.declared.fault.TeFault.{TeFault}
 use Rattle.te_base.specs.declared.fault.TeFault.TheVariants as te
 use Rattle.history_core.specs.declared.fault.Fault.TheVariants as database
-use Rattle.pce_engine.specs.declared.commands.CommandFault.{CommandFault}
-use Rattle.pce_engine.specs.declared.commands.CommandFault.TheVariants as line
+use Rattle.script_lines.specs.declared.fault.CommandFault.{CommandFault}
+use Rattle.script_lines.specs.declared.fault.CommandFault.TheVariants as line
 use Rattle.pce_engine.specs.declared.fault.ScriptFault.{ScriptFault}
 use Rattle.pce_engine.specs.declared.fault.ScriptFault.TheVariants.{BadLine, Te, ReadFault, WriteFault, OutOfMemory, HistoryFull}
 

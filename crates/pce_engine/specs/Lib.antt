@@ -1,11 +1,5 @@
 pub mod Faults
-pub mod Words
-pub mod Commands
-pub mod Orders
-pub mod Texts
 pub mod Answered
-pub mod Told
-pub mod Submits
 pub mod Talks
 pub mod Sessions
 pub mod Places

@@ -1,10 +1,10 @@
 -- The same byte by byte, as the reader's pieces come.
-use Rattle.std.specs.Prelude.{◌≡◌, ℕ, ◌==◌, List, [], ◌∷◌, ◌++◌, Option, Some, None, Result, Ok, Err, if◌then◌else◌}
+use Rattle.std.specs.Prelude.{◌≡◌, ℕ, ◌==◌, List, [], ◌∷◌, ◌++◌, Option, Some, None, Result, Ok, Err, IfOk, if◌then◌else◌}
 use Rattle.pce_engine.specs.declared.fault.ScriptFault.{ScriptFault}
 use Rattle.pce_engine.specs.declared.fault.ScriptFault.TheVariants.{ReadFault, WriteFault, OutOfMemory}
 use Rattle.pce_engine.specs.declared.stage.Stage as code
-use Rattle.pce_engine.specs.Told.{Told, told}
-use Rattle.pce_engine.specs.Script.{Stage, start, line_told, Outcome, ending, on_told}
+use Rattle.script_lines.specs.Told.{Told, told}
+use Rattle.pce_engine.specs.Script.{Searches, Stage, start, answered, line_told, MayFind, Outcome, ending, on_told}
 
 abbrev pub stage_of : code.Stage → Stage
 stage_of s = record { number = s.number; header = s.header.items; standing = s.standing }
@@ -27,20 +27,34 @@ abbrev pub after_line : Result (Told Stage) ScriptFault → Result (Told Machine
 after_line (Ok t) = Ok (told t.text (record { stage = t.after; pending = [] }))
 after_line (Err fault) = Err fault
 
-abbrev pub took : Machine → ℕ → Result (Told Machine) ScriptFault
-took m byte = if byte == 10 then after_line (line_told m.stage m.pending) else Ok (told [] (record { stage = m.stage; pending = m.pending ++ byte ∷ [] }))
+-- one byte more, where the search of the line that it ends answers this
+abbrev pub took : Option (List ℕ) → Machine → ℕ → Result (Told Machine) ScriptFault
+took answer m byte = if byte == 10 then after_line (line_told answer m.stage m.pending) else Ok (told [] (record { stage = m.stage; pending = m.pending ++ byte ∷ [] }))
 
 abbrev pub fed_on : List ℕ → Machine → Result (Told Machine) ScriptFault → (List ℕ → Machine → Fed) → Fed
 fed_on text m (Ok t) go = go (text ++ t.text) t.after
 fed_on text m (Err fault) go = record { text = text; machine = m; fault = Some fault }
 
-abbrev pub fed : List ℕ → List ℕ → Machine → Fed
-fed [] text m = record { text = text; machine = m; fault = None }
-fed (b ∷ bs) text m = fed_on text m (took m b) (fed bs)
+abbrev pub fed : Searches → List ℕ → List ℕ → Machine → Fed
+fed answers [] text m = record { text = text; machine = m; fault = None }
+fed answers (b ∷ bs) text m = fed_on text m (took (answers m.stage.number) m b) (fed answers bs)
+
+-- the search of the line that a byte ends may answer this
+abbrev pub MayTake : Option (List ℕ) → Machine → ℕ → Type 0
+MayTake answer m byte = byte ≡ 10 → MayFind answer m.stage.standing m.pending
+
+-- each search of the lines that these bytes end may answer so
+abbrev pub AllowedBytes : Searches → List ℕ → Machine → Type 0
+AllowedBytes answers [] m = Unit {0}
+AllowedBytes answers (b ∷ bs) m = IfOk (took (answers m.stage.number) m b) (λ t. MayTake (answers m.stage.number) m b × AllowedBytes answers bs t.after)
 
 -- all of the bytes were taken
-abbrev pub Leads : List ℕ → List ℕ → Machine → List ℕ → Machine → Type 0
-Leads bytes text m new n = fed bytes text m ≡ record { text = new; machine = n; fault = None }
+abbrev pub Leads : Searches → List ℕ → List ℕ → Machine → List ℕ → Machine → Type 0
+Leads answers bytes text m new n = fed answers bytes text m ≡ record { text = new; machine = n; fault = None }
+
+-- the same, for answers that the searches may give
+abbrev pub Goes : Searches → List ℕ → List ℕ → Machine → List ℕ → Machine → Type 0
+Goes answers bytes text m new n = Leads answers bytes text m new n × AllowedBytes answers bytes m
 
 -- What a call on the line with this number answers and leaves, where the script has this: where memory ran out it names
 -- the line, and a line meets no fault of a reader or a writer.
@@ -50,9 +64,11 @@ Fails number ReadFault given = ⊥
 Fails number WriteFault given = ⊥
 Fails number fault given = given ≡ Err fault
 
-abbrev pub Tells : {X : Type 0} → (X → List ℕ) → ℕ → Result X ScriptFault → Result (Told Stage) ScriptFault → Stage → Type 0
-Tells view number (Ok x) given after = given ≡ Ok (told (view x) after)
-Tells view number (Err e) given after = Fails number e given
+-- What a call on a line answers and leaves: some answer that its search may give leads there. A fault comes before the
+-- search.
+abbrev pub Tells : {X : Type 0} → (X → List ℕ) → Result X ScriptFault → List ℕ → Stage → Stage → Type 0
+Tells view (Ok x) line s t = (answer : Option (List ℕ)) × MayFind answer s.standing line × (answered answer s line ≡ Ok (told (view x) t))
+Tells view (Err e) line s t = Fails s.number e (answered None s line)
 
 -- A fault at the line with this number, or at a byte of it: nothing was added. Where memory ran out it names the line,
 -- and any other fault is the script's.
@@ -62,23 +78,24 @@ Halts number ReadFault given old new = ⊥
 Halts number WriteFault given old new = ⊥
 Halts number e given old new = (given ≡ Err e) × (new ≡ old)
 
--- What a call on one line leaves.
-abbrev pub Adds : {X : Type 0} → Result X ScriptFault → Result (Told Stage) ScriptFault → List ℕ → Stage → List ℕ → Stage → Type 0
-Adds (Ok x) given old s new t = (text : List ℕ) × (given ≡ Ok (told text t)) × (new ≡ old ++ text)
-Adds (Err e) given old s new t = Halts s.number e given old new
+-- What a call on one line leaves, for an answer that its search may give.
+abbrev pub Adds : {X : Type 0} → Result X ScriptFault → List ℕ → List ℕ → Stage → List ℕ → Stage → Type 0
+Adds (Ok x) line old s new t = (answer : Option (List ℕ)) × (text : List ℕ) × MayFind answer s.standing line × (line_told answer s line ≡ Ok (told text t)) × (new ≡ old ++ text)
+Adds (Err e) line old s new t = Halts s.number e (line_told None s line) old new
 
--- What a call on one byte leaves.
-abbrev pub Takes : {X : Type 0} → Result X ScriptFault → Result (Told Machine) ScriptFault → List ℕ → Machine → List ℕ → Machine → Type 0
-Takes (Ok x) given old m new n = (text : List ℕ) × (given ≡ Ok (told text n)) × (new ≡ old ++ text)
-Takes (Err e) given old m new n = Halts m.stage.number e given old new
+-- What a call on one byte leaves, for an answer that the search of the line may give.
+abbrev pub Takes : {X : Type 0} → Result X ScriptFault → ℕ → List ℕ → Machine → List ℕ → Machine → Type 0
+Takes (Ok x) byte old m new n = (answer : Option (List ℕ)) × (text : List ℕ) × MayTake answer m byte × (took answer m byte ≡ Ok (told text n)) × (new ≡ old ++ text)
+Takes (Err e) byte old m new n = Halts m.stage.number e (took None m byte) old new
 
 -- some of the bytes were taken: all lines before the one with this number
 pub record LeadsPartly (bytes text : List ℕ) (m : Machine) (new : List ℕ) (number : ℕ) : Type 0 where
   pub front : List ℕ
   pub rest : List ℕ
   pub machine : Machine
+  pub answers : Searches
   pub whole : bytes ≡ front ++ rest
-  pub leads : Leads front text m new machine
+  pub leads : Goes answers front text m new machine
   pub numbered : machine.stage.number ≡ number
 
 -- A fault among some bytes. Where memory ran out, it did so at the line that it names.
@@ -86,21 +103,21 @@ abbrev pub Breaks : ScriptFault → List ℕ → List ℕ → Machine → List �
 Breaks (OutOfMemory line) bytes old m new = LeadsPartly bytes old m new line
 Breaks ReadFault bytes old m new = ⊥
 Breaks WriteFault bytes old m new = ⊥
-Breaks e bytes old m new = ((fed bytes old m).text ≡ new) × ((fed bytes old m).fault ≡ Some e)
+Breaks e bytes old m new = (answers : Searches) × AllowedBytes answers bytes m × ((fed answers bytes old m).text ≡ new) × ((fed answers bytes old m).fault ≡ Some e)
 
 -- What a call on some bytes leaves.
 abbrev pub Feeds : {X : Type 0} → Result X ScriptFault → List ℕ → List ℕ → Machine → List ℕ → Machine → Type 0
-Feeds (Ok x) bytes old m new n = Leads bytes old m new n
+Feeds (Ok x) bytes old m new n = (answers : Searches) × Goes answers bytes old m new n
 Feeds (Err e) bytes old m new n = Breaks e bytes old m new
 
 -- the last line, where no line break follows it
-abbrev pub closed_with : List ℕ → Stage → List ℕ → Outcome
-closed_with text s [] = record { text = text; fault = ending s.number s.standing }
-closed_with text s (b ∷ bs) = on_told text (line_told s (b ∷ bs)) (λ all t. record { text = all; fault = ending t.number t.standing })
+abbrev pub closed_with : Option (List ℕ) → List ℕ → Stage → List ℕ → Outcome
+closed_with answer text s [] = record { text = text; fault = ending s.number s.standing }
+closed_with answer text s (b ∷ bs) = on_told text (line_told answer s (b ∷ bs)) (λ all t. record { text = all; fault = ending t.number t.standing })
 
-abbrev pub completed_by : List ℕ → Machine → Option ScriptFault → Outcome
-completed_by text m None = closed_with text m.stage m.pending
-completed_by text m (Some fault) = record { text = text; fault = Some fault }
+abbrev pub completed_by : Searches → List ℕ → Machine → Option ScriptFault → Outcome
+completed_by answers text m None = closed_with (answers m.stage.number) text m.stage m.pending
+completed_by answers text m (Some fault) = record { text = text; fault = Some fault }
 
-abbrev pub completed : Fed → Outcome
-completed f = completed_by f.text f.machine f.fault
+abbrev pub completed : Searches → Fed → Outcome
+completed answers f = completed_by answers f.text f.machine f.fault

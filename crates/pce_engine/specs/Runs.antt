@@ -5,9 +5,9 @@ use Rattle.pce_engine.specs.declared.fault.ScriptFault.{ScriptFault}
 use Rattle.pce_engine.specs.declared.fault.ScriptFault.TheVariants.{ReadFault, WriteFault, OutOfMemory}
 use Rattle.pce_engine.specs.declared.script.Input.{Input}
 use Rattle.pce_engine.specs.declared.script.Input.TheVariants.{Ended, Endless}
-use Rattle.pce_engine.specs.Script.{script}
-use Rattle.pce_engine.specs.Ends.{Writes, WritesRead, EndsBy}
-use Rattle.pce_engine.specs.Machine.{Machine, started, fed, Leads, LeadsPartly}
+use Rattle.pce_engine.specs.Script.{Searches}
+use Rattle.pce_engine.specs.Ends.{WritesScript, WritesRead, EndsBy}
+use Rattle.pce_engine.specs.Machine.{Machine, started, fed, AllowedBytes, Goes, LeadsPartly}
 
 -- A fault stopped it, and what it printed before was written. Where memory ran out, that is what all lines of the piece
 -- before the one that it names print.
@@ -15,11 +15,11 @@ abbrev pub Stops : ScriptFault → List ℕ → Machine → Option (List ℕ) �
 Stops (OutOfMemory line) bytes m old new = (text : List ℕ) × LeadsPartly bytes [] m text line × Appends old new text
 Stops ReadFault bytes m old new = ⊥
 Stops WriteFault bytes m old new = Unit {0}
-Stops e bytes m old new = Appends old new (fed bytes [] m).text × ((fed bytes [] m).fault ≡ Some e)
+Stops e bytes m old new = (answers : Searches) × AllowedBytes answers bytes m × Appends old new (fed answers bytes [] m).text × ((fed answers bytes [] m).fault ≡ Some e)
 
 -- The whole piece was taken, and what it prints was written.
 abbrev pub GoesOn : List ℕ → Machine → Option (List ℕ) → Option (List ℕ) → Machine → Type 0
-GoesOn bytes m old new n = (text : List ℕ) × Appends old new text × Leads bytes [] m text n
+GoesOn bytes m old new n = (answers : Searches) × (text : List ℕ) × Appends old new text × Goes answers bytes [] m text n
 
 -- What a call on one piece of the input leaves.
 abbrev pub Chunk : {X : Type 0} → Result X ScriptFault → List ℕ → Machine → Option (List ℕ) → Option (List ℕ) → Machine → Type 0
@@ -31,10 +31,11 @@ pub record Reading (input : List ℕ) (remaining old new : Option (List ℕ)) (m
   pub front : List ℕ
   pub rest : List ℕ
   pub text : List ℕ
+  pub answers : Searches
   pub known : remaining ≡ Some rest
   pub whole : input ≡ front ++ rest
   pub written : Appends old new text
-  pub so_far : Leads front [] started text m
+  pub so_far : Goes answers front [] started text m
   pub turned : turns ≤ length front
 
 -- the reader is asked so often at most
@@ -47,6 +48,6 @@ ReadsOn old new left input = (r : WritesRead old new left input) × (most_turns 
 
 -- What the reading of the input leaves.
 abbrev pub Reaches : Result Input ScriptFault → Option (List ℕ) → Option (List ℕ) → Option (List ℕ) → List ℕ → Type 0
-Reaches (Ok Ended) old new left input = Writes old new None (script input)
+Reaches (Ok Ended) old new left input = WritesScript old new None input
 Reaches (Ok Endless) old new left input = ReadsOn old new left input
 Reaches (Err e) old new left input = EndsBy e old new left input

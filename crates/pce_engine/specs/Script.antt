@@ -1,17 +1,18 @@
 -- What a script prints: a link text, a line `---`, and lines.
-use Rattle.std.specs.Prelude.{ℕ, ◌+◌, ◌==◌, List, [], ◌∷◌, ◌++◌, length, fold, codes, Option, Some, None, Result, Ok, Err, if◌then◌else◌}
+use Rattle.std.specs.Prelude.{ℕ, ◌+◌, ◌==◌, List, [], ◌∷◌, ◌++◌, length, fold, codes, Option, Some, None, Result, Ok, Err, IfOk, if◌then◌else◌}
 use Rattle.std.specs.Str.{bytes_eq, is_utf8}
 use Rattle.te_base.specs.declared.fault.TeFault.{TeFault}
 use Rattle.te_base.specs.declared.fault.TeFault.TheVariants.{NotToml}
 use Rattle.te_base.specs.Base.{Base}
 use Rattle.te_base.specs.LinkText.{base_of}
 use Rattle.pce_engine.specs.Faults.{numbered, te_numbered}
-use Rattle.pce_engine.specs.Standing.{at_start, standing_line}
-use Rattle.pce_engine.specs.declared.commands.CommandFault.{CommandFault}
+use Rattle.pce_engine.specs.Standing.{at_start, standing_line, MaySearch}
+use Rattle.script_lines.specs.Orders.{order_of}
+use Rattle.script_lines.specs.declared.fault.CommandFault.{CommandFault}
 use Rattle.pce_engine.specs.declared.standing.Standing.{Standing}
 use Rattle.pce_engine.specs.declared.fault.ScriptFault.{ScriptFault}
 use Rattle.pce_engine.specs.declared.fault.ScriptFault.TheVariants.{BadLine}
-use Rattle.pce_engine.specs.Told.{Told, told, ◌>>=◌}
+use Rattle.script_lines.specs.Told.{Told, told, ◌>>=◌}
 
 -- ---- lines
 
@@ -64,23 +65,32 @@ abbrev pub numbered_line : Stage → Result (Told Standing) CommandFault → Res
 numbered_line s (Ok t) = Ok (told t.text (record s { standing = Some t.after }))
 numbered_line s (Err fault) = Err (numbered s.number fault)
 
-abbrev pub answered_at : Stage → List ℕ → Option Standing → Result (Told Stage) ScriptFault
-answered_at s line None = numbered_header s (header_line s line)
-answered_at s line (Some standing) = numbered_line s (standing_line standing line)
+abbrev pub answered_at : Option (List ℕ) → Stage → List ℕ → Option Standing → Result (Told Stage) ScriptFault
+answered_at answer s line None = numbered_header s (header_line s line)
+answered_at answer s line (Some standing) = numbered_line s (standing_line answer standing line)
 
--- what the line of the stage's number prints, and what it leaves
-unfoldable pub answered : Stage → List ℕ → Result (Told Stage) ScriptFault
-answered s line = answered_at s line s.standing
+-- what the line of the stage's number prints, and what it leaves, where its search answers this
+unfoldable pub answered : Option (List ℕ) → Stage → List ℕ → Result (Told Stage) ScriptFault
+answered answer s line = answered_at answer s line s.standing
 
 -- the line after the one with this number is the next
 abbrev pub counted : ℕ → Stage → Stage
 counted number s = record s { number = number + 1 }
 
 -- what a line prints, and the stage after it, or its fault
-unfoldable pub line_told : Stage → List ℕ → Result (Told Stage) ScriptFault
-line_told s line = answered s line >>= λ t. Ok (told t.text (counted s.number t.after))
+unfoldable pub line_told : Option (List ℕ) → Stage → List ℕ → Result (Told Stage) ScriptFault
+line_told answer s line = answered answer s line >>= λ t. Ok (told t.text (counted s.number t.after))
+
+-- the search of a line may answer this; a line of the link text makes none
+abbrev pub MayFind : Option (List ℕ) → Option Standing → List ℕ → Type 0
+MayFind answer None line = Unit {0}
+MayFind answer (Some standing) line = MaySearch answer standing (order_of line)
 
 -- ---- the whole script
+
+-- what the search of each line answers, by the line's number: the links of a path, or None where there is none
+abbrev pub Searches : Type 0
+Searches = ℕ → Option (List ℕ)
 
 -- what is written, and the fault that ends it
 pub record Outcome : Type 0 where
@@ -97,17 +107,22 @@ abbrev pub on_told : List ℕ → Result (Told Stage) ScriptFault → (List ℕ 
 on_told text (Ok t) go = go (text ++ t.text) t.after
 on_told text (Err fault) go = record { text = text; fault = Some fault }
 
-abbrev pub printed : List (List ℕ) → List ℕ → Stage → Outcome
-printed [] text s = record { text = text; fault = ending s.number s.standing }
-printed (line ∷ lines) text s = on_told text (line_told s line) (printed lines)
+abbrev pub printed : Searches → List (List ℕ) → List ℕ → Stage → Outcome
+printed answers [] text s = record { text = text; fault = ending s.number s.standing }
+printed answers (line ∷ lines) text s = on_told text (line_told (answers s.number) s line) (printed answers lines)
 
--- what a script prints, and how it ends
-abbrev pub script : List ℕ → Outcome
-script bytes = printed (lines_of bytes) [] start
+-- what a script prints, and how it ends, where the searches of its lines answer this
+abbrev pub script : Searches → List ℕ → Outcome
+script answers bytes = printed answers (lines_of bytes) [] start
 
 -- what the whole lines of the bytes print
-abbrev pub text_of_lines : List ℕ → List ℕ
-text_of_lines bytes = (printed (cut bytes).0 [] start).text
+abbrev pub text_of_lines : Searches → List ℕ → List ℕ
+text_of_lines answers bytes = (printed answers (cut bytes).0 [] start).text
+
+-- each search of these lines may answer so, from this stage on; a line that meets a fault searches for nothing
+abbrev pub Allowed : Searches → List (List ℕ) → Stage → Type 0
+Allowed answers [] s = Unit {0}
+Allowed answers (line ∷ lines) s = IfOk (line_told (answers s.number) s line) (λ t. MayFind (answers s.number) s.standing line × Allowed answers lines t.after)
 
 -- the number of the line that follows the whole lines of the bytes
 abbrev pub next_number : List ℕ → ℕ

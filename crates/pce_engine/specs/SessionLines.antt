@@ -4,9 +4,9 @@ use Rattle.engine_core.specs.Engine.{new_client}
 use Rattle.engine_core.specs.declared.client.Client.{Client}
 use Rattle.pce_engine.specs.Sessions.{session_of, kept, placed}
 use Rattle.pce_engine.specs.Talks.{Talk, talked, hung, told_of, sent_out, router_opening}
-use Rattle.pce_engine.specs.Told.{Told, told, ◌>>=◌}
-use Rattle.pce_engine.specs.declared.commands.CommandFault.{CommandFault}
-use Rattle.pce_engine.specs.declared.commands.CommandFault.TheVariants.{BadLine}
+use Rattle.script_lines.specs.Told.{Told, told, ◌>>=◌}
+use Rattle.script_lines.specs.declared.fault.CommandFault.{CommandFault}
+use Rattle.script_lines.specs.declared.fault.CommandFault.TheVariants.{BadLine}
 use Rattle.pce_engine.specs.declared.standing.Standing.{Standing}
 
 -- a session that lives; else the line is bad

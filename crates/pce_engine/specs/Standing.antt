@@ -1,19 +1,22 @@
 -- A script after its link text: the database, the sessions that live, and the moment.
-use Rattle.std.specs.Prelude.{ℕ, Bool, true, false, List, [], Option, Some, None, Result, Ok, Err, if◌then◌else◌}
+use Rattle.std.specs.Prelude.{◌≡◌, ℕ, Bool, true, false, List, [], Option, Some, None, Result, Ok, Err, if◌then◌else◌}
 use Rattle.std.specs.Map.{keys_of}
 use Rattle.history_core.specs.Histories.{Content, nothing_happened}
 use Rattle.te_base.specs.Base.{Base}
 use Rattle.step_core.specs.declared.event.Event.{Event}
 use Rattle.step_core.specs.declared.event.Event.TheVariants.{Commit, Return, Delete}
-use Rattle.pce_engine.specs.Orders.{order_of}
+use Rattle.step_core.specs.declared.event.Event.TheVariants as event
+use Rattle.step_core.specs.Steps.{step}
+use Rattle.script_lines.specs.Orders.{order_of}
 use Rattle.pce_engine.specs.SessionLines.{message_line, end_line, open_line, up_line}
-use Rattle.pce_engine.specs.Submits.{report_line, event_line}
-use Rattle.pce_engine.specs.Texts.{book_text, history_text}
-use Rattle.pce_engine.specs.Told.{Told, told, ◌>>=◌, behind, each}
-use Rattle.pce_engine.specs.declared.commands.CommandFault.{CommandFault}
-use Rattle.pce_engine.specs.declared.commands.CommandFault.TheVariants.{BadLine}
-use Rattle.pce_engine.specs.declared.orders.Order.{Order}
-use Rattle.pce_engine.specs.declared.orders.Order.TheVariants.{Report, Book, History, Open, Up, Bytes, End, Tick, Submit}
+use Rattle.script_lines.specs.Submits.{report_line, event_line}
+use Rattle.script_lines.specs.Takes.{MayAnswerTo, take_line}
+use Rattle.script_lines.specs.Texts.{book_text, history_text}
+use Rattle.script_lines.specs.Told.{Told, told, ◌>>=◌, behind, each, Fails}
+use Rattle.script_lines.specs.declared.fault.CommandFault.{CommandFault}
+use Rattle.script_lines.specs.declared.fault.CommandFault.TheVariants.{BadLine}
+use Rattle.script_lines.specs.declared.orders.Order.{Order}
+use Rattle.script_lines.specs.declared.orders.Order.TheVariants.{Report, Book, History, Open, Up, Bytes, End, Tick, Submit, Take}
 use Rattle.pce_engine.specs.declared.standing.Standing.{Standing}
 
 -- the link text has ended: no session lives
@@ -51,21 +54,32 @@ served_if queues t = if queues then behind t.text (all_served t.after) else Ok t
 unfoldable pub operator_line : Event → Standing → Result (Told Standing) CommandFault
 operator_line event s = event_line event s.database >>= λ t. served_if (may_queue event) (with_database s t)
 
--- what a line prints, and what stands after it
-unfoldable pub obeyed : Order → Standing → Result (Told Standing) CommandFault
-obeyed (Report peer reports) s = report_line s.database peer reports >>= λ t. Ok (with_database s t)
-obeyed Book s = Ok (told (book_text s.database.state) s)
-obeyed History s = Ok (told (history_text s.database) s)
-obeyed (Open peer) s = open_line peer s
-obeyed (Up peer) s = up_line peer s
-obeyed (Bytes peer piece) s = message_line peer piece s
-obeyed (End peer) s = end_line peer s
-obeyed (Tick now_ms) s = tick_line now_ms s
-obeyed (Submit event) s = operator_line event s
+-- what a line prints, and what stands after it, where its search answers this
+unfoldable pub obeyed : Option (List ℕ) → Order → Standing → Result (Told Standing) CommandFault
+obeyed answer (Report peer reports) s = report_line s.database peer reports >>= λ t. Ok (with_database s t)
+obeyed answer Book s = Ok (told (book_text s.database.state) s)
+obeyed answer History s = Ok (told (history_text s.database) s)
+obeyed answer (Open peer) s = open_line peer s
+obeyed answer (Up peer) s = up_line peer s
+obeyed answer (Bytes peer piece) s = message_line peer piece s
+obeyed answer (End peer) s = end_line peer s
+obeyed answer (Tick now_ms) s = tick_line now_ms s
+obeyed answer (Submit event) s = operator_line event s
+obeyed answer Take s = take_line answer s.database >>= λ t. Ok (with_database s t)
 
-abbrev pub ordered : Standing → Option Order → Result (Told Standing) CommandFault
-ordered s None = Err BadLine
-ordered s (Some order) = obeyed order s
+abbrev pub ordered : Option (List ℕ) → Standing → Option Order → Result (Told Standing) CommandFault
+ordered answer s None = Err BadLine
+ordered answer s (Some order) = obeyed answer order s
 
-unfoldable pub standing_line : Standing → List ℕ → Result (Told Standing) CommandFault
-standing_line s line = ordered s (order_of line)
+unfoldable pub standing_line : Option (List ℕ) → Standing → List ℕ → Result (Told Standing) CommandFault
+standing_line answer s line = ordered answer s (order_of line)
+
+-- the search of an order may answer this: only `take` makes one
+abbrev pub MaySearch : Option (List ℕ) → Standing → Option Order → Type 0
+MaySearch answer s (Some Take) = MayAnswerTo (step s.database.state event.Take).reply answer
+MaySearch answer s order = Unit {0}
+
+-- what a call answers and leaves: some answer that the search may give leads there. A fault comes before the search
+abbrev pub TellsSearched : {X : Type 0} → (X → List ℕ) → Result X CommandFault → Option Order → (Option (List ℕ) → Result (Told Standing) CommandFault) → Standing → Standing → Type 0
+TellsSearched view (Ok x) order line old new = (answer : Option (List ℕ)) × MaySearch answer old order × (line answer ≡ Ok (told (view x) new))
+TellsSearched view (Err fault) order line old new = Fails fault (line None)

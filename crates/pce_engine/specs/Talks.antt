@@ -11,9 +11,9 @@ use Rattle.history_core.specs.declared.fault.Fault.{Fault}
 use Rattle.engine_core.specs.Engine.{served, hung_up}
 use Rattle.engine_core.specs.Performed.{performed}
 use Rattle.engine_core.specs.declared.client.Client.{Client}
-use Rattle.pce_engine.specs.Told.{Told, told, ◌>>=◌}
-use Rattle.pce_engine.specs.declared.commands.CommandFault.{CommandFault}
-use Rattle.pce_engine.specs.declared.commands.CommandFault.TheVariants.{Store}
+use Rattle.script_lines.specs.Told.{Told, told, ◌>>=◌}
+use Rattle.script_lines.specs.declared.fault.CommandFault.{CommandFault}
+use Rattle.script_lines.specs.declared.fault.CommandFault.TheVariants.{Store}
 
 -- ---- what is printed
 

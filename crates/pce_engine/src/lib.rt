@@ -2,15 +2,16 @@
 //! routers, take state reports, or print the bandwidth book or the history. `run_script` takes a script from
 //! any reader, piece by piece, and writes what it prints to any writer. What it writes is exactly `script` of
 //! what it read (`specs/Script.antt`): each line by the database's and the sessions' own steps, and a fault
-//! only after the output of all lines before it. Where memory runs out or a read fails, whole lines stand
-//! (`specs/Ends.antt`). What a line asks for is defined in `specs/Orders.antt` and `specs/Words.antt`, what it
-//! does in `specs/Submits.antt`, `specs/SessionLines.antt` and `specs/Standing.antt`, and what it prints in
-//! `specs/Texts.antt` and `specs/Talks.antt`. `command` takes an operator's line over any store
+//! only after the output of all lines before it. The line `take` searches for a path, and `script` takes what each
+//! search answers: what was written is `script` for answers that the searches may give (`Allowed`). Where memory runs out or a read fails, whole lines stand
+//! (`specs/Ends.antt`). What a line asks for, and what it does to the database alone, is `script_lines`'s; what it does
+//! to sessions is defined in `specs/SessionLines.antt`, `specs/Talks.antt` and `specs/Standing.antt`. `command` takes an operator's line over any store
 //! (`specs/Commands.antt`, `specs/Answered.antt`).
 //!
 //! ```text
 //! fn answers(alloc: Global, text: &[u8]) -> Result<Vec<u8>, ScriptFault>
-//!     ensures { IfOk result (λ out. script text.now ≡ record { text = out.items; fault = None }) }
+//!     ensures { IfOk result (λ out. (answers : Searches) × Allowed answers (lines_of text.now) start
+//!         × (script answers text.now ≡ record { text = out.items; fault = None })) }
 //! {
 //!     let mut reader = text;
 //!     let mut out = Vec::new(alloc);
@@ -21,24 +22,17 @@
 #![tactic(auto)]
 
 mod commands;
-mod events;
 mod fault;
-mod orders;
 mod script;
 mod session_lines;
 mod sessions;
 mod stage;
 mod standing;
-mod submits;
 mod talks;
-mod texts;
-mod words;
 
-pub use commands::{CommandFault, command};
+pub use commands::command;
 pub use engine_core::{Call, Client, Lent, Store, hang_up, serve};
 pub use fault::ScriptFault;
 pub use script::run_script;
+pub use script_lines::CommandFault;
 pub use te_base::TeFault;
-
-#[cfg(test)]
-mod tests;

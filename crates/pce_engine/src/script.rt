@@ -1,13 +1,13 @@
 //! A script, from a reader to a writer.
 
-ghost use Rattle.std.specs.Prelude.{◌≡◌, ◌<◌, ◌≤◌, ◌+◌, ◌^◌, List, ℕ, [], length, Some, IfErr};
+ghost use Rattle.std.specs.Prelude.{◌≡◌, ◌<◌, ◌≤◌, ◌+◌, ◌^◌, List, ℕ, length, Some, IfErr};
 ghost use Rattle.std.specs.Io.{ReadsAtMost};
 ghost use Rattle.std.specs.Io.KnownBytes.{ReadConsumes};
 ghost use Rattle.pce_engine.specs.declared.fault.ScriptFault.TheVariants.{ReadFault};
 ghost use Rattle.pce_engine.specs.Script.{ending};
 ghost use Rattle.pce_engine.specs.Runs.{Chunk, Reaches};
 ghost use Rattle.pce_engine.specs.Ends.{EndsAs, Closes, ClosesAt};
-ghost use Rattle.pce_engine.specs.Machine.{Takes, took, Feeds, closed_with, stage_of};
+ghost use Rattle.pce_engine.specs.Machine.{Takes, Feeds, stage_of};
 ghost use Rattle.pce_engine.specs.MachineOf.{machine_of};
 
 use crate::fault::ScriptFault;
@@ -41,7 +41,7 @@ fn take_byte(
     out: &mut Vec<u8>,
 ) -> Result<(), ScriptFault>
     requires { script.old.stage.number < 2 ^ 63 }
-    ensures took { Takes result (took (machine_of script.old) byte) out.old.items (machine_of script.old) out.new.items (machine_of script.new) }
+    ensures took { Takes result byte out.old.items (machine_of script.old) out.new.items (machine_of script.new) }
     ensures number { script.new.stage.number ≤ script.old.stage.number + 1 }
 {
     if byte != b'\n' {
@@ -91,7 +91,7 @@ fn take_chunk<W: Write>(
 }
 
 fn close<W: Write>(stage: &Stage, writer: &mut W) -> Result<(), ScriptFault>
-    ensures { ClosesAt stage.now.number result (W.contents writer.old) (W.contents writer.new) (record { text = []; fault = ending stage.now.number stage.now.standing }) }
+    ensures { ClosesAt result (W.contents writer.old) (W.contents writer.new) (ending stage.now.number stage.now.standing) }
 {
     if stage.standing.is_none() {
         return Err(ScriptFault::BadLine(stage.number));
@@ -104,7 +104,7 @@ fn close<W: Write>(stage: &Stage, writer: &mut W) -> Result<(), ScriptFault>
 
 fn finish<W: Write>(alloc: Global, script: &mut Script, writer: &mut W) -> Result<(), ScriptFault>
     requires { script.old.stage.number < 2 ^ 63 }
-    ensures { Closes script.old.stage.number result (W.contents writer.old) (W.contents writer.new) (closed_with [] (stage_of script.old.stage) script.old.pending.items) }
+    ensures { Closes result (W.contents writer.old) (W.contents writer.new) (stage_of script.old.stage) script.old.pending.items }
 {
     if script.pending.is_empty() {
         return close(&script.stage, writer);

@@ -3,13 +3,13 @@
 ghost use Rattle.std.specs.Prelude.{◌≡◌, Ok, None, string_bytes};
 ghost use Rattle.pce_engine.specs.SessionLines.{message_line, end_line, open_line, up_line};
 ghost use Rattle.pce_engine.specs.Sessions.{session_of, gone_if, placed};
-ghost use Rattle.pce_engine.specs.Told.{Tells, Leaves};
+ghost use Rattle.script_lines.specs.Told.{Tells, Leaves};
 
-use crate::commands::CommandFault;
 use crate::sessions::Sessions;
 use crate::standing::Standing;
 use crate::talks::{hang_up, talk, tell_session};
 use engine_core::Client;
+use script_lines::CommandFault;
 use std::alloc::Global;
 
 fn drop_ended(sessions: &mut Sessions, peer: u32, ended: bool)

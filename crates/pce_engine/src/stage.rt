@@ -3,15 +3,15 @@
 ghost use Rattle.std.specs.Prelude.{◌≡◌, ◌<◌, ◌≤◌, ◌+◌, ◌^◌, string_bytes, codes, None};
 ghost use Rattle.std.specs.Str.{bytes_eq};
 ghost use Rattle.te_base.specs.Faults.{Gives};
-ghost use Rattle.pce_engine.specs.Script.{answered, line_told, header_line, base_in};
+ghost use Rattle.pce_engine.specs.Script.{header_line, base_in};
 ghost use Rattle.pce_engine.specs.Faults.{numbered, te_numbered};
-ghost use Rattle.pce_engine.specs.Told.{told};
+ghost use Rattle.script_lines.specs.Told.{told};
 ghost use Rattle.pce_engine.specs.Machine.{stage_of, Tells, Adds};
 
-use crate::commands::CommandFault;
 use crate::fault::ScriptFault;
 use crate::standing::Standing;
 use history_core::Fault;
+use script_lines::CommandFault;
 use std::alloc::Global;
 use te_base::{TeBase, TeFault};
 
@@ -76,7 +76,7 @@ fn te_numbered(number: u64, fault: TeFault) -> ScriptFault
 
 #[tactic(auto, unfolding(crate::specs::Script::answered))]
 fn answer(alloc: Global, stage: &mut Stage, line: &[u8]) -> Result<String, ScriptFault>
-    ensures answered { Tells string_bytes stage.old.number result (answered (stage_of stage.old) line.now) (stage_of stage.new) }
+    ensures answered { Tells string_bytes result line.now (stage_of stage.old) (stage_of stage.new) }
     ensures number { stage.new.number ≡ stage.old.number }
 {
     match &mut stage.standing {
@@ -100,7 +100,7 @@ pub(crate) fn tell(
     out: &mut Vec<u8>,
 ) -> Result<(), ScriptFault>
     requires { stage.old.number < 2 ^ 63 }
-    ensures told { Adds result (line_told (stage_of stage.old) line.now) out.old.items (stage_of stage.old) out.new.items (stage_of stage.new) }
+    ensures told { Adds result line.now out.old.items (stage_of stage.old) out.new.items (stage_of stage.new) }
     ensures number { stage.new.number ≤ stage.old.number + 1 }
 {
     let text = answer(alloc, stage, line)?;

@@ -1,17 +1,17 @@
 //! A script after its link text.
 
-ghost use Rattle.std.specs.Prelude.{◌≡◌, [], IfOk, string_bytes};
-ghost use Rattle.pce_engine.specs.Standing.{at_start, served_in_turn, all_served, tick_line, may_queue, operator_line, obeyed, standing_line};
+ghost use Rattle.std.specs.Prelude.{◌≡◌, [], Some, IfOk, string_bytes};
+ghost use Rattle.pce_engine.specs.Standing.{at_start, served_in_turn, all_served, tick_line, may_queue, operator_line, obeyed, standing_line, TellsSearched};
 ghost use Rattle.pce_engine.specs.SessionLines.{message_line};
-ghost use Rattle.pce_engine.specs.Told.{told, behind, Tells, Leaves};
+ghost use Rattle.script_lines.specs.Orders.{order_of};
+ghost use Rattle.script_lines.specs.Told.{told, behind, Tells, Leaves};
 
-use crate::commands::CommandFault;
-use crate::orders::{Order, order_of};
 use crate::session_lines::{end_line, message_line, open_line, up_line};
 use crate::sessions::Sessions;
-use crate::submits::{event_line, report_line};
-use crate::texts::{book_text, history_text};
 use history_core::{Database, Event};
+use script_lines::{
+    CommandFault, Order, book_text, event_line, history_text, order_of, report_line, take_line,
+};
 use std::alloc::{AllocError, Global};
 use te_base::TeBase;
 
@@ -60,7 +60,7 @@ fn serve_all(alloc: Global, standing: &mut Standing, text: &mut String) -> Resul
 }
 
 /// The moment changes, and every session is served with no bytes.
-#[tactic(auto, unfolding(crate::specs::Standing::tick_line), using(crate::proofs::Telling::behind_nothing))]
+#[tactic(auto, unfolding(crate::specs::Standing::tick_line), using(script_lines::proofs::Telling::behind_nothing))]
 fn tick_line(alloc: Global, standing: &mut Standing, now_ms: u64) -> Result<String, CommandFault>
     ensures { Tells string_bytes result (tick_line now_ms standing.old) standing.new }
 {
@@ -113,7 +113,7 @@ impl Standing {
 
     #[tactic(auto, unfolding(crate::specs::Standing::obeyed))]
     fn obey(&mut self, alloc: Global, order: Order) -> Result<String, CommandFault>
-        ensures { Tells string_bytes result (obeyed order self.old) self.new }
+        ensures { TellsSearched string_bytes result (Some order) (λ answer. obeyed answer order self.old) self.old self.new }
     {
         match order {
             Order::Report(peer, reports) => report_line(alloc, &mut self.database, peer, reports),
@@ -125,13 +125,14 @@ impl Standing {
             Order::End(peer) => end_line(alloc, self, peer),
             Order::Tick(now_ms) => tick_line(alloc, self, now_ms),
             Order::Submit(event) => operator_line(alloc, self, event),
+            Order::Take => take_line(alloc, &mut self.database),
         }
     }
 
     /// What a line prints, or its fault.
     #[tactic(auto, unfolding(crate::specs::Standing::standing_line))]
     pub(crate) fn line(&mut self, alloc: Global, line: &[u8]) -> Result<String, CommandFault>
-        ensures { Tells string_bytes result (standing_line self.old line.now) self.new }
+        ensures { TellsSearched string_bytes result (order_of line.now) (λ answer. standing_line answer self.old line.now) self.old self.new }
     {
         match order_of(alloc, line)? {
             None => Err(CommandFault::BadLine),

@@ -4,12 +4,12 @@ ghost use Rattle.std.specs.Prelude.{◌≡◌, ◌++◌, IfOk, OnOk, string_byte
 ghost use Rattle.engine_core.specs.Engine.{served, hung_up};
 ghost use Rattle.engine_core.specs.Performed.{performed};
 ghost use Rattle.pce_engine.specs.Talks.{output_text, change_text, told_of, sent_out, talk, talk_of, talked, hung};
-ghost use Rattle.pce_engine.specs.Told.{Tells, Leaves};
+ghost use Rattle.script_lines.specs.Told.{Tells, Leaves};
 
-use crate::commands::CommandFault;
 use engine_core::{Client, hang_up_database, serve_database};
 use history_core::Database;
 use pcep_session::State;
+use script_lines::CommandFault;
 use std::alloc::{AllocError, Global};
 use std::fmt::Write;
 

@@ -33,6 +33,7 @@ Standard input is a link text (TOML), a line ---, and lines:
   initiate PEER NAME FROM TO BW SETUP HOLD
                    a path is asked for, to set an LSP up
   update PEER PLSP a path is asked for, to update an LSP
+  take             a ticket is taken, and its path is searched for
   commit N LINKS   what the search for ticket N answered: none, or links joined by commas
   return PEER PLSP an LSP is given back to its router
   delete PEER PLSP an LSP that was initiated is to be removed

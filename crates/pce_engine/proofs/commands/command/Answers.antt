@@ -3,7 +3,7 @@ use Rattle.step_core.specs.declared.event.Reply.{Reply}
 use Rattle.engine_core.specs.Calls.{called}
 use Rattle.engine_core.specs.declared.store.Call.{Call}
 use Rattle.engine_core.proofs.Carrying.{last_of}
-use Rattle.pce_engine.specs.Texts.{reply_text}
+use Rattle.script_lines.specs.Texts.{reply_text}
 use Rattle.pce_engine.proofs.commands.command.Goals as goal
 
 pub returns : goal.returns

@@ -1,9 +1,16 @@
-use Rattle.std.proofs.Common.{rules, take, arith}
+use Rattle.std.proofs.Common.{◌≡◌, refl, rules, take, arith}
 use Rattle.std.proofs.lemmas.Grind.{common_steps}
 use Rattle.std.proofs.lemmas.Result.{err_from_is_err_and}
+use Rattle.pce_engine.specs.Machine.{Machine, started}
 use Rattle.pce_engine.specs.MachineOf.{machine_of}
-use Rattle.pce_engine.proofs.Runs.{read_ends, read_faults, read_more, read_stops, read_fails, reads_on}
+use Rattle.pce_engine.proofs.Runs.{read_none, read_ends, read_faults, read_more, read_stops, read_fails, reads_on}
 use Rattle.pce_engine.proofs.script.take_input.Goals as goal
+
+pub loop-init : goal.loop-init
+loop-init g c = record {
+  reading = λ input known. read_none input (g.R.Read.remaining c.args.reader.now) (g.W.Write.contents c.args.writer.now) _ (rw (c.new.ensures.items, c.new-2.ensures.items) refl) known;
+  number = omega arith;
+}
 
 pub returns-in-Err : goal.returns-in-Err
 returns-in-Err g c = λ input known.

@@ -1,0 +1,3 @@
+pub mod Numbers
+mod Taking
+pub mod Telling

@@ -1,0 +1,119 @@
+-- The lines of an operator, each of which names one event.
+use Rattle.std.specs.Prelude.{ℕ, List, Option, Some, None, option_and_then, codes, if◌then◌else◌}
+use Rattle.std.specs.Str.{bytes_eq}
+use Rattle.step_core.specs.declared.event.Event.{Event}
+use Rattle.step_core.specs.declared.event.Event.TheVariants.{Expire, Return, Ask, Delete, Commit}
+use Rattle.commit_core.specs.declared.ticket.Purpose.TheVariants.{Update, Initiate}
+use Rattle.lsp_base.specs.declared.lsp.Constraints.{Constraints}
+use Rattle.pcep_objects.specs.declared.object.MetricType.TheVariants.{Te}
+use Rattle.pcep_word.specs.Address.{address_of}
+use Rattle.pcep_word.specs.Priority.{InForce, in_force}
+use Rattle.history_core.specs.declared.fault.Fault.TheVariants.{OutOfMemory, HistoryFull}
+use Rattle.script_lines.specs.declared.fault.CommandFault.{CommandFault}
+use Rattle.script_lines.specs.declared.fault.CommandFault.TheVariants.{BadLine, Store}
+use Rattle.script_lines.specs.Words.{cut_at_space, peer_in, plsp_in, long_number_in, priority_in, bandwidth_in, name_in, offer_in}
+
+infixl 10 ◌>>=◌
+abbrev pub ◌>>=◌ : {A B : Type 0} → Option A → (A → Option B) → Option B
+o >>= f = option_and_then f o
+
+unfoldable pub expire_event : List ℕ → Option Event
+expire_event line = do
+  peer ← peer_in line
+  Some (Expire peer)
+
+-- `PEER PLSP`
+unfoldable pub lsp_in : List ℕ → Option (ℕ × ℕ)
+lsp_in line = do
+  words ← cut_at_space line
+  peer ← peer_in words.0
+  plsp ← plsp_in words.1
+  Some (peer, plsp)
+
+-- an event of one LSP
+abbrev pub lsp_event : (ℕ → ℕ → Event) → Option (ℕ × ℕ) → Option Event
+lsp_event event None = None
+lsp_event event (Some lsp) = Some (event lsp.0 lsp.1)
+
+-- `N LINKS`
+unfoldable pub commit_event : List ℕ → Option Event
+commit_event line = do
+  words ← cut_at_space line
+  ticket ← long_number_in words.0
+  offer ← offer_in words.1
+  Some (Commit ticket offer)
+
+-- `SETUP HOLD`: a holding priority that is worse than the setup priority counts as the setup priority
+unfoldable pub priorities_in : List ℕ → Option InForce
+priorities_in line = do
+  words ← cut_at_space line
+  setup ← priority_in words.0
+  hold ← priority_in words.1
+  Some (in_force setup hold)
+
+-- a path of least TE metric between two addresses; links of all colours may be taken, and nothing else binds it
+abbrev pub plain_constraints : ℕ → ℕ → ℕ → InForce → Constraints
+plain_constraints source destination bandwidth priorities = record {
+  source = Some source;
+  destination = Some destination;
+  bandwidth = bandwidth;
+  priorities = priorities;
+  colours = record { exclude_any = 0; include_any = 0; include_all = 0 };
+  minimise = Te;
+  bound = None;
+  hop_bound = None;
+  other_bounds = record { igp = None; te = None };
+}
+
+-- `FROM TO BW SETUP HOLD`
+unfoldable pub constraints_in : List ℕ → Option Constraints
+constraints_in line = do
+  from ← cut_at_space line
+  source ← address_of from.0
+  to ← cut_at_space from.1
+  destination ← address_of to.0
+  flow ← cut_at_space to.1
+  bandwidth ← bandwidth_in flow.0
+  priorities ← priorities_in flow.1
+  Some (plain_constraints source destination bandwidth priorities)
+
+-- `PEER NAME FROM TO BW SETUP HOLD`
+unfoldable pub initiate_event : List ℕ → Option Event
+initiate_event line = do
+  words ← cut_at_space line
+  peer ← peer_in words.0
+  named ← cut_at_space words.1
+  constraints ← constraints_in named.1
+  name ← name_in named.0
+  Some (Ask peer (Initiate name constraints))
+
+-- the events that take memory: `commit N LINKS` and `initiate PEER NAME FROM TO BW SETUP HOLD`
+unfoldable pub long_event_with : List ℕ → List ℕ → Option Event
+long_event_with word rest =
+    if bytes_eq word (codes "commit") then commit_event rest
+    else if bytes_eq word (codes "initiate") then initiate_event rest
+    else None
+
+-- `expire PEER`, `return PEER PLSP`, `update PEER PLSP`, `delete PEER PLSP`
+unfoldable pub event_with : List ℕ → List ℕ → Option Event
+event_with word rest =
+    if bytes_eq word (codes "expire") then expire_event rest
+    else if bytes_eq word (codes "return") then lsp_event (λ peer plsp. Return peer plsp) (lsp_in rest)
+    else if bytes_eq word (codes "update") then lsp_event (λ peer plsp. Ask peer (Update plsp)) (lsp_in rest)
+    else if bytes_eq word (codes "delete") then lsp_event (λ peer plsp. Delete peer plsp) (lsp_in rest)
+    else long_event_with word rest
+
+-- None for a bad line
+unfoldable pub event_in : List ℕ → Option Event
+event_in line = do
+  words ← cut_at_space line
+  event_with words.0 words.1
+
+abbrev pub fault_number : CommandFault → ℕ
+fault_number BadLine = 1
+fault_number (Store fault) = 2
+
+abbrev pub command_text : CommandFault → List ℕ
+command_text BadLine = codes "bad line"
+command_text (Store OutOfMemory) = codes "out of memory"
+command_text (Store HistoryFull) = codes "history full"

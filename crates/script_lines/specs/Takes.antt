@@ -1,0 +1,44 @@
+-- The line `take`: a ticket is taken, and its path is searched for.
+use Rattle.std.specs.Prelude.{◌≡◌, ℕ, List, ◌++◌, codes, Option, Some, None, Result, Ok, Err}
+use Rattle.step_core.specs.Steps.{step}
+use Rattle.step_core.specs.declared.event.Event.TheVariants as event
+use Rattle.step_core.specs.declared.event.Reply.{Reply}
+use Rattle.step_core.specs.declared.event.Reply.TheVariants as reply
+use Rattle.step_core.specs.declared.job.Job.{Job}
+use Rattle.history_core.specs.Histories.{Content}
+use Rattle.path_finder.specs.Answers.{IsAnswer, IsRefused}
+use Rattle.script_lines.specs.Texts.{reply_text, job_text, answer_text}
+use Rattle.script_lines.specs.Submits.{submitted}
+use Rattle.script_lines.specs.Told.{Told, told, ◌>>=◌, Fails}
+use Rattle.script_lines.specs.declared.fault.CommandFault.{CommandFault}
+
+-- a search may answer this to the job: the links of an admissible path of least cost that keeps the other bounds, or none
+-- where there is no such path or a least one breaks an other bound
+abbrev pub MayAnswer : Job → Option (List ℕ) → Type 0
+MayAnswer job None = IsRefused job.snapshot (job.ticket).constraints job.own
+MayAnswer job (Some links) = (cost : ℕ) × IsAnswer job.snapshot (job.ticket).constraints job.own (record { links = links; cost = cost })
+
+-- what a job's line says, where its search answers this
+abbrev pub job_line : Job → Option (List ℕ) → List ℕ
+job_line job answer = job_text (job.ticket).id ++ codes " " ++ answer_text answer
+
+-- the reply to Take
+abbrev pub taken_text : Option (List ℕ) → Reply → List ℕ
+taken_text answer (reply.Job job) = job_line job answer
+taken_text answer reply = reply_text reply
+
+-- a search may answer this to the job of the reply, if it is one
+abbrev pub MayAnswerTo : Reply → Option (List ℕ) → Type 0
+MayAnswerTo (reply.Job job) answer = MayAnswer job answer
+MayAnswerTo reply answer = Unit {0}
+
+-- `take`, where the search answers this
+unfoldable pub take_line : Option (List ℕ) → Content → Result (Told Content) CommandFault
+take_line answer d = do
+  given ← submitted d event.Take
+  Ok (told (taken_text answer given.reply ++ codes "\n") given.after)
+
+-- some answer that the search may give leads there; a fault comes before the search
+abbrev pub TellsTaken : {X : Type 0} → (X → List ℕ) → Result X CommandFault → Content → Content → Type 0
+TellsTaken view (Ok x) old new = (answer : Option (List ℕ)) × MayAnswerTo (step old.state event.Take).reply answer × (take_line answer old ≡ Ok (told (view x) new))
+TellsTaken view (Err fault) old new = Fails fault (take_line None old)

@@ -1,0 +1,208 @@
+//! The events that an operator's lines name.
+
+ghost use Rattle.std.specs.Prelude.{◌≡◌, Some, IfOk, IfErr, IsSome};
+ghost use Rattle.step_core.specs.declared.event.Event.TheVariants.{Return, Ask, Delete};
+ghost use Rattle.commit_core.specs.declared.ticket.Purpose.TheVariants.{Update};
+ghost use Rattle.script_lines.specs.Commands.{expire_event, lsp_in, lsp_event, commit_event, priorities_in, plain_constraints, constraints_in, initiate_event, long_event_with, event_with, event_in};
+
+use crate::words::{
+    bandwidth_in, cut_at_space, long_number_in, name_in, offer_in, peer_in, plsp_in, priority_in,
+};
+use history_core::{Event, Purpose};
+use lsp_base::{Constraints, OtherBounds};
+use pcep_objects::{Colours, MetricType, Plsp};
+use pcep_word::{Bandwidth, Ipv4, Priorities};
+use std::alloc::{AllocError, Global};
+
+#[tactic(auto, unfolding(crate::specs::Commands::expire_event))]
+fn expire_event(line: &str) -> Option<Event>
+    ensures { result ≡ expire_event line.now }
+{
+    let Some(peer) = peer_in(line) else {
+        return None;
+    };
+    Some(Event::Expire { peer })
+}
+
+/// A peer, and a PLSP-ID of its own.
+#[tactic(auto, unfolding(crate::specs::Commands::lsp_in))]
+fn lsp_in(line: &str) -> Option<(u32, Plsp)>
+    ensures { result ≡ lsp_in line.now }
+{
+    let (peer, plsp) = cut_at_space(line)?;
+    let peer = peer_in(peer)?;
+    let plsp = plsp_in(plsp)?;
+    Some((peer, plsp))
+}
+
+fn return_event(line: &str) -> Option<Event>
+    ensures { result ≡ lsp_event (λ peer plsp. Return peer plsp) (lsp_in line.now) }
+{
+    match lsp_in(line) {
+        Some((peer, plsp)) => Some(Event::Return { peer, plsp }),
+        None => None,
+    }
+}
+
+fn update_event(line: &str) -> Option<Event>
+    ensures { result ≡ lsp_event (λ peer plsp. Ask peer (Update plsp)) (lsp_in line.now) }
+{
+    match lsp_in(line) {
+        Some((peer, plsp)) => Some(Event::Ask {
+            peer,
+            purpose: Purpose::Update { plsp },
+        }),
+        None => None,
+    }
+}
+
+fn delete_event(line: &str) -> Option<Event>
+    ensures { result ≡ lsp_event (λ peer plsp. Delete peer plsp) (lsp_in line.now) }
+{
+    match lsp_in(line) {
+        Some((peer, plsp)) => Some(Event::Delete { peer, plsp }),
+        None => None,
+    }
+}
+
+/// The number of a ticket, and what its search answered. Memory is asked for only for a line that names both.
+#[tactic(auto, unfolding(crate::specs::Commands::commit_event))]
+fn commit_event(alloc: Global, line: &str) -> Result<Option<Event>, AllocError>
+    ensures event { IfOk result (λ event. event ≡ commit_event line.now) }
+    ensures good { IfErr result (λ _. IsSome (commit_event line.now)) }
+{
+    let Some((ticket, offer)) = cut_at_space(line) else {
+        return Ok(None);
+    };
+    let Some(ticket) = long_number_in(ticket) else {
+        return Ok(None);
+    };
+    match offer_in(alloc, offer)? {
+        Some(offer) => Ok(Some(Event::Commit { ticket, offer })),
+        None => Ok(None),
+    }
+}
+
+#[tactic(auto, unfolding(crate::specs::Commands::priorities_in))]
+fn priorities_in(line: &str) -> Option<Priorities>
+    ensures { result ≡ priorities_in line.now }
+{
+    let (setup, hold) = cut_at_space(line)?;
+    let setup = priority_in(setup)?;
+    let hold = priority_in(hold)?;
+    Some(Priorities::new(setup, hold))
+}
+
+/// A path of least TE metric; links of all colours may be taken, and nothing else binds it.
+fn plain_constraints(
+    source: Ipv4,
+    destination: Ipv4,
+    bandwidth: Bandwidth,
+    priorities: Priorities,
+) -> Constraints
+    ensures { result ≡ plain_constraints source destination bandwidth priorities }
+{
+    Constraints {
+        source: Some(source),
+        destination: Some(destination),
+        bandwidth,
+        priorities,
+        colours: Colours {
+            exclude_any: 0,
+            include_any: 0,
+            include_all: 0,
+        },
+        minimise: MetricType::Te,
+        bound: None,
+        hop_bound: None,
+        other_bounds: OtherBounds {
+            igp: None,
+            te: None,
+        },
+    }
+}
+
+/// What is asked of the path of an LSP that is to be initiated: two addresses, a bandwidth and two priorities.
+#[tactic(auto, unfolding(crate::specs::Commands::constraints_in))]
+fn constraints_in(line: &str) -> Option<Constraints>
+    ensures { result ≡ constraints_in line.now }
+{
+    let (source, rest) = cut_at_space(line)?;
+    let source = Ipv4::parse(source)?;
+    let (destination, rest) = cut_at_space(rest)?;
+    let destination = Ipv4::parse(destination)?;
+    let (bandwidth, priorities) = cut_at_space(rest)?;
+    let bandwidth = bandwidth_in(bandwidth)?;
+    let priorities = priorities_in(priorities)?;
+    Some(plain_constraints(source, destination, bandwidth, priorities))
+}
+
+/// A peer, a name and what is asked of the path. Memory is asked for only for a line that names all of them.
+#[tactic(auto, unfolding(crate::specs::Commands::initiate_event))]
+fn initiate_event(alloc: Global, line: &str) -> Result<Option<Event>, AllocError>
+    ensures event { IfOk result (λ event. event ≡ initiate_event line.now) }
+    ensures good { IfErr result (λ _. IsSome (initiate_event line.now)) }
+{
+    let Some((peer, rest)) = cut_at_space(line) else {
+        return Ok(None);
+    };
+    let Some(peer) = peer_in(peer) else {
+        return Ok(None);
+    };
+    let Some((name, rest)) = cut_at_space(rest) else {
+        return Ok(None);
+    };
+    let Some(constraints) = constraints_in(rest) else {
+        return Ok(None);
+    };
+    match name_in(alloc, name)? {
+        Some(name) => Ok(Some(Event::Ask {
+            peer,
+            purpose: Purpose::Initiate { name, constraints },
+        })),
+        None => Ok(None),
+    }
+}
+
+#[tactic(auto, unfolding(crate::specs::Commands::long_event_with))]
+fn long_event_with(alloc: Global, word: &str, rest: &str) -> Result<Option<Event>, AllocError>
+    ensures event { IfOk result (λ event. event ≡ long_event_with word.now rest.now) }
+    ensures good { IfErr result (λ _. IsSome (long_event_with word.now rest.now)) }
+{
+    if word == "commit" {
+        return commit_event(alloc, rest);
+    }
+    if word == "initiate" {
+        return initiate_event(alloc, rest);
+    }
+    Ok(None)
+}
+
+/// The event that an operator's line names by its first word and its rest. Memory is asked for only for a line that
+/// names one.
+#[tactic(auto, unfolding(crate::specs::Commands::event_with))]
+pub(crate) fn event_with(alloc: Global, word: &str, rest: &str) -> Result<Option<Event>, AllocError>
+    ensures event { IfOk result (λ event. event ≡ event_with word.now rest.now) }
+    ensures good { IfErr result (λ _. IsSome (event_with word.now rest.now)) }
+{
+    match word {
+        "expire" => Ok(expire_event(rest)),
+        "return" => Ok(return_event(rest)),
+        "update" => Ok(update_event(rest)),
+        "delete" => Ok(delete_event(rest)),
+        _ => long_event_with(alloc, word, rest),
+    }
+}
+
+/// The event that an operator's line names, or None for a bad line. Memory is asked for only for a line that names
+/// one.
+#[tactic(auto, unfolding(crate::specs::Commands::event_in))]
+pub fn event_in(alloc: Global, line: &str) -> Result<Option<Event>, AllocError>
+    ensures event { IfOk result (λ event. event ≡ event_in line.now) }
+    ensures good { IfErr result (λ _. IsSome (event_in line.now)) }
+{
+    match cut_at_space(line) {
+        Some((word, rest)) => event_with(alloc, word, rest),
+        None => Ok(None),
+    }
+}
