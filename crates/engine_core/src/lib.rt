@@ -43,6 +43,3 @@ pub use lent::Lent;
 pub use serving::{hang_up, serve};
 pub use store::{Call, Store, last_reply};
 pub use unlisted::{hang_up_database, serve_database};
-
-#[cfg(test)]
-mod tests;

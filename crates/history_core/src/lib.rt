@@ -24,6 +24,3 @@ pub use database::{Database, STEP_LIMIT};
 pub use fault::Fault;
 pub use step::{Brief, Step};
 pub use step_core::{Event, Job, LspName, Purpose, Reply, Ticket, Why};
-
-#[cfg(test)]
-mod tests;

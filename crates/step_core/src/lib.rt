@@ -38,6 +38,3 @@ pub use peer::{PEER_LIMIT, Peer};
 pub use queue::Queue;
 pub use state::State;
 pub use ticket_list::TICKET_LIMIT;
-
-#[cfg(test)]
-mod tests;

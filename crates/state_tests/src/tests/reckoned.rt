@@ -7,9 +7,9 @@ use super::*;
 #[derive(Clone, Copy)]
 struct Sent {
     peer: u32,
-    tunnel: u32,
-    hold: u32,
-    bandwidth: i64,
+    tunnel: u16,
+    hold: u8,
+    bandwidth: u32,
     by_c: bool,
     up: bool,
 }
@@ -32,7 +32,7 @@ impl Random {
     }
 }
 
-fn charge(sent: &[Option<Sent>], peer: u32, tunnel: u32, by_c: bool, priority: u32) -> i64 {
+fn charge(sent: &[Option<Sent>], peer: u32, tunnel: u16, by_c: bool, priority: u8) -> u32 {
     let mut most = 0;
     for slot in sent {
         if let Some(path) = slot {
@@ -45,11 +45,11 @@ fn charge(sent: &[Option<Sent>], peer: u32, tunnel: u32, by_c: bool, priority: u
     most
 }
 
-fn reckoned(sent: &[Option<Sent>], by_c: bool, priority: u32) -> i64 {
+fn reckoned(sent: &[Option<Sent>], by_c: bool, priority: u8) -> i64 {
     let mut left = 1_000_000i64;
     for peer in 1..3 {
         for tunnel in 0..3 {
-            left = left.saturating_sub(charge(sent, peer, tunnel, by_c, priority));
+            left = left.saturating_sub(i64::from(charge(sent, peer, tunnel, by_c, priority)));
         }
     }
     left
@@ -58,7 +58,7 @@ fn reckoned(sent: &[Option<Sent>], by_c: bool, priority: u32) -> i64 {
 fn compare(rt: &impl Abort, database: &Database, sent: &[Option<Sent>], turn: u32) {
     for priority in 0..8u8 {
         for link in 0..4usize {
-            let want = reckoned(sent, 2 <= link, priority as u32);
+            let want = reckoned(sent, 2 <= link, priority);
             let left = database.unreserved(link, Priority::capped(priority));
             assert_eq!(rt;
                 left,
@@ -69,52 +69,43 @@ fn compare(rt: &impl Abort, database: &Database, sent: &[Option<Sent>], turn: u3
     }
 }
 
-const WORDS: [(u32, i64); 4] = [
-    (W250K, 250_000),
-    (W500K, 500_000),
-    (W600K, 600_000),
-    (W1M, 1_000_000),
-];
+const BANDWIDTHS: [u32; 4] = [250_000, 500_000, 600_000, 1_000_000];
 
 /// One report or removal of a random LSP.
 #[derive(Clone, Copy)]
 struct Chosen {
-    peer: u32,
     plsp: u32,
-    lsp: u32,
+    lsp: u16,
     removes: bool,
+    setup: u8,
     sent: Sent,
-    setup: u32,
-    word: u32,
 }
 
-fn sent_at_random(random: &mut Random, peer: u32, bandwidth: i64) -> Sent {
+fn sent_at_random(random: &mut Random) -> Sent
+    ensures peer { (1 ≤ result.peer) × (result.peer ≤ 2) }
+{
     Sent {
-        peer,
-        tunnel: random.below(3),
-        hold: random.below(8),
-        bandwidth,
+        peer: 1 + random.below(2),
+        tunnel: random.below(3) as u16,
+        hold: random.below(8) as u8,
+        bandwidth: BANDWIDTHS[random.below(4) as usize],
         by_c: random.below(2) == 0,
         up: random.below(8) != 0,
     }
 }
 
 fn chosen_at_random(random: &mut Random) -> Chosen
-    ensures peer { (1 ≤ result.peer) × (result.peer ≤ 2) }
+    ensures peer { (1 ≤ result.sent.peer) × (result.sent.peer ≤ 2) }
     ensures plsp { (1 ≤ result.plsp) × (result.plsp ≤ 3) }
     ensures lsp { result.lsp < 5 }
 {
-    let peer = 1 + random.below(2);
-    let (word, bandwidth) = WORDS[random.below(4) as usize];
-    let sent = sent_at_random(random, peer, bandwidth);
+    let sent = sent_at_random(random);
     Chosen {
-        peer,
         plsp: 1 + random.below(3),
-        lsp: random.below(5),
+        lsp: random.below(5) as u16,
         removes: random.below(4) == 0,
+        setup: random.below(8) as u8,
         sent,
-        setup: random.below(8),
-        word,
     }
 }
 
@@ -128,10 +119,10 @@ fn first_slot(peer: u32, plsp: u32) -> usize
 }
 
 /// What the report or removal takes away.
-fn forget(sent: &mut [Option<Sent>; 30], first: usize, lsp: u32, removes: bool)
+fn forget(sent: &mut [Option<Sent>; 30], first: usize, lsp: u16, removes: bool)
     requires { first + 5 ≤ 30 }
 {
-    for other in 0..5u32 {
+    for other in 0..5u16 {
         if lsp == 0 || other == lsp || (other == 0 && !removes) {
             sent[first + other as usize] = None;
         }
@@ -146,12 +137,17 @@ fn told_of(chosen: &Chosen) -> Told {
     };
     Told {
         plsp: chosen.plsp,
-        flags: if chosen.sent.up { 0x18 } else { 8 },
+        operational: if chosen.sent.up {
+            Operational::Up
+        } else {
+            Operational::Down
+        },
         identifiers,
-        by_c: chosen.sent.by_c,
+        way: if chosen.sent.by_c { Way::ByC } else { Way::ByB },
         setup: chosen.setup,
         hold: chosen.sent.hold,
-        word: chosen.word,
+        bandwidth: u64::from(chosen.sent.bandwidth),
+        ..FIRST
     }
 }
 
@@ -165,51 +161,63 @@ fn kept_of(chosen: &Chosen) -> Sent {
 
 /// Reckons the report or removal.
 fn reckon(sent: &mut [Option<Sent>; 30], chosen: &Chosen)
-    requires peer { (1 ≤ chosen.now.peer) × (chosen.now.peer ≤ 2) }
+    requires peer { (1 ≤ chosen.now.sent.peer) × (chosen.now.sent.peer ≤ 2) }
     requires plsp { (1 ≤ chosen.now.plsp) × (chosen.now.plsp ≤ 3) }
     requires lsp { chosen.now.lsp < 5 }
 {
-    let first = first_slot(chosen.peer, chosen.plsp);
+    let first = first_slot(chosen.sent.peer, chosen.plsp);
     forget(sent, first, chosen.lsp, chosen.removes);
     if !chosen.removes {
         sent[first + chosen.lsp as usize] = Some(kept_of(chosen));
     }
 }
 
+fn act_of(chosen: &Chosen) -> Act {
+    let told = told_of(chosen);
+    if chosen.removes {
+        Act::Withdraw(chosen.sent.peer, told)
+    } else {
+        Act::Tell(chosen.sent.peer, told)
+    }
+}
+
 fn turn(
+    rt: &impl Abort,
     alloc: Global,
     database: &mut Database,
     sent: &mut [Option<Sent>; 30],
     random: &mut Random,
-) -> Result<Brief, Fail> {
+    number: u32,
+) -> Result<(), Fail> {
     let chosen = chosen_at_random(random);
     reckon(sent, &chosen);
-    let told = told_of(&chosen);
-    let act = if chosen.removes {
-        Act::Withdraw(chosen.peer, told)
-    } else {
-        Act::Tell(chosen.peer, told)
-    };
-    take(alloc, database, act)
+    answers(rt, alloc, database, number, act_of(&chosen), BOOKED)
 }
+
+/// So many turns. The peers 1 and 2 are up.
+pub(super) fn turns(
+    rt: &impl Abort,
+    alloc: Global,
+    database: &mut Database,
+    count: u32,
+) -> Result<(), Fail> {
+    let mut sent = [None; 30];
+    let mut random = Random { state: 2026 };
+    for number in 0..count {
+        turn(rt, alloc, database, &mut sent, &mut random, number)?;
+        compare(rt, database, &sent, number);
+    }
+    Ok(())
+}
+
+/// Peer 2 isn't stateful.
+static TURNS: [Row; 3] = [
+    Row::Says(Act::Up(2, None), Brief::Done),
+    Row::AtRandom(1000),
+    Row::Keeps(1003, 0),
+];
 
 #[test]
 fn a_thousand_reports_leave_what_was_reckoned(rt: HostRuntime) -> Result<(), Fail> {
-    let alloc = rt.alloc();
-    let mut database = opened(&rt, alloc)?;
-    run(
-        &rt,
-        alloc,
-        &mut database,
-        &[(Act::Up(2, None), Brief::Done, FREE)],
-    )?;
-    let mut sent = [None; 30];
-    let mut random = Random { state: 2026 };
-    for n in 0..1000 {
-        let brief = turn(alloc, &mut database, &mut sent, &mut random)?;
-        assert_eq!(rt; brief, BOOKED, "turn {n}");
-        compare(&rt, &database, &sent, n);
-    }
-    assert_eq!(rt; database.steps(), 1003);
-    Ok(())
+    run_opened(&rt, rt.alloc(), &TURNS)
 }

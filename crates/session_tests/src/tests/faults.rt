@@ -52,32 +52,61 @@ impl Store for Small {
 /// The room of the store, and the events that it then took, in one call.
 const TAKEN: [(u32, &str); 4] = [(0, ""), (1, "U"), (2, "UM"), (3, "UMR")];
 
-fn overfill(rt: &impl Abort, alloc: Global, room: u32, taken: &str) -> Result<(), Fail> {
-    let mut store = Small {
+/// A store with room for so many events.
+fn with_room(alloc: Global, room: u32) -> Small {
+    Small {
         calls: Vec::new(alloc),
         room,
-    };
-    let mut client = Client::new(alloc, 0)?;
+    }
+}
+
+/// All is served in one call.
+fn fill(alloc: Global, client: &mut Client, store: &mut Small) -> Result<(), Fail> {
     let bytes = greeting_and_report(alloc)?;
-    assert_eq!(rt;
-        serve(&mut client, 1, &bytes, 0, &mut store),
-        Err(Fault::HistoryFull)
-    );
+    serve(client, 1, &bytes, 0, store)?;
+    Ok(())
+}
+
+/// The events and the output before the fault stay, and the session has ended with no Close.
+fn overfill(
+    rt: &impl Abort,
+    alloc: Global,
+    client: &mut Client,
+    store: &mut Small,
+    taken: &str,
+) -> Result<(), Fail> {
+    let bytes = greeting_and_report(alloc)?;
+    let served = serve(client, 1, &bytes, 0, store);
+    assert_eq!(rt; served, Err(Fault::HistoryFull));
     assert_eq!(rt; client.session.state(), State::Closed);
-    assert_eq!(rt; client.joined, room > 0);
-    assert_eq!(rt; letters(alloc, store.calls())?.as_slice(), taken.as_bytes());
-    let answer = bytes_of(alloc, GREETING)?;
-    assert_eq!(rt; client.session.take_output().as_slice(), answer.as_slice());
-    let left = if room > 0 {
-        Err(Fault::HistoryFull)
-    } else {
-        Ok(())
-    };
-    assert_eq!(rt; hang_up(&mut client, 1, &mut store), left);
+    are_submitted(rt, alloc, store.calls(), taken)?;
+    is_sent(rt, alloc, client, GREETING)
+}
+
+/// Down is submitted once there is room, and only where Up was.
+fn end_later(
+    rt: &impl Abort,
+    client: &mut Client,
+    store: &mut Small,
+    joined: bool,
+) -> Result<(), Fail> {
+    assert_eq!(rt; client.joined, joined);
+    let ended = hang_up(client, 1, store);
+    assert_eq!(rt; ended.is_err(), joined);
     store.room = 1;
-    hang_up(&mut client, 1, &mut store)?;
-    assert_eq!(rt; store.room, if room > 0 { 0 } else { 1 });
+    hang_up(client, 1, store)?;
+    assert_eq!(rt; store.room, u32::from(!joined));
     assert!(rt; !client.joined);
+    Ok(())
+}
+
+fn overfill_all(rt: &impl Abort, alloc: Global) -> Result<(), Fail> {
+    for (room, taken) in TAKEN {
+        let mut store = with_room(alloc, room);
+        let mut client = Client::new(alloc, 0)?;
+        overfill(rt, alloc, &mut client, &mut store, taken)?;
+        end_later(rt, &mut client, &mut store, room > 0)?;
+    }
     Ok(())
 }
 
@@ -85,21 +114,15 @@ fn overfill(rt: &impl Abort, alloc: Global, room: u32, taken: &str) -> Result<()
 /// there is room.
 #[test]
 fn a_full_store_ends_the_session(rt: HostRuntime) -> Result<(), Fail> {
-    let alloc = rt.alloc();
-    for (room, taken) in TAKEN {
-        overfill(&rt, alloc, room, taken)?;
-    }
-    let mut store = Small {
-        calls: Vec::new(alloc),
-        room: 4,
-    };
-    let mut client = Client::new(alloc, 0)?;
-    serve(&mut client, 1, &greeting_and_report(alloc)?, 0, &mut store)?;
-    assert_eq!(rt;
-        letters(alloc, store.calls())?.as_slice(),
-        b"UMRN".as_slice()
-    );
-    Ok(())
+    overfill_all(&rt, rt.alloc())
+}
+
+#[test]
+fn a_store_with_room_takes_all(rt: HostRuntime) -> Result<(), Fail> {
+    let mut store = with_room(rt.alloc(), 4);
+    let mut client = Client::new(rt.alloc(), 0)?;
+    fill(rt.alloc(), &mut client, &mut store)?;
+    are_submitted(&rt, rt.alloc(), store.calls(), "UMRN")
 }
 
 /// The transport ends, at the second try where memory was short at the first.
@@ -111,21 +134,33 @@ fn hang_up_at_last<S: Store>(client: &mut Client, store: &mut S) -> Result<(), F
 }
 
 /// After a want of memory the session has ended, the events stay, and the transport's end goes through.
-#[test]
-fn a_want_of_memory_ends_the_session(rt: HostRuntime) -> Result<(), Fail> {
-    let alloc = rt.alloc();
-    let mut database = network(alloc)?;
-    let mut client = Client::new(alloc, 0)?;
-    let mut store = Lent::new(alloc, &mut database);
-    let bytes = greeting_and_report(alloc)?;
-    let served = serve(&mut client, 1, &bytes, 0, &mut store);
+fn serve_and_hang_up(
+    rt: &impl Abort,
+    client: &mut Client,
+    store: &mut Lent,
+    bytes: &[u8],
+) -> Result<(), Fail> {
+    let served = serve(client, 1, bytes, 0, store);
     let submitted = store.calls().len();
     assert!(rt; served.is_ok() || client.session.state() == State::Closed);
     let joined = client.joined;
-    hang_up_at_last(&mut client, &mut store)?;
+    hang_up_at_last(client, store)?;
     assert!(rt; !client.joined);
     assert_eq!(rt; store.calls().len(), submitted + usize::from(joined));
     served?;
     assert_eq!(rt; submitted, 4);
     Ok(())
+}
+
+fn serve_one(rt: &impl Abort, alloc: Global, database: &mut Database) -> Result<(), Fail> {
+    let bytes = greeting_and_report(alloc)?;
+    let mut client = Client::new(alloc, 0)?;
+    let mut store = Lent::new(alloc, database);
+    serve_and_hang_up(rt, &mut client, &mut store, &bytes)
+}
+
+#[test]
+fn a_want_of_memory_ends_the_session(rt: HostRuntime) -> Result<(), Fail> {
+    let mut database = network(rt.alloc())?;
+    serve_one(&rt, rt.alloc(), &mut database)
 }
