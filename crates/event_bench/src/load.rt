@@ -1,5 +1,5 @@
 //! The events that are measured.
-use crate::routes::Routes;
+use crate::routes::{Route, Routes};
 use history_core::Event;
 use lsp_base::Priorities;
 use pcep_messages::StateReport;
@@ -10,7 +10,7 @@ use std::alloc::{AllocError, Global};
 
 /// How many peers with how many LSPs each, how many reports are measured, and how many hops a route has.
 #[derive(Clone, Copy)]
-pub struct Load {
+pub(crate) struct Load {
     pub peers: u32,
     pub lsps: u32,
     pub events: u32,
@@ -28,6 +28,19 @@ impl Load {
         self.paths() / 2
     }
 
+    /// How many LSPs are asked for in a round. As many leave before, so that their grants find room.
+    pub(crate) fn asked(&self) -> u32 {
+        (self.paths() / 2).min(50)
+    }
+
+    /// An LSP that is asked for in a round: none of those that left.
+    pub(crate) fn asked_lsp(&self, round: u32, event: u32) -> Lsp {
+        let left = self.asked();
+        let others = self.paths().saturating_sub(left).max(1);
+        let place = round.wrapping_mul(left).wrapping_add(event) % others;
+        self.drawn(left.wrapping_add(place))
+    }
+
     /// The LSP that an event is of: one after the other in an order that goes from peer to peer.
     fn drawn(&self, event: u32) -> Lsp {
         let place = event.wrapping_mul(7919) % self.paths().max(1);
@@ -41,17 +54,31 @@ impl Load {
 
 /// An LSP of a peer.
 #[derive(Clone, Copy)]
-struct Lsp {
-    peer: u32,
+pub(crate) struct Lsp {
+    pub peer: u32,
     number: u32,
+}
+
+impl Lsp {
+    pub(crate) fn plsp(&self) -> Plsp {
+        Plsp::new(self.number % 1_000_000)
+    }
+
+    /// The route of the LSP.
+    pub(crate) fn route(&self, alloc: Global, routes: &Routes) -> Result<Route, AllocError> {
+        let start = self.peer.wrapping_mul(16).wrapping_add(self.number);
+        routes.route(alloc, start)
+    }
 }
 
 /// What a report says of an LSP: from round to round it has another bandwidth.
 #[derive(Clone, Copy)]
-struct Told {
-    round: u32,
-    remove: bool,
-    sync: bool,
+pub(crate) struct Told {
+    pub round: u32,
+    pub remove: bool,
+    pub sync: bool,
+    /// The SRP-ID of the request that it answers.
+    pub srp: Option<u32>,
 }
 
 /// Another bandwidth for each round.
@@ -59,9 +86,14 @@ fn bandwidth(round: u32) -> Bandwidth {
     Bandwidth::at_least(1000 + u64::from(round % 1000)).unwrap_or(Bandwidth::zero())
 }
 
-fn report(alloc: Global, routes: &Routes, lsp: Lsp, told: Told) -> Result<Event, AllocError> {
-    let start = lsp.peer.wrapping_mul(16).wrapping_add(lsp.number);
-    let route = routes.route(alloc, start)?;
+/// A report of an LSP, which is delegated, active and up.
+pub(crate) fn report(
+    alloc: Global,
+    routes: &Routes,
+    lsp: Lsp,
+    told: Told,
+) -> Result<Event, AllocError> {
+    let route = lsp.route(alloc, routes)?;
     let identifiers = Identifiers {
         sender: route.sender,
         lsp: 1,
@@ -70,8 +102,8 @@ fn report(alloc: Global, routes: &Routes, lsp: Lsp, told: Told) -> Result<Event,
         endpoint: route.endpoint,
     };
     let report = StateReport {
-        srp: None,
-        plsp: Plsp::new(lsp.number % 1_000_000),
+        srp: told.srp,
+        plsp: lsp.plsp(),
         remove: told.remove,
         sync: told.sync,
         delegate: true,
@@ -119,6 +151,7 @@ pub(crate) fn known_again(
         round: 0,
         remove: false,
         sync: true,
+        srp: None,
     };
     for number in 0..load.lsps {
         let lsp = Lsp {
@@ -168,6 +201,7 @@ pub(crate) fn replaced(
         round,
         remove: false,
         sync: false,
+        srp: None,
     };
     drawn(alloc, routes, load, load.events, told)
 }
@@ -183,6 +217,7 @@ pub(crate) fn removed(
         round,
         remove: true,
         sync: false,
+        srp: None,
     };
     drawn(alloc, routes, load, load.batch(), told)
 }
@@ -198,6 +233,33 @@ pub(crate) fn back(
         round,
         remove: false,
         sync: false,
+        srp: None,
     };
     drawn(alloc, routes, load, load.batch(), told)
+}
+
+/// The LSPs go that make room for grants.
+pub(crate) fn left(alloc: Global, routes: &Routes, load: Load) -> Result<Vec<Event>, AllocError> {
+    let told = Told {
+        round: 1,
+        remove: true,
+        sync: false,
+        srp: None,
+    };
+    drawn(alloc, routes, load, load.asked(), told)
+}
+
+/// The LSPs that made room come again.
+pub(crate) fn returned(
+    alloc: Global,
+    routes: &Routes,
+    load: Load,
+) -> Result<Vec<Event>, AllocError> {
+    let told = Told {
+        round: 1,
+        remove: false,
+        sync: false,
+        srp: None,
+    };
+    drawn(alloc, routes, load, load.asked(), told)
 }

@@ -1,14 +1,21 @@
 //! How long events take: `event_bench LINKTEXT PEERS LSPS EVENTS [HOPS]` reads a link text, lets LSPs come up
 //! with routes of HOPS hops (4 where it isn't said), at first 100 of four peers, then LSPS of each of PEERS
 //! peers, and says on standard error how many nanoseconds each kind of event took: a report that replaces a
-//! path (the mean of EVENTS, and the slowest), a removal, a new LSP, the first report of a known LSP in a new
-//! session; and what a whole session took that goes down, comes up again and synchronizes, and the expiry of
-//! a peer. Standard output has the number of steps of each history.
+//! path (the mean of EVENTS, and the slowest), a removal, a new LSP; a path that is asked for to update an LSP,
+//! a ticket that is taken where no path changed since the last and where one did, the commit of an offer that is
+//! the LSP's own route, an ask with its search and commit, an LSP that is given back; the first report of a known
+//! LSP in a new session; and what a whole session took that goes down, comes up again and synchronizes, and the
+//! expiry of a peer. Standard output has the number of steps of each history.
 #![tactic(auto)]
 
+mod asks;
+mod clock;
+mod grants;
 mod load;
 mod routes;
 
+use crate::clock::{apply_all, say, slowest, timed};
+use crate::grants::measure_asks;
 use crate::load::{Load, back, filled, known_again, removed, replaced};
 use crate::routes::Routes;
 use anyhow::{Result, bail};
@@ -16,49 +23,8 @@ use history_core::{Database, Event};
 use std::alloc::Global;
 use std::fs;
 use std::rt::Runtime;
-use std::time::{Duration, Instant};
+use std::time::Duration;
 use te_base::TeBase;
-
-/// Applies the events.
-#[inline(never)]
-fn apply_all(database: &mut Database, events: Vec<Event>) -> Result<()> {
-    for event in events {
-        let _reply = database.apply(event)?;
-    }
-    Ok(())
-}
-
-/// How long the events take in all.
-fn timed<R: Runtime<A = Global>>(
-    rt: &R,
-    database: &mut Database,
-    events: Vec<Event>,
-) -> Result<Duration> {
-    let start = Instant::now(rt)?;
-    apply_all(database, events)?;
-    Ok(start.elapsed(rt)?)
-}
-
-/// How long the slowest of the events takes.
-fn slowest<R: Runtime<A = Global>>(
-    rt: &R,
-    database: &mut Database,
-    events: Vec<Event>,
-) -> Result<Duration> {
-    let mut most = Duration::ZERO;
-    for event in events {
-        let start = Instant::now(rt)?;
-        let _reply = database.apply(event)?;
-        most = start.elapsed(rt)?.max(most);
-    }
-    Ok(most)
-}
-
-fn say<R: Eprint>(rt: &R, load: Load, name: &str, took: Duration, count: u32) -> Result<()> {
-    let each = took.as_nanos() / u128::from(count.max(1));
-    eprintln!(rt; "{} {name} {each} ns", load.paths())?;
-    Ok(())
-}
 
 /// Measures reports that replace a path.
 fn measure_reports<R: Runtime<A = Global>>(
@@ -126,6 +92,7 @@ fn measure_all<R: Runtime<A = Global>>(
     apply_all(database, filled(rt.alloc(), routes, load)?)?;
     measure_reports(rt, database, routes, load)?;
     measure_lsps(rt, database, routes, load)?;
+    measure_asks(rt, database, routes, load)?;
     measure_sessions(rt, database, routes, load)
 }
 
