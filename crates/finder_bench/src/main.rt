@@ -7,7 +7,8 @@
 //! then `FROM TO DEMAND EXCLUDE` for each search. The first half of the searches asks for nothing.
 #![tactic(auto)]
 
-ghost use Rattle.std.specs.Prelude.{◌<◌, IfOk};
+ghost use Rattle.std.specs.Prelude.{◌≡◌, ◌<◌, IfOk, length};
+ghost use Rattle.std.specs.Arc.{arc_value};
 
 use anyhow::{Result, bail};
 use lsp_base::{Constraints, OtherBounds, Priorities};
@@ -95,15 +96,23 @@ fn link_text(alloc: Global, from: u64, to: u64, cost: u64, colour: u64) -> Resul
     Ok(format!(in alloc; "{ends}{near}{far}{rest}")?)
 }
 
-fn read_graph(alloc: Global, text: &str) -> Result<Graph> {
-    let mut numbers = Numbers::read(alloc, text)?;
-    let nodes = numbers.below(1025)?;
-    let links = numbers.below(4097)?;
-    let count = numbers.below(1 << 20)?;
+/// So many nodes.
+fn nodes_text(alloc: Global, nodes: u64) -> Result<String> {
     let mut description = String::new(alloc);
     for node in 0..nodes {
         description.push_str(&node_text(alloc, node)?)?;
     }
+    Ok(description)
+}
+
+/// Adds so many links between the nodes. What is unreserved on each.
+fn read_links(
+    alloc: Global,
+    numbers: &mut Numbers,
+    nodes: u64,
+    links: u64,
+    description: &mut String,
+) -> Result<Vec<[i64; 8]>> {
     let mut unreserved = Vec::new(alloc);
     for _ in 0..links {
         let (from, to) = (numbers.below(nodes)?, numbers.below(nodes)?);
@@ -113,7 +122,10 @@ fn read_graph(alloc: Global, text: &str) -> Result<Graph> {
         description.push_str(&link_text(alloc, from, to, cost, colour)?)?;
         unreserved.push([free; 8])?;
     }
-    let te = TeBase::read(alloc, &description)?;
+    Ok(unreserved)
+}
+
+fn read_searches(alloc: Global, numbers: &mut Numbers, count: u64) -> Result<Vec<Wanted>> {
     let mut searches = Vec::new(alloc);
     for _ in 0..count {
         searches.push(Wanted {
@@ -123,14 +135,32 @@ fn read_graph(alloc: Global, text: &str) -> Result<Graph> {
             exclude: numbers.below(1 << 32)? as u32,
         })?;
     }
-    if te.link_count() != unreserved.len() {
+    Ok(searches)
+}
+
+/// The network of a link text, with as many links as there are numbers.
+fn read_topology(alloc: Global, description: &str, links: usize) -> Result<Arc<Topology>>
+    ensures { IfOk result (λ topology. length (arc_value topology).links ≡ links) }
+{
+    let te = TeBase::read(alloc, description)?;
+    if te.link_count() != links {
         bail!("a link is missing");
     }
-    let topology = Arc::new(alloc, Topology::new(alloc, &te)?)?;
-    Ok(Graph {
-        snapshot: Snapshot::new(alloc, topology, unreserved)?,
-        searches,
-    })
+    let topology = Topology::new(alloc, &te)?;
+    Ok(Arc::new(alloc, topology)?)
+}
+
+fn read_graph(alloc: Global, text: &str) -> Result<Graph> {
+    let mut numbers = Numbers::read(alloc, text)?;
+    let nodes = numbers.below(1025)?;
+    let links = numbers.below(4097)?;
+    let count = numbers.below(1 << 20)?;
+    let mut description = nodes_text(alloc, nodes)?;
+    let unreserved = read_links(alloc, &mut numbers, nodes, links, &mut description)?;
+    let searches = read_searches(alloc, &mut numbers, count)?;
+    let topology = read_topology(alloc, &description, unreserved.len())?;
+    let snapshot = Snapshot::new(alloc, topology, unreserved)?;
+    Ok(Graph { snapshot, searches })
 }
 
 /// The constraints of a search at priorities 7 and 0, the TE metric minimised.
