@@ -14,6 +14,15 @@ fn empty_base(alloc: Global) -> Result<TeBase, Fail> {
     }
 }
 
+/// A database over no links.
+pub(crate) fn empty_database(alloc: Global) -> Result<Database, Fail> {
+    let base = empty_base(alloc)?;
+    match Database::new(alloc, base) {
+        Ok(database) => Ok(database),
+        Err(_) => Err(Fail::new("no memory")),
+    }
+}
+
 /// Lines that submit so many steps: sessions of peers 1 and 2 with two steps each, and events that are refused.
 fn many_steps(alloc: Global, steps: u32) -> Result<Vec<u8>, Fail> {
     let mut input = script(alloc, "---\n", &["up 1", "up 2"])?;
@@ -66,14 +75,17 @@ fn a_script_of_a_full_history(rt: HostRuntime) -> Result<(), Fail> {
     Ok(())
 }
 
-#[test]
-fn a_line_of_a_full_store(rt: HostRuntime) -> Result<(), Fail> {
-    let alloc = rt.alloc();
-    let mut database = Database::new(alloc, empty_base(alloc)?)?;
+/// Takes as many steps as are kept.
+fn fill(database: &mut Database) -> Result<(), Fail> {
     for _ in 0..STEPS {
         let _refused = database.apply(Event::Expire { peer: 1 })?;
     }
-    let mut store = Lent::new(alloc, &mut database);
+    Ok(())
+}
+
+fn are_refused(rt: &(impl Abort + AllocGlobal), database: &mut Database) -> Result<(), Fail> {
+    let alloc = rt.alloc();
+    let mut store = Lent::new(alloc, database);
     for (line, fault) in [
         ("expire 1", CommandFault::Store(Fault::HistoryFull)),
         ("expire", CommandFault::BadLine),
@@ -82,4 +94,18 @@ fn a_line_of_a_full_store(rt: HostRuntime) -> Result<(), Fail> {
         assert_eq!(rt; ended.err(), Some(fault), "{line}");
     }
     Ok(())
+}
+
+fn lines_of_a_full_store(
+    rt: &(impl Abort + AllocGlobal),
+    database: &mut Database,
+) -> Result<(), Fail> {
+    fill(database)?;
+    are_refused(rt, database)
+}
+
+#[test]
+fn a_line_of_a_full_store(rt: HostRuntime) -> Result<(), Fail> {
+    let mut database = empty_database(rt.alloc())?;
+    lines_of_a_full_store(&rt, &mut database)
 }
