@@ -385,10 +385,18 @@ fn newest(database: &Database) -> Option<Brief> {
     }
 }
 
+/// The same of a copy of the step.
+fn copy_of_newest(database: &Database) -> Result<Option<Brief>, AllocError> {
+    match database.history().last() {
+        Some(step) => Ok(Some(step.copy()?.brief)),
+        None => Ok(None),
+    }
+}
+
 /// The brief of the reply, as it is kept.
 fn take(alloc: Global, database: &mut Database, act: Act) -> Result<Brief, Fail> {
     let _reply = reply(alloc, database, act)?;
-    match newest(database) {
+    match copy_of_newest(database)? {
         Some(brief) => Ok(brief),
         None => Err(Fail::new("no step is kept")),
     }
