@@ -1,9 +1,12 @@
 -- What a tunnel holds on each link, and what is found in the list of it.
-use Rattle.std.proofs.Common.{◌≡◌, ◌≤◌, ◌<◌, ℕ, zero, suc, ◌+◌, ◌==◌, nat_le, Bool, true, false, cond, List, [], ◌∷◌, ◌++◌, Some, None, map, filter, length, slice_index, refl, sym, ap, ◌∙◌, arith, inl, inr}
+use Rattle.std.proofs.Common.{◌≡◌, ◌≤◌, ◌<◌, ℕ, zero, suc, ◌+◌, ◌==◌, nat_le, Bool, true, false, cond, List, [], ◌∷◌, ◌++◌, Some, None, map, filter, length, slice_get, slice_index, refl, sym, ap, subst, ◌-◌, ◌∙◌, arith, inl, inr}
 use Rattle.std.specs.Prelude.{find}
 use Rattle.std.specs.List.{range_with_len}
-use Rattle.std.proofs.lemmas.Bool.{cases_Bool, cases_eq}
+use Rattle.std.specs.declared.cmp.PartialEq as equality
+use Rattle.std.specs.declared.hash.Hash as hashing
+use Rattle.std.proofs.lemmas.Bool.{cases_Bool, cases_eq, false_from_ne_true}
 use Rattle.std.proofs.lemmas.Bool.Decides.{nat_tests}
+use Rattle.std.proofs.lemmas.List.{append-nil}
 use Rattle.std.proofs.lemmas.List.FromFn.{fill_by_all, filter_of_map_range_with_len_more, get_or-map-range_with_len}
 use Rattle.lsp_base.specs.Shares.{priorities, share}
 use Rattle.lsp_base.specs.declared.path.Path.{Path}
@@ -11,10 +14,16 @@ use Rattle.lsp_base.specs.declared.tunnel.Tunnel.{Tunnel}
 use Rattle.te_snapshot.specs.declared.own.OwnShare.{OwnShare}
 use Rattle.te_snapshot.specs.Own.{is_something, own_share_on, own_shares}
 use Rattle.te_snapshot.specs.Room.{own_share, share_in}
+use Rattle.bandwidth_book.specs.declared.columns.Columns.{Columns}
 use Rattle.bandwidth_book.specs.declared.held.Held.{Held}
+use Rattle.bandwidth_book.specs.declared.ledger.Ledger.{Ledger}
+use Rattle.bandwidth_book.specs.Columns.{columns_of}
 use Rattle.bandwidth_book.specs.Held.{AreMaxima, most, times}
-use Rattle.bandwidth_book.specs.Paths.{held_by}
+use Rattle.bandwidth_book.specs.Ledgers.{has_entry_at, held_at}
+use Rattle.bandwidth_book.specs.Marks.{AreMarked, IsMarked}
+use Rattle.bandwidth_book.specs.Paths.{IsHeldBy, held_by, tunnel_eq}
 use Rattle.bandwidth_book.proofs.Counts.{most_same}
+use Rattle.bandwidth_book.proofs.Marked.{nothing_held}
 use Rattle.bandwidth_book.proofs.Shares.{share_is_most}
 
 -- the maxima of what the tunnel's paths hold are its shares
@@ -110,3 +119,25 @@ nothing_there paths t l hs none same =
     let s = share_is_most paths t l 7 in
     let zero : slice_index (own_share_on paths t l).shares 7 ≡ 0 = omega (arith, last, here, m, s) in
     grind (arith, nat_tests)
+
+-- links on which nothing is reserved list nothing
+own_skip : (paths : List Path) (t : Tunnel) (a n : ℕ) → ((l : ℕ) → a ≤ l → l < a + n → is_something (own_share_on paths t l) ≡ false) → own_shares paths t (a + n) ≡ own_shares paths t a
+own_skip paths t a zero none = ap (own_shares paths t) (let e : a + 0 ≡ a = omega arith in e)
+own_skip paths t a (suc n) none =
+    let next : a + suc n ≡ a + n + 1 = omega arith in
+    let gone = none (a + n) (omega arith) (omega arith) in
+    ap (own_shares paths t) next ∙ sym (own_next paths t (a + n) (own_share_on paths t (a + n)) refl) ∙ ap (λ b. own_shares paths t (a + n) ++ cond b (own_share_on paths t (a + n) ∷ []) []) gone ∙ append-nil (own_shares paths t (a + n))
+    ∙ own_skip paths t a n (λ l low high. none l low (omega (arith, high)))
+
+own_until : (paths : List Path) (t : Tunnel) (a b : ℕ) → a ≤ b → ((l : ℕ) → a ≤ l → l < b → is_something (own_share_on paths t l) ≡ false) → own_shares paths t b ≡ own_shares paths t a
+own_until paths t a b h none =
+    let e : b ≡ a + (b - a) = omega (arith, h) in
+    ap (own_shares paths t) e ∙ own_skip paths t a (b - a) (λ l low high. none l low (omega (arith, high, h)))
+
+-- links on which the tunnel isn't marked list nothing
+pub own_unmarked : {E : equality.Ghosts Tunnel} {H : hashing.Ghosts Tunnel} (ledgers : List (Ledger Tunnel E H)) (words : List ℕ) (t : Tunnel) (columns : Columns) (a b : ℕ) → columns ≡ columns_of t → AreMarked (has_entry_at tunnel_eq ledgers) words → ((l : ℕ) → a ≤ l → l < b → IsMarked words l columns → ⊥) → a ≤ b → b ≤ length ledgers
+    → (paths : List Path) → IsHeldBy (length ledgers) (held_at tunnel_eq ledgers) paths → own_shares paths t b ≡ own_shares paths t a
+own_unmarked ledgers words t columns a b is h unmarked less within paths held =
+    own_until paths t a b less (λ l low high.
+    let none : has_entry_at tunnel_eq ledgers l t ≡ false = false_from_ne_true _ (λ there. unmarked l low high (subst (IsMarked words l) (sym is) (h.marked l t there))) in
+    nothing_there paths t l (held_at tunnel_eq ledgers l t) (nothing_held (slice_get ledgers l) t none) (λ k. held l t k (omega (arith, high, within))))

@@ -25,6 +25,7 @@
 
 mod book;
 mod changes;
+mod columns;
 mod entries;
 mod entry;
 mod held;

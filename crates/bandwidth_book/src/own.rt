@@ -1,5 +1,5 @@
 //! What a tunnel holds already, for a search of a path of it.
-ghost use Rattle.std.specs.Prelude.{◌≡◌, ◌<◌, ◌++◌, ◌∷◌, [], ℕ, List, true, cond, length, IfOk, OnOk};
+ghost use Rattle.std.specs.Prelude.{◌≡◌, ◌<◌, ◌++◌, ◌∷◌, [], ℕ, List, cond, length, IfOk, OnOk};
 ghost use Rattle.lsp_base.specs.Shares.{share};
 ghost use Rattle.lsp_base.specs.declared.path.Path.{Path};
 ghost use Rattle.te_snapshot.specs.Own.{is_something, own_share_on, own_shares};
@@ -7,12 +7,13 @@ ghost use Rattle.te_snapshot.specs.Room.{own_share};
 ghost use Rattle.bandwidth_book.specs.Books.{StandsFor, links_of};
 ghost use Rattle.bandwidth_book.specs.Held.{AreMaxima};
 ghost use Rattle.bandwidth_book.specs.Ledgers.{has_entry_at, held_at};
-ghost use Rattle.bandwidth_book.specs.Marks.{AreMarked, IsMarked, mark_of};
+ghost use Rattle.bandwidth_book.specs.Marks.{AreMarked};
 ghost use Rattle.bandwidth_book.specs.Paths.{IsHeldBy, tunnel_eq};
 
 use crate::book::Book;
+use crate::columns::columns_of;
 use crate::ledger::Ledger;
-use crate::marks::{Marks, mark_of};
+use crate::marks::Marks;
 use lsp_base::Tunnel;
 use sequence::Sequence;
 use std::alloc::{AllocError, Global};
@@ -48,43 +49,23 @@ fn list_if_some(own: &mut Vec<OwnShare>, held: OwnShare) -> Result<(), AllocErro
     Ok(())
 }
 
-/// Lists what a tunnel reserves on a link, if it is something. It looks the tunnel up where it is marked.
-fn list_marked(
-    own: &mut Vec<OwnShare>,
-    ledgers: &[Ledger<Tunnel>],
-    marks: u128,
-    tunnel: &Tunnel,
-    mark: u128,
-    link: LinkNumber,
-) -> Result<(), AllocError>
-    requires link { link < length ledgers.now }
-    requires mark { mark ≡ mark_of tunnel.now }
-    requires marked { has_entry_at tunnel_eq ledgers.now link tunnel.now ≡ true → IsMarked marks tunnel.now }
-    ensures { OnOk result ((paths : List Path) → IsHeldBy (length ledgers.now) (held_at tunnel_eq ledgers.now) paths
-        → own.new.items ≡ own.old.items ++ cond (is_something (own_share_on paths tunnel.now link)) (own_share_on paths tunnel.now link ∷ []) []) }
-{
-    if marks & mark != mark {
-        return Ok(());
-    }
-    list_if_some(own, own_at(ledgers, tunnel, link))
-}
-
-/// What a tunnel reserves on each link on which it reserves something.
+/// What a tunnel reserves on each link on which it reserves something. It looks the tunnel up where it is marked.
 fn own_on(
     alloc: Global,
     ledgers: &[Ledger<Tunnel>],
     marks: &Marks,
     tunnel: &Tunnel,
 ) -> Result<Vec<OwnShare>, AllocError>
-    requires count { length marks.now.words.items ≡ length ledgers.now }
-    requires marked { AreMarked (has_entry_at tunnel_eq ledgers.now) marks.now.words.items }
+    requires { AreMarked (has_entry_at tunnel_eq ledgers.now) marks.now.words.items }
     ensures { IfOk result (λ own. (paths : List Path) → IsHeldBy (length ledgers.now) (held_at tunnel_eq ledgers.now) paths
         → own.items ≡ own_shares paths tunnel.now (length ledgers.now)) }
 {
-    let mark = mark_of(tunnel);
+    let columns = columns_of(tunnel);
     let mut own = Vec::new(alloc);
-    for link in 0..ledgers.len() {
-        list_marked(&mut own, ledgers, marks.on(link), tunnel, mark, link)?;
+    let mut link = marks.next(&columns, 0, ledgers.len());
+    while link < ledgers.len() {
+        list_if_some(&mut own, own_at(ledgers, tunnel, link))?;
+        link = marks.next(&columns, link + 1, ledgers.len());
     }
     Ok(own)
 }

@@ -1,12 +1,12 @@
 //! What lists of paths do to the ledgers of the links, by tunnel.
-ghost use Rattle.std.specs.Prelude.{◌≡◌, ◌<◌, ◌≤◌, ◌+◌, ◌++◌, ◌==◌, ◌&&◌, true, [], ℕ, List, length, OnOk, if◌then◌else◌};
+ghost use Rattle.std.specs.Prelude.{◌≡◌, ◌<◌, ◌≤◌, ◌+◌, ◌*◌, ◌++◌, ◌==◌, ◌&&◌, true, [], ℕ, List, length, OnOk, if◌then◌else◌};
 ghost use Rattle.lsp_base.specs.Base.{HasAll, without};
 ghost use Rattle.lsp_base.specs.declared.path.Path.{Path};
 ghost use Rattle.lsp_base.specs.declared.tunnel.Tunnel.{Tunnel};
 ghost use Rattle.bandwidth_book.specs.declared.paths.Place.{Place};
 ghost use Rattle.bandwidth_book.specs.Paths.{IsHeldBy, IsPromised, held_by, tunnel_eq};
 ghost use Rattle.bandwidth_book.specs.Pending.{AreNoted, noted};
-ghost use Rattle.bandwidth_book.specs.Marks.{AreMarked};
+ghost use Rattle.bandwidth_book.specs.Marks.{AreMarked, width};
 ghost use Rattle.bandwidth_book.specs.Held.{held_of, with_all, without_all};
 ghost use Rattle.bandwidth_book.specs.Ledgers.{has_entry_at, held_at, held_by_path, promised_on};
 
@@ -91,7 +91,7 @@ fn withdraw_places(ledgers: &mut [Ledger<Tunnel>], places: &[Place])
     }
 }
 
-/// Sets the marks anew of the links at these places, where their tunnels have no entries.
+/// Clears the bits of the tunnels of these places on their links, where they have no entries.
 fn remark_places(ledgers: &[Ledger<Tunnel>], marks: &mut Marks, places: &[Place])
     ensures marked { AreMarked (has_entry_at tunnel_eq ledgers.now) marks.old.words.items → AreMarked (has_entry_at tunnel_eq ledgers.now) marks.new.words.items }
     ensures count { length marks.new.words.items ≡ length marks.old.words.items }
@@ -126,7 +126,7 @@ fn promise_place(
 ) -> Result<(), AllocError>
     requires noted { AreNoted (length ledgers.old) (has_entry_at tunnel_eq ledgers.old) (held_at tunnel_eq ledgers.old) places.old.items }
     ensures noted { AreNoted (length ledgers.old) (has_entry_at tunnel_eq ledgers.new) (held_at tunnel_eq ledgers.new) places.new.items }
-    ensures marked { length marks.old.words.items ≡ length ledgers.old → AreMarked (has_entry_at tunnel_eq ledgers.old) marks.old.words.items → AreMarked (has_entry_at tunnel_eq ledgers.new) marks.new.words.items }
+    ensures marked { length ledgers.old ≤ 64 * width marks.old.words.items → AreMarked (has_entry_at tunnel_eq ledgers.old) marks.old.words.items → AreMarked (has_entry_at tunnel_eq ledgers.new) marks.new.words.items }
     ensures count { length marks.new.words.items ≡ length marks.old.words.items }
     ensures places { (l : ℕ) (t : Tunnel) → noted places.new.items l t ≤ noted places.old.items l t + (if place.now.link == l && tunnel_eq place.now.tunnel t then 1 else 0) }
     ensures kept { (l : ℕ) (t : Tunnel) → held_at tunnel_eq ledgers.new l t ≡ held_at tunnel_eq ledgers.old l t }
@@ -147,7 +147,7 @@ fn promise_path(
 ) -> Result<(), AllocError>
     requires noted { AreNoted (length ledgers.old) (has_entry_at tunnel_eq ledgers.old) (held_at tunnel_eq ledgers.old) places.old.items }
     ensures noted { AreNoted (length ledgers.old) (has_entry_at tunnel_eq ledgers.new) (held_at tunnel_eq ledgers.new) places.new.items }
-    ensures marked { length marks.old.words.items ≡ length ledgers.old → AreMarked (has_entry_at tunnel_eq ledgers.old) marks.old.words.items → AreMarked (has_entry_at tunnel_eq ledgers.new) marks.new.words.items }
+    ensures marked { length ledgers.old ≤ 64 * width marks.old.words.items → AreMarked (has_entry_at tunnel_eq ledgers.old) marks.old.words.items → AreMarked (has_entry_at tunnel_eq ledgers.new) marks.new.words.items }
     ensures count { length marks.new.words.items ≡ length marks.old.words.items }
     ensures places { (l : ℕ) (t : Tunnel) → noted places.new.items l t ≤ noted places.old.items l t + length (held_by_path tunnel_eq path.now.tunnel (held_of path.now) l t path.now.links) }
     ensures kept { (l : ℕ) (t : Tunnel) → held_at tunnel_eq ledgers.new l t ≡ held_at tunnel_eq ledgers.old l t }
@@ -173,7 +173,7 @@ pub fn promise_paths(
 ) -> Result<(), AllocError>
     requires noted { AreNoted (length ledgers.old) (has_entry_at tunnel_eq ledgers.old) (held_at tunnel_eq ledgers.old) places.old.items }
     ensures noted { AreNoted (length ledgers.old) (has_entry_at tunnel_eq ledgers.new) (held_at tunnel_eq ledgers.new) places.new.items }
-    ensures marked { length marks.old.words.items ≡ length ledgers.old → AreMarked (has_entry_at tunnel_eq ledgers.old) marks.old.words.items → AreMarked (has_entry_at tunnel_eq ledgers.new) marks.new.words.items }
+    ensures marked { length ledgers.old ≤ 64 * width marks.old.words.items → AreMarked (has_entry_at tunnel_eq ledgers.old) marks.old.words.items → AreMarked (has_entry_at tunnel_eq ledgers.new) marks.new.words.items }
     ensures count { length marks.new.words.items ≡ length marks.old.words.items }
     ensures places { (l : ℕ) (t : Tunnel) → noted places.new.items l t ≤ noted places.old.items l t + length (held_by l t paths.now) }
     ensures kept { (l : ℕ) (t : Tunnel) → held_at tunnel_eq ledgers.new l t ≡ held_at tunnel_eq ledgers.old l t }
