@@ -40,6 +40,8 @@ mod tunnel;
 mod why;
 
 pub use base::{LspBase, PATH_LIMIT};
+pub use chain::{Bucketing, Chain, earlier_end, hang_at, hang_last, lead_past, unhang_last};
+pub use chained::{BUCKETS, Sought, first_place, make_room};
 pub use drops::{dropping_effect, ended_record, is_path_of_lsp};
 pub use effect::{Change, Effect, Record, RecordChange};
 pub use grants::{carries_srp, is_grant_of_lsp, is_unbound};

@@ -11,3 +11,4 @@ pub mod StepLaws
 pub mod SoundSteps
 pub mod Concluded
 pub mod AskTests
+pub mod NameTables

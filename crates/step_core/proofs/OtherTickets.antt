@@ -1,9 +1,11 @@
 -- What names and tickets that come, change and go leave of the lists of all peers.
-use Rattle.std.proofs.Common.{◌≡◌, ◌==◌, ◌&&◌, ◌||◌, ℕ, Bool, true, false, cond, List, [], ◌∷◌, ◌++◌, refl, sym, subst, ◌∙◌, ap, arith, true≢false}
+use Rattle.std.proofs.Common.{◌≡◌, ◌==◌, ◌&&◌, ℕ, Bool, true, false, cond, List, [], ◌∷◌, ◌++◌, IsPermutation, refl, sym, subst, ◌∙◌, ap, arith}
 use Rattle.std.specs.Prelude.{filter, not, Option, Some, None, IfSome, find, if◌then◌else◌}
-use Rattle.std.specs.List.{list_any}
 use Rattle.std.proofs.lemmas.List.Elements.{filter-append}
+use Rattle.std.proofs.lemmas.List.Sorted.{IsPermutation-refl, IsPermutation-trans}
 use Rattle.std.proofs.lemmas.Bool.Decides.{nat_tests}
+use Rattle.lsp_base.specs.Base.{without_first}
+use Rattle.lsp_base.proofs.Swapped.{without_first-others}
 use Rattle.lsp_base.specs.declared.path.Path.{Path}
 use Rattle.commit_core.specs.declared.ticket.Ticket.{Ticket}
 use Rattle.step_core.specs.Grants.{with_name}
@@ -17,33 +19,21 @@ use Rattle.step_core.proofs.Others.{first_of_both, filter-skip, filter-both, app
 abbrev pub other_names : ℕ → List AwaitedName → List AwaitedName
 other_names n names = filter (λ a. not (a.peer == n)) names
 
-another : (n p q : ℕ) → (p == n) ≡ true → (q == n) ≡ false → (p == q) ≡ true → true ≡ false
-another n p q own other same = grind (arith, nat_tests)
+own_too : (n p q : ℕ) → (p == q) ≡ true → (p == n) ≡ true → (q == n) ≡ true
+own_too n p q same own = grind (arith, nat_tests)
 
-none_of : (n : ℕ) (a : AwaitedName) (x : Path) (b : Bool) → is_grant_of_name a x ≡ b → (x.peer == n) ≡ true → (a.peer == n) ≡ false → b ≡ false
-none_of n a x true is own other = another n x.peer a.peer own other (first_of_both (x.peer == a.peer) _ (first_of_both (x.peer == a.peer && x.plsp == 0) _ is))
-none_of n a x false is own other = refl
+-- a name that goes with a path of the peer is the peer's
+name_own : (n : ℕ) (x : Path) (a : AwaitedName) → (x.peer == n) ≡ true → is_grant_of_name a x ≡ true → not (a.peer == n) ≡ false
+name_own n x a own is = ap not (own_too n x.peer a.peer (first_of_both (x.peer == a.peer) _ (first_of_both (x.peer == a.peer && x.plsp == 0) _ is)) own)
 
--- no path of the peer is the grant of another peer's name
-none_own : (n : ℕ) (a : AwaitedName) (gone : List Path) → AllOwn n gone → (a.peer == n) ≡ false → list_any (is_grant_of_name a) gone ≡ false
-none_own n a [] own other = refl
-none_own n a (x ∷ xs) own other = ap (λ b. b || list_any (is_grant_of_name a) xs) (none_of n a x (is_grant_of_name a x) refl own.0 other) ∙ none_own n a xs own.1 other
+pub names_without-others : (n : ℕ) (names : List AwaitedName) (gone : List Path) → AllOwn n gone → IsPermutation (other_names n names) (other_names n (names_without names gone))
+names_without-others n names [] own = IsPermutation-refl (other_names n names)
+names_without-others n names (x ∷ gone) own =
+    IsPermutation-trans _ _ _ (without_first-others (λ a. not (a.peer == n)) (λ a. is_grant_of_name a x) (λ a is. name_own n x a own.0 is) names)
+    (names_without-others n (without_first (λ a. is_grant_of_name a x) names) gone own.1)
 
-keep_own : (n : ℕ) (a : AwaitedName) (names kept : List AwaitedName) (b : Bool) → not (a.peer == n) ≡ false → other_names n kept ≡ other_names n names → other_names n (cond b (a ∷ kept) kept) ≡ other_names n (a ∷ names)
-keep_own n a names kept true own rest = filter-skip (λ y. not (y.peer == n)) a kept own ∙ rest ∙ sym (filter-skip (λ y. not (y.peer == n)) a names own)
-keep_own n a names kept false own rest = rest ∙ sym (filter-skip (λ y. not (y.peer == n)) a names own)
-
-keep_other : (n : ℕ) (a : AwaitedName) (names kept : List AwaitedName) (b : Bool) → b ≡ true → other_names n kept ≡ other_names n names → other_names n (cond b (a ∷ kept) kept) ≡ other_names n (a ∷ names)
-keep_other n a names kept true is rest = filter-both (λ y. not (y.peer == n)) a kept names rest
-keep_other n a names kept false is rest = absurd (true≢false (sym is))
-
-keep_one : (n : ℕ) (a : AwaitedName) (names : List AwaitedName) (gone : List Path) (own : Bool) → (a.peer == n) ≡ own → AllOwn n gone → other_names n (names_without names gone) ≡ other_names n names → other_names n (names_without (a ∷ names) gone) ≡ other_names n (a ∷ names)
-keep_one n a names gone true is all rest = keep_own n a names (names_without names gone) (not (list_any (is_grant_of_name a) gone)) (ap not is) rest
-keep_one n a names gone false is all rest = keep_other n a names (names_without names gone) (not (list_any (is_grant_of_name a) gone)) (ap not (none_own n a gone all is)) rest
-
-pub names_without-others : (n : ℕ) (names : List AwaitedName) (gone : List Path) → AllOwn n gone → other_names n (names_without names gone) ≡ other_names n names
-names_without-others n [] gone own = refl
-names_without-others n (a ∷ names) gone own = keep_one n a names gone (a.peer == n) refl own (names_without-others n names gone own)
+pub same_others : (n : ℕ) (names now : List AwaitedName) → other_names n now ≡ other_names n names → IsPermutation (other_names n names) (other_names n now)
+same_others n names now same = subst (IsPermutation (other_names n names)) (sym same) (IsPermutation-refl (other_names n names))
 
 pub with_name-others : (n : ℕ) (names : List AwaitedName) (name : Option AwaitedName) → IfSome name (λ a. (a.peer == n) ≡ true) → other_names n (with_name names name) ≡ other_names n names
 with_name-others n names None own = refl

@@ -1,6 +1,6 @@
 -- What the layers above use of the step.
 use Rattle.std.proofs.Common.{◌≡◌, ◌∙◌, ℕ, ◌+◌, ◌≤◌, Bool, true, false, cond, List, IsPermutation, refl, sym, subst, ap, arith}
-use Rattle.std.specs.Prelude.{◌==◌, [], ◌∷◌, Option, Some, None, IfSome, Result, Ok, Err, OnOk, OnErr, find, unwrap_or}
+use Rattle.std.specs.Prelude.{◌==◌, [], Option, Some, None, IfSome, Result, Ok, Err, OnOk, OnErr, find, unwrap_or}
 use Rattle.std.proofs.lemmas.List.Sorted.{IsPermutation-refl}
 use Rattle.std.specs.declared.alloc.AllocError.{AllocError}
 use Rattle.pcep_objects.specs.declared.object.Capabilities.{Capabilities}
@@ -29,14 +29,14 @@ use Rattle.step_core.specs.declared.event.Reply.TheVariants.{Refused}
 use Rattle.step_core.specs.States.{State, affected, moves_paths, peer_at, in_session, synchronized, out_of_session, emptied, asked, told, next_number}
 use Rattle.step_core.specs.Outcomes.{Outcome, decided, done, must_be_up, must_be_down, must_be_known, must_take_updates, must_take_initiations, must_have_a_number}
 use Rattle.step_core.specs.Asks.{may_be_asked, must_have_ends, may_have_one_more, with_ticket, new_ticket, asked_with}
-use Rattle.step_core.specs.Grants.{asking, telling, ended, granting, granted, answered, told_in_vain, in_vain, judged, committed, taken, path_of, message_of, name_of_grant, verdict_on}
+use Rattle.step_core.specs.Grants.{asking, telling, ended, granting, granted, told_in_vain, judged, committed, taken, path_of, message_of, name_of_grant, verdict_on}
 use Rattle.step_core.specs.Steps.{step, booked, may_be_known, after_up, after_marker, after_down, after_expire, drained, after_refused, after_return, removal_asked, after_delete, deleted}
 use Rattle.step_core.specs.Tickets.{constraints_for, first_waiting, is_ticket, is_waiting, put_back, searched_for, ticket_at, waiting_again, without_ticket}
 use Rattle.step_core.specs.Laws.{peer_of, peer_of_ticket, OthersStay, CountsRise}
 use Rattle.step_core.specs.declared.peer.Peer.{Peer}
 use Rattle.step_core.proofs.Others.{IsOwn, same_number, other_paths, other_records, other_peers, changed-paths, changed-records, changed-known, with_stale-paths, with_stale-records, peer_at-number, put_peer-others, forget-others}
 use Rattle.step_core.proofs.Effects.{up-own, marker-own, down-own, expire-own, report-own, refused-own, return-own, removal_asked-own, granting-own}
-use Rattle.step_core.proofs.OtherTickets.{other_names, other_tickets, names_without-others, with_name-others, with_ticket-others, edit-others, drop-others, only_own, found_by_own}
+use Rattle.step_core.proofs.OtherTickets.{other_names, other_tickets, names_without-others, same_others, with_name-others, with_ticket-others, edit-others, drop-others, only_own, found_by_own}
 
 -- what holds of the state, and of what follows where no test fails, holds after
 decided-has : (P : State → Type 0) (s : State) (whys : Option Why) (o : Outcome) → P s → P o.state → P (decided s whys o).state
@@ -165,7 +165,7 @@ counts_rise s (Commit id offer) = commit_rise s offer (ticket_at s.tickets id)
 -- ---- an event changes what is of its own peer alone
 
 all_stay : (peer : Option ℕ) (s : State) → OthersStay peer s s
-all_stay peer s = record { paths = IsPermutation-refl _; records = IsPermutation-refl _; known = λ m plsp other. refl; peers = refl; names = refl; tickets = refl }
+all_stay peer s = record { paths = IsPermutation-refl _; records = IsPermutation-refl _; known = λ m plsp other. refl; peers = refl; names = IsPermutation-refl _; tickets = refl }
 
 -- where the paths and the records stay
 kept_others : (n : ℕ) (s t : State) → t.base ≡ s.base → other_peers n t.peers ≡ other_peers n s.peers → other_names n t.names ≡ other_names n s.names → other_tickets n t.tickets ≡ other_tickets n s.tickets → OthersStay (Some n) s t
@@ -174,12 +174,12 @@ kept_others n s t same peers names tickets = record {
   records = subst (λ (b : Lsps). IsPermutation (other_records n s.base.records) (other_records n b.records)) (sym same) (IsPermutation-refl _);
   known = λ m plsp other. ap (λ (b : Lsps). lsp_at b.records m plsp) same;
   peers = peers;
-  names = names;
+  names = same_others n s.names t.names names;
   tickets = tickets;
 }
 
 -- after an effect on the peer's LSPs
-effect_others : (n : ℕ) (s t : State) (e : Effect) → AreDistinct s.base.records → IsOwn n e → t.base ≡ changed s.base n e → other_peers n t.peers ≡ other_peers n s.peers → other_names n t.names ≡ other_names n s.names → other_tickets n t.tickets ≡ other_tickets n s.tickets → OthersStay (Some n) s t
+effect_others : (n : ℕ) (s t : State) (e : Effect) → AreDistinct s.base.records → IsOwn n e → t.base ≡ changed s.base n e → other_peers n t.peers ≡ other_peers n s.peers → IsPermutation (other_names n s.names) (other_names n t.names) → other_tickets n t.tickets ≡ other_tickets n s.tickets → OthersStay (Some n) s t
 effect_others n s t e distinct own is peers names tickets = record {
   paths = subst (λ (b : Lsps). IsPermutation (other_paths n s.base.paths) (other_paths n b.paths)) (sym is) (changed-paths n s.base e own);
   records = subst (λ (b : Lsps). IsPermutation (other_records n s.base.records) (other_records n b.records)) (sym is) (changed-records n s.base e);
@@ -252,7 +252,7 @@ granted_others : (s : State) (t : Ticket) (links : List ℕ) → AreDistinct s.b
 granted_others s t links distinct is =
     effect_others t.peer s _ (granting (path_of s t links)) distinct (granting-own t.peer (path_of s t links) (offered_own s t links)) refl
     (put_peer-others t.peer (asked (peer_at s.peers t.peer) (message_of s.te.links (next_number s t.peer) t.constraints links t.purpose)) s.peers (peer_at-number t.peer s.peers))
-    (with_name-others t.peer s.names (name_of_grant t.peer (next_number s t.peer) t.purpose) (name_own t.peer (next_number s t.peer) t.purpose))
+    (same_others t.peer s.names _ (with_name-others t.peer s.names (name_of_grant t.peer (next_number s t.peer) t.purpose) (name_own t.peer (next_number s t.peer) t.purpose)))
     (ended_tickets s t is)
 
 commit_others : (s : State) (offer : Option (List ℕ)) (o : Option Ticket) → AreDistinct s.base.records → IfSome o (λ t. ticket_at s.tickets t.id ≡ Some t) → OthersStay (peer_of_ticket o) s (committed s offer o).state

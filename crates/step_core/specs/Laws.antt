@@ -30,15 +30,15 @@ abbrev pub is_other : Option ℕ → ℕ → Bool
 is_other None m = true
 is_other (Some n) m = not (m == n)
 
--- the paths and the records of all other peers are the same, whatever their order; what is known of each of
--- their LSPs is as it was; and so are their sessions, what waits for them to be sent, the names and the tickets of what
--- they were asked for or are to be asked for, in the same order
+-- the paths and the records of all other peers and the names of what they were asked for are the same, whatever their
+-- order; what is known of each of their LSPs is as it was; and so are their sessions, what waits for them to be sent, and
+-- the tickets of what they are to be asked for, in the same order
 pub record OthersStay (peer : Option ℕ) (old new : State) : Type 0 where
   pub paths : IsPermutation (filter (λ x. is_other peer x.peer) old.base.paths) (filter (λ x. is_other peer x.peer) new.base.paths)
   pub records : IsPermutation (filter (λ r. is_other peer r.peer) old.base.records) (filter (λ r. is_other peer r.peer) new.base.records)
   pub known : (m plsp : ℕ) → is_other peer m ≡ true → lsp_at new.base.records m plsp ≡ lsp_at old.base.records m plsp
   pub peers : filter (λ p. is_other peer p.number) new.peers ≡ filter (λ p. is_other peer p.number) old.peers
-  pub names : filter (λ a. is_other peer a.peer) new.names ≡ filter (λ a. is_other peer a.peer) old.names
+  pub names : IsPermutation (filter (λ a. is_other peer a.peer) old.names) (filter (λ a. is_other peer a.peer) new.names)
   pub tickets : filter (λ t. is_other peer t.peer) new.tickets ≡ filter (λ t. is_other peer t.peer) old.tickets
 
 -- the three counts rise by one at most, and none falls: a number of a session or a ticket is never used again

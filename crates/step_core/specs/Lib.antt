@@ -1,5 +1,6 @@
 pub mod Tickets
 pub mod States
+pub mod Names
 pub mod Networks
 pub mod Outcomes
 pub mod Asks

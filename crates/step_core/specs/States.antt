@@ -1,10 +1,9 @@
 -- What the database knows: the network, peers, the paths and records of their LSPs, and what is asked for.
-use Rattle.std.specs.Prelude.{ℕ, ◌+◌, Bool, true, false, ◌==◌, ◌&&◌, not, List, [], ◌∷◌, ◌++◌, filter, find, unwrap_or, Option, Some, is_some, if◌then◌else◌}
-use Rattle.std.specs.List.{list_any}
+use Rattle.std.specs.Prelude.{ℕ, ◌+◌, Bool, true, false, ◌==◌, ◌&&◌, not, List, [], ◌∷◌, ◌++◌, find, unwrap_or, Option, Some, is_some, if◌then◌else◌}
 use Rattle.pcep_objects.specs.declared.object.Capabilities.{Capabilities}
 use Rattle.pcep_messages.specs.declared.message.Message.{Message}
 use Rattle.te_base.specs.Base.{Base}
-use Rattle.lsp_base.specs.Base.{Lsps, no_lsps, changed}
+use Rattle.lsp_base.specs.Base.{Lsps, no_lsps, changed, without_first}
 use Rattle.lsp_base.specs.Grants.{is_unbound_grant}
 use Rattle.lsp_base.specs.Same.{same_links}
 use Rattle.lsp_base.specs.declared.path.Path.{Path}
@@ -112,9 +111,10 @@ is_awaited_as peer name a = a.peer == peer && same_links a.name name
 abbrev pub is_grant_of_name : AwaitedName → Path → Bool
 is_grant_of_name a x = is_unbound_grant a.peer (Some a.srp) x
 
--- a name goes with its grant
+-- a name goes with its grant: of each path that goes the first, and the last one takes its place
 abbrev pub names_without : List AwaitedName → List Path → List AwaitedName
-names_without names gone = filter (λ a. not (list_any (is_grant_of_name a) gone)) names
+names_without names [] = names
+names_without names (x ∷ gone) = names_without (without_first (λ a. is_grant_of_name a x) names) gone
 
 -- ---- effects
 

@@ -22,6 +22,7 @@
 
 mod event;
 mod job;
+mod name_table;
 mod names;
 mod network;
 mod peer;

@@ -1,11 +1,12 @@
 //! The names of initiations that were granted.
-ghost use Rattle.std.specs.Prelude.{◌≡◌, not, filter};
-ghost use Rattle.std.specs.List.{list_any};
-ghost use Rattle.step_core.specs.States.{is_awaited_as, is_grant_of_name, names_without};
+ghost use Rattle.std.specs.Prelude.{◌≡◌, ◌<◌, false, IfSome, IfNone};
+ghost use Rattle.step_core.specs.declared.names.AwaitedName.{AwaitedName};
+ghost use Rattle.step_core.specs.Names.{grant_bucket, is_of_grant, mixed_in, name_bucket};
+ghost use Rattle.step_core.specs.States.{is_grant_of_name};
 
 use commit_core::LspName;
 use initiate_rules::is_same_name;
-use lsp_base::{Path, is_unbound};
+use lsp_base::{Bucketing, Part, Path, Sought};
 use sequence::PlainData;
 use std::alloc::AllocError;
 
@@ -28,40 +29,104 @@ impl PlainData for AwaitedName {
     }
 }
 
-/// Whether a granted initiation of the peer that no report told of yet has the name.
-pub(crate) fn is_name_awaited(names: &[AwaitedName], peer: u32, name: &[u8]) -> bool
-    ensures { result ≡ list_any (is_awaited_as peer name.now) names.now }
+/// The SRP-ID of a grant that no report has bound yet; `None` of any other path.
+pub(crate) fn unbound_srp(path: &Path) -> Option<u32>
+    ensures grant { IfSome result (λ srp. (a : AwaitedName) → is_grant_of_name a path.now ≡ is_of_grant path.now.peer srp a) }
+    ensures none { IfNone result ((a : AwaitedName) → is_grant_of_name a path.now ≡ false) }
 {
-    for awaited in names {
-        if awaited.peer == peer && is_same_name(awaited.name.as_slice(), name) {
-            return true;
-        }
+    if path.plsp.number() != 0 {
+        return None;
     }
-    false
+    match path.part {
+        Part::Granted(srp) => Some(srp),
+        Part::Reported(_) => None,
+    }
 }
 
-/// Whether a path that goes is the grant that has the name.
-fn goes_with(awaited: &AwaitedName, gone: &[Path]) -> bool
-    ensures { result ≡ list_any (is_grant_of_name awaited.now) gone.now }
+/// The bucket of a peer's grant.
+#[tactic(auto, unfolding(crate::specs::Names::grant_bucket))]
+pub(crate) fn grant_bucket(peer: u32, srp: u32) -> usize
+    ensures { result ≡ grant_bucket peer srp }
 {
-    for path in gone {
-        if is_unbound(path, awaited.peer, Some(awaited.srp)) {
-            return true;
-        }
-    }
-    false
+    (peer as usize * 7919 + srp as usize) % 16384
 }
 
-/// Lets the names of grants go that are among these paths.
-pub(crate) fn drop_names(names: &mut Vec<AwaitedName>, gone: &[Path])
-    ensures { names.new.items ≡ names_without names.old.items gone.now }
+fn mixed_in(bucket: usize, byte: u8) -> usize
+    requires { bucket < 16384 }
+    ensures mixed { result ≡ mixed_in bucket byte }
+    ensures below { result < 16384 }
 {
-    let mut i = 0;
-    while i < names.len() {
-        if goes_with(&names[i], gone) {
-            let _ = names.remove(i);
-        } else {
-            i += 1;
-        }
+    (bucket * 7919 + usize::from(byte)) % 16384
+}
+
+/// The bucket of a peer's name.
+#[tactic(auto, unfolding(crate::specs::Names::name_bucket))]
+pub(crate) fn name_bucket(peer: u32, name: &[u8]) -> usize
+    ensures { result ≡ name_bucket peer name.now }
+{
+    let mut bucket = peer as usize % 16384;
+    for byte in name {
+        bucket = mixed_in(bucket, *byte);
+    }
+    bucket
+}
+
+/// A bucket for each grant, which others may be in too.
+pub(crate) struct ByGrant;
+
+impl Bucketing<AwaitedName> for ByGrant {
+    ghost use Rattle.step_core.specs.Names.{by_grant};
+
+    ghost bucket_of = { by_grant };
+
+    fn bucket(item: &AwaitedName) -> usize {
+        grant_bucket(item.peer, item.srp)
+    }
+}
+
+/// A bucket for each name of a peer, which others may be in too.
+pub(crate) struct ByName;
+
+impl Bucketing<AwaitedName> for ByName {
+    ghost use Rattle.step_core.specs.Names.{by_name};
+
+    ghost bucket_of = { by_name };
+
+    fn bucket(item: &AwaitedName) -> usize {
+        name_bucket(item.peer, item.name.as_slice())
+    }
+}
+
+/// The name of a grant.
+#[derive(Drop)]
+pub(crate) struct OfGrant {
+    pub peer: u32,
+    pub srp: u32,
+}
+
+impl Sought<AwaitedName> for OfGrant {
+    ghost use Rattle.step_core.specs.Names.{is_of_grant};
+
+    ghost seeks = { λ s a. is_of_grant s.peer s.srp a };
+
+    fn seeks(&self, item: &AwaitedName) -> bool {
+        item.peer == self.peer && item.srp == self.srp
+    }
+}
+
+/// A name of a peer.
+#[derive(Drop)]
+pub(crate) struct Named<'a> {
+    pub peer: u32,
+    pub name: &'a [u8],
+}
+
+impl<'a> Sought<AwaitedName> for Named<'a> {
+    ghost use Rattle.step_core.specs.States.{is_awaited_as};
+
+    ghost seeks = { λ s a. is_awaited_as s.peer s.name.now a };
+
+    fn seeks(&self, item: &AwaitedName) -> bool {
+        item.peer == self.peer && is_same_name(item.name.as_slice(), self.name)
     }
 }

@@ -1,5 +1,6 @@
 //! A network with the LSPs over it, and the book of what their paths reserve.
-ghost use Rattle.std.specs.Prelude.{◌≡◌, ◌↔◌, ◌<◌, ◌≤◌, ◌++◌, ◌∷◌, [], List, length, vec_len, vec_capacity, ◌+◌, OnOk, OnErr, IsNone, IfOk, IfSome, option_copied};
+ghost use Rattle.std.specs.Prelude.{◌≡◌, ◌↔◌, ◌<◌, ◌≤◌, ◌++◌, ◌∷◌, [], List, length, OnOk, OnErr, IsNone, IfOk, IfSome, option_copied};
+ghost use Rattle.std.specs.List.{list_any};
 ghost use Rattle.lsp_base.specs.Base.{HasAll, no_lsps, changed, with_stale, without};
 ghost use Rattle.lsp_base.specs.Rooms.{IsWithinLimit, HasRoom};
 ghost use Rattle.lsp_base.specs.Shares.{unreserved};
@@ -8,8 +9,10 @@ ghost use Rattle.bandwidth_book.specs.Books.{IsReady, StandsFor, network_of};
 ghost use Rattle.commit_core.specs.Verdicts.{verdict};
 ghost use Rattle.step_core.specs.Grants.{granting, own_of, snapshot_of, with_name};
 ghost use Rattle.step_core.specs.Networks.{carried_out};
+ghost use Rattle.step_core.specs.States.{is_awaited_as};
 
-use crate::names::{AwaitedName, drop_names};
+use crate::name_table::NameTable;
+use crate::names::AwaitedName;
 use crate::queue::Queue;
 use bandwidth_book::Book;
 use commit_core::{PeerView, Ticket, Verdict, judge, own_tunnel};
@@ -31,7 +34,7 @@ pub struct Network {
     alloc: Global,
     te: TeBase,
     lsps: LspBase,
-    names: Vec<AwaitedName>,
+    names: NameTable,
     book: Book,
 }
 
@@ -40,7 +43,7 @@ impl Model for Network {
 
     ghost Value = { Known };
 
-    ghost view = { λ n. record { te = n.te; base = n.lsps.content; names = n.names.items } };
+    ghost view = { λ n. record { te = n.te; base = n.lsps.content; names = n.names.names } };
 
     ghost invariant = { λ n. IsBooked n.te n.lsps.content n.book };
 }
@@ -80,12 +83,12 @@ fn granting(alloc: Global, path: Path) -> Result<Effect, AllocError>
 }
 
 /// Holds a name from now on, if there is one, in room that is there.
-fn hold_name(names: &mut Vec<AwaitedName>, name: Option<AwaitedName>)
-    requires { vec_len names.old + 1 ≤ vec_capacity names.old }
-    ensures { names.new.items ≡ with_name names.old.items name }
+fn hold_name(names: &mut NameTable, name: Option<AwaitedName>)
+    requires { length names.old.names < names.old.room }
+    ensures { names.new.names ≡ with_name names.old.names name }
 {
     if let Some(name) = name {
-        names.push_reserved(name);
+        names.add(name);
     }
 }
 
@@ -101,7 +104,7 @@ impl Network {
             alloc,
             te,
             lsps: LspBase::new(alloc),
-            names: Vec::new(alloc),
+            names: NameTable::new(alloc),
             book,
         })
     }
@@ -115,7 +118,7 @@ impl Network {
         ensures unchanged_without_memory { OnErr result (self.new ≡ self.old) }
     {
         make_room(&mut self.lsps, &mut self.book, &effect)?;
-        drop_names(&mut self.names, effect.change.dropped.as_slice());
+        self.names.drop_names(effect.change.dropped.as_slice());
         make_change(&mut self.lsps, &mut self.book, peer, effect);
         Ok(())
     }
@@ -138,7 +141,7 @@ impl Network {
     {
         make_room(&mut self.lsps, &mut self.book, &effect)?;
         queue.push(message)?;
-        drop_names(&mut self.names, effect.change.dropped.as_slice());
+        self.names.drop_names(effect.change.dropped.as_slice());
         make_change(&mut self.lsps, &mut self.book, peer, effect);
         Ok(())
     }
@@ -209,6 +212,13 @@ impl Network {
         ensures { result ≡ verdict ticket.now (option_copied offer.entry) self.now.base self.now.te view }
     {
         judge(ticket, offer, &self.lsps, &self.book, &self.te, view)
+    }
+
+    /// Whether a granted initiation of the peer that no report told of yet has the name.
+    pub fn is_name_awaited(&self, peer: u32, name: &[u8]) -> bool
+        ensures { result ≡ list_any (is_awaited_as peer name.now) self.now.names }
+    {
+        self.names.is_awaited(peer, name)
     }
 
     /// The names of granted initiations that no report told of yet.

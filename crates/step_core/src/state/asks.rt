@@ -16,7 +16,6 @@ use super::State;
 use super::requests::{why_not_initiated, why_not_updated};
 use super::sessions::why_not_up;
 use crate::event::Reply;
-use crate::names::is_name_awaited;
 use crate::peer::{Peer, find_peer};
 use crate::ticket_list::{TICKET_LIMIT, TicketList};
 use commit_core::{Purpose, Ticket};
@@ -151,7 +150,7 @@ impl State {
     fn is_name_held(&self, peer: u32, name: &[u8]) -> bool
         ensures { result ≡ is_name_held self.now peer name.now }
     {
-        self.tickets.is_name_asked(peer, name) || is_name_awaited(self.network.names(), peer, name)
+        self.tickets.is_name_asked(peer, name) || self.network.is_name_awaited(peer, name)
     }
 
     /// Why no LSP of this name is asked for.

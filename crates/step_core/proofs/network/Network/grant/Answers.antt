@@ -6,6 +6,18 @@ use Rattle.step_core.proofs.Booked.{IsBooked-reserved, IsBooked-changed}
 use Rattle.step_core.proofs.Dropped.{has_none}
 use Rattle.step_core.proofs.network.Network.grant.Goals as goal
 
+pub invariant_of-self : goal.invariant_of-self
+invariant_of-self c =
+    rw c.make_room.ensures.same_lsps (IsBooked-reserved c.self.inside.te c.self.inside.lsps.content c.self.inside.book c.make_room.new.book c.make_room.ensures.same_network c.make_room.ensures.stands c.self.invariant)
+
+pub invariant_of-self-in_err-reserve : goal.invariant_of-self-in_err-reserve
+invariant_of-self-in_err-reserve c =
+    rw c.make_room.ensures.same_lsps (IsBooked-reserved c.self.inside.te c.self.inside.lsps.content c.self.inside.book c.make_room.new.book c.make_room.ensures.same_network c.make_room.ensures.stands c.self.invariant)
+
+pub invariant_of-self-in_err-push : goal.invariant_of-self-in_err-push
+invariant_of-self-in_err-push c =
+    rw c.make_room.ensures.same_lsps (IsBooked-reserved c.self.inside.te c.self.inside.lsps.content c.self.inside.book c.make_room.new.book c.make_room.ensures.same_network c.make_room.ensures.stands c.self.invariant)
+
 pub invariant_of-self-2 : goal.invariant_of-self-2
 invariant_of-self-2 c =
     let te = c.self.inside.te in
