@@ -12,3 +12,4 @@ pub mod SoundSteps
 pub mod Concluded
 pub mod AskTests
 pub mod NameTables
+pub mod TicketPlaces

@@ -1,4 +1,5 @@
 pub mod Tickets
+pub mod TicketPlaces
 pub mod States
 pub mod Names
 pub mod Networks
