@@ -1,7 +1,7 @@
 -- A database that is lent to the engine: what calls on it do.
-use Rattle.std.specs.Prelude.{◌≡◌, true, false, List, [], ◌∷◌, ◌++◌}
+use Rattle.std.specs.Prelude.{ℕ, ◌≡◌, true, false, List, [], ◌∷◌, ◌++◌}
 use Rattle.step_core.specs.Steps.{step}
-use Rattle.history_core.specs.Histories.{Content, stepped, is_full}
+use Rattle.history_core.specs.Histories.{Content, stepped, is_full, rolled_up, steps_of}
 use Rattle.engine_core.specs.declared.lent.Lent.{Lent}
 use Rattle.engine_core.specs.declared.unlisted.Unlisted.{Unlisted}
 use Rattle.engine_core.specs.declared.store.Call.{Call}
@@ -21,6 +21,13 @@ pub record LentMoves (old : Lent) (made : List Call) (new : Lent) : Type 0 where
   pub same_loan : new.database.ghost_name ≡ old.database.ghost_name
   pub steps : Steps old.database.now made new.database.now
   pub added : new.calls.items ≡ old.calls.items ++ made
+
+-- the database of the same loan is rolled: so many steps were taken before its base
+pub record LentRolls (old : Lent) (steps : ℕ) (new : Lent) : Type 0 where
+  pub same_loan : new.database.ghost_name ≡ old.database.ghost_name
+  pub rolled : new.database.now ≡ rolled_up old.database.now
+  pub counted : steps ≡ steps_of old.database.now
+  pub same_calls : new.calls.items ≡ old.calls.items
 
 -- the same loan of the same database
 pub record SameDatabase (old new : Lent) : Type 0 where

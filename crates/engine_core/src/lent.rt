@@ -3,9 +3,9 @@
 ghost use Rattle.std.specs.Prelude.{◌≡◌, []};
 
 use crate::store::{Call, Store};
-use history_core::{Database, Event, Fault};
+use history_core::{Database, Event, Fault, SharedEvent};
 use sequence::PlainData;
-use std::alloc::Global;
+use std::alloc::{AllocError, Global};
 
 /// A database that is lent, with the calls that were made on it.
 #[derive(Drop)]
@@ -29,7 +29,7 @@ impl<'a> Lent<'a> {
 }
 
 impl<'a> Store for Lent<'a> {
-    ghost use Rattle.engine_core.specs.Lending.{LentMoves, SameDatabase, IsFull};
+    ghost use Rattle.engine_core.specs.Lending.{LentMoves, LentRolls, SameDatabase, IsFull};
     ghost use Rattle.engine_core.specs.LendingLaws.{moves_nowhere, moves_on};
 
     ghost calls = { λ s. s.calls.items };
@@ -40,18 +40,21 @@ impl<'a> Store for Lent<'a> {
 
     ghost is_full = { λ s. IsFull s.database.now };
 
+    ghost rolls = { λ old steps new. LentRolls old steps new };
+
     ghost moves_nowhere = { λ s. moves_nowhere s };
 
     ghost moves_on = { λ a b c first second h k. moves_on a b c first second h k };
 
     ghost moves_add = { λ a b made h. h.added };
 
-    /// One step of the database. The room for the call is made first.
+    /// One step of the database. The room for the call is made first, and the event stands in memory once.
     fn submit(&mut self, event: Event) -> Result<(), Fault> {
         self.calls.reserve(1)?;
+        let event = SharedEvent::new(*self.calls.allocator(), event)?;
         let kept = event.copy()?;
-        let reply = self.database.apply(event)?;
-        self.calls.push_reserved(Call { event: kept, reply });
+        let reply = self.database.apply_shared(kept)?;
+        self.calls.push_reserved(Call { event, reply });
         Ok(())
     }
 
@@ -61,5 +64,10 @@ impl<'a> Store for Lent<'a> {
 
     fn forget(&mut self) {
         self.calls.clear();
+    }
+
+    fn roll(&mut self) -> Result<u64, AllocError> {
+        self.database.roll()?;
+        Ok(self.database.rolled())
     }
 }

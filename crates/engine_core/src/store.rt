@@ -1,19 +1,19 @@
 //! Where events go.
 
-ghost use Rattle.std.specs.Prelude.{◌≡◌, ◌<◌, ◌-◌, [], ◌∷◌, ◌++◌, List, length, slice_get, Some, Err, IfErr, OnOk, OnErr};
+ghost use Rattle.std.specs.Prelude.{ℕ, ◌≡◌, ◌<◌, ◌-◌, [], ◌∷◌, ◌++◌, List, length, slice_get, Some, Err, IfErr, IfOk, OnOk, OnErr};
 ghost use Rattle.history_core.specs.declared.fault.Fault.TheVariants.{HistoryFull};
 ghost use Rattle.step_core.specs.declared.event.Reply.{Reply};
 ghost use Rattle.engine_core.specs.Calls.{called};
 ghost use Rattle.engine_core.specs.declared.store.Call.{Call};
 
-use history_core::{Event, Fault, Reply};
+use history_core::{Event, Fault, Reply, SharedEvent};
 use sequence::PlainData;
 use std::alloc::AllocError;
 
 /// An event that was submitted, with the reply that it got.
 #[derive(Debug, Drop)]
 pub struct Call {
-    pub event: Event,
+    pub event: SharedEvent,
     pub reply: Reply,
 }
 
@@ -41,6 +41,9 @@ pub trait Store {
     /// No further step can be kept.
     ghost is_full: { Self → Type 0 };
 
+    /// The one is the other with its history rolled: so many steps were taken before its base.
+    ghost rolls: { Self → ℕ → Self → Type 0 };
+
     /// Submits an event. It is added to the list with the reply that it got; after a fault nothing is.
     fn submit(&mut self, event: Event) -> Result<(), Fault>
         ensures submitted { OnOk result ((reply : Reply) × moves self.old (called event reply ∷ []) self.new) }
@@ -55,6 +58,12 @@ pub trait Store {
     fn forget(&mut self)
         ensures empty { calls self.new ≡ [] }
         ensures same { same_but_calls self.old self.new };
+
+    /// Rolls the history, so that more steps can be kept, and gives how many steps were taken before its base.
+    /// No call is made. Where memory is refused nothing has changed.
+    fn roll(&mut self) -> Result<u64, AllocError>
+        ensures rolled { IfOk result (λ steps. rolls self.old steps self.new) }
+        ensures unchanged { OnErr result (moves self.old [] self.new) };
 
     ghost moves_nowhere: { (s : Self) → moves s [] s };
 

@@ -1,2 +1,3 @@
-pub mod Replaying
 pub mod Sounding
+pub mod Replaying
+pub mod Rolling

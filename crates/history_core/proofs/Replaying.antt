@@ -1,41 +1,44 @@
--- One more step keeps a history legal, and leading to the state.
-use Rattle.std.proofs.Common.{◌≡◌, ◌+◌, ◌≤◌, List, [], ◌∷◌, ◌++◌, length, refl, sym, ap, subst, ◌∙◌, arith}
-use Rattle.std.specs.Prelude.{Result, Ok}
+-- Histories one after the other: what is legal stays so, and leads on.
+use Rattle.std.proofs.Common.{◌≡◌, ◌≢◌, ℕ, ◌+◌, ◌≤◌, Bool, false, ◌==◌, ◌||◌, List, [], ◌∷◌, ◌++◌, length, refl, sym, ap, subst, ◌∙◌, arith, length-append}
+use Rattle.std.specs.Prelude.{Result, Ok, if◌then◌else◌}
+use Rattle.std.proofs.lemmas.Bool.Decides.{nat_tests}
+use Rattle.std.proofs.lemmas.Grind.{common_steps}
 use Rattle.lsp_base.specs.declared.why.Why.{Why}
+use Rattle.step_core.specs.declared.base.Base as known
 use Rattle.step_core.specs.declared.event.Event.{Event}
 use Rattle.step_core.specs.declared.event.Reply.{Reply}
 use Rattle.step_core.specs.declared.event.Reply.TheVariants.{Refused}
+use Rattle.step_core.specs.Bases.{state_over}
 use Rattle.step_core.specs.States.{State, empty}
 use Rattle.step_core.specs.Steps.{step}
 use Rattle.step_core.proofs.StepLaws.{te_stays, counts_rise, refused_stays}
 use Rattle.history_core.specs.declared.fault.Fault.{Fault}
 use Rattle.history_core.specs.declared.step.Step.{Step}
-use Rattle.history_core.specs.Briefs.{brief_of}
-use Rattle.history_core.specs.Histories.{Content, replay, IsLegalFrom, ReplaysFrom, Replays, kept_step, stepped}
+use Rattle.history_core.specs.Briefs.{brief_of, is_grant}
+use Rattle.history_core.specs.Histories.{Content, replay, IsLegalFrom, ReplaysFrom, IsPast, Replays, IsWhole, content, kept_step, stepped, is_full, steps_of, grants_of, step_limit, last_step}
+use Rattle.history_core.proofs.Sounding.{grants-snoc, grants_le}
 
-pub replay-snoc : (s : State) (xs : List Step) (x : Step) → replay s (xs ++ x ∷ []) ≡ (step (replay s xs) x.event).state
-replay-snoc s [] x = refl
-replay-snoc s (y ∷ ys) x = replay-snoc (step s y.event).state ys x
+pub replay-append : (s : State) (xs ys : List Step) → replay s (xs ++ ys) ≡ replay (replay s xs) ys
+replay-append s [] ys = refl
+replay-append s (x ∷ xs) ys = replay-append (step s x.event).state xs ys
 
-pub IsLegalFrom-snoc : (s : State) (xs : List Step) (x : Step) → IsLegalFrom s xs → x.brief ≡ brief_of (step (replay s xs) x.event).reply → IsLegalFrom s (xs ++ x ∷ [])
-IsLegalFrom-snoc s [] x legal is = (is, tt)
-IsLegalFrom-snoc s (y ∷ ys) x legal is = (legal.0, IsLegalFrom-snoc (step s y.event).state ys x legal.1 is)
+pub IsLegalFrom-append : (s : State) (xs ys : List Step) → IsLegalFrom s xs → IsLegalFrom (replay s xs) ys → IsLegalFrom s (xs ++ ys)
+IsLegalFrom-append s [] ys first second = second
+IsLegalFrom-append s (x ∷ xs) ys first second = (first.0, IsLegalFrom-append (step s x.event).state xs ys first.1 second)
 
 -- one more step from any start
-pub ReplaysFrom-stepped : (start : State) (d : Content) (event : Event) (reply : Reply) → ReplaysFrom start d → reply ≡ (step d.state event).reply → ReplaysFrom start (stepped d event reply)
-ReplaysFrom-stepped start d event reply kept is = record {
-  legal = IsLegalFrom-snoc start d.history (kept_step event reply) kept.legal (rw kept.leads (ap brief_of is));
-  leads = rw (replay-snoc start d.history (kept_step event reply), kept.leads) refl;
+ReplaysFrom-stepped : (start : State) (xs : List Step) (s : State) (event : Event) (reply : Reply) → ReplaysFrom start xs s → reply ≡ (step s event).reply
+    → ReplaysFrom start (xs ++ kept_step event reply ∷ []) (step s event).state
+ReplaysFrom-stepped start xs s event reply kept is = record {
+  legal = IsLegalFrom-append start xs (kept_step event reply ∷ []) kept.legal (rw kept.leads (ap brief_of is), tt);
+  leads = rw (replay-append start xs (kept_step event reply ∷ []), kept.leads) refl;
 }
 
 pub Replays-stepped : (d : Content) (event : Event) (reply : Reply) → Replays d → reply ≡ (step d.state event).reply → Replays (stepped d event reply)
-Replays-stepped d event reply kept is = rw (te_stays d.state event) (ReplaysFrom-stepped (empty d.state.te) d event reply kept is)
-
--- the same where the new state and history are known by equations
-pub Replays-applied : (d : Content) (event : Event) (reply : Reply) (s : State) (xs : List Step) (x : Step) → Replays d → reply ≡ (step d.state event).reply → s ≡ (step d.state event).state → x ≡ kept_step event reply → xs ≡ d.history ++ x ∷ [] → Replays (record { state = s; history = xs })
-Replays-applied d event reply s xs x kept is s_is x_is xs_is =
-    let same : record { state = s; history = xs } ≡ stepped d event reply = cc in
-    subst Replays (sym same) (Replays-stepped d event reply kept is)
+Replays-stepped d event reply whole is = record {
+  kept = ReplaysFrom-stepped d.base d.history d.state event reply whole.kept is;
+  past = whole.past;
+}
 
 -- a step that was refused left the state as it was
 pub refused-applied : (event : Event) (reply : Reply) (s t : State) (why : Why) (given told : Result Reply Fault) → reply ≡ (step s event).reply → t ≡ (step s event).state → given ≡ Ok reply → told ≡ Ok (Refused why) → given ≡ told → t ≡ s
@@ -43,7 +46,8 @@ refused-applied event reply s t why given told is t_is given_is told_is same =
     let refused : reply ≡ Refused why = cc in
     t_is ∙ refused_stays s event why (sym is ∙ refused)
 
--- each count of the state is no more than the number of steps
+-- ---- each count of the state is no more than the number of steps
+
 changes-replay : (s : State) (xs : List Step) → (replay s xs).changes ≤ s.changes + length xs
 changes-replay s [] = omega arith
 changes-replay s (y ∷ ys) = omega (arith, changes-replay (step s y.event).state ys, (counts_rise s y.event).changes_rise)
@@ -52,15 +56,64 @@ sessions-replay : (s : State) (xs : List Step) → (replay s xs).last_session �
 sessions-replay s [] = omega arith
 sessions-replay s (y ∷ ys) = omega (arith, sessions-replay (step s y.event).state ys, (counts_rise s y.event).sessions_rise)
 
-pub changes_le : (d : Content) → Replays d → d.state.changes ≤ length d.history
-changes_le d kept = omega (arith, ap (λ (s : State). s.changes) kept.leads, changes-replay (empty d.state.te) d.history)
-
-pub sessions_le : (d : Content) → Replays d → d.state.last_session ≤ length d.history
-sessions_le d kept = omega (arith, ap (λ (s : State). s.last_session) kept.leads, sessions-replay (empty d.state.te) d.history)
-
 tickets-replay : (s : State) (xs : List Step) → (replay s xs).last_ticket ≤ s.last_ticket + length xs
 tickets-replay s [] = omega arith
 tickets-replay s (y ∷ ys) = omega (arith, tickets-replay (step s y.event).state ys, (counts_rise s y.event).tickets_rise)
 
-pub tickets_le : (d : Content) → Replays d → d.state.last_ticket ≤ length d.history
-tickets_le d kept = omega (arith, ap (λ (s : State). s.last_ticket) kept.leads, tickets-replay (empty d.state.te) d.history)
+pub changes_le : (d : Content) → Replays d → d.state.changes ≤ steps_of d
+changes_le d whole =
+    let past = whole.past.1 in
+    let start = empty d.base.te in
+    omega (arith, ap (λ (s : State). s.changes) whole.kept.leads, changes-replay d.base d.history, ap (λ (s : State). s.changes) past.replays.leads, changes-replay start whole.past.0, past.steps)
+
+pub sessions_le : (d : Content) → Replays d → d.state.last_session ≤ steps_of d
+sessions_le d whole =
+    let past = whole.past.1 in
+    let start = empty d.base.te in
+    omega (arith, ap (λ (s : State). s.last_session) whole.kept.leads, sessions-replay d.base d.history, ap (λ (s : State). s.last_session) past.replays.leads, sessions-replay start whole.past.0, past.steps)
+
+pub tickets_le : (d : Content) → Replays d → d.state.last_ticket ≤ steps_of d
+tickets_le d whole =
+    let past = whole.past.1 in
+    let start = empty d.base.te in
+    omega (arith, ap (λ (s : State). s.last_ticket) whole.kept.leads, tickets-replay d.base d.history, ap (λ (s : State). s.last_ticket) past.replays.leads, tickets-replay start whole.past.0, past.steps)
+
+-- ---- a database after one more event
+
+neither : (p q : Bool) → (p || q) ≡ false → (p ≡ false) × (q ≡ false)
+neither Bool.true q is = absurd (cc (is))
+neither Bool.false q is = (refl, is)
+
+other_number : (a b : ℕ) → (a == b) ≡ false → a ≢ b
+other_number a b = grind (arith, nat_tests, common_steps)
+
+-- there is room for one more step
+pub more_may_come : (d : Content) (n : ℕ) → IsWhole d n → is_full d ≡ false → (length d.history + 1 ≤ step_limit) × (steps_of d + 1 ≤ last_step)
+more_may_come d n whole none =
+    let tests = neither (length d.history == step_limit) (steps_of d == last_step) none in (
+      omega (arith, whole.kept, other_number (length d.history) step_limit tests.0),
+      omega (arith, whole.taken, other_number (steps_of d) last_step tests.1),
+    )
+
+pub grants_le_steps : (d : Content) (n : ℕ) → IsWhole d n → n ≤ steps_of d
+grants_le_steps d n whole = omega (arith, whole.counted, grants_le d.history, grants_le whole.replays.past.0, whole.replays.past.1.steps, whole.replays.past.1.grants)
+
+pub IsWhole-stepped : (d : Content) (n m : ℕ) (event : Event) (reply : Reply) → IsWhole d n → is_full d ≡ false → reply ≡ (step d.state event).reply
+    → m ≡ n + (if is_grant (brief_of reply) then 1 else 0) → IsWhole (stepped d event reply) m
+IsWhole-stepped d n m event reply whole none is counted =
+    let x = kept_step event reply in
+    let room = more_may_come d n whole none in
+    record {
+      replays = Replays-stepped d event reply whole.replays is;
+      kept = omega (arith, length-append d.history (x ∷ []), room.0);
+      taken = omega (arith, length-append d.history (x ∷ []), room.1);
+      counted = omega (arith, counted, whole.counted, grants-snoc d.history x);
+    }
+
+-- the same database, where the new state and history are known by equations
+pub content-stepped : (s t : State) (xs ys : List Step) (base : known.Base) (rolled rolled_grants : ℕ) (event : Event) (reply : Reply)
+    → t ≡ (step s event).state → ys ≡ xs ++ kept_step event reply ∷ [] → content t ys base rolled rolled_grants ≡ stepped (content s xs base rolled rolled_grants) event reply
+content-stepped s t xs ys base rolled rolled_grants event reply t_is ys_is =
+    let same_te : t.te ≡ s.te = ap (λ (u : State). u.te) t_is ∙ te_stays s event in
+    let same_base : state_over t.te base ≡ state_over s.te base = ap (λ te. state_over te base) same_te in
+    cc

@@ -5,7 +5,7 @@ use Rattle.std.specs.List.{count_by, sum_by}
 use Rattle.std.proofs.lemmas.List.Sums.{count_by-le-length, sum_by-append, sum_by-cons}
 use Rattle.step_core.specs.declared.event.Reply.{Reply}
 use Rattle.step_core.specs.declared.event.Reply.TheVariants as reply
-use Rattle.step_core.specs.States.{State, empty}
+use Rattle.step_core.specs.States.{State}
 use Rattle.step_core.specs.Steps.{step}
 use Rattle.step_core.proofs.SoundSteps.{granted_is_sound}
 use Rattle.history_core.specs.declared.step.Brief.TheVariants as brief
@@ -30,14 +30,14 @@ granted_alone (reply.Removing n) srp is = absurd (cc (is))
 granted_alone (reply.Out messages) srp is = absurd (cc (is))
 granted_alone (reply.Refused why) srp is = absurd (cc (is))
 
-legal_is_sound : (s : State) (xs : List Step) → IsLegalFrom s xs → IsSoundFrom s xs
+pub legal_is_sound : (s : State) (xs : List Step) → IsLegalFrom s xs → IsSoundFrom s xs
 legal_is_sound s [] legal = tt
 legal_is_sound s (x ∷ xs) legal =
     (λ srp is. granted_is_sound s x.event srp (granted_alone (step s x.event).reply srp (sym legal.0 ∙ is)), legal_is_sound (step s x.event).state xs legal.1)
 
 -- a history that replays is sound
 pub sound_by_replay : (d : Content) → Replays d → IsSound d
-sound_by_replay d kept = legal_is_sound (empty d.state.te) d.history kept.legal
+sound_by_replay d whole = legal_is_sound d.base d.history whole.kept.legal
 
 -- one more step counts where it is a grant
 pub grants-snoc : (xs : List Step) (x : Step) → grants_in (xs ++ x ∷ []) ≡ grants_in xs + (if is_grant x.brief then 1 else 0)

@@ -1,9 +1,11 @@
 -- Histories: the steps that were taken from a state, and the state to which they lead.
-use Rattle.std.specs.Prelude.{ℕ, ◌≡◌, Bool, ◌==◌, List, [], ◌∷◌, ◌++◌, length, Result, Ok, Err, if◌then◌else◌}
+use Rattle.std.specs.Prelude.{ℕ, ◌≡◌, ◌+◌, ◌^◌, ◌≤◌, Bool, ◌==◌, ◌||◌, List, [], ◌∷◌, ◌++◌, length, Result, Ok, Err, if◌then◌else◌}
 use Rattle.std.specs.List.{count_by}
 use Rattle.te_base.specs.Base.{Base}
 use Rattle.step_core.specs.declared.event.Event.{Event}
 use Rattle.step_core.specs.declared.event.Reply.{Reply}
+use Rattle.step_core.specs.declared.base.Base as known
+use Rattle.step_core.specs.Bases.{state_over}
 use Rattle.step_core.specs.States.{State, empty}
 use Rattle.step_core.specs.Steps.{step}
 use Rattle.history_core.specs.declared.step.Step.{Step}
@@ -32,34 +34,68 @@ IsSoundFrom s (x ∷ xs) = ((srp : ℕ) → x.brief ≡ brief.Granted srp → Is
 abbrev pub grants_in : List Step → ℕ
 grants_in steps = count_by (λ x. is_grant x.brief) steps
 
--- the greatest number of steps that are kept
+-- the greatest number of steps that are kept at a time
 abbrev pub step_limit : ℕ
 step_limit = 1048576
 
--- what a database is seen as: a state, with the steps that led to it
+-- the greatest number of steps that are ever taken
+abbrev pub last_step : ℕ
+last_step = 2 ^ 62
+
+-- what a database is seen as: a state, with the kept steps that led to it from the base; before the base so many
+-- steps were taken, so many of them grants
 pub record Content : Type 0 where
   pub state : State
   pub history : List Step
+  pub base : State
+  pub rolled : ℕ
+  pub rolled_grants : ℕ
 
--- no more steps are kept
+-- how many steps were ever taken
+abbrev pub steps_of : Content → ℕ
+steps_of d = d.rolled + length d.history
+
+-- how many of them were grants
+abbrev pub grants_of : Content → ℕ
+grants_of d = d.rolled_grants + grants_in d.history
+
+-- no further step can be kept
 abbrev pub is_full : Content → Bool
-is_full d = length d.history == step_limit
+is_full d = length d.history == step_limit || steps_of d == last_step
 
 -- the history is legal from the start, and leads from there to the state
-pub record ReplaysFrom (start : State) (d : Content) : Type 0 where
-  pub legal : IsLegalFrom start d.history
-  pub leads : replay start d.history ≡ d.state
+pub record ReplaysFrom (start : State) (history : List Step) (state : State) : Type 0 where
+  pub legal : IsLegalFrom start history
+  pub leads : replay start history ≡ state
 
--- the history, from a network of which nothing was reported yet, is sound
+-- so many steps, so many of them grants, led to the state from a network of which nothing was reported yet
+pub record IsPast (past : List Step) (count granted : ℕ) (state : State) : Type 0 where
+  pub steps : length past ≡ count
+  pub grants : grants_in past ≡ granted
+  pub replays : ReplaysFrom (empty state.te) past state
+
+-- the kept steps replay from the base to the state, and the base is where steps of the counted number led
+pub record Replays (d : Content) : Type 0 where
+  pub kept : ReplaysFrom d.base d.history d.state
+  pub past : (past : List Step) × IsPast past d.rolled d.rolled_grants d.base
+
+-- what holds of every database: it replays, as many steps are kept and were taken as may be, and its grants are counted
+pub record IsWhole (d : Content) (grants : ℕ) : Type 0 where
+  pub replays : Replays d
+  pub kept : length d.history ≤ step_limit
+  pub taken : steps_of d ≤ last_step
+  pub counted : grants ≡ grants_of d
+
+-- the kept steps, from the base, are sound
 abbrev pub IsSound : Content → Type 0
-IsSound d = IsSoundFrom (empty d.state.te) d.history
+IsSound d = IsSoundFrom d.base d.history
 
--- the history is that of a network of which nothing was reported yet
-abbrev pub Replays : Content → Type 0
-Replays d = ReplaysFrom (empty d.state.te) d
+-- a database over the network of its state
+abbrev pub content : State → List Step → known.Base → ℕ → ℕ → Content
+content state history base rolled rolled_grants = record { state = state; history = history; base = state_over state.te base; rolled = rolled; rolled_grants = rolled_grants }
 
 abbrev pub nothing_happened : Base → Content
-nothing_happened te = record { state = empty te; history = [] }
+nothing_happened te = record { state = empty te; history = []; base = empty te; rolled = 0; rolled_grants = 0 }
 
 abbrev pub kept_step : Event → Reply → Step
 kept_step event reply = record { event = event; brief = brief_of reply }
@@ -71,3 +107,7 @@ stepped d event reply = record d { state = (step d.state event).state; history =
 -- one event: its reply, and the database after it, unless no further step can be kept
 abbrev pub applied : Content → Event → Result (Reply × Content) Fault
 applied d event = if is_full d then Err HistoryFull else Ok ((step d.state event).reply, stepped d event (step d.state event).reply)
+
+-- the state is the base, and no step is kept
+abbrev pub rolled_up : Content → Content
+rolled_up d = record { state = d.state; history = []; base = d.state; rolled = steps_of d; rolled_grants = grants_of d }

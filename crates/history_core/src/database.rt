@@ -1,41 +1,52 @@
 //! A state with its history.
-ghost use Rattle.std.specs.Prelude.{◌≡◌, ◌<◌, ◌≤◌, ◌+◌, ◌^◌, ◌↔◌, if◌then◌else◌, IsTrue, [], ◌∷◌, ◌++◌, length, vec_len, vec_capacity, IfOk, OnErr, IsNone, IfSome};
+ghost use Rattle.std.specs.Prelude.{◌≡◌, ◌<◌, ◌≤◌, ◌+◌, ◌^◌, ◌↔◌, if◌then◌else◌, IsTrue, List, [], ◌∷◌, ◌++◌, length, vec_len, vec_capacity, IfOk, OnOk, OnErr, IsNone, IfSome};
 ghost use Rattle.lsp_base.specs.Shares.{unreserved};
+ghost use Rattle.step_core.specs.Bases.{state_over};
 ghost use Rattle.step_core.specs.States.{is_up, is_queued, has_waiting};
 ghost use Rattle.step_core.specs.Steps.{step};
 ghost use Rattle.step_core.specs.Laws.{peer_of, OthersStay};
 ghost use Rattle.history_core.specs.Briefs.{brief_of, is_grant};
-ghost use Rattle.history_core.specs.Histories.{Replays, IsSound, nothing_happened, kept_step, stepped, is_full, grants_in};
+ghost use Rattle.history_core.specs.Histories.{Replays, IsSound, IsPast, nothing_happened, kept_step, stepped, is_full, steps_of, grants_of, rolled_up, last_step};
 
 use crate::fault::Fault;
 use crate::step::{Brief, Step, shortened};
 use pcep_word::Priority;
+use sequence::PlainData;
 use std::alloc::{AllocError, Global};
 use std::marker::Model;
-use step_core::{Event, Reply, State};
+use std::mem;
+use step_core::{Base, Event, Reply, SharedEvent, State};
 use te_base::{LinkNumber, TeBase};
 
 /// The greatest number of steps that are kept.
 pub const STEP_LIMIT: usize = 1_048_576;
 
-/// What is known, with the history that led to it.
+/// The greatest number of steps that are ever taken.
+pub const LAST_STEP: u64 = 1 << 62;
+
+/// What is known, with the history that led to it from a base.
 #[derive(Drop)]
 pub struct Database {
+    /// What was known before the first of the kept steps.
+    base: Base,
+    /// How many steps were taken before the base.
+    rolled: u64,
+    /// How many of these were grants.
+    rolled_grants: u64,
     state: State,
     history: Vec<Step>,
-    /// How many of the steps are grants.
+    /// How many of all steps are grants.
     grants: u64,
 }
 
 impl Model for Database {
-    ghost use Rattle.std.specs.Prelude.{◌≡◌, ◌≤◌, length};
-    ghost use Rattle.history_core.specs.Histories.{Content, Replays, step_limit, grants_in};
+    ghost use Rattle.history_core.specs.Histories.{Content, IsWhole, content};
 
     ghost Value = { Content };
 
-    ghost view = { λ d. record { state = d.state; history = d.history.items } };
+    ghost view = { λ d. content d.state d.history.items d.base d.rolled d.rolled_grants };
 
-    ghost invariant = { λ d. Replays (record { state = d.state; history = d.history.items }) × (length d.history.items ≤ step_limit) × (d.grants ≡ grants_in d.history.items) };
+    ghost invariant = { λ d. IsWhole (content d.state d.history.items d.base d.rolled d.rolled_grants) d.grants };
 }
 
 fn is_grant(brief: Brief) -> bool
@@ -46,7 +57,7 @@ fn is_grant(brief: Brief) -> bool
 
 /// Keeps the event with the brief of its reply, as the newest step, in room that is there, and counts it where it is a
 /// grant.
-fn keep(history: &mut Vec<Step>, grants: &mut u64, event: Event, reply: &Reply)
+fn keep(history: &mut Vec<Step>, grants: &mut u64, event: SharedEvent, reply: &Reply)
     requires room { vec_len history.old + 1 ≤ vec_capacity history.old }
     requires grants { grants.old < 2 ^ 62 }
     ensures kept { history.new.items ≡ history.old.items ++ kept_step event reply.now ∷ [] }
@@ -67,15 +78,25 @@ impl Database {
     {
         let state = State::new(alloc, te)?;
         Ok(Database {
+            base: state.copy()?,
+            rolled: 0,
+            rolled_grants: 0,
             state,
             history: Vec::new(alloc),
             grants: 0,
         })
     }
 
+    /// Whether no further step can be kept.
+    pub fn is_full(&self) -> bool
+        ensures { result ≡ is_full self.now }
+    {
+        self.history.len() == STEP_LIMIT || self.steps() == LAST_STEP
+    }
+
     /// One event, which is kept with the brief of its reply. A refused event is kept too, and changes
-    /// nothing else. `HistoryFull` is answered exactly where 1,048,576 steps are kept. After a fault
-    /// nothing has changed, and the event is dropped.
+    /// nothing else. `HistoryFull` is answered exactly where 1,048,576 steps are kept, or 2^62 were ever
+    /// taken. After a fault nothing has changed, and the event is dropped.
     #[tactic(auto, using(crate::proofs::Sounding::sound_by_replay))]
     pub fn apply(&mut self, event: Event) -> Result<Reply, Fault>
         ensures step { IfOk result (λ reply. self.new ≡ stepped self.old event reply) }
@@ -87,42 +108,107 @@ impl Database {
         ensures replays { Replays self.new }
         ensures sound { IsSound self.new }
     {
-        if self.history.len() >= STEP_LIMIT {
+        if self.is_full() {
+            return Err(Fault::HistoryFull);
+        }
+        let shared = SharedEvent::new(*self.history.allocator(), event)?;
+        self.apply_shared(shared)
+    }
+
+    /// The same of an event that others keep too.
+    #[tactic(auto, using(crate::proofs::Sounding::sound_by_replay))]
+    pub fn apply_shared(&mut self, event: SharedEvent) -> Result<Reply, Fault>
+        ensures step { IfOk result (λ reply. self.new ≡ stepped self.old event reply) }
+        ensures reply { IfOk result (λ reply. reply ≡ (step self.old.state event).reply) }
+        ensures full { (result ≡ Err Fault.HistoryFull) ↔ IsTrue (is_full self.old) }
+        ensures unchanged_on_fault { OnErr result (self.new ≡ self.old) }
+        ensures unchanged_by_refused { (why : _) → result ≡ Ok (Reply.Refused why) → self.new.state ≡ self.old.state }
+        ensures others_stay { OthersStay (peer_of self.old.state event) self.old.state self.new.state }
+        ensures replays { Replays self.new }
+        ensures sound { IsSound self.new }
+    {
+        if self.is_full() {
             return Err(Fault::HistoryFull);
         }
         self.history.reserve(1)?;
-        let reply = self.state.step(&event)?;
+        let reply = self.state.step(event.event())?;
         keep(&mut self.history, &mut self.grants, event, &reply);
         Ok(reply)
     }
 
-    /// The kept steps, oldest first.
+    /// The state becomes the base, and the kept steps are dropped: more can be kept again. It is no step, no
+    /// reply to a later event is another by it, and the steps and grants stay counted. Where memory is
+    /// refused nothing has changed.
+    pub fn roll(&mut self) -> Result<(), AllocError>
+        ensures rolled { OnOk result (self.new ≡ rolled_up self.old) }
+        ensures unchanged_without_memory { OnErr result (self.new ≡ self.old) }
+        ensures replays { Replays self.new }
+    {
+        let _kept_no_longer = self.take_rolled()?;
+        Ok(())
+    }
+
+    /// The same, and the steps that were kept are given, oldest first: to let go of a million of them takes
+    /// time, which may be spent once a lock is free.
+    pub fn take_rolled(&mut self) -> Result<Vec<Step>, AllocError>
+        ensures rolled { OnOk result (self.new ≡ rolled_up self.old) }
+        ensures given { IfOk result (λ steps. steps.items ≡ self.old.history) }
+        ensures unchanged_without_memory { OnErr result (self.new ≡ self.old) }
+        ensures replays { Replays self.new }
+    {
+        let base = self.state.copy()?;
+        self.base = base;
+        self.rolled += self.history.len() as u64;
+        self.rolled_grants = self.grants;
+        let alloc = *self.history.allocator();
+        Ok(mem::replace(&mut self.history, Vec::new(alloc)))
+    }
+
+    /// What was known at the last roll, before the first of the kept steps; before the first roll, that
+    /// nothing was reported. Takes no memory.
+    pub fn base(&self) -> &Base
+        ensures { state_over self.now.state.te result.now ≡ self.now.base }
+    {
+        &self.base
+    }
+
+    /// How many steps were taken before the base. Takes no memory.
+    pub fn rolled(&self) -> u64
+        ensures { result ≡ self.now.rolled }
+    {
+        self.rolled
+    }
+
+    /// The kept steps, oldest first. The first has the place `rolled` among all steps.
     #[tactic(auto, using(crate::proofs::Sounding::sound_by_replay))]
     pub fn history(&self) -> &[Step]
         ensures history { result.now ≡ self.now.history }
+        ensures few { steps_of self.now ≤ last_step }
         ensures replays { Replays self.now }
         ensures sound { IsSound self.now }
     {
         self.history.as_slice()
     }
 
-    /// How many steps are kept.
+    /// How many steps were ever taken, at most 2^62.
     pub fn steps(&self) -> u64
-        ensures { result ≡ length self.now.history }
+        ensures steps { result ≡ steps_of self.now }
+        ensures few { result ≤ last_step }
     {
-        self.history.len() as u64
+        self.rolled + self.history.len() as u64
     }
 
-    /// How many of the kept steps are grants.
+    /// How many of all steps were grants.
     pub fn grants(&self) -> u64
-        ensures { result ≡ grants_in self.now.history }
+        ensures { result ≡ grants_of self.now }
     {
         self.grants
     }
 
     /// Whether a ticket waits to be searched for.
     pub fn waiting(&self) -> bool
-        ensures { result ≡ has_waiting self.now.state }
+        ensures waiting { result ≡ has_waiting self.now.state }
+        ensures replays { Replays self.now }
     {
         self.state.waiting()
     }
@@ -141,14 +227,16 @@ impl Database {
 
     /// Whether a session of the peer is up.
     pub fn is_up(&self, peer: u32) -> bool
-        ensures { result ≡ is_up self.now.state peer }
+        ensures is_up { result ≡ is_up self.now.state peer }
+        ensures replays { Replays self.now }
     {
         self.state.is_up(peer)
     }
 
     /// Whether messages wait to be sent to the peer.
     pub fn queued(&self, peer: u32) -> bool
-        ensures { result ≡ is_queued self.now.state peer }
+        ensures queued { result ≡ is_queued self.now.state peer }
+        ensures replays { Replays self.now }
     {
         self.state.queued(peer)
     }

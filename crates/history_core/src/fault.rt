@@ -11,7 +11,7 @@ use std::{error, fmt};
 pub enum Fault {
     /// A growth was refused.
     OutOfMemory,
-    /// 1,048,576 steps are kept.
+    /// 1,048,576 steps are kept, or 2^62 were ever taken.
     HistoryFull,
 }
 

@@ -1,8 +1,10 @@
 //! The database: a state with the history of the steps that led to it. Every event that `apply` answers
 //! with `Ok`, a refused one too, is kept as one `Step`, which has the event and the brief of its reply. Of
-//! every value of `Database` it holds that its history replays: from the empty state, on one thread, its
-//! events give these very briefs and lead to its state (`specs/Histories.antt`). So what `unreserved`
-//! answers is what the kept reports leave of a link. At most 1,048,576 steps are kept.
+//! every value of `Database` it holds that its history replays: from its base, on one thread, its events
+//! give these very briefs and lead to its state (`specs/Histories.antt`). So what `unreserved` answers is
+//! what the reports leave of a link. At most 1,048,576 steps are kept; a roll makes the state the base, and
+//! lets go of the steps before it, which stay counted. All steps ever taken, those before the base too, are
+//! one legal and sound history from a network of which nothing was reported (`one_history`).
 //!
 //! ```text
 //! fn left_after(database: &mut Database, event: Event) -> Result<Option<i64>, Fault>
@@ -18,9 +20,11 @@
 
 mod database;
 mod fault;
+mod laws;
 mod step;
 
-pub use database::{Database, STEP_LIMIT};
+pub use database::{Database, LAST_STEP, STEP_LIMIT};
 pub use fault::Fault;
+pub use laws::one_history;
 pub use step::{Brief, Step};
-pub use step_core::{Event, Job, LspName, Purpose, Reply, Ticket, Why};
+pub use step_core::{Base, Event, Job, LspName, Purpose, Reply, SharedEvent, Ticket, Why};

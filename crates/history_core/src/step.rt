@@ -4,7 +4,7 @@ ghost use Rattle.history_core.specs.Briefs.{brief_of};
 
 use sequence::PlainData;
 use std::alloc::AllocError;
-use step_core::{Event, Reply, Why};
+use step_core::{Reply, SharedEvent, Why};
 
 /// A reply, cut down to what a history keeps of it.
 #[derive(Clone, Copy, Debug, PartialEq, Eq)]
@@ -33,7 +33,7 @@ pub enum Brief {
 /// A kept step: an event, and the brief of its reply.
 #[derive(Debug, Drop)]
 pub struct Step {
-    pub event: Event,
+    pub event: SharedEvent,
     pub brief: Brief,
 }
 

@@ -4,7 +4,8 @@ use Rattle.step_core.specs.Steps.{step}
 use Rattle.step_core.specs.declared.event.Event.TheVariants as event
 use Rattle.history_core.specs.Histories.{Content}
 use Rattle.script_lines.proofs.Telling.{fails_more}
-use Rattle.script_lines.specs.Takes.{MayAnswerTo, take_line, TellsTaken}
+use Rattle.job_search.specs.Answers.{MayAnswerTo}
+use Rattle.script_lines.specs.Takes.{take_line, TellsTaken}
 use Rattle.script_lines.specs.Told.{Told, told, ◌>>=◌, Fails, Tells}
 use Rattle.script_lines.specs.declared.fault.CommandFault.{CommandFault}
 use Rattle.script_lines.specs.declared.orders.Order.{Order}

@@ -1,12 +1,14 @@
 -- A run over a reader and a writer whose bytes are known.
-use Rattle.std.specs.Prelude.{◌≡◌, ℕ, ◌^◌, ◌≤◌, List, length, [], ◌++◌, Option, Some, None, Result, Ok, Err}
-use Rattle.std.specs.Io.KnownBytes.{Appends}
+use Rattle.std.specs.Prelude.{◌≡◌, ◌⊎◌, ℕ, ◌^◌, ◌<◌, ◌≤◌, List, length, [], ◌++◌, Option, Some, None, Result, Ok, Err}
+use Rattle.std.specs.Io.KnownBytes.{Appends, Consumes, Keeps, IsAtEnd}
 use Rattle.pce_engine.specs.declared.fault.ScriptFault.{ScriptFault}
 use Rattle.pce_engine.specs.declared.fault.ScriptFault.TheVariants.{ReadFault, WriteFault, OutOfMemory}
 use Rattle.pce_engine.specs.declared.script.Input.{Input}
 use Rattle.pce_engine.specs.declared.script.Input.TheVariants.{Ended, Endless}
+use Rattle.pce_engine.specs.declared.script.Turn.{Turn}
+use Rattle.pce_engine.specs.declared.script.Turn.TheVariants.{More, Finished}
 use Rattle.pce_engine.specs.Script.{Searches}
-use Rattle.pce_engine.specs.Ends.{WritesScript, WritesRead, EndsBy}
+use Rattle.pce_engine.specs.Ends.{piece_bound, WritesScript, WritesRead, WritesLast, EndsBy, ClosesBy}
 use Rattle.pce_engine.specs.Machine.{Machine, started, fed, AllowedBytes, Goes, LeadsPartly}
 
 -- A fault stopped it, and what it printed before was written. Where memory ran out, that is what all lines of the piece
@@ -25,6 +27,25 @@ GoesOn bytes m old new n = (answers : Searches) × (text : List ℕ) × Appends 
 abbrev pub Chunk : {X : Type 0} → Result X ScriptFault → List ℕ → Machine → Option (List ℕ) → Option (List ℕ) → Machine → Type 0
 Chunk (Ok x) bytes m old new n = GoesOn bytes m old new n
 Chunk (Err e) bytes m old new n = Stops e bytes m old new
+
+-- A read gave bytes, at most a piece.
+abbrev pub Gave : List ℕ → Option (List ℕ) → Option (List ℕ) → Type 0
+Gave bytes was now = Consumes was now bytes × (0 < length bytes) × (length bytes ≤ piece_bound)
+
+-- A read gave nothing, for the input has ended.
+abbrev pub GaveNothing : Option (List ℕ) → Option (List ℕ) → Type 0
+GaveNothing was now = Consumes was now [] × IsAtEnd now
+
+-- A turn ended the run by a fault: the read failed and nothing was written, or the bytes that it gave stopped the
+-- script, or its last line did.
+abbrev pub TurnFails : ScriptFault → Option (List ℕ) → Option (List ℕ) → Option (List ℕ) → Option (List ℕ) → Machine → Type 0
+TurnFails e was now old new m = ((e ≡ ReadFault) × Keeps was now × (new ≡ old)) ⊎ (((bytes : List ℕ) × Gave bytes was now × Stops e bytes m old new) ⊎ (GaveNothing was now × ClosesBy e old new m.stage m.pending))
+
+-- What a turn leaves: one read, and what is written of it.
+abbrev pub Turns : Result Turn ScriptFault → Option (List ℕ) → Option (List ℕ) → Option (List ℕ) → Option (List ℕ) → Machine → Machine → Type 0
+Turns (Ok More) was now old new m n = (bytes : List ℕ) × Gave bytes was now × GoesOn bytes m old new n
+Turns (Ok Finished) was now old new m n = GaveNothing was now × WritesLast old new None m.stage m.pending
+Turns (Err e) was now old new m n = TurnFails e was now old new m
 
 -- some of the input was read, at least a byte a turn, and what it prints was written
 pub record Reading (input : List ℕ) (remaining old new : Option (List ℕ)) (m : Machine) (turns : ℕ) : Type 0 where

@@ -10,13 +10,15 @@ use Rattle.step_core.specs.Steps.{step}
 use Rattle.script_lines.specs.Orders.{order_of}
 use Rattle.pce_engine.specs.SessionLines.{message_line, end_line, open_line, up_line}
 use Rattle.script_lines.specs.Submits.{report_line, event_line}
-use Rattle.script_lines.specs.Takes.{MayAnswerTo, take_line}
+use Rattle.script_lines.specs.Rolls.{roll_line}
+use Rattle.job_search.specs.Answers.{MayAnswerTo}
+use Rattle.script_lines.specs.Takes.{take_line}
 use Rattle.script_lines.specs.Texts.{book_text, history_text}
 use Rattle.script_lines.specs.Told.{Told, told, ◌>>=◌, behind, each, Fails}
 use Rattle.script_lines.specs.declared.fault.CommandFault.{CommandFault}
 use Rattle.script_lines.specs.declared.fault.CommandFault.TheVariants.{BadLine}
 use Rattle.script_lines.specs.declared.orders.Order.{Order}
-use Rattle.script_lines.specs.declared.orders.Order.TheVariants.{Report, Book, History, Open, Up, Bytes, End, Tick, Submit, Take}
+use Rattle.script_lines.specs.declared.orders.Order.TheVariants.{Report, Book, History, Open, Up, Bytes, End, Tick, Submit, Take, Roll}
 use Rattle.pce_engine.specs.declared.standing.Standing.{Standing}
 
 -- the link text has ended: no session lives
@@ -66,6 +68,7 @@ obeyed answer (End peer) s = end_line peer s
 obeyed answer (Tick now_ms) s = tick_line now_ms s
 obeyed answer (Submit event) s = operator_line event s
 obeyed answer Take s = take_line answer s.database >>= λ t. Ok (with_database s t)
+obeyed answer Roll s = roll_line s.database >>= λ t. Ok (with_database s t)
 
 abbrev pub ordered : Option (List ℕ) → Standing → Option Order → Result (Told Standing) CommandFault
 ordered answer s None = Err BadLine

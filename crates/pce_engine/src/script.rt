@@ -1,11 +1,12 @@
 //! A script, from a reader to a writer.
 
-ghost use Rattle.std.specs.Prelude.{◌≡◌, ◌<◌, ◌≤◌, ◌+◌, ◌^◌, List, ℕ, length, Some, IfErr};
+ghost use Rattle.std.specs.Prelude.{◌≡◌, ◌≢◌, ◌<◌, ◌≤◌, ◌+◌, ◌^◌, List, [], ℕ, length, Some, Ok, IfErr};
 ghost use Rattle.std.specs.Io.{ReadsAtMost};
 ghost use Rattle.std.specs.Io.KnownBytes.{ReadConsumes};
 ghost use Rattle.pce_engine.specs.declared.fault.ScriptFault.TheVariants.{ReadFault};
+ghost use Rattle.pce_engine.specs.declared.script.Turn.TheVariants.{More};
 ghost use Rattle.pce_engine.specs.Script.{ending};
-ghost use Rattle.pce_engine.specs.Runs.{Chunk, Reaches};
+ghost use Rattle.pce_engine.specs.Runs.{Chunk, Turns, Reaches};
 ghost use Rattle.pce_engine.specs.Ends.{EndsAs, Closes, ClosesAt};
 ghost use Rattle.pce_engine.specs.Machine.{Takes, Feeds, stage_of};
 ghost use Rattle.pce_engine.specs.MachineOf.{machine_of};
@@ -25,6 +26,15 @@ enum Input {
     Ended,
     /// The reader gave bytes as often as it may be asked.
     Endless,
+}
+
+/// What one read of the input came to.
+#[derive(Clone, Copy)]
+enum Turn {
+    /// There were bytes, and what they print was written.
+    More,
+    /// There were none, and what the last line prints was written.
+    Finished,
 }
 
 /// Where a script is, with the bytes of a line that hasn't ended.
@@ -102,6 +112,26 @@ fn close<W: Write>(stage: &Stage, writer: &mut W) -> Result<(), ScriptFault>
     Ok(())
 }
 
+/// Takes the last line, which no line break ends, and writes what it prints.
+fn finish_line<W: Write>(
+    alloc: Global,
+    stage: &mut Stage,
+    line: &[u8],
+    writer: &mut W,
+) -> Result<(), ScriptFault>
+    requires number { stage.old.number < 2 ^ 63 }
+    requires line { line.now ≢ [] }
+    ensures { Closes result (W.contents writer.old) (W.contents writer.new) (stage_of stage.old) line.now }
+{
+    let mut out = Vec::new(alloc);
+    tell(alloc, stage, line, &mut out)?;
+    if writer.write_all(&out).is_err() {
+        return Err(ScriptFault::WriteFault);
+    }
+    close(stage, writer)
+}
+
+#[tactic(auto, using(crate::proofs::Closing::closes_nothing))]
 fn finish<W: Write>(alloc: Global, script: &mut Script, writer: &mut W) -> Result<(), ScriptFault>
     requires { script.old.stage.number < 2 ^ 63 }
     ensures { Closes result (W.contents writer.old) (W.contents writer.new) (stage_of script.old.stage) script.old.pending.items }
@@ -109,12 +139,7 @@ fn finish<W: Write>(alloc: Global, script: &mut Script, writer: &mut W) -> Resul
     if script.pending.is_empty() {
         return close(&script.stage, writer);
     }
-    let mut out = Vec::new(alloc);
-    tell(alloc, &mut script.stage, &script.pending, &mut out)?;
-    if writer.write_all(&out).is_err() {
-        return Err(ScriptFault::WriteFault);
-    }
-    close(&script.stage, writer)
+    finish_line(alloc, &mut script.stage, &script.pending, writer)
 }
 
 /// Fills the front of `piece` with the next bytes of the input, and says how many: 0 where it has ended.
@@ -126,6 +151,31 @@ fn read_piece<R: Read>(reader: &mut R, piece: &mut [u8]) -> Result<usize, Script
     match reader.read(piece) {
         Ok(n) => Ok(n),
         Err(_) => Err(ScriptFault::ReadFault),
+    }
+}
+
+/// Reads a piece of the input, takes it, and writes what it prints; where the input has ended, its last line.
+fn take_piece<R: Read, W: Write>(
+    alloc: Global,
+    reader: &mut R,
+    piece: &mut [u8; 4096],
+    script: &mut Script,
+    writer: &mut W,
+) -> Result<Turn, ScriptFault>
+    requires { script.old.stage.number + 4096 < 2 ^ 63 }
+    ensures turns { Turns result (R.remaining reader.old) (R.remaining reader.new) (W.contents writer.old) (W.contents writer.new) (machine_of script.old) (machine_of script.new) }
+    ensures number { result ≡ Ok More → script.new.stage.number ≤ script.old.stage.number + 4096 }
+{
+    match read_piece(reader, piece) {
+        Err(fault) => Err(fault),
+        Ok(0) => match finish(alloc, script, writer) {
+            Err(fault) => Err(fault),
+            Ok(()) => Ok(Turn::Finished),
+        },
+        Ok(n) => match take_chunk(alloc, script, &piece[..n], writer) {
+            Err(fault) => Err(fault),
+            Ok(()) => Ok(Turn::More),
+        },
     }
 }
 
@@ -146,15 +196,12 @@ fn take_input<R: Read, W: Write>(
         },
         pending: Vec::new(alloc),
     };
-    let mut chunk = [0u8; 4096];
+    let mut piece = [0u8; 4096];
     for _ in 0..MAX_TURNS {
-        match read_piece(reader, &mut chunk) {
+        match take_piece(alloc, reader, &mut piece, &mut script, writer) {
             Err(fault) => return Err(fault),
-            Ok(0) => {
-                finish(alloc, &mut script, writer)?;
-                return Ok(Input::Ended);
-            }
-            Ok(n) => take_chunk(alloc, &mut script, &chunk[..n], writer)?,
+            Ok(Turn::Finished) => return Ok(Input::Ended),
+            Ok(Turn::More) => {}
         }
     }
     Ok(Input::Endless)

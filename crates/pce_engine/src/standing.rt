@@ -10,7 +10,8 @@ use crate::session_lines::{end_line, message_line, open_line, up_line};
 use crate::sessions::Sessions;
 use history_core::{Database, Event};
 use script_lines::{
-    CommandFault, Order, book_text, event_line, history_text, order_of, report_line, take_line,
+    CommandFault, Order, book_text, event_line, history_text, order_of, report_line, roll_line,
+    take_line,
 };
 use std::alloc::{AllocError, Global};
 use te_base::TeBase;
@@ -126,6 +127,7 @@ impl Standing {
             Order::Tick(now_ms) => tick_line(alloc, self, now_ms),
             Order::Submit(event) => operator_line(alloc, self, event),
             Order::Take => take_line(alloc, &mut self.database),
+            Order::Roll => roll_line(alloc, &mut self.database),
         }
     }
 

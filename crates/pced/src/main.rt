@@ -39,6 +39,7 @@ Standard input is a link text (TOML), a line ---, and lines:
   delete PEER PLSP an LSP that was initiated is to be removed
   book             what is left of each link at the priorities 0 to 7
   history          the events so far, with their replies
+  roll             the steps so far are let go, and stay counted
 PEER is a number or a dotted address. docs/FORMAT.md tells all of it.";
 
 fn command<'a>(alloc: Global) -> Result<Command<'a>, AllocError> {

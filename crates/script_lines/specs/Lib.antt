@@ -5,3 +5,4 @@ pub mod Texts
 pub mod Told
 pub mod Submits
 pub mod Takes
+pub mod Rolls

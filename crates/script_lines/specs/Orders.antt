@@ -9,7 +9,7 @@ use Rattle.pcep_messages.specs.declared.message.StateReport.{StateReport}
 use Rattle.script_lines.specs.Words.{cut_at_space, peer_in, long_number_in, octets}
 use Rattle.script_lines.specs.Commands.{◌>>=◌, event_with}
 use Rattle.script_lines.specs.declared.orders.Order.{Order}
-use Rattle.script_lines.specs.declared.orders.Order.TheVariants.{Report, Book, History, Open, Up, Bytes, End, Tick, Submit, Take}
+use Rattle.script_lines.specs.declared.orders.Order.TheVariants.{Report, Book, History, Open, Up, Bytes, End, Tick, Submit, Take, Roll}
 
 -- the reports of a message that is one of state reports (RFC 8231 section 6.1)
 abbrev pub reports_of : Result Message MessageFault → Option (List StateReport)
@@ -74,7 +74,12 @@ long_order line = do
   order_with words.0 words.1
 
 unfoldable pub order_in : List ℕ → Option Order
-order_in line = if bytes_eq line (codes "book") then Some Book else (if bytes_eq line (codes "history") then Some History else (if bytes_eq line (codes "take") then Some Take else long_order line))
+order_in line =
+    if bytes_eq line (codes "book") then Some Book
+    else if bytes_eq line (codes "history") then Some History
+    else if bytes_eq line (codes "take") then Some Take
+    else if bytes_eq line (codes "roll") then Some Roll
+    else long_order line
 
 -- None for a bad line
 unfoldable pub order_of : List ℕ → Option Order

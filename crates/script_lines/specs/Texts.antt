@@ -96,13 +96,13 @@ event_text (event.Delete peer plsp) = codes "delete"
 abbrev pub step_line : ℕ → Step → List ℕ
 step_line number step = codes "step " ++ decimal number ++ codes " " ++ event_text step.event ++ codes " " ++ brief_text step.brief ++ codes "\n"
 
--- a line for each step, from the one with this number on
+-- a line for each step, the first of which has this place among all steps
 abbrev pub steps_from : ℕ → List Step → List ℕ
 steps_from number [] = []
 steps_from number (step ∷ steps) = step_line number step ++ steps_from (number + 1) steps
 
 abbrev pub history_text : Content → List ℕ
-history_text d = steps_from 0 d.history
+history_text d = steps_from d.rolled d.history
 
 -- what is unreserved on a link at a priority
 abbrev pub left_at : State → ℕ → ℕ → ℤ

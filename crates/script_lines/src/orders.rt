@@ -34,6 +34,8 @@ pub enum Order {
     Submit(Event),
     /// A ticket is to be taken, and its path searched for.
     Take,
+    /// The history is to be rolled.
+    Roll,
 }
 
 /// The reports of a message, where it is one of state reports.
@@ -188,6 +190,9 @@ fn order_in(alloc: Global, line: &str) -> Result<Option<Order>, AllocError>
     }
     if line == "take" {
         return Ok(Some(Order::Take));
+    }
+    if line == "roll" {
+        return Ok(Some(Order::Roll));
     }
     long_order(alloc, line)
 }

@@ -1,31 +1,25 @@
 //! The line `take`: a ticket is taken, and its path is searched for.
 
-ghost use Rattle.std.specs.Prelude.{◌≡◌, ◌++◌, List, ℕ, Option, IfOk, OnOk, codes, string_bytes, option_map};
-ghost use Rattle.script_lines.specs.Takes.{MayAnswer, MayAnswerTo, job_line, taken_text, TellsTaken};
+ghost use Rattle.std.specs.Prelude.{◌≡◌, ◌++◌, List, ℕ, Option, OnOk, codes, string_bytes};
+ghost use Rattle.job_search.specs.Answers.{MayAnswer, MayAnswerTo};
+ghost use Rattle.script_lines.specs.Takes.{job_line, taken_text, TellsTaken};
 
 use crate::fault::CommandFault;
 use crate::submits::submit;
 use crate::texts::{add_answer, add_number, add_reply};
 use history_core::{Database, Event, Job, Reply};
-use path_finder::{Found, find};
+use job_search::search;
 use std::alloc::{AllocError, Global};
-
-/// A path of least cost for the job, if the network bears one.
-fn search(alloc: Global, job: &Job) -> Result<Option<Found>, AllocError>
-    ensures { IfOk result (λ found. MayAnswer job.now (option_map (λ f. f.links) found)) }
-{
-    find(alloc, &job.snapshot, &job.ticket.constraints, &job.own)
-}
 
 /// Searches for the path of a job, and adds its line.
 fn add_job(alloc: Global, text: &mut String, job: &Job) -> Result<(), AllocError>
     ensures { OnOk result ((answer : Option (List ℕ)) × MayAnswer job.now answer × (string_bytes text.new ≡ string_bytes text.old ++ job_line job.now answer)) }
 {
-    let found = search(alloc, job)?;
+    let answer = search(alloc, job)?;
     add_number(text, "job ", job.ticket.id)?;
     text.push_str(" ")?;
-    match &found {
-        Some(found) => add_answer(text, Some(found.links.as_slice())),
+    match &answer {
+        Some(links) => add_answer(text, Some(links.as_slice())),
         None => add_answer(text, None),
     }
 }

@@ -1,7 +1,7 @@
 //! What lines print.
 
-ghost use Rattle.std.specs.Prelude.{option_map, ◌≡◌, ◌++◌, ◌+◌, ◌<◌, ◌≤◌, IfOk, OnOk, IsOk, All, length, decimal, string_bytes, string_len, string_capacity};
-ghost use Rattle.script_lines.specs.Texts.{more_links, path_text, answer_text, word_bound, reply_room, booked_text, out_text, refused_text, reply_text, brief_text, event_text, step_line, history_text, left_at, amounts_text, link_line, book_text};
+ghost use Rattle.std.specs.Prelude.{option_map, ◌≡◌, ◌++◌, ◌+◌, ◌^◌, ◌<◌, ◌≤◌, IfOk, OnOk, IsOk, All, length, decimal, string_bytes, string_len, string_capacity};
+ghost use Rattle.script_lines.specs.Texts.{more_links, path_text, answer_text, word_bound, reply_room, booked_text, out_text, refused_text, reply_text, brief_text, event_text, step_line, steps_from, history_text, left_at, amounts_text, link_line, book_text};
 
 use history_core::{Brief, Database, Event, Reply, Step, Why};
 use itoa::Buffer;
@@ -139,24 +139,32 @@ fn event_word(event: &Event) -> &'static str
     }
 }
 
-fn add_step(text: &mut String, number: usize, step: &Step) -> Result<(), AllocError>
-    ensures { OnOk result (string_bytes text.new ≡ string_bytes text.old ++ step_line number step.now) }
+fn add_step(text: &mut String, place: u64, step: &Step) -> Result<(), AllocError>
+    ensures { OnOk result (string_bytes text.new ≡ string_bytes text.old ++ step_line place step.now) }
 {
-    let word = event_word(&step.event);
-    write!(text, "step {number} {word} ")?;
+    let word = event_word(step.event.event());
+    write!(text, "step {place} {word} ")?;
     add_brief(text, step.brief)?;
     text.push_str("\n")
 }
 
-/// A line for each kept step.
+/// A line for each step, the first of which has this place among all steps.
+fn add_steps(text: &mut String, first: u64, steps: &[Step]) -> Result<(), AllocError>
+    requires { first + length steps.now < 2 ^ 63 }
+    ensures { OnOk result (string_bytes text.new ≡ string_bytes text.old ++ steps_from first steps.now) }
+{
+    for (number, step) in steps.iter().enumerate() {
+        add_step(text, first + number as u64, step)?;
+    }
+    Ok(())
+}
+
+/// A line for each kept step, with its place among all steps.
 pub fn history_text(alloc: Global, database: &Database) -> Result<String, AllocError>
     ensures { IfOk result (λ s. string_bytes s ≡ history_text database.now) }
 {
-    let steps = database.history();
     let mut text = String::new(alloc);
-    for (number, step) in steps.iter().enumerate() {
-        add_step(&mut text, number, step)?;
-    }
+    add_steps(&mut text, database.rolled(), database.history())?;
     Ok(text)
 }
 

@@ -171,6 +171,21 @@ fn history(rt: HostRuntime) -> Result<(), Fail> {
     prints(&rt, &lines, &want)
 }
 
+/// A step has its place among all that were ever taken.
+#[test]
+fn a_rolled_history(rt: HostRuntime) -> Result<(), Fail> {
+    let lines = [REPORT, "roll", "history", SECOND_PATH, "history", "book"];
+    let want = [
+        "booked\nrolled 3\nbooked\nstep 3 report booked\n",
+        HALF_OVER_B,
+        FULL_OVER_C,
+    ];
+    prints(&rt, &lines, &want)?;
+    let lines = ["expire 1", "roll", "roll", "expire 1", "roll", "history"];
+    let want = ["refused 1\nrolled 1\nrolled 1\nrefused 1\nrolled 2\n"];
+    prints(&rt, &lines, &want)
+}
+
 #[test]
 fn link_texts(rt: HostRuntime) -> Result<(), Fail> {
     let alloc = rt.alloc();

@@ -86,7 +86,7 @@ fn letter(event: &Event) -> u8 {
 /// The letter of the event of a copy.
 fn copied_letter(call: &Call) -> Result<u8, AllocError> {
     let copy = call.copy()?;
-    Ok(letter(&copy.event))
+    Ok(letter(copy.event.event()))
 }
 
 fn letters(alloc: Global, calls: &[Call]) -> Result<Vec<u8>, Fail> {

@@ -16,6 +16,7 @@ mod memory;
 mod peers;
 mod reckoned;
 mod refusals;
+mod rolls;
 mod searches;
 mod shares;
 
@@ -186,8 +187,10 @@ enum Row {
     AtRandom(u32),
     /// A ticket is taken. Its search is given what is left of the four links, and what its tunnel holds.
     Gives([[i64; 8]; 4], &'static [OwnShare]),
-    /// So many steps are kept, and so many of them are grants.
+    /// So many steps were taken, and so many of them are grants.
     Keeps(u64, u64),
+    /// The history is rolled: so many steps were taken before the base.
+    Rolls(u64),
     /// Whether a session of the peer is up.
     IsUp(u32, bool),
 }
@@ -539,6 +542,7 @@ fn go(
         Row::Often(kind, count) => repeat(rt, alloc, database, kind, count),
         Row::AtRandom(count) => reckoned::turns(rt, alloc, database, count),
         Row::Gives(left, own) => is_given(rt, alloc, database, &left, own),
+        Row::Rolls(steps) => rolls::insist(rt, database, steps),
         _ => Ok(()),
     }
 }

@@ -2,6 +2,7 @@ pub mod Tickets
 pub mod TicketPlaces
 pub mod States
 pub mod Names
+pub mod Bases
 pub mod Networks
 pub mod Outcomes
 pub mod Asks

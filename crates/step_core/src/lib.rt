@@ -20,6 +20,7 @@
 //! ```
 #![tactic(auto)]
 
+mod base;
 mod event;
 mod job;
 mod name_table;
@@ -27,9 +28,11 @@ mod names;
 mod network;
 mod peer;
 mod queue;
+mod shared_event;
 mod state;
 mod ticket_list;
 
+pub use base::Base;
 pub use commit_core::{LspName, Purpose, Ticket};
 pub use event::{Event, Reply};
 pub use job::Job;
@@ -37,5 +40,6 @@ pub use lsp_base::Why;
 pub use names::AwaitedName;
 pub use peer::{PEER_LIMIT, Peer};
 pub use queue::Queue;
+pub use shared_event::SharedEvent;
 pub use state::State;
 pub use ticket_list::TICKET_LIMIT;

@@ -5,7 +5,7 @@ ghost use Rattle.step_core.specs.States.{is_known, is_peer, peer_at, put_peer, i
 use crate::queue::Queue;
 use pcep_messages::Message;
 use pcep_objects::Capabilities;
-use sequence::Sequence;
+use sequence::{PlainData, Sequence};
 use std::alloc::{AllocError, Global};
 
 /// The greatest number of peers that are known at a time.
@@ -26,6 +26,20 @@ pub struct Peer {
     pub last_srp: u32,
     /// What waits to be sent to it.
     pub outgoing: Queue,
+}
+
+impl PlainData for Peer {
+    fn copy(&self) -> Result<Peer, AllocError> {
+        Ok(Peer {
+            number: self.number,
+            up: self.up,
+            session: self.session,
+            capabilities: self.capabilities,
+            syncing: self.syncing,
+            last_srp: self.last_srp,
+            outgoing: self.outgoing.copy()?,
+        })
+    }
 }
 
 const NO_CAPABILITIES: Capabilities = Capabilities {

@@ -2,8 +2,9 @@
 ghost use Rattle.std.specs.Prelude.{◌≡◌, ◌++◌, ◌∷◌, [], OnOk, OnErr};
 ghost use Rattle.step_core.specs.States.{is_nothing};
 
+use crate::base::copies;
 use pcep_messages::Message;
-use sequence::Sequence;
+use sequence::{PlainData, Sequence};
 use std::alloc::{AllocError, Global};
 use std::marker::Model;
 use std::mem;
@@ -57,5 +58,14 @@ impl Queue {
     {
         let alloc = *self.messages.allocator();
         Sequence::from_vec(mem::replace(&mut self.messages, Vec::new(alloc)))
+    }
+}
+
+impl PlainData for Queue {
+    fn copy(&self) -> Result<Queue, AllocError> {
+        let copies = copies(*self.messages.allocator(), self.messages.as_slice())?;
+        Ok(Queue {
+            messages: copies.into_vec(),
+        })
     }
 }

@@ -2,10 +2,12 @@
 ghost use Rattle.std.specs.Prelude.{ℕ, Ok, ◌≡◌, ◌<◌, ◌≤◌, ◌^◌, ◌↔◌, length, IfOk, OnOk, OnErr, IsNone, IfSome};
 ghost use Rattle.lsp_base.specs.Shares.{unreserved};
 ghost use Rattle.step_core.specs.States.{empty, is_up, is_queued, has_waiting};
+ghost use Rattle.step_core.specs.Bases.{known_in};
 ghost use Rattle.step_core.specs.Steps.{step};
 ghost use Rattle.step_core.specs.Laws.{peer_of, OthersStay, CountsRise};
 ghost use Rattle.step_core.specs.Sound.{IsSoundGrant};
 
+use crate::base::{Base, copies};
 use crate::event::{Event, Reply};
 use crate::network::Network;
 use crate::peer::{Peer, find_peer};
@@ -152,5 +154,21 @@ impl State {
         ensures { result.now ≡ self.now.te }
     {
         self.network.te_base()
+    }
+
+    /// What is known, in plain lists.
+    pub fn copy(&self) -> Result<Base, AllocError>
+        ensures { IfOk result (λ base. base ≡ known_in self.now) }
+    {
+        Ok(Base {
+            paths: copies(self.alloc, self.network.lsps().paths())?,
+            records: copies(self.alloc, self.network.lsps().records())?,
+            names: copies(self.alloc, self.network.names())?,
+            peers: copies(self.alloc, self.peers.as_slice())?,
+            tickets: copies(self.alloc, self.tickets.as_slice())?,
+            changes: self.changes,
+            last_session: self.last_session,
+            last_ticket: self.last_ticket,
+        })
     }
 }

@@ -1,7 +1,7 @@
 //! Faults that no clause tells from want of memory, and reads that are many.
 use super::*;
 use history_core::{Database, Event, Fault};
-use pce_engine::{CommandFault, Lent, command};
+use pce_engine::{CommandFault, Lent, Store, command};
 use te_base::TeBase;
 
 /// As many steps as a history keeps.
@@ -101,7 +101,22 @@ fn lines_of_a_full_store(
     database: &mut Database,
 ) -> Result<(), Fail> {
     fill(database)?;
-    are_refused(rt, database)
+    are_refused(rt, database)?;
+    goes_on(rt, database)
+}
+
+/// A roll makes room for further steps.
+fn goes_on(rt: &(impl Abort + AllocGlobal), database: &mut Database) -> Result<(), Fail> {
+    let alloc = rt.alloc();
+    let mut store = Lent::new(alloc, database);
+    assert_eq!(rt; store.roll()?, u64::from(STEPS));
+    assert_eq!(rt; store.calls().len(), 0);
+    assert_eq!(rt;
+        command(alloc, "expire 1", &mut store)?.as_str(),
+        "refused 1"
+    );
+    assert_eq!(rt; store.roll()?, u64::from(STEPS) + 1);
+    Ok(())
 }
 
 #[test]

@@ -1,5 +1,6 @@
 //! Faults of the store, and want of memory.
 use super::*;
+use history_core::SharedEvent;
 
 /// A store that takes so many events and then has no room for more steps. Every reply is Done.
 #[derive(Drop)]
@@ -22,6 +23,8 @@ impl Store for Small {
 
     ghost is_full = { λ s. s.room ≡ 0 };
 
+    ghost rolls = { λ old steps new. (new.calls ≡ old.calls) × (new.room ≡ 3) };
+
     ghost moves_nowhere = { λ s. sym (append-nil s.calls.items) };
 
     ghost moves_on = { λ a b c first second h k. k ∙ ap (λ (calls : List Call). calls ++ second) h ∙ append_assoc a.calls.items first second };
@@ -32,6 +35,7 @@ impl Store for Small {
         if self.room == 0 {
             return Err(Fault::HistoryFull);
         }
+        let event = SharedEvent::new(*self.calls.allocator(), event)?;
         self.calls.push(Call {
             event,
             reply: Reply::Done,
@@ -46,6 +50,11 @@ impl Store for Small {
 
     fn forget(&mut self) {
         self.calls.clear();
+    }
+
+    fn roll(&mut self) -> Result<u64, AllocError> {
+        self.room = 3;
+        Ok(0)
     }
 }
 

@@ -1,6 +1,6 @@
 use Rattle.std.proofs.Common.{string_bytes, Ok, None, Some, sym, ap}
 use Rattle.script_lines.specs.Told.{told}
-use Rattle.script_lines.specs.declared.orders.Order.TheVariants.{Report, Open, Up, Bytes, End, Tick, Submit}
+use Rattle.script_lines.specs.declared.orders.Order.TheVariants.{Report, Open, Up, Bytes, End, Tick, Submit, Roll}
 use Rattle.pce_engine.specs.Standing.{obeyed}
 use Rattle.pce_engine.proofs.Searching.{no_search, of_database, of_taken}
 use Rattle.pce_engine.proofs.standing.Standing.obey.Goals as goal
@@ -59,3 +59,10 @@ returns-in-Submit c =
 
 pub returns-in-Take : goal.returns-in-Take
 returns-in-Take c = rw c.in-Take.is (of_taken string_bytes c.take_line.result c.args.self.now c.take_line.new.database c.take_line.ensures)
+
+pub returns-in-Roll : goal.returns-in-Roll
+unfolding obeyed
+returns-in-Roll c =
+    rw c.in-Roll.is
+    (no_search string_bytes c.roll_line.result (Some Roll) (λ answer. obeyed answer Roll c.args.self.now) c.args.self.now (record c.args.self.now { database = c.roll_line.new.database }) tt
+    (of_database string_bytes c.roll_line.result _ c.args.self.now c.roll_line.new.database c.roll_line.ensures))

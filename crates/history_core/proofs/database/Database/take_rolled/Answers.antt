@@ -1,0 +1,14 @@
+use Rattle.std.proofs.Common.{◌≡◌, ◌+◌, refl, subst, sym, ap, ◌∙◌, arith}
+use Rattle.history_core.specs.Histories.{Content, IsWhole, content, rolled_up}
+use Rattle.history_core.proofs.Rolling.{IsWhole-rolled_up, content-rolled_up}
+use Rattle.history_core.proofs.database.Database.take_rolled.Goals as goal
+
+pub invariant_of-self : goal.invariant_of-self
+invariant_of-self c =
+    let d : Content = content c.self.inside.state c.self.inside.history.items c.self.inside.base c.self.inside.rolled c.self.inside.rolled_grants in
+    let same = content-rolled_up c.self.inside.state c.self.inside.history.items c.replace.new.dest.items c.self.inside.base c.in_ok-base.base c.self.inside.rolled c.self.inside.rolled_grants (c.self.inside.rolled + c.len.result) c.self.inside.grants
+    c.in_ok-base.ensures (ap (λ v. v.items) c.replace.ensures.after ∙ c.new.ensures.items) (omega (arith, c.len.ensures)) c.self.invariant.counted in
+    subst (λ (e : Content). IsWhole e c.self.inside.grants) (sym same) (IsWhole-rolled_up d c.self.inside.grants c.self.invariant)
+
+pub returns-clause-replays : goal.returns-clause-replays
+returns-clause-replays c = (invariant_of-self c).replays

@@ -1,0 +1,4 @@
+pub mod Receipts
+pub mod Audits
+pub mod Faults
+pub mod Lending

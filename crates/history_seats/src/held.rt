@@ -1,0 +1,260 @@
+//! The database with the totals of all seats.
+ghost use Rattle.std.specs.Prelude.{◌≡◌, ◌<◌, ◌≤◌, ◌↔◌, List, [], ◌∷◌, ◌++◌, length, IsTrue, IfOk, IfErr, OnOk, OnErr, replicate};
+ghost use Rattle.step_core.specs.Steps.{step};
+ghost use Rattle.history_core.specs.Briefs.{brief_of};
+ghost use Rattle.history_core.specs.Histories.{Replays, IsSound, kept_step, stepped, is_full, steps_of, grants_of, rolled_up};
+ghost use Rattle.history_seats.specs.Receipts.{new_seat, told, tidy, let_go};
+ghost use Rattle.history_seats.specs.Audits.{IsAudited, Fails, steps_told, grants_told};
+
+use crate::audit::test_receipts;
+use crate::fault::AuditFault;
+use crate::receipt::{Receipt, grant_count, past_floor};
+use crate::seat::Seat;
+use crate::shares::gather;
+use history_core::{Brief, Database, Fault, Step};
+use sequence::PlainData;
+use std::alloc::{AllocError, Global};
+use std::marker::Model;
+use std::mem;
+use std::sync::ledger::{Blank, Book, Ledger};
+use step_core::{Event, Reply, SharedEvent};
+
+/// A database, with the totals of what its seats were told. A contract sees the database.
+#[derive(Drop)]
+pub struct Held<S: Ledger, G: Ledger> {
+    alloc: Global,
+    database: Database,
+    /// How many seats there are.
+    seats: u64,
+    steps: Book<S>,
+    grants: Book<G>,
+}
+
+impl<S: Ledger, G: Ledger> Model for Held<S, G> {
+    ghost use Rattle.std.specs.Prelude.{◌≡◌, ◌<◌, length};
+    ghost use Rattle.history_core.specs.Histories.{Content, steps_of, grants_of};
+
+    ghost Value = { Content };
+
+    ghost view = { λ h. h.database };
+
+    ghost invariant = { λ h.
+        (h.steps.total ≡ steps_of h.database) × (h.grants.total ≡ grants_of h.database)
+        × (0 < h.seats) × (h.seats ≡ S.parts) × (h.seats ≡ G.parts) };
+}
+
+/// The brief of the last of the steps.
+fn newest_brief(steps: &[Step]) -> Brief
+    requires { 0 < length steps.now }
+    ensures { (before : List Step) (event : Event) (reply : Reply) → steps.now ≡ before ++ kept_step event reply ∷ [] → result ≡ brief_of reply }
+{
+    steps[steps.len() - 1].brief
+}
+
+impl<S: Ledger, G: Ledger> Held<S, G> {
+    /// The database of which no step was taken yet, with its seats, one for each part of the two blanks, 1 to
+    /// 256 of them. All is dropped where memory is refused.
+    pub fn new(
+        alloc: Global,
+        database: Database,
+        n: u64,
+        steps: Blank,
+        grants: Blank,
+    ) -> Result<(Held<S, G>, Vec<Seat<S, G>>), AllocError>
+        requires none_taken { steps_of database ≡ 0 }
+        requires seats { (1 ≤ n) × (n ≤ 256) }
+        requires steps { (steps.name ≡ S.name) × (steps.parts ≡ S.parts) × (steps.parts ≡ n) }
+        requires grants { (grants.name ≡ G.name) × (grants.parts ≡ G.parts) × (grants.parts ≡ n) }
+        ensures database { IfOk result (λ r. r.0 ≡ database) }
+        ensures seats { IfOk result (λ r. r.1.items ≡ replicate n new_seat) }
+    {
+        let _none = database.history();
+        let (steps, mut steps_left) = steps.open::<S>();
+        let (grants, mut grants_left) = grants.open::<G>();
+        let mut seats = Vec::new(alloc);
+        for _i in 0..n {
+            let seat = Seat::new(
+                alloc,
+                steps_left.split_off(1, 0),
+                grants_left.split_off(1, 0),
+            );
+            seats.push(seat)?;
+        }
+        let held = Held {
+            alloc,
+            database,
+            seats: n,
+            steps,
+            grants,
+        };
+        Ok((held, seats))
+    }
+
+    /// The database, lent to be looked at.
+    pub fn database(&self) -> &Database
+        ensures { result.now ≡ self.now }
+    {
+        &self.database
+    }
+
+    /// The database alone. The seats are of no more use.
+    pub fn into_database(self) -> Database
+        ensures { result ≡ self }
+    {
+        let Held {
+            alloc: _,
+            database,
+            seats: _,
+            steps: _,
+            grants: _,
+        } = self;
+        database
+    }
+
+    /// One event, as one step of the database, and its receipt to the seat. After a fault the database and the
+    /// seat are as before, and the event is dropped; `HistoryFull` is tested first.
+    pub fn step(&mut self, seat: &mut Seat<S, G>, event: Event) -> Result<Reply, Fault>
+        ensures step { IfOk result (λ reply. self.new ≡ stepped self.old event reply) }
+        ensures reply { IfOk result (λ reply. reply ≡ (step self.old.state event).reply) }
+        ensures receipt { IfOk result (λ reply. seat.new ≡ told (tidy self.old.rolled seat.old) (steps_of self.old) event reply) }
+        ensures full { (result ≡ Err Fault.HistoryFull) ↔ IsTrue (is_full self.old) }
+        ensures unchanged_on_fault { OnErr result ((self.new ≡ self.old) × (seat.new ≡ seat.old)) }
+        ensures found_replays { Replays self.old }
+        ensures found_sound { IsSound self.old }
+    {
+        // the history that is found replays
+        let _found = self.database.history();
+        if self.database.is_full() {
+            return Err(Fault::HistoryFull);
+        }
+        let shared = SharedEvent::new(self.alloc, event)?;
+        self.step_shared(seat, shared)
+    }
+
+    /// The same of an event that others keep too. It stands in memory once, also for the history and the
+    /// receipt.
+    pub fn step_shared(&mut self, seat: &mut Seat<S, G>, event: SharedEvent) -> Result<Reply, Fault>
+        ensures step { IfOk result (λ reply. self.new ≡ stepped self.old event reply) }
+        ensures reply { IfOk result (λ reply. reply ≡ (step self.old.state event).reply) }
+        ensures receipt { IfOk result (λ reply. seat.new ≡ told (tidy self.old.rolled seat.old) (steps_of self.old) event reply) }
+        ensures full { (result ≡ Err Fault.HistoryFull) ↔ IsTrue (is_full self.old) }
+        ensures unchanged_on_fault { OnErr result ((self.new ≡ self.old) × (seat.new ≡ seat.old)) }
+        ensures found_replays { Replays self.old }
+        ensures found_sound { IsSound self.old }
+    {
+        let _found = self.database.history();
+        if self.database.is_full() {
+            return Err(Fault::HistoryFull);
+        }
+        seat.receipts.reserve(1)?;
+        let theirs = event.copy()?;
+        let place = self.database.steps();
+        let reply = self.database.apply_shared(theirs)?;
+        if let Some(floor) = past_floor(
+            seat.floor,
+            self.database.rolled(),
+            seat.receipts.as_slice(),
+        ) {
+            seat.receipts.clear();
+            seat.folded = seat.told;
+            seat.folded_grants = seat.granted;
+            seat.floor = floor;
+        }
+        let brief = newest_brief(self.database.history());
+        let grants = grant_count(brief);
+        self.steps.add(&mut seat.steps, 1);
+        self.grants.add(&mut seat.grants, grants);
+        self.steps.audit(&mut seat.steps);
+        self.grants.audit(&mut seat.grants);
+        // a seat was told of no more steps and grants than there were
+        let _steps = self.database.steps();
+        let _grants = self.database.grants();
+        seat.told += 1;
+        seat.granted += grants;
+        seat.receipts.push_reserved(Receipt {
+            place,
+            event,
+            brief,
+        });
+        Ok(reply)
+    }
+
+    /// Lets a seat that waits keep its receipts no longer, where the places of all of them are rolled: they are
+    /// given, oldest first, to be dropped once a lock is free, and stay counted. It is no step. A seat that
+    /// steps does this by itself. Takes no memory.
+    pub fn fold(&self, seat: &mut Seat<S, G>) -> Vec<Receipt>
+        ensures folded { seat.new ≡ tidy self.now.rolled seat.old }
+        ensures given { result.items ≡ let_go self.now.rolled seat.old }
+    {
+        let rolled = self.database.rolled();
+        let Some(floor) = past_floor(seat.floor, rolled, seat.receipts.as_slice()) else {
+            return Vec::new(self.alloc);
+        };
+        seat.folded = seat.told;
+        seat.folded_grants = seat.granted;
+        seat.floor = floor;
+        mem::replace(&mut seat.receipts, Vec::new(self.alloc))
+    }
+
+    /// The state becomes the base, and the kept steps are dropped. It is no step, and no seat takes part: each
+    /// folds its receipts when it steps next, or by `fold`. Where memory is refused nothing has changed.
+    pub fn roll(&mut self) -> Result<(), AllocError>
+        ensures rolled { OnOk result (self.new ≡ rolled_up self.old) }
+        ensures unchanged_without_memory { OnErr result (self.new ≡ self.old) }
+        ensures replays { Replays self.new }
+    {
+        self.database.roll()
+    }
+
+    /// The same, and the steps that were kept are given, oldest first, to be dropped once a lock is free.
+    pub fn take_rolled(&mut self) -> Result<Vec<Step>, AllocError>
+        ensures rolled { OnOk result (self.new ≡ rolled_up self.old) }
+        ensures given { IfOk result (λ steps. steps.items ≡ self.old.history) }
+        ensures unchanged_without_memory { OnErr result (self.new ≡ self.old) }
+        ensures replays { Replays self.new }
+    {
+        self.database.take_rolled()
+    }
+
+    /// Tests, in the order of `AuditFault`, that all seats are here, and that their receipts are those of the
+    /// history. Nothing changes.
+    pub fn audit(&mut self, seats: &mut Vec<Seat<S, G>>) -> Result<(), AuditFault>
+        ensures same { self.new ≡ self.old }
+        ensures same_seats { seats.new.items ≡ seats.old.items }
+        ensures ok { IfOk result (λ _. IsAudited S.parts self.old seats.old.items) }
+        ensures err { IfErr result (Fails S.parts self.old seats.old.items) }
+    {
+        if seats.len() as u64 != self.seats {
+            return Err(AuditFault::SeatMissing);
+        }
+        self.gather_shares(seats.as_mut_slice());
+        test_receipts(self.alloc, &self.database, seats.as_slice())
+    }
+
+    /// Puts the shares of all seats together, and gives them back: they are all steps and all grants.
+    fn gather_shares(&mut self, seats: &mut [Seat<S, G>])
+        requires { length seats.old ≡ S.parts }
+        ensures held { self.new ≡ self.old }
+        ensures seats { seats.new ≡ seats.old }
+        ensures steps { steps_told seats.old ≡ steps_of self.old }
+        ensures grants { grants_told seats.old ≡ grants_of self.old }
+    {
+        let _ = &self.seats;
+        let Some((first, rest)) = seats.split_first_mut() else {
+            unreachable!();
+        };
+        let told = first.told;
+        let granted = first.granted;
+        let mut seen = first.steps.split_off(1, told);
+        let mut taken = first.grants.split_off(1, granted);
+        gather(
+            &mut self.steps,
+            &mut self.grants,
+            rest,
+            &mut seen,
+            &mut taken,
+        );
+        first.steps.merge(seen);
+        first.grants.merge(taken);
+    }
+}

@@ -1,0 +1,41 @@
+//! Seats: who was told of which steps, and the audit that compares what they were told with the history.
+//! `Held` is a database of which every step is taken for a seat, and is `Database::apply` with one receipt
+//! to that seat: the place of the step among all, its event, and the brief of its reply. Nothing else gives
+//! a seat a receipt, and a fault leaves both as they were. Each seat has a share of all steps and one of all
+//! grants (`std::sync::ledger`; the two type parameters name the ledgers), so that the seats of one `Held`
+//! are told from all others by their type, and an audit of all of them never finds that the sums differ.
+//!
+//! After `Held::audit` each kept step has exactly one receipt, with its event and brief (`one_receipt_each`),
+//! and the places of each seat rise. Receipts of places that were rolled are folded into numbers when their
+//! seat steps next, or by `Held::fold`, and stay counted (`fold_counts`): of them an audit says that there
+//! are as many as steps were rolled, and compares neither event nor brief. `specs/Receipts.antt` has what a
+//! seat is told, `specs/Audits.antt` what an audit compares, and when each fault comes.
+//!
+//! ```text
+//! fn closed<S: Ledger, G: Ledger>(held: Held<S, G>, seats: &mut Vec<Seat<S, G>>) -> Result<Database, AuditFault>
+//!     ensures audited { IfOk result (λ database. IsAudited S.parts database seats.old.items) }
+//!     ensures same_seats { seats.new.items ≡ seats.old.items }
+//! {
+//!     let mut held = held;
+//!     held.audit(seats)?;
+//!     Ok(held.into_database())
+//! }
+//! ```
+#![tactic(auto)]
+
+mod audit;
+mod fault;
+mod held;
+mod laws;
+mod receipt;
+mod sameness;
+mod seat;
+mod shares;
+#[cfg(test)]
+mod tests;
+
+pub use fault::AuditFault;
+pub use held::Held;
+pub use laws::{fold_counts, one_receipt_each};
+pub use receipt::Receipt;
+pub use seat::Seat;

@@ -1,0 +1,127 @@
+//! Receipts, and what their places are.
+ghost use Rattle.std.specs.Prelude.{◌≡◌, if◌then◌else◌, ◌+◌, ◌≤◌, ◌<◌, ◌^◌, ◌↔◌, ℕ, All, IsTrue, IfSome, IfNone, false, length, vec_len};
+ghost use Rattle.history_core.specs.Briefs.{is_grant};
+ghost use Rattle.history_seats.specs.Receipts.{are_past, floor_after};
+ghost use Rattle.history_seats.specs.Audits.{RisesFrom, times, times_marked};
+
+use history_core::Brief;
+use sequence::PlainData;
+use std::alloc::AllocError;
+use step_core::{Event, SharedEvent};
+
+/// What a seat keeps of a step that it was told of: which step of all it was, the event, and the brief of the
+/// reply.
+#[derive(Debug, Drop)]
+pub struct Receipt {
+    pub(crate) place: u64,
+    pub(crate) event: SharedEvent,
+    pub(crate) brief: Brief,
+}
+
+impl Receipt {
+    /// The place of the step among all steps that were ever taken, from 0.
+    pub fn place(&self) -> u64
+        ensures { result ≡ self.now.place }
+    {
+        self.place
+    }
+
+    /// The event.
+    pub fn event(&self) -> &Event
+        ensures { result.now ≡ self.now.event }
+    {
+        self.event.event()
+    }
+
+    /// The brief of the reply.
+    pub fn brief(&self) -> Brief
+        ensures { result ≡ self.now.brief }
+    {
+        self.brief
+    }
+}
+
+impl PlainData for Receipt {
+    fn copy(&self) -> Result<Receipt, AllocError> {
+        Ok(Receipt {
+            place: self.place,
+            event: self.event.copy()?,
+            brief: self.brief,
+        })
+    }
+}
+
+/// One for a grant, and else none.
+pub(crate) fn grant_count(brief: Brief) -> u64
+    ensures value { result ≡ (if is_grant brief then 1 else 0) }
+    ensures small { result ≤ 1 }
+{
+    match brief {
+        Brief::Granted(_) => 1,
+        _ => 0,
+    }
+}
+
+/// One past the last place, where all of them are rolled and rise from the floor on. At the first receipt of a
+/// kept place the look ends.
+pub(crate) fn past_floor(floor: u64, rolled: u64, receipts: &[Receipt]) -> Option<u64>
+    ensures none { IfNone result (are_past floor rolled receipts.now ≡ false) }
+    ensures past { IfSome result (λ after. IsTrue (are_past floor rolled receipts.now) × (after ≡ floor_after floor receipts.now)) }
+    ensures counted { IfSome result (λ after. floor + length receipts.now ≤ after) }
+{
+    let mut last = floor;
+    for receipt in receipts {
+        if receipt.place < last || receipt.place >= rolled {
+            return None;
+        }
+        last = receipt.place + 1;
+    }
+    Some(last)
+}
+
+/// Whether the places rise from the floor on.
+pub(crate) fn are_rising(floor: u64, receipts: &[Receipt]) -> bool
+    requires { All (λ r. r.place < 2 ^ 63) receipts.now }
+    ensures { IsTrue result ↔ RisesFrom floor receipts.now }
+{
+    let mut last = floor;
+    for receipt in receipts {
+        if receipt.place < last {
+            return false;
+        }
+        last = receipt.place + 1;
+    }
+    true
+}
+
+/// Marks the places of kept steps, up to the first that was marked before; whether there was none.
+pub(crate) fn mark(marks: &mut Vec<bool>, rolled: u64, receipts: &[Receipt]) -> bool
+    requires { All (λ r. r.place < rolled + vec_len marks.old) receipts.now }
+    ensures length { vec_len marks.new ≡ vec_len marks.old }
+    ensures marked { IsTrue result → (p : ℕ) → times_marked p marks.new.items ≡ times_marked p marks.old.items + times (rolled + p) receipts.now }
+    ensures twice { (result ≡ false) → (p : ℕ) × (1 < times_marked p marks.old.items + times (rolled + p) receipts.now) }
+{
+    for receipt in receipts {
+        if receipt.place >= rolled {
+            let place = (receipt.place - rolled) as usize;
+            if marks[place] {
+                return false;
+            }
+            marks[place] = true;
+        }
+    }
+    true
+}
+
+/// Whether each place is marked.
+pub(crate) fn are_all_marked(marks: &[bool]) -> bool
+    ensures all { IsTrue result → (p : ℕ) → p < length marks.now → times_marked p marks.now ≡ 1 }
+    ensures missing { (result ≡ false) → (p : ℕ) × (p < length marks.now) × (times_marked p marks.now ≡ 0) }
+{
+    for mark in marks {
+        if !*mark {
+            return false;
+        }
+    }
+    true
+}

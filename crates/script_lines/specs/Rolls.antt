@@ -1,0 +1,14 @@
+-- The line `roll`: the history is rolled.
+use Rattle.std.specs.Prelude.{ℕ, List, ◌++◌, codes, Result, Ok}
+use Rattle.std.specs.Fmt.{decimal}
+use Rattle.history_core.specs.Histories.{Content, steps_of, rolled_up}
+use Rattle.script_lines.specs.Told.{Told, told}
+use Rattle.script_lines.specs.declared.fault.CommandFault.{CommandFault}
+
+-- how many steps were taken before the base, from now on
+abbrev pub rolled_text : ℕ → List ℕ
+rolled_text steps = codes "rolled " ++ decimal steps ++ codes "\n"
+
+-- `roll`
+unfoldable pub roll_line : Content → Result (Told Content) CommandFault
+roll_line d = Ok (told (rolled_text (steps_of d)) (rolled_up d))

@@ -1,0 +1,29 @@
+//! The line `roll`: the history is rolled.
+
+ghost use Rattle.std.specs.Prelude.{◌≡◌, IfOk, string_bytes};
+ghost use Rattle.script_lines.specs.Rolls.{roll_line, rolled_text};
+ghost use Rattle.script_lines.specs.Told.{Tells};
+
+use crate::fault::CommandFault;
+use history_core::Database;
+use std::alloc::{AllocError, Global};
+use std::fmt::Write;
+
+fn rolled_text(alloc: Global, steps: u64) -> Result<String, AllocError>
+    ensures { IfOk result (λ text. string_bytes text ≡ rolled_text steps) }
+{
+    let mut text = String::new(alloc);
+    write!(text, "rolled {steps}\n")?;
+    Ok(text)
+}
+
+/// Rolls the history, and tells how many steps were taken before its base. Where memory is refused nothing has
+/// changed.
+#[tactic(auto, unfolding(crate::specs::Rolls::roll_line))]
+pub fn roll_line(alloc: Global, database: &mut Database) -> Result<String, CommandFault>
+    ensures { Tells string_bytes result (roll_line database.old) database.new }
+{
+    let text = rolled_text(alloc, database.steps())?;
+    database.roll()?;
+    Ok(text)
+}

@@ -1,0 +1,34 @@
+-- A seat of a shared database as a store: what calls on it do.
+use Rattle.std.specs.Prelude.{ℕ, ◌≡◌, true, List, [], ◌∷◌, ◌++◌}
+use Rattle.std.specs.Borrow.{MutBor}
+use Rattle.history_core.specs.Histories.{Content, Replays, is_full}
+use Rattle.history_seats.specs.Receipts.{SeatContent}
+use Rattle.shared_pce.specs.Turns.{Told}
+use Rattle.engine_core.specs.declared.store.Call.{Call}
+
+-- each call is a step under the lock, of which the seat has the receipt
+abbrev pub Tells : SeatContent → List Call → SeatContent → Type 0
+Tells s [] t = t ≡ s
+Tells s (call ∷ calls) t = (mid : SeatContent) × Told s call.event mid call.reply × Tells mid calls t
+
+-- the lent seat was told these calls, and they are added to the list
+pub record SeatedMoves (old : MutBor SeatContent) (listed : List Call) (made : List Call) (new : MutBor SeatContent) (list : List Call) : Type 0 where
+  pub same_loan : new.ghost_name ≡ old.ghost_name
+  pub told : Tells old.now made new.now
+  pub added : list ≡ listed ++ made
+
+-- the history was rolled: so many steps were taken before its base. The seat and the list stay as they were
+pub record SeatedRolls (old : MutBor SeatContent) (listed : List Call) (steps : ℕ) (new : MutBor SeatContent) (list : List Call) : Type 0 where
+  pub same_loan : new.ghost_name ≡ old.ghost_name
+  pub same : new.now ≡ old.now
+  pub same_calls : list ≡ listed
+  pub rolled : (d : Content) × Replays d × (steps ≡ d.rolled) × (d.history ≡ [])
+
+-- the same loan of the same seat
+pub record SameSeat (old new : MutBor SeatContent) : Type 0 where
+  pub same_loan : new.ghost_name ≡ old.ghost_name
+  pub same : new.now ≡ old.now
+
+-- the lock held a database whose history was full
+abbrev pub WasFull : Type 0
+WasFull = (d : Content) × Replays d × (is_full d ≡ true)

@@ -1,0 +1,17 @@
+//! A seat of a shared database as the store of a session: each event that is submitted is one step under the lock,
+//! with its receipt to the seat, and the list of calls shares the event with the history and the receipt. Each
+//! call of the list is that of its receipt (`specs/Seating.antt`).
+//!
+//! ```text
+//! fn answered<R: Wait, S: Ledger, G: Ledger>(rt: &R, alloc: Global, shared: &Shared<S, G>, seat: &mut Seat<S, G>, client: &mut Client, piece: &[u8]) -> Result<Vec<u8>, Fault>
+//! {
+//!     let mut store = Seated::new(rt, alloc, shared, seat);
+//!     serve(client, 1, piece, 0, &mut store)?;
+//!     Ok(client.session.take_output())
+//! }
+//! ```
+#![tactic(auto)]
+
+mod seated;
+
+pub use seated::Seated;

@@ -1,0 +1,101 @@
+//! A seat of a shared database as the store of a session.
+ghost use Rattle.std.specs.Prelude.{◌≡◌, [], true};
+ghost use Rattle.history_core.specs.Histories.{Content, Replays};
+ghost use Rattle.step_core.specs.States.{is_queued};
+
+use engine_core::{Call, Store};
+use sequence::PlainData;
+use shared_pce::{Event, Fault, Seat, Shared, SharedEvent};
+use std::alloc::{AllocError, Global};
+use std::sync::Wait;
+use std::sync::ledger::Ledger;
+use std::time::{Clock, Duration};
+
+/// A seat of a shared database, with the calls that were made with it.
+#[derive(Drop)]
+pub struct Seated<'a, R: Wait, S: Ledger, G: Ledger> {
+    rt: &'a R,
+    shared: &'a Shared<S, G>,
+    seat: &'a mut Seat<S, G>,
+    calls: Vec<Call>,
+}
+
+impl<'a, R: Wait, S: Ledger, G: Ledger> Seated<'a, R, S, G> {
+    /// The seat, with no calls yet. Takes no memory.
+    pub fn new(
+        rt: &'a R,
+        alloc: Global,
+        shared: &'a Shared<S, G>,
+        seat: &'a mut Seat<S, G>,
+    ) -> Seated<'a, R, S, G>
+        ensures same_loan { result.seat.ghost_name ≡ seat.entry.ghost_name }
+        ensures seat { result.seat.now ≡ seat.old }
+        ensures calls { result.calls.items ≡ [] }
+    {
+        Seated {
+            rt,
+            shared,
+            seat,
+            calls: Vec::new(alloc),
+        }
+    }
+
+    /// Whether messages wait to be sent to the peer.
+    pub fn queued(&self, peer: u32) -> bool
+        ensures { (d : Content) × Replays d × (result ≡ is_queued d.state peer) }
+    {
+        self.shared.queued(self.rt, peer)
+    }
+}
+
+impl<'a, R: Wait + Clock, S: Ledger, G: Ledger> Seated<'a, R, S, G> {
+    /// Waits until messages wait for the peer or the time is up, and says whether they do.
+    pub fn await_queued(&self, peer: u32, most: Duration) -> bool
+        ensures { (d : Content) × Replays d × (result ≡ is_queued d.state peer) }
+    {
+        self.shared.await_queued(self.rt, peer, most)
+    }
+}
+
+impl<'a, R: Wait, S: Ledger, G: Ledger> Store for Seated<'a, R, S, G> {
+    ghost use Rattle.seated_store.specs.Seating.{SeatedMoves, SeatedRolls, SameSeat, WasFull};
+    ghost use Rattle.seated_store.specs.SeatingLaws.{moves_nowhere, moves_on};
+
+    ghost calls = { λ s. s.calls.items };
+
+    ghost moves = { λ old made new. SeatedMoves old.seat old.calls.items made new.seat new.calls.items };
+
+    ghost same_but_calls = { λ old new. SameSeat old.seat new.seat };
+
+    ghost is_full = { λ s. WasFull };
+
+    ghost rolls = { λ old steps new. SeatedRolls old.seat old.calls.items steps new.seat new.calls.items };
+
+    ghost moves_nowhere = { λ s. moves_nowhere s.seat s.calls.items };
+
+    ghost moves_on = { λ a b c first second h k. moves_on a.seat b.seat c.seat a.calls.items b.calls.items c.calls.items first second h k };
+
+    ghost moves_add = { λ a b made h. h.added };
+
+    /// One step under the lock. The room for the call is made first, and the event stands in memory once.
+    fn submit(&mut self, event: Event) -> Result<(), Fault> {
+        self.calls.reserve(1)?;
+        let event = SharedEvent::new(*self.calls.allocator(), event)?;
+        let kept = event.copy()?;
+        let reply = self.shared.submit_shared(self.rt, self.seat, kept)?;
+        self.calls.push_reserved(Call { event, reply });
+        Ok(())
+    }
+
+    fn calls(&self) -> &[Call] {
+        self.calls.as_slice()
+    }
+
+    fn forget(&mut self) {
+        self.calls.clear();
+    }
+
+    fn roll(&mut self) -> Result<u64, AllocError> {
+        self.shared.roll(self.rt)
+    }
+}

@@ -1,0 +1,286 @@
+//! The lock, what is done under it, and the waits for what it holds.
+ghost use Rattle.std.specs.Prelude.{◌≡◌, ◌≤◌, [], true, length, IfOk, IfErr, OnErr, replicate};
+ghost use Rattle.step_core.specs.States.{has_waiting, is_queued};
+ghost use Rattle.history_core.specs.Histories.{Content, Replays, IsSound, is_full, steps_of, grants_of};
+ghost use Rattle.history_seats.specs.Receipts.{new_seat, tidy};
+ghost use Rattle.history_seats.specs.Audits.{IsAudited, Fails};
+ghost use Rattle.shared_pce.specs.Turns.{Takes, Told, Commits, Works, Pauses};
+
+use crate::audit::{Audit, AuditRefused};
+use crate::bells::Bells;
+use crate::work::{Gate, Worked};
+use history_core::{Database, Event, Fault, Job, Reply, SharedEvent};
+use history_seats::{Held, Seat};
+use job_search::search;
+use sequence::PlainData;
+use std::alloc::{AllocError, Global};
+use std::sync::ledger::{Blank, Ledger};
+use std::sync::{CondvarTimeouts, Mutex, Wait};
+use std::time::{Clock, Duration};
+
+/// One database for all threads, behind one lock.
+#[derive(Drop)]
+pub struct Shared<S: Ledger, G: Ledger> {
+    alloc: Global,
+    held: Mutex<Held<S, G>>,
+    bells: Bells,
+}
+
+/// The peer to which an event may leave messages: its own.
+fn peer_in(event: &Event) -> Option<u32> {
+    match event {
+        Event::Report { peer, .. }
+        | Event::Ask { peer, .. }
+        | Event::Refused { peer, .. }
+        | Event::Return { peer, .. }
+        | Event::Delete { peer, .. } => Some(*peer),
+        _ => None,
+    }
+}
+
+impl<S: Ledger, G: Ledger> Shared<S, G> {
+    /// Puts a database of which no step was taken behind a lock, with so many seats, 1 to 256. All is dropped
+    /// where memory is refused.
+    pub fn new(
+        alloc: Global,
+        database: Database,
+        seats: u64,
+        steps: Blank,
+        grants: Blank,
+    ) -> Result<(Shared<S, G>, Vec<Seat<S, G>>), AllocError>
+        requires none_taken { steps_of database ≡ 0 }
+        requires seats { (1 ≤ seats) × (seats ≤ 256) }
+        requires steps { (steps.name ≡ S.name) × (steps.parts ≡ S.parts) × (steps.parts ≡ seats) }
+        requires grants { (grants.name ≡ G.name) × (grants.parts ≡ G.parts) × (grants.parts ≡ seats) }
+        ensures { IfOk result (λ made. made.1.items ≡ replicate seats new_seat) }
+    {
+        let bells = Bells::new(alloc)?;
+        let (held, seats) = Held::new(alloc, database, seats, steps, grants)?;
+        let shared = Shared {
+            alloc,
+            held: Mutex::new(held),
+            bells,
+        };
+        Ok((shared, seats))
+    }
+
+    /// One event, as one step under the lock, with its receipt to the seat. After a fault the seat is as before,
+    /// and no step was taken. `HistoryFull` where no further step could be kept.
+    pub fn submit<R: Wait>(
+        &self,
+        rt: &R,
+        seat: &mut Seat<S, G>,
+        event: Event,
+    ) -> Result<Reply, Fault>
+        ensures told { IfOk result (Told seat.old event seat.new) }
+        ensures unchanged_on_fault { OnErr result (seat.new ≡ seat.old) }
+        ensures full { result ≡ Err Fault.HistoryFull → (d : Content) × Replays d × (is_full d ≡ true) }
+    {
+        let event = SharedEvent::new(self.alloc, event)?;
+        self.submit_shared(rt, seat, event)
+    }
+
+    /// The same of an event that the caller keeps too. It stands in memory once, for the history, the receipt
+    /// and the caller.
+    pub fn submit_shared<R: Wait>(
+        &self,
+        rt: &R,
+        seat: &mut Seat<S, G>,
+        event: SharedEvent,
+    ) -> Result<Reply, Fault>
+        ensures told { IfOk result (Told seat.old event seat.new) }
+        ensures unchanged_on_fault { OnErr result (seat.new ≡ seat.old) }
+        ensures full { result ≡ Err Fault.HistoryFull → (d : Content) × Replays d × (is_full d ≡ true) }
+    {
+        let peer = peer_in(event.event());
+        let mut held = self.held.lock(rt);
+        let reply = held.step_shared(seat, event)?;
+        let waits = held.database().waiting();
+        drop(held);
+        if waits {
+            self.bells.ring_work();
+        }
+        if let Some(peer) = peer {
+            self.bells.ring_peer(peer);
+        }
+        Ok(reply)
+    }
+
+    /// Takes a ticket, if one waits.
+    fn take<R: Wait>(&self, rt: &R, seat: &mut Seat<S, G>) -> Result<Option<Job>, Fault>
+        ensures took { IfOk result (Takes seat.old seat.new) }
+        ensures unchanged_on_fault { OnErr result (seat.new ≡ seat.old) }
+    {
+        match self.submit(rt, seat, Event::Take)? {
+            Reply::Job(job) => Ok(Some(job)),
+            _ => Ok(None),
+        }
+    }
+
+    /// Searches for the job's path, and commits what was found. No lock is held during the search.
+    fn finish_job<R: Wait>(&self, rt: &R, seat: &mut Seat<S, G>, job: &Job) -> Result<Reply, Fault>
+        ensures committed { IfOk result (Commits seat.old job.now seat.new) }
+        ensures unchanged_on_fault { OnErr result (seat.new ≡ seat.old) }
+    {
+        let offer = search(self.alloc, job)?;
+        let event = Event::Commit {
+            ticket: job.ticket.id,
+            offer,
+        };
+        let reply = self.submit(rt, seat, event)?;
+        self.bells.ring_peer(job.ticket.peer);
+        Ok(reply)
+    }
+
+    /// One turn of a worker: the job in the seat's hand, or else a ticket that waits, is searched for and
+    /// committed. No lock is held while the gate is told, nor during the search. After a fault nothing was done,
+    /// or the ticket was taken and its job is in hand, to be finished by the next turn.
+    pub fn work_one<R: Wait, A: Gate>(
+        &self,
+        rt: &R,
+        seat: &mut Seat<S, G>,
+        gate: &mut A,
+    ) -> Result<Worked, Fault>
+        ensures worked { IfOk result (Works seat.old seat.new) }
+        ensures paused { OnErr result (Pauses seat.old seat.new) }
+    {
+        let in_hand = seat.hand().take();
+        let job = match in_hand {
+            Some(job) => job,
+            None => match self.take(rt, seat)? {
+                Some(job) => job,
+                None => return Ok(Worked::Idle),
+            },
+        };
+        gate.computing(job.ticket.id);
+        match self.finish_job(rt, seat, &job) {
+            Ok(reply) => Ok(Worked::Done { job, reply }),
+            Err(fault) => {
+                *seat.hand() = Some(job);
+                Err(fault)
+            }
+        }
+    }
+
+    /// Whether a ticket waits to be searched for.
+    pub fn waiting<R: Wait>(&self, rt: &R) -> bool
+        ensures { (d : Content) × Replays d × (result ≡ has_waiting d.state) }
+    {
+        self.held.lock(rt).database().waiting()
+    }
+
+    /// Whether messages wait to be sent to the peer.
+    pub fn queued<R: Wait>(&self, rt: &R, peer: u32) -> bool
+        ensures { (d : Content) × Replays d × (result ≡ is_queued d.state peer) }
+    {
+        self.held.lock(rt).database().queued(peer)
+    }
+
+    /// How many steps are kept, of those that were taken.
+    pub fn kept<R: Wait>(&self, rt: &R) -> u64
+        ensures { (d : Content) × Replays d × (result ≡ length d.history) }
+    {
+        self.held.lock(rt).database().history().len() as u64
+    }
+
+    /// Rolls the history: the state becomes its base, and the steps that were kept are let go once the lock is
+    /// free. Gives how many steps were taken before the base. Where memory is refused nothing has changed.
+    pub fn roll<R: Wait>(&self, rt: &R) -> Result<u64, AllocError>
+        ensures { IfOk result (λ steps. (d : Content) × Replays d × (steps ≡ d.rolled) × (d.history ≡ [])) }
+    {
+        let mut held = self.held.lock(rt);
+        let let_go = held.take_rolled()?;
+        let steps = held.database().rolled();
+        drop(held);
+        drop(let_go);
+        Ok(steps)
+    }
+
+    /// Lets a seat that waits keep its receipts of rolled places no longer; they stay counted. It is no step.
+    pub fn fold<R: Wait>(&self, rt: &R, seat: &mut Seat<S, G>)
+        ensures { (d : Content) × Replays d × (seat.new ≡ tidy d.rolled seat.old) }
+    {
+        let held = self.held.lock(rt);
+        let _replays = held.database().history();
+        let let_go = held.fold(seat);
+        drop(held);
+        drop(let_go);
+    }
+
+    /// Waits until a ticket waits, the end was told or the time is up, and says whether a ticket waits.
+    pub fn await_work<R: Wait + Clock>(&self, rt: &R, most: Duration) -> bool
+        ensures { (d : Content) × Replays d × (result ≡ has_waiting d.state) }
+    {
+        let bells = &self.bells;
+        let held = self.held.lock(rt);
+        let (held, _timeout) = bells.work.wait_timeout_while(rt, held, most, |held| {
+            !held.database().waiting() && !bells.is_over()
+        });
+        held.database().waiting()
+    }
+
+    /// Waits until messages wait for the peer or the time is up, and says whether they do.
+    pub fn await_queued<R: Wait + Clock>(&self, rt: &R, peer: u32, most: Duration) -> bool
+        ensures { (d : Content) × Replays d × (result ≡ is_queued d.state peer) }
+    {
+        let held = self.held.lock(rt);
+        let Some(bell) = self.bells.of_peer(peer) else {
+            return held.database().queued(peer);
+        };
+        let (held, _timeout) = bell.wait_timeout_while(
+            rt,
+            held,
+            most,
+            |held| !held.database().queued(peer),
+        );
+        held.database().queued(peer)
+    }
+
+    /// Tells the workers that the end has come.
+    pub fn finish<R: Wait>(&self, rt: &R) {
+        let held = self.held.lock(rt);
+        self.bells.ring_out();
+        drop(held);
+    }
+
+    /// Whether the end was told.
+    pub fn is_over(&self) -> bool {
+        self.bells.is_over()
+    }
+
+    /// Takes the database from behind the lock and audits all of its seats. Where the audit fails everything is
+    /// handed back.
+    pub fn close(self, seats: Vec<Seat<S, G>>) -> Result<Audit, AuditRefused<S, G>>
+        ensures audited { IfOk result (λ audit. IsAudited S.parts audit.database seats.items) }
+        ensures replays { IfOk result (λ audit. Replays audit.database) }
+        ensures sound { IfOk result (λ audit. IsSound audit.database) }
+        ensures sums { IfOk result (λ audit. (audit.steps ≡ steps_of audit.database) × (audit.grants ≡ grants_of audit.database)) }
+        ensures handed_back { IfErr result (λ refused. refused.seats.items ≡ seats.items) }
+        ensures refused { IfErr result (λ refused. (d : Content) × Replays d × Fails S.parts d seats.items refused.fault) }
+    {
+        let Shared { alloc, held, bells } = self;
+        let mut held = held.into_inner();
+        let _replays = held.database().history();
+        let mut seats = seats;
+        if let Err(fault) = held.audit(&mut seats) {
+            return Err(AuditRefused {
+                shared: Shared {
+                    alloc,
+                    held: Mutex::new(held),
+                    bells,
+                },
+                seats,
+                fault,
+            });
+        }
+        let database = held.into_database();
+        let _sound = database.history();
+        let steps = database.steps();
+        let grants = database.grants();
+        Ok(Audit {
+            database,
+            steps,
+            grants,
+        })
+    }
+}

@@ -1,0 +1,30 @@
+-- What was known at one moment over a network, in plain lists.
+use Rattle.te_base.specs.Base as network
+use Rattle.step_core.specs.declared.base.Base.{Base}
+use Rattle.step_core.specs.States.{State}
+
+-- what a state knows beside its network
+abbrev pub known_in : State → Base
+known_in s = record {
+  paths = s.base.paths;
+  records = s.base.records;
+  names = s.names;
+  peers = s.peers;
+  tickets = s.tickets;
+  changes = s.changes;
+  last_session = s.last_session;
+  last_ticket = s.last_ticket;
+}
+
+-- the state over a network in which this is known
+abbrev pub state_over : network.Base → Base → State
+state_over te b = record {
+  te = te;
+  base = record { paths = b.paths; records = b.records };
+  names = b.names;
+  peers = b.peers;
+  tickets = b.tickets;
+  changes = b.changes;
+  last_session = b.last_session;
+  last_ticket = b.last_ticket;
+}
