@@ -1,4 +1,4 @@
--- The exit status of a run that a fault ended: 2 for what was given, 3 for a device, 5 for room.
+-- The exit status of a run that a fault ended: 2 for what was given, 3 for a device, 4 for an audit, 5 for room.
 use Rattle.std.specs.Prelude.{ℕ, Result, Ok, Err}
 use Rattle.std.specs.declared.io.ErrorKind as system
 use Rattle.std.specs.declared.io.ErrorKind.TheVariants as error
@@ -6,6 +6,12 @@ use Rattle.clap.specs.declared.error.kind.ErrorKind as words
 use Rattle.clap.specs.declared.error.kind.ErrorKind.TheVariants as word
 use Rattle.te_base.specs.declared.fault.TeFault.{TeFault}
 use Rattle.te_base.specs.declared.fault.TeFault.TheVariants as te
+use Rattle.history_seats.specs.declared.fault.AuditFault.{AuditFault}
+use Rattle.history_seats.specs.declared.fault.AuditFault.TheVariants as audit
+use Rattle.pce_server.specs.declared.run.RunFault.{RunFault}
+use Rattle.pce_server.specs.declared.run.RunFault.TheVariants as run
+use Rattle.pced.specs.declared.serve.ServeFault.{ServeFault}
+use Rattle.pced.specs.declared.serve.ServeFault.TheVariants as serve
 use Rattle.pce_engine.specs.declared.fault.ScriptFault.{ScriptFault}
 use Rattle.pce_engine.specs.declared.fault.ScriptFault.TheVariants.{BadLine, Te, ReadFault, WriteFault, OutOfMemory, HistoryFull}
 
@@ -26,6 +32,27 @@ status_of HistoryFull = 5
 abbrev pub ended_status : {X : Type 0} → Result X ScriptFault → ℕ
 ended_status (Ok x) = 0
 ended_status (Err fault) = status_of fault
+
+-- an audit that found no room judged nothing
+abbrev pub audit_status : AuditFault → ℕ
+audit_status audit.OutOfMemory = 5
+audit_status fault = 4
+
+abbrev pub run_status : RunFault → ℕ
+run_status run.Device = 3
+run_status (run.Store fault) = 5
+run_status (run.Audit fault) = audit_status fault
+
+abbrev pub serve_status : ServeFault → ℕ
+serve_status serve.BadArgument = 2
+serve_status serve.Device = 3
+serve_status (serve.Te fault) = te_status fault
+serve_status (serve.Run fault) = run_status fault
+
+-- the exit status of a server
+abbrev pub ended_serve_status : {X : Type 0} → Result X ServeFault → ℕ
+ended_serve_status (Ok x) = 0
+ended_serve_status (Err fault) = serve_status fault
 
 -- the exit status of words that are no command: 0 where they ask for help or the version
 abbrev pub refused_status : words.ErrorKind → ℕ

@@ -1,0 +1,7 @@
+use Rattle.pce_server.proofs.server.serve_run.Given as goal
+
+abbrev pub ghosts-seated_run-S-Ledger : goal.ghosts-seated_run-S-Ledger
+ghosts-seated_run-S-Ledger g a = record { name = a.steps.name; parts = a.steps.parts }
+
+abbrev pub ghosts-seated_run-G-Ledger : goal.ghosts-seated_run-G-Ledger
+ghosts-seated_run-G-Ledger g a = record { name = a.grants.name; parts = a.grants.parts }

@@ -1,0 +1,43 @@
+//! The server: threads that serve routers over TCP from one shared database (RFC 5440 section 4.2). `serve_run` is a
+//! whole run: one thread for each connection, at most 64 at once; workers that search for paths; a keeper of time,
+//! which forgets peers that stay down; and the caller's own thread, which answers an operator's lines. At its end
+//! the database is closed with the audit of all seats (`shared_pce`).
+//!
+//! `connection` is one connection over any reader, writer and store. However it ends, the peer's Down is submitted
+//! before it returns, and nothing of another connection is touched. What a session makes of bytes, what a step does
+//! and what an audit says is proved in the layers below; that threads run, that sockets deliver and that nothing
+//! waits for ever is shown by tests alone.
+//!
+//! ```text
+//! fn run<R: Wait + Threads + Clock + AllocGlobal + Log + Sync>(rt: &R, listener: &TcpListener, te: TeBase) -> Result<Audit, RunFault>
+//! {
+//!     let orders = Orders { workers: 2, sessions: Sessions::Endless, keep_seconds: 60 };
+//!     serve_run(rt, listener, te, orders, &mut io::empty(), &mut io::sink())
+//! }
+//! ```
+//!
+//! The modules, lowest first: `traits` (what a connection asks of its surroundings), `talk` (a connection), `socket`,
+//! `places` (where seats rest), `dues` (who expires when), `run` (whether the run is to end, and why), `floor` (what
+//! each thread is lent), `staff` (workers and keeper), `visits` (a connection's thread), `door` (the acceptor),
+//! `operator`, `server`.
+#![tactic(auto)]
+
+mod door;
+mod dues;
+mod floor;
+mod operator;
+mod places;
+mod run;
+mod server;
+mod socket;
+mod staff;
+mod talk;
+mod traits;
+mod visits;
+
+pub use operator::{LINE_LIMIT, operate};
+pub use run::RunFault;
+pub use server::{AT_ONCE, Orders, Sessions, serve_run};
+pub use shared_pce::{Audit, AuditFault, Fault};
+pub use talk::{Ended, connection};
+pub use traits::{Desk, Patient, Watch};

@@ -1,0 +1,132 @@
+//! The thread of one connection.
+use crate::dues::Due;
+use crate::floor::Floor;
+use crate::run::RunFault;
+use crate::server::AT_ONCE;
+use crate::socket::{Line, part, peer_of, prepare};
+use crate::talk::{Ended, connection};
+use crate::traits::Watch;
+use engine_core::Store;
+use log::{Log, info};
+use seated_store::Seated;
+use shared_pce::{Event, Fault, Seat};
+use std::net::{SocketAddr, TcpStream};
+use std::sync::Wait;
+use std::sync::ledger::Ledger;
+use std::time::Clock;
+
+/// How a visit ended, and whether the peer went down by it.
+#[derive(Clone, Copy)]
+struct Parting {
+    ended: Ended,
+    is_down: bool,
+}
+
+/// Whether a Down is among the calls.
+fn has_down<D: Store>(store: &D) -> bool {
+    store
+        .calls()
+        .iter()
+        .any(|call| matches!(call.event.event(), Event::Down { .. }))
+}
+
+/// Serves the peer from this seat until the end of its connection.
+fn receive<R: Wait + Clock, S: Ledger, G: Ledger>(
+    floor: &Floor<'_, R, S, G>,
+    stream: &TcpStream,
+    peer: u32,
+    seat: &mut Seat<S, G>,
+) -> Parting {
+    let moments = floor.moments();
+    let mut reader = Line::new(stream);
+    let mut writer = stream;
+    let mut store = Seated::new(floor.rt, floor.alloc, floor.shared, seat);
+    let ended = connection(
+        floor.rt,
+        floor.alloc,
+        peer,
+        &mut reader,
+        &mut writer,
+        &moments,
+        &mut store,
+    );
+    Parting {
+        ended,
+        is_down: has_down(&store),
+    }
+}
+
+/// When the peer is to be forgotten. A Down that couldn't be submitted is due at once.
+fn due_of(parting: Parting, peer: u32, now_ms: u64, keep_ms: u64) -> Option<Due> {
+    if let Ended::StoreFault(_) = parting.ended {
+        return Some(Due {
+            peer,
+            at_ms: now_ms,
+            is_up: true,
+        });
+    }
+    if !parting.is_down {
+        return None;
+    }
+    Some(Due {
+        peer,
+        at_ms: now_ms.saturating_add(keep_ms),
+        is_up: false,
+    })
+}
+
+/// Leaves it to the keeper of time to forget the peer. There is room for it, so this needs no memory.
+fn hand_over<R: Wait + Clock, S: Ledger, G: Ledger>(
+    floor: &Floor<'_, R, S, G>,
+    parting: Parting,
+    peer: u32,
+) {
+    let now_ms = floor.moments().now_ms();
+    let Some(due) = due_of(parting, peer, now_ms, floor.keep_ms) else {
+        return;
+    };
+    if floor.dues.note(floor.rt, due).is_err() {
+        floor.run.cut(floor.rt, RunFault::Store(Fault::OutOfMemory));
+    }
+}
+
+/// Serves a peer, sees to its being forgotten, and parts from it. Where its socket can't be prepared, or there is
+/// no room for the entry of its end, nothing is said to it.
+fn host<R: Wait + Clock, S: Ledger, G: Ledger>(
+    floor: &Floor<'_, R, S, G>,
+    stream: &TcpStream,
+    peer: u32,
+    seat: &mut Seat<S, G>,
+) {
+    if prepare(stream).is_err() || floor.dues.reserve(floor.rt, AT_ONCE).is_err() {
+        return;
+    }
+    let parting = receive(floor, stream, peer, seat);
+    hand_over(floor, parting, peer);
+    if parting.ended == Ended::SessionEnded {
+        part(stream, &floor.moments());
+    }
+}
+
+/// Logs that a connection of the peer has ended.
+pub(crate) fn tell_ended<R: Log>(rt: &R, peer: u32) {
+    let [a, b, c, d] = peer.to_be_bytes();
+    info!(rt; "ended {a}.{b}.{c}.{d}");
+}
+
+/// The thread of one connection, for which the seat of a place is promised. The seat rests there again at its end.
+pub(crate) fn attend<R: Wait + Clock + Log, S: Ledger, G: Ledger>(
+    floor: &Floor<'_, R, S, G>,
+    stream: TcpStream,
+    address: SocketAddr,
+    at: usize,
+) {
+    let peer = peer_of(address);
+    if let Some(mut seat) = floor.places.take(floor.rt, at) {
+        host(floor, &stream, peer, &mut seat);
+        floor.shared.fold(floor.rt, &mut seat);
+        floor.places.put(floor.rt, at, seat);
+    }
+    drop(stream);
+    tell_ended(floor.rt, peer);
+}

@@ -1,0 +1,155 @@
+//! `pced serve`: the file, the listener, the run, and what can go wrong with each, in this order.
+ghost use Rattle.std.specs.Prelude.{◌≤◌};
+ghost use Rattle.pce_server.specs.Ranges.{AreSessions, AreOrders};
+
+use crate::arguments::ServeWords;
+use log::Log;
+use pce_engine::TeFault;
+use pce_server::{Fault, Orders, RunFault, Sessions, serve_run};
+use pcep_word::Ipv4;
+use std::alloc::Global;
+use std::net::{Ipv4Addr, Net, SocketAddr, TcpListener, TcpStream};
+use std::rt::Runtime;
+use std::sync::Wait;
+use std::thread::Threads;
+use std::{error, fmt, fs, io};
+use te_base::TeBase;
+
+/// Why a server did not run to its end. `Display` gives the text for standard error.
+#[derive(Clone, Copy, Debug, PartialEq, Eq)]
+pub enum ServeFault {
+    /// What is to be listened on is no `ADDR:PORT`.
+    BadArgument,
+    /// The file can't be read, or the listener can't be made.
+    Device,
+    /// The link text has this fault.
+    Te(TeFault),
+    /// The run ended by this fault.
+    Run(RunFault),
+}
+
+impl fmt::Display for ServeFault {
+    fn fmt<W: fmt::Write>(&self, f: &mut fmt::Formatter<W>) -> fmt::Result {
+        match *self {
+            ServeFault::BadArgument => f.write_str("bad argument"),
+            ServeFault::Device => f.write_str("device fault"),
+            ServeFault::Te(TeFault::OutOfMemory) => f.write_str("out of memory"),
+            ServeFault::Te(fault) => {
+                let number = fault.number();
+                write!(f, "te fault {number}")
+            }
+            ServeFault::Run(fault) => write!(f, "{fault}"),
+        }
+    }
+}
+
+impl error::Error for ServeFault {}
+
+/// The port of a decimal number below 65,536.
+fn port_in(word: &str) -> Option<u16> {
+    if !word.bytes().all(|byte| byte.is_ascii_digit()) {
+        return None;
+    }
+    word.parse::<u16>().ok()
+}
+
+/// The address and the port of `ADDR:PORT`.
+fn place_in(word: &str) -> Option<SocketAddr> {
+    let (address, port) = word.split_once(':')?;
+    let address = Ipv4::parse(address)?;
+    let port = port_in(port)?;
+    Some(SocketAddr::from((Ipv4Addr::from_bits(address.0), port)))
+}
+
+/// The links and nodes of a text in a file.
+fn base_in(alloc: Global, text: &[u8]) -> Result<TeBase, ServeFault> {
+    let Ok(text) = str::from_utf8(text) else {
+        return Err(ServeFault::Te(TeFault::NotToml));
+    };
+    match TeBase::read(alloc, text) {
+        Ok(base) => Ok(base),
+        Err(fault) => Err(ServeFault::Te(fault)),
+    }
+}
+
+/// The fault of a file or a listener.
+fn device_fault(error: &io::Error) -> ServeFault {
+    match error.kind() {
+        io::ErrorKind::OutOfMemory => ServeFault::Run(RunFault::Store(Fault::OutOfMemory)),
+        _ => ServeFault::Device,
+    }
+}
+
+fn read_base<R: Runtime<A = Global>>(rt: &R, file: &str) -> Result<TeBase, ServeFault> {
+    match fs::read(rt, file) {
+        Ok(text) => base_in(rt.alloc(), &text),
+        Err(error) => Err(device_fault(&error)),
+    }
+}
+
+fn listen<R: Net<Listener = TcpListener, Stream = TcpStream>>(
+    rt: &R,
+    place: SocketAddr,
+) -> Result<TcpListener, ServeFault> {
+    match TcpListener::bind(rt, place) {
+        Ok(listener) => Ok(listener),
+        Err(error) => Err(device_fault(&error)),
+    }
+}
+
+/// The number of the range that is nearest to this one.
+fn within(least: u64, number: u64, most: u64) -> u64
+    requires { least ≤ most }
+    ensures { (least ≤ result) × (result ≤ most) }
+{
+    if number < least {
+        least
+    } else if number > most {
+        most
+    } else {
+        number
+    }
+}
+
+fn sessions_within(sessions: Sessions) -> Sessions
+    ensures { AreSessions result }
+{
+    match sessions {
+        Sessions::Count(count) => Sessions::Count(within(1, count, 1000)),
+        Sessions::Endless => Sessions::Endless,
+    }
+}
+
+/// The orders with each number in its range. The command line's parser refuses others, so these are the same.
+fn orders_within(orders: Orders) -> Orders
+    ensures { AreOrders result }
+{
+    Orders {
+        workers: within(1, orders.workers, 16),
+        sessions: sessions_within(orders.sessions),
+        keep_seconds: within(0, orders.keep_seconds, 3600),
+    }
+}
+
+/// Serves until the end of the run.
+pub fn serve<
+    R: Runtime<A = Global>
+        + Net<Listener = TcpListener, Stream = TcpStream>
+        + Wait
+        + Threads
+        + Log
+        + Sync,
+>(rt: &R, words: ServeWords<'_>) -> Result<(), ServeFault> {
+    let Some(place) = place_in(words.listen) else {
+        return Err(ServeFault::BadArgument);
+    };
+    let base = read_base(rt, words.file)?;
+    let listener = listen(rt, place)?;
+    let mut reader = rt.reader();
+    let mut writer = io::writer(rt);
+    let orders = orders_within(words.orders);
+    match serve_run(rt, &listener, base, orders, &mut reader, &mut writer) {
+        Ok(_audit) => Ok(()),
+        Err(fault) => Err(ServeFault::Run(fault)),
+    }
+}
