@@ -142,20 +142,42 @@ impl<S: Ledger, G: Ledger> Held<S, G> {
         ensures found_replays { Replays self.old }
         ensures found_sound { IsSound self.old }
     {
+        let (reply, _let_go) = self.step_and_fold(seat, event)?;
+        Ok(reply)
+    }
+
+    /// The same, and the receipts that the seat keeps no longer are given, oldest first, to be dropped once a
+    /// lock is free. Room for the new receipt is made before the step, and nothing fails after it.
+    pub fn step_and_fold(
+        &mut self,
+        seat: &mut Seat<S, G>,
+        event: SharedEvent,
+    ) -> Result<(Reply, Vec<Receipt>), Fault>
+        ensures step { IfOk result (λ r. self.new ≡ stepped self.old event r.0) }
+        ensures reply { IfOk result (λ r. r.0 ≡ (step self.old.state event).reply) }
+        ensures receipt { IfOk result (λ r. seat.new ≡ told (tidy self.old.rolled seat.old) (steps_of self.old) event r.0) }
+        ensures given { IfOk result (λ r. r.1.items ≡ let_go self.old.rolled seat.old) }
+        ensures full { (result ≡ Err Fault.HistoryFull) ↔ IsTrue (is_full self.old) }
+        ensures unchanged_on_fault { OnErr result ((self.new ≡ self.old) × (seat.new ≡ seat.old)) }
+        ensures found_replays { Replays self.old }
+        ensures found_sound { IsSound self.old }
+    {
         let _found = self.database.history();
         if self.database.is_full() {
             return Err(Fault::HistoryFull);
         }
-        seat.receipts.reserve(1)?;
+        let past = past_floor(seat.floor, self.database.rolled(), seat.receipts.as_slice());
+        // a seat that folds goes on with a list of its own
+        let mut spare = Vec::new(self.alloc);
+        match past {
+            Some(_) => spare.reserve(1)?,
+            None => seat.receipts.reserve(1)?,
+        }
         let theirs = event.copy()?;
         let place = self.database.steps();
         let reply = self.database.apply_shared(theirs)?;
-        if let Some(floor) = past_floor(
-            seat.floor,
-            self.database.rolled(),
-            seat.receipts.as_slice(),
-        ) {
-            seat.receipts.clear();
+        if let Some(floor) = past {
+            mem::swap(&mut seat.receipts, &mut spare);
             seat.folded = seat.told;
             seat.folded_grants = seat.granted;
             seat.floor = floor;
@@ -176,7 +198,7 @@ impl<S: Ledger, G: Ledger> Held<S, G> {
             event,
             brief,
         });
-        Ok(reply)
+        Ok((reply, spare))
     }
 
     /// Lets a seat that waits keep its receipts no longer, where the places of all of them are rolled: they are

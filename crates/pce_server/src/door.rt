@@ -6,7 +6,7 @@ use crate::socket::{ACCEPT_WAIT_MS, peer_of};
 use crate::visits::{attend, tell_ended};
 use log::Log;
 use std::io::ErrorKind;
-use std::net::{SocketAddr, TcpListener, TcpStream};
+use std::net::{Net, SocketAddr, TcpListener, TcpStream};
 use std::sync::Wait;
 use std::sync::ledger::Ledger;
 use std::thread;
@@ -72,7 +72,7 @@ fn listen(listener: &TcpListener) -> Knock {
 /// Accepts connections, each into a thread of its own, until as many came as were ordered or the run is to end;
 /// then waits for their ends. Where a thread can't be started, that connection alone ends at once.
 pub(crate) fn accept_all<
-    R: Wait + Clock + Log + Threads + Sync,
+    R: Wait + Clock + Log + Net<Listener = TcpListener, Stream = TcpStream> + Threads + Sync,
     S: Ledger + Send + Sync,
     G: Ledger + Send + Sync,
 >(floor: &Floor<'_, R, S, G>, listener: &TcpListener, sessions: Sessions) {
@@ -108,7 +108,7 @@ pub(crate) fn accept_all<
             }
         }
         if tally.is_broken() {
-            floor.run.cut(rt, RunFault::Device);
+            floor.cut(RunFault::Device);
         }
     });
 }

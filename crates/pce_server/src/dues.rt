@@ -48,6 +48,11 @@ impl Dues {
         dues.get(at).copied()
     }
 
+    /// Whether a peer's Down couldn't be submitted yet.
+    pub fn owes_a_down<R: Wait>(&self, rt: &R) -> bool {
+        self.dues.lock(rt).iter().any(|due| due.is_up)
+    }
+
     /// An entry was settled: what comes after it stands in its place. Nothing is done where its peer has another
     /// entry since.
     pub fn settled<R: Wait>(&self, rt: &R, settled: Due, after: Option<Due>) {

@@ -9,7 +9,7 @@
 //! waits for ever is shown by tests alone.
 //!
 //! ```text
-//! fn run<R: Wait + Threads + Clock + AllocGlobal + Log + Sync>(rt: &R, listener: &TcpListener, te: TeBase) -> Result<Audit, RunFault>
+//! fn run<R: Wait + Threads + Clock + Net<Listener = TcpListener, Stream = TcpStream> + AllocGlobal + Log + Sync>(rt: &R, listener: &TcpListener, te: TeBase) -> Result<Audit, RunFault>
 //! {
 //!     let orders = Orders { workers: 2, sessions: Sessions::Endless, keep_seconds: 60 };
 //!     serve_run(rt, listener, te, orders, &mut io::empty(), &mut io::sink())
@@ -17,11 +17,12 @@
 //! ```
 //!
 //! The modules, lowest first: `traits` (what a connection asks of its surroundings), `talk` (a connection), `socket`,
-//! `places` (where seats rest), `dues` (who expires when), `run` (whether the run is to end, and why), `floor` (what
-//! each thread is lent), `staff` (workers and keeper), `visits` (a connection's thread), `door` (the acceptor),
+//! `places` (where seats rest), `dues` (who expires when), `alarms` (what wakes a connection), `run` (whether the run is
+//! to end, and why), `floor` (what each thread is lent), `staff` (workers and keeper), `visits` (a connection's thread), `door` (the acceptor),
 //! `operator`, `server`.
 #![tactic(auto)]
 
+mod alarms;
 mod door;
 mod dues;
 mod floor;

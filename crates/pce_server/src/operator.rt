@@ -83,42 +83,64 @@ fn put_last<D: Desk>(text: &mut String, store: &D)
     }
 }
 
-/// Submits what the line names, and gives the text of the reply. After a fault nothing was submitted.
-fn obey<D: Desk>(alloc: Global, line: &[u8], store: &mut D) -> Result<String, CommandFault> {
+/// The router that an operator's event concerns.
+fn peer_of(event: &Event) -> Option<u32> {
+    match event {
+        Event::Ask { peer, .. } | Event::Return { peer, .. } | Event::Delete { peer, .. } => {
+            Some(*peer)
+        }
+        _ => None,
+    }
+}
+
+/// Submits what the line names, and gives the text of the reply. The connection of its router is rung for. After a
+/// fault nothing was submitted.
+fn obey<D: Desk, W: Watch>(
+    alloc: Global,
+    line: &[u8],
+    watch: &W,
+    store: &mut D,
+) -> Result<String, CommandFault> {
     let event = named(alloc, line)?;
+    let peer = peer_of(&event);
     let mut text = String::with_capacity(alloc, REPLY_ROOM)?;
     store.submit(event)?;
     put_last(&mut text, store);
     store.forget();
+    if let Some(peer) = peer {
+        watch.ring(peer);
+    }
     Ok(text)
 }
 
 /// The same, and once more where the history was full.
-fn obey_or_roll<D: Desk>(
+fn obey_or_roll<D: Desk, W: Watch>(
     alloc: Global,
     line: &[u8],
+    watch: &W,
     store: &mut D,
 ) -> Result<String, CommandFault> {
-    match obey(alloc, line, store) {
+    match obey(alloc, line, watch, store) {
         Err(CommandFault::Store(Fault::HistoryFull)) => {
             make_room(Fault::HistoryFull, store);
-            obey(alloc, line, store)
+            obey(alloc, line, watch, store)
         }
         told => told,
     }
 }
 
 /// Answers a line that has ended.
-fn answer_line<D: Desk, O: Write>(
+fn answer_line<D: Desk, O: Write, W: Watch>(
     alloc: Global,
     pending: &Pending,
+    watch: &W,
     store: &mut D,
     writer: &mut O,
 ) -> Result<(), RunFault> {
     let told = if pending.is_long {
         Err(CommandFault::BadLine)
     } else {
-        obey_or_roll(alloc, &pending.bytes, store)
+        obey_or_roll(alloc, &pending.bytes, watch, store)
     };
     let written = match told {
         Ok(text) => writeln!(writer, "{text}"),
@@ -134,16 +156,17 @@ fn answer_line<D: Desk, O: Write>(
     Ok(())
 }
 
-fn take_piece<D: Desk, O: Write>(
+fn take_piece<D: Desk, O: Write, W: Watch>(
     alloc: Global,
     pending: &mut Pending,
     piece: &[u8],
+    watch: &W,
     store: &mut D,
     writer: &mut O,
 ) -> Result<(), RunFault> {
     for byte in piece {
         if *byte == b'\n' {
-            answer_line(alloc, pending, store, writer)?;
+            answer_line(alloc, pending, watch, store, writer)?;
             pending.end();
         } else {
             pending.add(*byte);
@@ -153,16 +176,17 @@ fn take_piece<D: Desk, O: Write>(
 }
 
 /// Answers the last line, where no line break ends it.
-fn finish<D: Desk, O: Write>(
+fn finish<D: Desk, O: Write, W: Watch>(
     alloc: Global,
     pending: &Pending,
+    watch: &W,
     store: &mut D,
     writer: &mut O,
 ) -> Result<(), RunFault> {
     if pending.is_empty() {
         return Ok(());
     }
-    answer_line(alloc, pending, store, writer)
+    answer_line(alloc, pending, watch, store, writer)
 }
 
 /// Answers an operator's lines until the reader has ended, or the run is to end when a line was read. A bad line is
@@ -189,9 +213,9 @@ pub fn operate<D: Desk, I: Read, O: Write, W: Watch>(
             return Err(RunFault::Device);
         };
         if count == 0 || watch.is_closing() {
-            return finish(alloc, &pending, store, writer);
+            return finish(alloc, &pending, watch, store, writer);
         }
-        take_piece(alloc, &mut pending, &piece[..count], store, writer)?;
+        take_piece(alloc, &mut pending, &piece[..count], watch, store, writer)?;
     }
     Ok(())
 }

@@ -2,6 +2,7 @@
 ghost use Rattle.std.specs.Prelude.{◌≡◌, ◌≤◌, true};
 ghost use Rattle.pce_server.specs.Ranges.{AreSessions, AreOrders};
 
+use crate::alarms::Alarms;
 use crate::door::accept_all;
 use crate::dues::Dues;
 use crate::floor::Floor;
@@ -17,7 +18,7 @@ use shared_pce::{Audit, Fault, Seat, Shared};
 use std::alloc::Global;
 use std::io::{Read, Write};
 use std::marker::Brand;
-use std::net::TcpListener;
+use std::net::{Net, TcpListener, TcpStream};
 use std::sync::Wait;
 use std::sync::ledger::{Blank, Ledger};
 use std::thread;
@@ -73,7 +74,13 @@ pub fn serve_run<R, I: Read, O: Write>(
     writer: &mut O,
 ) -> Result<Audit, RunFault>
 where
-    R: Wait + Threads + Clock + AllocGlobal + Log + Sync,
+    R: Wait
+        + Threads
+        + Clock
+        + Net<Listener = TcpListener, Stream = TcpStream>
+        + AllocGlobal
+        + Log
+        + Sync,
     requires orders { AreOrders orders }
 {
     let seats = live_of(orders.sessions) + orders.workers + 2;
@@ -95,7 +102,13 @@ fn seated_run<S: Ledger + Send + Sync, G: Ledger + Send + Sync, R, I: Read, O: W
     grants: Blank,
 ) -> Result<Audit, RunFault>
 where
-    R: Wait + Threads + Clock + AllocGlobal + Log + Sync,
+    R: Wait
+        + Threads
+        + Clock
+        + Net<Listener = TcpListener, Stream = TcpStream>
+        + AllocGlobal
+        + Log
+        + Sync,
     requires orders { AreOrders orders }
     requires seats { (1 ≤ seats) × (seats ≤ 256) }
     requires steps { (steps.name ≡ S.name) × (steps.parts ≡ S.parts) × (steps.parts ≡ seats) }
@@ -137,11 +150,19 @@ fn serve_all<S: Ledger + Send + Sync, G: Ledger + Send + Sync, R, I: Read, O: Wr
     writer: &mut O,
 ) -> Result<(), RunFault>
 where
-    R: Wait + Threads + Clock + AllocGlobal + Log + Sync,
+    R: Wait
+        + Threads
+        + Clock
+        + Net<Listener = TcpListener, Stream = TcpStream>
+        + AllocGlobal
+        + Log
+        + Sync,
     requires orders { AreOrders orders }
 {
     let run = Run::new();
     let dues = Dues::new(alloc);
+    let live = live_of(orders.sessions) as usize;
+    let alarms = Alarms::new(alloc, live)?;
     let floor = Floor {
         rt,
         alloc,
@@ -149,11 +170,15 @@ where
         places,
         dues: &dues,
         run: &run,
+        alarms: &alarms,
         start: Instant::now(rt).ok(),
         keep_ms: orders.keep_seconds * 1000,
-        live: live_of(orders.sessions) as usize,
+        live,
     };
     staff(&floor, listener, orders, reader, writer);
+    if dues.owes_a_down(rt) {
+        run.cut(rt, RunFault::Store(Fault::OutOfMemory));
+    }
     match run.into_fault() {
         Some(fault) => Err(fault),
         None => Ok(()),
@@ -170,7 +195,13 @@ fn staff<S: Ledger + Send + Sync, G: Ledger + Send + Sync, R, I: Read, O: Write>
     writer: &mut O,
 )
 where
-    R: Wait + Threads + Clock + AllocGlobal + Log + Sync,
+    R: Wait
+        + Threads
+        + Clock
+        + Net<Listener = TcpListener, Stream = TcpStream>
+        + AllocGlobal
+        + Log
+        + Sync,
     requires orders { AreOrders orders }
 {
     let rt = floor.rt;
@@ -187,11 +218,11 @@ where
         let sessions = orders.sessions;
         let acceptor = scope.spawn(move || accept_all(floor, listener, sessions));
         if !has_worker || keeper.is_err() || acceptor.is_err() {
-            floor.run.cut(rt, RunFault::Device);
+            floor.cut(RunFault::Device);
         }
         hear_operator(floor, operator_at, reader, writer);
         if sessions == Sessions::Endless {
-            floor.run.close();
+            floor.close();
         }
         if let Ok(acceptor) = acceptor {
             acceptor.join(rt);
@@ -214,7 +245,7 @@ fn hear_operator<S: Ledger, G: Ledger, R: Wait + Clock, I: Read, O: Write>(
     let heard = operate(floor.alloc, reader, writer, &floor.moments(), &mut store);
     drop(store);
     if let Err(fault) = heard {
-        floor.run.cut(floor.rt, fault);
+        floor.cut(fault);
     }
     floor.places.put(floor.rt, at, seat);
 }

@@ -1,13 +1,16 @@
 //! A peer's socket: its waits, and its end.
 use crate::traits::{Patient, Watch};
+use mio::unix::SourceFd;
+use mio::{Events, Interest, Poll, Token, Waker};
+use std::alloc::Global;
 use std::io;
 use std::io::{ErrorKind, Read};
-use std::net::{Shutdown, SocketAddr, TcpListener, TcpStream};
-use std::os::fd::OwnedFd;
+use std::net::{Net, Shutdown, SocketAddr, TcpListener, TcpStream};
+use std::os::fd::{AsRawFd, OwnedFd, RawFd};
 use std::time::Duration;
 
-/// So long a patient read waits, in milliseconds. The system rounds it up to its own ticks; what an operator asks
-/// of an idle router is to be on its way within 100.
+/// So long a read waits where bytes were found and are not there, and for what a peer still sends after the end, in
+/// milliseconds.
 const READ_WAIT_MS: u64 = 80;
 
 /// So long an accept waits, in milliseconds.
@@ -22,40 +25,67 @@ const PART_MS: u64 = 1000;
 /// So many reads are made then, at most.
 const PART_READS: u32 = 64;
 
-/// A socket that is read patiently or not.
+/// What a wait found the socket by, and what by a ring.
+const SOCKET: Token = Token(0);
+
+const BELL: Token = Token(1);
+
+/// So many things are found by one wait: bytes, and a ring.
+const FOUND: usize = 2;
+
+/// A socket that is waited for together with a bell.
 #[derive(Drop)]
 pub(crate) struct Line<'a> {
     stream: &'a TcpStream,
-    is_patient: bool,
+    descriptor: RawFd,
+    poll: Poll,
+    found: Events,
+    most: Duration,
 }
 
 impl<'a> Line<'a> {
-    pub fn new(stream: &'a TcpStream) -> Line<'a> {
-        Line {
+    pub fn new<R: Net>(rt: &R, alloc: Global, stream: &'a TcpStream) -> io::Result<Line<'a>> {
+        let descriptor = stream.as_raw_fd();
+        let poll = Poll::new(rt)?;
+        poll.registry()
+            .register(&mut SourceFd(&descriptor), SOCKET, Interest::READABLE)?;
+        Ok(Line {
             stream,
-            is_patient: true,
-        }
+            descriptor,
+            poll,
+            found: Events::with_capacity(alloc, FOUND)?,
+            most: Duration::from_millis(0),
+        })
+    }
+
+    /// By which another thread ends a wait of this line.
+    pub fn waker(&self) -> io::Result<Waker> {
+        Waker::new(self.poll.registry(), BELL)
+    }
+
+    /// Waits, and says whether bytes came, or the end. What came before the wait is found anew, since the socket
+    /// is noted anew.
+    fn is_spoken_to(&mut self) -> io::Result<bool> {
+        let registry = self.poll.registry();
+        registry.reregister(&mut SourceFd(&self.descriptor), SOCKET, Interest::READABLE)?;
+        self.poll.poll(&mut self.found, Some(self.most))?;
+        Ok(self.found.iter().any(|event| event.token() == SOCKET))
     }
 }
 
 impl<'a> Read for Line<'a> {
     fn read(&mut self, buf: &mut [u8]) -> io::Result<usize> {
-        let mut stream = self.stream;
-        if self.is_patient {
-            return stream.read(buf);
+        if !self.is_spoken_to()? {
+            return Err(io::Error::from(ErrorKind::WouldBlock));
         }
-        // the mode is that of both directions, so it doesn't outlast the read
-        stream.set_nonblocking(true)?;
-        let heard = stream.read(buf);
-        stream.set_nonblocking(false)?;
-        heard
+        let mut stream = self.stream;
+        stream.read(buf)
     }
 }
 
 impl<'a> Patient for Line<'a> {
-    fn set_patient(&mut self, is_patient: bool) -> io::Result<()> {
-        self.is_patient = is_patient;
-        Ok(())
+    fn set_patience(&mut self, most: Duration) {
+        self.most = most;
     }
 }
 

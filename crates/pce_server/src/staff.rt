@@ -3,7 +3,7 @@ use crate::dues::Due;
 use crate::floor::Floor;
 use crate::run::RunFault;
 use crate::traits::Watch;
-use shared_pce::{Event, Fault, Quiet, Seat};
+use shared_pce::{Event, Fault, Quiet, Seat, Worked};
 use std::sync::Wait;
 use std::sync::ledger::Ledger;
 use std::thread;
@@ -39,6 +39,13 @@ fn tend<R: Wait + Clock, S: Ledger, G: Ledger>(floor: &Floor<'_, R, S, G>) {
     }
 }
 
+/// Has the connection of the router for which a path was sought look for what it has to say.
+fn ring_for<R: Wait + Clock, S: Ledger, G: Ledger>(floor: &Floor<'_, R, S, G>, worked: &Worked) {
+    if let Worked::Done { job, .. } = worked {
+        floor.alarms.ring(floor.rt, job.ticket.peer);
+    }
+}
+
 /// A turn of a worker that has failed so often in a row: sleeps until a ticket waits, and works at one. Gives the
 /// fault, if one came. After a fault the ticket may be in the seat's hand, so the turn doesn't wait for another.
 fn worker_turn<R: Wait + Clock, S: Ledger, G: Ledger>(
@@ -51,8 +58,12 @@ fn worker_turn<R: Wait + Clock, S: Ledger, G: Ledger>(
     if faults == 0 && !floor.shared.await_work(rt, most) {
         return None;
     }
-    let Err(fault) = floor.shared.work_one(rt, seat, &mut Quiet) else {
-        return None;
+    let fault = match floor.shared.work_one(rt, seat, &mut Quiet) {
+        Ok(worked) => {
+            ring_for(floor, &worked);
+            return None;
+        }
+        Err(fault) => fault,
     };
     if fault == Fault::HistoryFull {
         roll(floor);
@@ -78,7 +89,7 @@ fn work_on<R: Wait + Clock, S: Ledger, G: Ledger>(
         };
         faults = faults.saturating_add(1);
         if faults >= FAULTS {
-            floor.run.cut(floor.rt, RunFault::Store(fault));
+            floor.cut(RunFault::Store(fault));
             return;
         }
     }

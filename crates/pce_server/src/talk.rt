@@ -2,7 +2,7 @@
 ghost use Rattle.pce_server.specs.Heard.{IsWithin};
 
 use crate::traits::{Desk, Patient, Watch};
-use engine_core::{Call, Client, Fault, Reply, hang_up, serve};
+use engine_core::{Client, Fault, hang_up, serve};
 use std::alloc::Global;
 use std::io::{ErrorKind, Write};
 use std::sync::Wait;
@@ -14,14 +14,8 @@ pub const PIECE: usize = 4096;
 /// A session is served so often at least, in milliseconds, so that its timers run (RFC 5440 section 4.2.1).
 const SERVED_EVERY_MS: u64 = 10_000;
 
-/// A path that its peer waits for longer than this, in milliseconds, is waited for as anything else is.
-const BRISK_MS: u64 = 1000;
-
-/// The first wait for a path, in milliseconds. Each is twice the one before.
-const FIRST_LINGER_MS: u64 = 1;
-
-/// The longest of these waits, in milliseconds.
-const LONGEST_LINGER_MS: u64 = 32;
+/// And so often where memory was refused to it.
+const RETRIED_EVERY_MS: u64 = 50;
 
 /// So often it is tried to submit that a peer went down.
 const HANG_UPS: u32 = 4;
@@ -52,53 +46,15 @@ enum Heard {
     Ended(Ended),
 }
 
-/// When a session was last served, and how it waits for the paths that it asked for. Moments and times are in
-/// milliseconds.
-#[derive(Drop)]
-struct Pace {
-    served_ms: u64,
-    heard_ms: u64,
-    linger_ms: u64,
-    /// So many paths are sought for the peer.
-    sought: u64,
-}
-
-impl Pace {
-    fn new(now_ms: u64) -> Pace {
-        Pace {
-            served_ms: now_ms,
-            heard_ms: now_ms,
-            linger_ms: FIRST_LINGER_MS,
-            sought: 0,
-        }
-    }
-
-    fn heard(&mut self, now_ms: u64) {
-        self.heard_ms = now_ms;
-        self.linger_ms = FIRST_LINGER_MS;
-    }
-
-    /// Counts what is sought: one path more for each ask that was taken, one less for each message that went out.
-    fn count(&mut self, calls: &[Call]) {
-        for call in calls {
-            match &call.reply {
-                Reply::Asked(_) => self.sought = self.sought.saturating_add(1),
-                Reply::Out(messages) => {
-                    let told = messages.as_slice().len() as u64;
-                    self.sought = self.sought.saturating_sub(told);
-                }
-                _ => {}
-            }
-        }
-    }
-}
-
-/// A session with its peer and its pace.
+/// A session with its peer.
 #[derive(Drop)]
 struct Talk {
     peer: u32,
     client: Client,
-    pace: Pace,
+    /// When it was last served, in milliseconds.
+    served_ms: u64,
+    /// It was served, but for what memory was refused to.
+    is_behind: bool,
 }
 
 /// Serves one peer until its end. The last calls in the store's list are those of its end: a Down, where the peer
@@ -119,7 +75,8 @@ pub fn connection<R: Wait, I: Patient, O: Write, W: Watch, D: Desk>(
     let mut talk = Talk {
         peer,
         client,
-        pace: Pace::new(now_ms),
+        served_ms: now_ms,
+        is_behind: false,
     };
     let ended = talk_on(rt, &mut talk, reader, writer, watch, store);
     store.forget();
@@ -181,56 +138,40 @@ fn turn<I: Patient, O: Write, W: Watch, D: Desk>(
     watch: &W,
     store: &mut D,
 ) -> Option<Ended> {
-    let is_brisk = talk.pace.sought > 0;
-    let heard = hear(reader, buffer, !is_brisk);
     if watch.is_closing() {
         return Some(close(talk, writer));
     }
+    let most = Duration::from_millis(patience_ms(talk, watch.now_ms()));
+    reader.set_patience(most);
+    let heard = hear(reader, buffer);
     let now_ms = watch.now_ms();
     match heard {
         Heard::Ended(ended) => Some(ended),
-        Heard::Bytes(count) => {
-            talk.pace.heard(now_ms);
-            answer(talk, &buffer[..count], now_ms, writer, store)
-        }
-        Heard::Nothing => {
-            if !is_due(talk, is_brisk, now_ms, store) {
-                return None;
-            }
-            answer(talk, &[], now_ms, writer, store)
-        }
+        Heard::Bytes(count) => answer(talk, &buffer[..count], now_ms, writer, store),
+        Heard::Nothing if is_due(talk, now_ms, store) => answer(talk, &[], now_ms, writer, store),
+        Heard::Nothing => None,
     }
+}
+
+/// How long the session may wait until it is to be served, in milliseconds.
+fn patience_ms(talk: &Talk, now_ms: u64) -> u64 {
+    let every_ms = if talk.is_behind {
+        RETRIED_EVERY_MS
+    } else {
+        SERVED_EVERY_MS
+    };
+    every_ms.saturating_sub(now_ms.saturating_sub(talk.served_ms))
 }
 
 /// Whether the session is to be served though no bytes came: messages wait, or it was served too long ago.
-fn is_due<D: Desk>(talk: &mut Talk, is_brisk: bool, now_ms: u64, store: &D) -> bool {
-    let is_queued = if is_brisk {
-        linger(talk, now_ms, store)
-    } else {
-        store.queued(talk.peer)
-    };
-    is_queued || now_ms.saturating_sub(talk.pace.served_ms) >= SERVED_EVERY_MS
-}
-
-/// Waits for messages. Each wait is longer than the one before, up to a bound.
-fn linger<D: Desk>(talk: &mut Talk, now_ms: u64, store: &D) -> bool {
-    let pace = &mut talk.pace;
-    if now_ms.saturating_sub(pace.heard_ms) > BRISK_MS {
-        pace.sought = 0;
-        return store.queued(talk.peer);
-    }
-    let most_ms = pace.linger_ms.min(LONGEST_LINGER_MS);
-    pace.linger_ms = most_ms * 2;
-    store.await_queued(talk.peer, Duration::from_millis(most_ms))
+fn is_due<D: Desk>(talk: &Talk, now_ms: u64, store: &D) -> bool {
+    store.queued(talk.peer) || patience_ms(talk, now_ms) == 0
 }
 
 /// Reads once. What came stands at the front of the buffer.
-fn hear<I: Patient>(reader: &mut I, buffer: &mut [u8], is_patient: bool) -> Heard
+fn hear<I: Patient>(reader: &mut I, buffer: &mut [u8]) -> Heard
     ensures within { IsWithin result buffer.new }
 {
-    if reader.set_patient(is_patient).is_err() {
-        return Heard::Ended(Ended::ReadFault);
-    }
     match reader.read(buffer) {
         Ok(0) => Heard::Ended(Ended::PeerClosed),
         Ok(count) => Heard::Bytes(count),
@@ -249,10 +190,10 @@ fn answer<O: Write, D: Desk>(
     writer: &mut O,
     store: &mut D,
 ) -> Option<Ended> {
-    talk.pace.served_ms = now_ms;
+    talk.served_ms = now_ms;
     let served = serve(&mut talk.client, talk.peer, piece, now_ms, store);
-    talk.pace.count(store.calls());
     store.forget();
+    talk.is_behind = served.is_err();
     if let Err(fault) = served {
         make_room(fault, store);
     }

@@ -1,4 +1,5 @@
 //! The thread of one connection.
+use crate::alarms::Alarm;
 use crate::dues::Due;
 use crate::floor::Floor;
 use crate::run::RunFault;
@@ -10,7 +11,8 @@ use engine_core::Store;
 use log::{Log, info};
 use seated_store::Seated;
 use shared_pce::{Event, Fault, Seat};
-use std::net::{SocketAddr, TcpStream};
+use std::io;
+use std::net::{Net, SocketAddr, TcpListener, TcpStream};
 use std::sync::Wait;
 use std::sync::ledger::Ledger;
 use std::time::Clock;
@@ -33,19 +35,19 @@ fn has_down<D: Store>(store: &D) -> bool {
 /// Serves the peer from this seat until the end of its connection.
 fn receive<R: Wait + Clock, S: Ledger, G: Ledger>(
     floor: &Floor<'_, R, S, G>,
+    line: &mut Line<'_>,
     stream: &TcpStream,
     peer: u32,
     seat: &mut Seat<S, G>,
 ) -> Parting {
     let moments = floor.moments();
-    let mut reader = Line::new(stream);
     let mut writer = stream;
     let mut store = Seated::new(floor.rt, floor.alloc, floor.shared, seat);
     let ended = connection(
         floor.rt,
         floor.alloc,
         peer,
-        &mut reader,
+        line,
         &mut writer,
         &moments,
         &mut store,
@@ -86,22 +88,39 @@ fn hand_over<R: Wait + Clock, S: Ledger, G: Ledger>(
         return;
     };
     if floor.dues.note(floor.rt, due).is_err() {
-        floor.run.cut(floor.rt, RunFault::Store(Fault::OutOfMemory));
+        floor.cut(RunFault::Store(Fault::OutOfMemory));
     }
+}
+
+/// The prepared socket as a line, whose alarm is set at its place.
+fn connected<
+    'a,
+    R: Wait + Clock + Net<Listener = TcpListener, Stream = TcpStream>,
+    S: Ledger,
+    G: Ledger,
+>(floor: &Floor<'_, R, S, G>, stream: &'a TcpStream, peer: u32, at: usize) -> io::Result<Line<'a>> {
+    prepare(stream)?;
+    floor.dues.reserve(floor.rt, AT_ONCE)?;
+    let line = Line::new(floor.rt, floor.alloc, stream)?;
+    let waker = line.waker()?;
+    floor.alarms.set(floor.rt, at, Some(Alarm { peer, waker }));
+    Ok(line)
 }
 
 /// Serves a peer, sees to its being forgotten, and parts from it. Where its socket can't be prepared, or there is
 /// no room for the entry of its end, nothing is said to it.
-fn host<R: Wait + Clock, S: Ledger, G: Ledger>(
+fn host<R: Wait + Clock + Net<Listener = TcpListener, Stream = TcpStream>, S: Ledger, G: Ledger>(
     floor: &Floor<'_, R, S, G>,
     stream: &TcpStream,
     peer: u32,
+    at: usize,
     seat: &mut Seat<S, G>,
 ) {
-    if prepare(stream).is_err() || floor.dues.reserve(floor.rt, AT_ONCE).is_err() {
+    let Ok(mut line) = connected(floor, stream, peer, at) else {
         return;
-    }
-    let parting = receive(floor, stream, peer, seat);
+    };
+    let parting = receive(floor, &mut line, stream, peer, seat);
+    floor.alarms.set(floor.rt, at, None);
     hand_over(floor, parting, peer);
     if parting.ended == Ended::SessionEnded {
         part(stream, &floor.moments());
@@ -115,15 +134,14 @@ pub(crate) fn tell_ended<R: Log>(rt: &R, peer: u32) {
 }
 
 /// The thread of one connection, for which the seat of a place is promised. The seat rests there again at its end.
-pub(crate) fn attend<R: Wait + Clock + Log, S: Ledger, G: Ledger>(
-    floor: &Floor<'_, R, S, G>,
-    stream: TcpStream,
-    address: SocketAddr,
-    at: usize,
-) {
+pub(crate) fn attend<
+    R: Wait + Clock + Log + Net<Listener = TcpListener, Stream = TcpStream>,
+    S: Ledger,
+    G: Ledger,
+>(floor: &Floor<'_, R, S, G>, stream: TcpStream, address: SocketAddr, at: usize) {
     let peer = peer_of(address);
     if let Some(mut seat) = floor.places.take(floor.rt, at) {
-        host(floor, &stream, peer, &mut seat);
+        host(floor, &stream, peer, at, &mut seat);
         floor.shared.fold(floor.rt, &mut seat);
         floor.places.put(floor.rt, at, seat);
     }

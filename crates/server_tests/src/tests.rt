@@ -8,6 +8,7 @@ mod ends;
 mod fakes;
 mod lines;
 mod loopback;
+mod others;
 mod routers;
 
 static DIAMOND: &str = r#"

@@ -94,7 +94,7 @@ impl<S: Ledger, G: Ledger> Shared<S, G> {
     {
         let peer = peer_in(event.event());
         let mut held = self.held.lock(rt);
-        let reply = held.step_shared(seat, event)?;
+        let (reply, let_go) = held.step_and_fold(seat, event)?;
         let waits = held.database().waiting();
         drop(held);
         if waits {
@@ -103,6 +103,7 @@ impl<S: Ledger, G: Ledger> Shared<S, G> {
         if let Some(peer) = peer {
             self.bells.ring_peer(peer);
         }
+        drop(let_go);
         Ok(reply)
     }
 

@@ -12,6 +12,7 @@ use std::test::Fail;
 use te_base::TeBase;
 
 mod lives;
+mod looks;
 mod meeting;
 mod seated;
 

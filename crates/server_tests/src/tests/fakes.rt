@@ -38,9 +38,7 @@ impl Read for Beats {
 }
 
 impl Patient for Beats {
-    fn set_patient(&mut self, _is_patient: bool) -> io::Result<()> {
-        Ok(())
-    }
+    fn set_patience(&mut self, _most: Duration) {}
 }
 
 /// A writer that takes so many writes and then fails.
@@ -81,6 +79,8 @@ impl Watch for Noon {
     fn is_closing(&self) -> bool {
         self.is_closing
     }
+
+    fn ring(&self, _peer: u32) {}
 }
 
 /// A store that replies Done to all, but first answers so many Downs by a fault.
@@ -146,10 +146,6 @@ impl Store for Faulty {
 
 impl Desk for Faulty {
     fn queued(&self, _peer: u32) -> bool {
-        false
-    }
-
-    fn await_queued(&self, _peer: u32, _most: Duration) -> bool {
         false
     }
 }

@@ -34,13 +34,15 @@ fn orders_for(sessions: Sessions) -> Orders
 }
 
 /// Serves until the routers and the operator have ended, who says this.
-fn serve<R: Wait + Threads + Clock + AllocGlobal + Log + Sync>(
-    rt: &R,
-    listener: &TcpListener,
-    te: TeBase,
-    sessions: Sessions,
-    lines: &[u8],
-) -> Option<Audit>
+fn serve<
+    R: Wait
+        + Threads
+        + Clock
+        + Net<Listener = TcpListener, Stream = TcpStream>
+        + AllocGlobal
+        + Log
+        + Sync,
+>(rt: &R, listener: &TcpListener, te: TeBase, sessions: Sessions, lines: &[u8]) -> Option<Audit>
     requires { AreSessions sessions }
 {
     let mut reader = lines;
@@ -159,12 +161,15 @@ impl<'a, R: Clock> Read for Patience<'a, R> {
 }
 
 /// Serves without a count, until the gate is open.
-fn serve_behind<R: Wait + Threads + Clock + AllocGlobal + Log + Sync>(
-    rt: &R,
-    listener: &TcpListener,
-    te: TeBase,
-    gate: &AtomicBool,
-) -> Option<Audit> {
+fn serve_behind<
+    R: Wait
+        + Threads
+        + Clock
+        + Net<Listener = TcpListener, Stream = TcpStream>
+        + AllocGlobal
+        + Log
+        + Sync,
+>(rt: &R, listener: &TcpListener, te: TeBase, gate: &AtomicBool) -> Option<Audit> {
     let mut reader = Patience { rt, gate };
     let mut writer = Tap {
         left: 9,

@@ -16,7 +16,7 @@ const PIECES: [&str; 4] = [
     "200a00502010001cfffff018001200100a000001000100010a0000010a0000040710001401080a010002200001080a020002200009100014000000000000000000000000070000000510000848f42400",
 ];
 
-fn bytes_of(alloc: Global, digits: &str) -> Result<Vec<u8>, Fail> {
+pub fn bytes_of(alloc: Global, digits: &str) -> Result<Vec<u8>, Fail> {
     let mut packed = String::new(alloc);
     for part in digits.split(' ') {
         packed.push_str(part)?;
