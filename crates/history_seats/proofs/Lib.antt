@@ -1,3 +1,4 @@
 mod Places
+mod Placed
 mod Whole
 mod Folding

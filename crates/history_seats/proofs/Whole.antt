@@ -1,14 +1,17 @@
--- Where receipts agree and no kept place stands twice, there are as many of rolled places as were rolled just where each kept place has one.
-use Rattle.std.proofs.Common.{◌≡◌, ◌⊎◌, inl, inr, ℕ, zero, suc, ◌+◌, ◌-◌, ◌<◌, ◌≤◌, ◌==◌, nat_lt, Bool, true, false, List, [], ◌∷◌, length, All, refl, sym, ap, arith}
+-- Where receipts agree and each kept place has one, there are as many of rolled places as were rolled.
+use Rattle.std.proofs.Common.{◌≡◌, ◌⊎◌, inl, inr, ℕ, zero, suc, ◌+◌, ◌-◌, ◌<◌, ◌≤◌, ◌==◌, nat_lt, Bool, true, false, List, [], ◌∷◌, length, All, sum_by, refl, sym, ap, ◌∙◌, arith}
 use mathlib.Core.Bool.{cond}
 use Rattle.std.proofs.lemmas.Bool.Decides.{nat_tests}
 use Rattle.std.proofs.lemmas.List.Sums.{sum_by-cons}
 use Rattle.std.proofs.lemmas.List.Elements.{All-head, All-tail}
 use Rattle.history_seats.specs.declared.receipt.Receipt.{Receipt}
 use Rattle.history_core.specs.Histories.{Content, steps_of}
-use Rattle.history_seats.specs.Receipts.{SeatContent}
-use Rattle.history_seats.specs.Audits.{times, times_in, steps_told, late, late_told, AllAgree, AllOnce, IsAudited, SeatAgrees}
+use Rattle.place_tokens.specs.Drawing.{once_below}
+use Rattle.place_tokens.specs.Drawing as drawing
+use Rattle.history_seats.specs.Receipts.{SeatContent, IsPlaced}
+use Rattle.history_seats.specs.Audits.{times, times_in, steps_told, late, late_told, AllAgree, AllOnce, AllRise, AllDistinct, IsAudited, SeatAgrees}
 use Rattle.history_seats.proofs.Places.{all_within}
+use Rattle.history_seats.proofs.Placed.{kept_once, seats_rise}
 
 -- f of each number below n, added up
 below : (ℕ → ℕ) → ℕ → ℕ
@@ -98,6 +101,12 @@ below-least : (f : ℕ → ℕ) (n p : ℕ) → ((q : ℕ) → f q ≤ 1) → p 
 below-least f zero p le lt = absurd (omega arith)
 below-least f (suc n) p le lt = least-by f n p (nat_lt p n) refl le lt (below-least f n p le)
 
+once_le : (p n : ℕ) → once_below p n ≤ 1
+once_le p n = grind (arith, nat_tests)
+
+once_is : (p n : ℕ) → p < n → once_below p n ≡ 1
+once_is p n lt = grind (arith, nat_tests)
+
 -- each kept step has one receipt
 pub one_each : (n : ℕ) (d : Content) (seats : List SeatContent) → IsAudited n d seats → (place : ℕ) → d.rolled ≤ place → place < steps_of d → times_in place seats ≡ 1
 one_each n d seats a place le lt =
@@ -111,8 +120,14 @@ one_each n d seats a place le lt =
 pub late_same : (d : Content) (seats : List SeatContent) → AllAgree d seats → steps_told seats ≡ steps_of d → ((p : ℕ) → p < length d.history → times_in (d.rolled + p) seats ≡ 1) → late_told d.rolled seats ≡ d.rolled
 late_same d seats agree summed ones = omega (arith, below-seats d seats agree, summed, below-ones (λ p. times_in (d.rolled + p) seats) (length d.history) ones)
 
--- where a kept step has none, the others are more than were rolled
-pub late_more : (d : Content) (seats : List SeatContent) → AllAgree d seats → steps_told seats ≡ steps_of d → AllOnce d seats → (p : ℕ) → p < length d.history → times_in (d.rolled + p) seats ≡ 0 → d.rolled < late_told d.rolled seats
-late_more d seats agree summed once p lt none =
-    let least = below-least (λ q. times_in (d.rolled + q) seats) (length d.history) p (λ q. once (d.rolled + q) (omega arith)) lt in
-    omega (arith, least, none, below-seats d seats agree, summed)
+-- where the receipts agree, the seats' places leave nothing that could fail
+pub all_placed : (d : Content) (seats : List SeatContent) → steps_told seats ≡ steps_of d → AllDistinct (steps_of d) seats → All IsPlaced seats → AllAgree d seats → AllOnce d seats × (late_told d.rolled seats ≡ d.rolled) × AllRise seats
+all_placed d seats summed distinct placed agree = (
+  (λ place le. omega (arith, kept_once d seats place placed agree distinct le, once_le place (steps_of d))),
+  late_same d seats agree summed (λ p lt. kept_once d seats (d.rolled + p) placed agree distinct (omega arith) ∙ once_is (d.rolled + p) (steps_of d) (omega (arith, lt))),
+  seats_rise seats placed,
+)
+
+-- each step that ever was, was told to one seat, once
+pub told_once : (n : ℕ) (d : Content) (seats : List SeatContent) → IsAudited n d seats → (place : ℕ) → place < steps_of d → sum_by (λ s. drawing.times place s.places) seats ≡ 1
+told_once n d seats a place lt = a.distinct place ∙ once_is place (steps_of d) lt

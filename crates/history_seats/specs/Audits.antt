@@ -1,7 +1,9 @@
 -- What an audit compares: the receipts of all seats with the history.
-use Rattle.std.specs.Prelude.{ℕ, ◌≡◌, ◌≢◌, ◌+◌, ◌-◌, ◌<◌, ◌≤◌, ◌⊎◌, ◌==◌, nat_lt, Bool, false, List, [], ◌∷◌, length, All, Any, Some, slice_get, slice_index_or, if◌then◌else◌}
+use Rattle.std.specs.Prelude.{ℕ, ◌≡◌, ◌≢◌, ◌+◌, ◌-◌, ◌<◌, ◌≤◌, ◌⊎◌, ◌==◌, nat_lt, List, [], ◌∷◌, length, All, Any, Some, slice_get}
 use Rattle.std.specs.List.{count_by, sum_by}
 use Rattle.history_core.specs.Histories.{Content, steps_of, grants_of}
+use Rattle.place_tokens.specs.Drawing.{RiseFrom, once_below}
+use Rattle.place_tokens.specs.Drawing as drawing
 use Rattle.history_seats.specs.declared.fault.AuditFault.{AuditFault}
 use Rattle.history_seats.specs.declared.fault.AuditFault.TheVariants.{SeatMissing, StepsDiffer, GrantsDiffer, ReceiptDiffers, PlaceTwice, PlacesFall, OutOfMemory}
 use Rattle.history_seats.specs.declared.receipt.Receipt.{Receipt}
@@ -67,14 +69,15 @@ AllOnce d seats = (place : ℕ) → d.rolled ≤ place → times_in place seats 
 abbrev pub AllRise : List SeatContent → Type 0
 AllRise seats = All (λ s. RisesFrom s.floor s.receipts) seats
 
--- one where the place is marked
-abbrev pub times_marked : ℕ → List Bool → ℕ
-times_marked place marks = if slice_index_or marks place false then 1 else 0
+-- each of so many steps was told to one of them, once, and no other place to any
+abbrev pub AllDistinct : ℕ → List SeatContent → Type 0
+AllDistinct steps seats = (place : ℕ) → sum_by (λ s. drawing.times place s.places) seats ≡ once_below place steps
 
 -- ---- the audit
 
--- All n seats are here, and they were told of as many steps and grants as there were; each receipt of a kept step
--- agrees with it, none stands twice, and each seat's places rise; there are as many receipts of rolled places as steps were rolled
+-- All n seats are here, and they were told of as many steps and grants as there were; each step that ever was, rolled or
+-- kept, was told to exactly one of them, once, and the places of each rise; each receipt of a kept step agrees with it, none
+-- stands twice, and there are as many receipts of rolled places as steps were rolled
 pub record IsAudited (n : ℕ) (d : Content) (seats : List SeatContent) : Type 0 where
   pub all : length seats ≡ n
   pub steps : steps_told seats ≡ steps_of d
@@ -83,14 +86,15 @@ pub record IsAudited (n : ℕ) (d : Content) (seats : List SeatContent) : Type 0
   pub once : AllOnce d seats
   pub late : late_told d.rolled seats ≡ d.rolled
   pub rise : AllRise seats
+  pub distinct : AllDistinct (steps_of d) seats
+  pub rising : All (λ s. RiseFrom 0 s.places) seats
 
--- The first test that fails. Where all seats are here, the sums never differ. Where there are more receipts of rolled
--- places than steps were rolled, two of them have one place.
+-- The first test that fails. Where all seats are here, the sums never differ, no place stands twice, and none falls.
 abbrev pub Fails : ℕ → Content → List SeatContent → AuditFault → Type 0
 Fails n d seats SeatMissing = length seats ≢ n
 Fails n d seats StepsDiffer = ⊥
 Fails n d seats GrantsDiffer = ⊥
 Fails n d seats (ReceiptDiffers place) = (length seats ≡ n) × Any (SeatDiffers d place) seats
-Fails n d seats PlaceTwice = (length seats ≡ n) × AllAgree d seats × ((¬ (AllOnce d seats)) ⊎ (d.rolled < late_told d.rolled seats))
-Fails n d seats PlacesFall = (length seats ≡ n) × AllAgree d seats × AllOnce d seats × (late_told d.rolled seats ≡ d.rolled) × ¬ (AllRise seats)
-Fails n d seats OutOfMemory = Unit {0}
+Fails n d seats PlaceTwice = ⊥
+Fails n d seats PlacesFall = ⊥
+Fails n d seats OutOfMemory = ⊥

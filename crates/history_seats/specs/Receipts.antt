@@ -1,23 +1,26 @@
 -- What a seat is told: a receipt of each of its steps, of which those of rolled places may be folded into numbers.
-use Rattle.std.specs.Prelude.{ℕ, ◌≡◌, ◌+◌, Bool, true, ◌&&◌, nat_lt, nat_le, List, [], ◌∷◌, ◌++◌, length, Option, None, if◌then◌else◌}
+use Rattle.std.specs.Prelude.{ℕ, ◌≡◌, ◌+◌, Bool, true, ◌&&◌, nat_lt, nat_le, List, [], ◌∷◌, ◌++◌, length, map, take, drop, Option, None, if◌then◌else◌}
 use Rattle.std.specs.List.{count_by}
 use Rattle.step_core.specs.declared.event.Event.{Event}
 use Rattle.step_core.specs.declared.event.Reply.{Reply}
 use Rattle.step_core.specs.declared.job.Job.{Job}
 use Rattle.history_core.specs.Briefs.{brief_of, is_grant}
+use Rattle.place_tokens.specs.Drawing.{RiseFrom}
 use Rattle.history_seats.specs.declared.receipt.Receipt.{Receipt}
 
 -- what a seat is seen as: how many of its receipts were folded, how many of these were of grants, and one past the
--- place of the last of them; the receipts that it keeps, oldest first; and the job in its hand
+-- place of the last of them; the receipts that it keeps, oldest first; the job in its hand; and the places of all its
+-- steps, oldest first, which stand in no memory
 pub record SeatContent : Type 0 where
   pub folded : ℕ
   pub folded_grants : ℕ
   pub floor : ℕ
   pub receipts : List Receipt
   pub hand : Option Job
+  pub places : List ℕ
 
 abbrev pub new_seat : SeatContent
-new_seat = record { folded = 0; folded_grants = 0; floor = 0; receipts = []; hand = None }
+new_seat = record { folded = 0; folded_grants = 0; floor = 0; receipts = []; hand = None; places = [] }
 
 -- ---- counts
 
@@ -39,7 +42,24 @@ receipt_of place event reply = record { place = place; event = event; brief = br
 
 -- the seat with the receipt of one more step, which had this place among all steps
 abbrev pub told : SeatContent → ℕ → Event → Reply → SeatContent
-told s place event reply = record s { receipts = s.receipts ++ receipt_of place event reply ∷ [] }
+told s place event reply = record s { receipts = s.receipts ++ receipt_of place event reply ∷ []; places = s.places ++ place ∷ [] }
+
+-- ---- places
+
+-- one past the last of the places
+abbrev pub past_last : ℕ → List ℕ → ℕ
+past_last floor [] = floor
+past_last floor (p ∷ ps) = past_last (p + 1) ps
+
+-- there are as many places as steps; those past the folded ones are the receipts', and the floor is one past the folded ones
+pub record Placed (folded floor : ℕ) (receipts : List Receipt) (places : List ℕ) : Type 0 where
+  pub told : length places ≡ folded + length receipts
+  pub kept : map (λ r. r.place) receipts ≡ drop folded places
+  pub floor_is : floor ≡ past_last 0 (take folded places)
+
+-- a seat's places rise, and its receipts are of the last of them
+abbrev pub IsPlaced : SeatContent → Type 0
+IsPlaced s = RiseFrom 0 s.places × Placed s.folded s.floor s.receipts s.places
 
 -- ---- folding
 

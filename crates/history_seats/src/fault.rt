@@ -18,11 +18,11 @@ pub enum AuditFault {
     /// A receipt of this place has another event or another brief than the step there, or there is no such
     /// step.
     ReceiptDiffers(u64),
-    /// Two receipts have one place.
+    /// Two receipts have one place. Never answered: each place is drawn once.
     PlaceTwice,
-    /// The places of one seat don't rise.
+    /// The places of one seat don't rise. Never answered either.
     PlacesFall,
-    /// A growth was refused. May come in place of the two faults before it.
+    /// A growth was refused. Never answered: an audit takes no memory.
     OutOfMemory,
 }
 

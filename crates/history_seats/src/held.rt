@@ -1,17 +1,18 @@
 //! The database with the totals of all seats.
-ghost use Rattle.std.specs.Prelude.{◌≡◌, ◌<◌, ◌≤◌, ◌↔◌, List, [], ◌∷◌, ◌++◌, length, IsTrue, IfOk, IfErr, OnOk, OnErr, replicate};
+ghost use Rattle.std.specs.Prelude.{◌≡◌, ◌<◌, ◌≤◌, ◌↔◌, All, List, [], ◌∷◌, ◌++◌, length, IsTrue, IfOk, IfErr, OnOk, OnErr, replicate};
 ghost use Rattle.step_core.specs.Steps.{step};
 ghost use Rattle.history_core.specs.Briefs.{brief_of};
 ghost use Rattle.history_core.specs.Histories.{Replays, IsSound, kept_step, stepped, is_full, steps_of, grants_of, rolled_up};
-ghost use Rattle.history_seats.specs.Receipts.{new_seat, told, tidy, let_go};
-ghost use Rattle.history_seats.specs.Audits.{IsAudited, Fails, steps_told, grants_told};
+ghost use Rattle.history_seats.specs.Receipts.{IsPlaced, new_seat, told, tidy, let_go};
+ghost use Rattle.history_seats.specs.Audits.{AllDistinct, IsAudited, Fails, steps_told, grants_told};
 
 use crate::audit::test_receipts;
 use crate::fault::AuditFault;
 use crate::receipt::{Receipt, grant_count, past_floor};
 use crate::seat::Seat;
-use crate::shares::gather;
+use crate::shares::{gather, gather_places};
 use history_core::{Brief, Database, Fault, Step};
+use place_tokens::{Room, Source, Unopened};
 use sequence::PlainData;
 use std::alloc::{AllocError, Global};
 use std::marker::Model;
@@ -19,18 +20,20 @@ use std::mem;
 use std::sync::ledger::{Blank, Book, Ledger};
 use step_core::{Event, Reply, SharedEvent};
 
-/// A database, with the totals of what its seats were told. A contract sees the database.
+/// A database, with the totals of what its seats were told, and the source of the places of its steps. A
+/// contract sees the database.
 #[derive(Drop)]
-pub struct Held<S: Ledger, G: Ledger> {
+pub struct Held<S: Ledger, G: Ledger, B: Room> {
     alloc: Global,
     database: Database,
     /// How many seats there are.
     seats: u64,
     steps: Book<S>,
     grants: Book<G>,
+    source: Source<B>,
 }
 
-impl<S: Ledger, G: Ledger> Model for Held<S, G> {
+impl<S: Ledger, G: Ledger, B: Room> Model for Held<S, G, B> {
     ghost use Rattle.std.specs.Prelude.{◌≡◌, ◌<◌, length};
     ghost use Rattle.history_core.specs.Histories.{Content, steps_of, grants_of};
 
@@ -40,7 +43,8 @@ impl<S: Ledger, G: Ledger> Model for Held<S, G> {
 
     ghost invariant = { λ h.
         (h.steps.total ≡ steps_of h.database) × (h.grants.total ≡ grants_of h.database)
-        × (0 < h.seats) × (h.seats ≡ S.parts) × (h.seats ≡ G.parts) };
+        × (0 < h.seats) × (h.seats ≡ S.parts) × (h.seats ≡ G.parts) × (h.seats ≡ B.seats)
+        × (h.source ≡ steps_of h.database) };
 }
 
 /// The brief of the last of the steps.
@@ -51,32 +55,39 @@ fn newest_brief(steps: &[Step]) -> Brief
     steps[steps.len() - 1].brief
 }
 
-impl<S: Ledger, G: Ledger> Held<S, G> {
-    /// The database of which no step was taken yet, with its seats, one for each part of the two blanks, 1 to
-    /// 256 of them. All is dropped where memory is refused.
+impl<S: Ledger, G: Ledger, B: Room> Held<S, G, B> {
+    /// The database of which no step was taken yet, with its seats, one for each part of the two blanks and each
+    /// token of the room, 1 to 256 of them. All is dropped where memory is refused.
     pub fn new(
         alloc: Global,
         database: Database,
         n: u64,
         steps: Blank,
         grants: Blank,
-    ) -> Result<(Held<S, G>, Vec<Seat<S, G>>), AllocError>
+        room: Unopened,
+    ) -> Result<(Held<S, G, B>, Vec<Seat<S, G, B>>), AllocError>
         requires none_taken { steps_of database ≡ 0 }
         requires seats { (1 ≤ n) × (n ≤ 256) }
         requires steps { (steps.name ≡ S.name) × (steps.parts ≡ S.parts) × (steps.parts ≡ n) }
         requires grants { (grants.name ≡ G.name) × (grants.parts ≡ G.parts) × (grants.parts ≡ n) }
+        requires room { (room.table ≡ B.table) × (room.seats ≡ B.seats) × (room.seats ≡ n) }
         ensures database { IfOk result (λ r. r.0 ≡ database) }
         ensures seats { IfOk result (λ r. r.1.items ≡ replicate n new_seat) }
     {
         let _none = database.history();
         let (steps, mut steps_left) = steps.open::<S>();
         let (grants, mut grants_left) = grants.open::<G>();
+        let (source, mut tokens) = room.open::<B>(alloc)?;
         let mut seats = Vec::new(alloc);
         for _i in 0..n {
+            let Some(drawn) = tokens.pop() else {
+                unreachable!();
+            };
             let seat = Seat::new(
                 alloc,
                 steps_left.split_off(1, 0),
                 grants_left.split_off(1, 0),
+                drawn,
             );
             seats.push(seat)?;
         }
@@ -86,6 +97,7 @@ impl<S: Ledger, G: Ledger> Held<S, G> {
             seats: n,
             steps,
             grants,
+            source,
         };
         Ok((held, seats))
     }
@@ -107,13 +119,14 @@ impl<S: Ledger, G: Ledger> Held<S, G> {
             seats: _,
             steps: _,
             grants: _,
+            source: _,
         } = self;
         database
     }
 
     /// One event, as one step of the database, and its receipt to the seat. After a fault the database and the
     /// seat are as before, and the event is dropped; `HistoryFull` is tested first.
-    pub fn step(&mut self, seat: &mut Seat<S, G>, event: Event) -> Result<Reply, Fault>
+    pub fn step(&mut self, seat: &mut Seat<S, G, B>, event: Event) -> Result<Reply, Fault>
         ensures step { IfOk result (λ reply. self.new ≡ stepped self.old event reply) }
         ensures reply { IfOk result (λ reply. reply ≡ (step self.old.state event).reply) }
         ensures receipt { IfOk result (λ reply. seat.new ≡ told (tidy self.old.rolled seat.old) (steps_of self.old) event reply) }
@@ -133,7 +146,11 @@ impl<S: Ledger, G: Ledger> Held<S, G> {
 
     /// The same of an event that others keep too. It stands in memory once, also for the history and the
     /// receipt.
-    pub fn step_shared(&mut self, seat: &mut Seat<S, G>, event: SharedEvent) -> Result<Reply, Fault>
+    pub fn step_shared(
+        &mut self,
+        seat: &mut Seat<S, G, B>,
+        event: SharedEvent,
+    ) -> Result<Reply, Fault>
         ensures step { IfOk result (λ reply. self.new ≡ stepped self.old event reply) }
         ensures reply { IfOk result (λ reply. reply ≡ (step self.old.state event).reply) }
         ensures receipt { IfOk result (λ reply. seat.new ≡ told (tidy self.old.rolled seat.old) (steps_of self.old) event reply) }
@@ -150,7 +167,7 @@ impl<S: Ledger, G: Ledger> Held<S, G> {
     /// lock is free. Room for the new receipt is made before the step, and nothing fails after it.
     pub fn step_and_fold(
         &mut self,
-        seat: &mut Seat<S, G>,
+        seat: &mut Seat<S, G, B>,
         event: SharedEvent,
     ) -> Result<(Reply, Vec<Receipt>), Fault>
         ensures step { IfOk result (λ r. self.new ≡ stepped self.old event r.0) }
@@ -191,6 +208,7 @@ impl<S: Ledger, G: Ledger> Held<S, G> {
         // a seat was told of no more steps and grants than there were
         let _steps = self.database.steps();
         let _grants = self.database.grants();
+        self.source.draw(&mut seat.drawn);
         seat.told += 1;
         seat.granted += grants;
         seat.receipts.push_reserved(Receipt {
@@ -204,7 +222,7 @@ impl<S: Ledger, G: Ledger> Held<S, G> {
     /// Lets a seat that waits keep its receipts no longer, where the places of all of them are rolled: they are
     /// given, oldest first, to be dropped once a lock is free, and stay counted. It is no step. A seat that
     /// steps does this by itself. Takes no memory.
-    pub fn fold(&self, seat: &mut Seat<S, G>) -> Vec<Receipt>
+    pub fn fold(&self, seat: &mut Seat<S, G, B>) -> Vec<Receipt>
         ensures folded { seat.new ≡ tidy self.now.rolled seat.old }
         ensures given { result.items ≡ let_go self.now.rolled seat.old }
     {
@@ -239,8 +257,8 @@ impl<S: Ledger, G: Ledger> Held<S, G> {
     }
 
     /// Tests, in the order of `AuditFault`, that all seats are here, and that their receipts are those of the
-    /// history. Nothing changes.
-    pub fn audit(&mut self, seats: &mut Vec<Seat<S, G>>) -> Result<(), AuditFault>
+    /// history. Nothing changes, and no memory is taken.
+    pub fn audit(&mut self, seats: &mut Vec<Seat<S, G, B>>) -> Result<(), AuditFault>
         ensures same { self.new ≡ self.old }
         ensures same_seats { seats.new.items ≡ seats.old.items }
         ensures ok { IfOk result (λ _. IsAudited S.parts self.old seats.old.items) }
@@ -249,19 +267,23 @@ impl<S: Ledger, G: Ledger> Held<S, G> {
         if seats.len() as u64 != self.seats {
             return Err(AuditFault::SeatMissing);
         }
-        self.gather_shares(seats.as_mut_slice());
-        test_receipts(self.alloc, &self.database, seats.as_slice())
+        self.gather_seats(seats.as_mut_slice());
+        test_receipts(&self.database, seats.as_slice())
     }
 
-    /// Puts the shares of all seats together, and gives them back: they are all steps and all grants.
-    fn gather_shares(&mut self, seats: &mut [Seat<S, G>])
+    /// Puts the places and the shares of all seats together, and gives them back: they are all steps and all
+    /// grants.
+    fn gather_seats(&mut self, seats: &mut [Seat<S, G, B>])
         requires { length seats.old ≡ S.parts }
         ensures held { self.new ≡ self.old }
         ensures seats { seats.new ≡ seats.old }
         ensures steps { steps_told seats.old ≡ steps_of self.old }
         ensures grants { grants_told seats.old ≡ grants_of self.old }
+        ensures distinct { AllDistinct (steps_of self.old) seats.old }
+        ensures placed { All IsPlaced seats.old }
     {
-        let _ = &self.seats;
+        let table = &self.source.table;
+        gather_places(table, &mut self.source.keeper, seats);
         let Some((first, rest)) = seats.split_first_mut() else {
             unreachable!();
         };

@@ -1,6 +1,7 @@
 //! What holds of every audit and of every fold.
-ghost use Rattle.std.specs.Prelude.{ℕ, ◌≡◌, ◌<◌, ◌≤◌, List};
+ghost use Rattle.std.specs.Prelude.{ℕ, ◌≡◌, ◌<◌, ◌≤◌, List, sum_by};
 ghost use Rattle.history_core.specs.Histories.{Content, steps_of};
+ghost use Rattle.place_tokens.specs.Drawing.{times};
 ghost use Rattle.history_seats.specs.Receipts.{SeatContent, CountsSame, tidy};
 ghost use Rattle.history_seats.specs.Audits.{IsAudited, times_in};
 
@@ -8,6 +9,12 @@ ghost use Rattle.history_seats.specs.Audits.{IsAudited, times_in};
 #[tactic(auto, using(crate::proofs::Whole::one_each))]
 pub fn one_receipt_each()
     ensures { (n : ℕ) (d : Content) (seats : List SeatContent) → IsAudited n d seats → (place : ℕ) → d.rolled ≤ place → place < steps_of d → times_in place seats ≡ 1 }
+{}
+
+/// After an audit each step that ever was, rolled or kept, was told to exactly one seat, once.
+#[tactic(auto, using(crate::proofs::Whole::told_once))]
+pub fn told_once()
+    ensures { (n : ℕ) (d : Content) (seats : List SeatContent) → IsAudited n d seats → (place : ℕ) → place < steps_of d → sum_by (λ s. times place s.places) seats ≡ 1 }
 {}
 
 /// To fold a seat's receipts changes no count, and not its hand.

@@ -2,17 +2,20 @@
 //! `Held` is a database of which every step is taken for a seat, and is `Database::apply` with one receipt
 //! to that seat: the place of the step among all, its event, and the brief of its reply. Nothing else gives
 //! a seat a receipt, and a fault leaves both as they were. Each seat has a share of all steps and one of all
-//! grants (`std::sync::ledger`; the two type parameters name the ledgers), so that the seats of one `Held`
-//! are told from all others by their type, and an audit of all of them never finds that the sums differ.
+//! grants (`std::sync::ledger`; two type parameters name the ledgers, the third the source of places), so that
+//! the seats of one `Held` are told from all others by their type, and an audit of all of them never finds that
+//! the sums differ.
 //!
-//! After `Held::audit` each kept step has exactly one receipt, with its event and brief (`one_receipt_each`),
-//! and the places of each seat rise. Receipts of places that were rolled are folded into numbers when their
-//! seat steps next, or by `Held::fold`, and stay counted (`fold_counts`): of them an audit says that there
-//! are as many as steps were rolled, and compares neither event nor brief. `specs/Receipts.antt` has what a
-//! seat is told, `specs/Audits.antt` what an audit compares, and when each fault comes.
+//! Each step's place is drawn for its seat from a source under the same lock (`place_tokens`), so that every
+//! step that ever was, rolled or kept, was told to exactly one seat, once (`told_once`): no audit finds a place
+//! twice, or places that fall. After `Held::audit` each kept step has exactly one receipt, with its event and
+//! brief (`one_receipt_each`). Receipts of places that were rolled are folded into numbers when their seat steps
+//! next, or by `Held::fold`, and stay counted (`fold_counts`): their places stay known in the proofs, and their
+//! events and briefs are compared no longer. `specs/Receipts.antt` has what a seat is told, `specs/Audits.antt`
+//! what an audit compares, and when each fault comes.
 //!
 //! ```text
-//! fn closed<S: Ledger, G: Ledger>(held: Held<S, G>, seats: &mut Vec<Seat<S, G>>) -> Result<Database, AuditFault>
+//! fn closed<S: Ledger, G: Ledger, B: Room>(held: Held<S, G, B>, seats: &mut Vec<Seat<S, G, B>>) -> Result<Database, AuditFault>
 //!     ensures audited { IfOk result (λ database. IsAudited S.parts database seats.old.items) }
 //!     ensures same_seats { seats.new.items ≡ seats.old.items }
 //! {
@@ -36,6 +39,6 @@ mod tests;
 
 pub use fault::AuditFault;
 pub use held::Held;
-pub use laws::{fold_counts, one_receipt_each};
+pub use laws::{fold_counts, one_receipt_each, told_once};
 pub use receipt::Receipt;
 pub use seat::Seat;

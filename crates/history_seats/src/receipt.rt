@@ -1,8 +1,7 @@
 //! Receipts, and what their places are.
-ghost use Rattle.std.specs.Prelude.{◌≡◌, if◌then◌else◌, ◌+◌, ◌≤◌, ◌<◌, ◌^◌, ◌↔◌, ℕ, All, IsTrue, IfSome, IfNone, false, length, vec_len};
+ghost use Rattle.std.specs.Prelude.{◌≡◌, if◌then◌else◌, ◌+◌, ◌≤◌, IsTrue, IfSome, IfNone, false, length};
 ghost use Rattle.history_core.specs.Briefs.{is_grant};
 ghost use Rattle.history_seats.specs.Receipts.{are_past, floor_after};
-ghost use Rattle.history_seats.specs.Audits.{RisesFrom, times, times_marked};
 
 use history_core::Brief;
 use sequence::PlainData;
@@ -77,51 +76,4 @@ pub(crate) fn past_floor(floor: u64, rolled: u64, receipts: &[Receipt]) -> Optio
         last = receipt.place + 1;
     }
     Some(last)
-}
-
-/// Whether the places rise from the floor on.
-pub(crate) fn are_rising(floor: u64, receipts: &[Receipt]) -> bool
-    requires { All (λ r. r.place < 2 ^ 63) receipts.now }
-    ensures { IsTrue result ↔ RisesFrom floor receipts.now }
-{
-    let mut last = floor;
-    for receipt in receipts {
-        if receipt.place < last {
-            return false;
-        }
-        last = receipt.place + 1;
-    }
-    true
-}
-
-/// Marks the places of kept steps, up to the first that was marked before; whether there was none.
-pub(crate) fn mark(marks: &mut Vec<bool>, rolled: u64, receipts: &[Receipt]) -> bool
-    requires { All (λ r. r.place < rolled + vec_len marks.old) receipts.now }
-    ensures length { vec_len marks.new ≡ vec_len marks.old }
-    ensures marked { IsTrue result → (p : ℕ) → times_marked p marks.new.items ≡ times_marked p marks.old.items + times (rolled + p) receipts.now }
-    ensures twice { (result ≡ false) → (p : ℕ) × (1 < times_marked p marks.old.items + times (rolled + p) receipts.now) }
-{
-    for receipt in receipts {
-        if receipt.place >= rolled {
-            let place = (receipt.place - rolled) as usize;
-            if marks[place] {
-                return false;
-            }
-            marks[place] = true;
-        }
-    }
-    true
-}
-
-/// Whether each place is marked.
-pub(crate) fn are_all_marked(marks: &[bool]) -> bool
-    ensures all { IsTrue result → (p : ℕ) → p < length marks.now → times_marked p marks.now ≡ 1 }
-    ensures missing { (result ≡ false) → (p : ℕ) × (p < length marks.now) × (times_marked p marks.now ≡ 0) }
-{
-    for mark in marks {
-        if !*mark {
-            return false;
-        }
-    }
-    true
 }

@@ -1,17 +1,16 @@
 //! Seats.
 use crate::receipt::Receipt;
-#[cfg(test)]
-use crate::receipt::grant_count;
+use place_tokens::{Drawn, Room};
 use std::alloc::Global;
 use std::marker::Model;
 use std::sync::ledger::{Ledger, Share};
 use step_core::Job;
 
-/// What one caller holds: its receipts, its shares of all steps and of all grants, and perhaps a job. It is
-/// changed by calls of `Held` alone, but for the job in its hand, and a seat that is let go fails every
-/// audit from then on.
+/// What one caller holds: its receipts, its shares of all steps and of all grants, the token of its places, and
+/// perhaps a job. It is changed by calls of `Held` alone, but for the job in its hand, and a seat that is let go
+/// fails every audit from then on.
 #[derive(Drop)]
-pub struct Seat<S: Ledger, G: Ledger> {
+pub struct Seat<S: Ledger, G: Ledger, B: Room> {
     /// How many steps the seat was told of, the folded ones among them.
     pub(crate) told: u64,
     /// How many of these were grants.
@@ -26,34 +25,38 @@ pub struct Seat<S: Ledger, G: Ledger> {
     pub(crate) hand: Option<Job>,
     pub(crate) steps: Share<S>,
     pub(crate) grants: Share<G>,
+    /// The places of all its steps.
+    pub(crate) drawn: Drawn<B>,
 }
 
-impl<S: Ledger, G: Ledger> Model for Seat<S, G> {
+impl<S: Ledger, G: Ledger, B: Room> Model for Seat<S, G, B> {
     ghost use Rattle.std.specs.Prelude.{◌≡◌, ◌+◌, ◌≤◌, length};
-    ghost use Rattle.history_seats.specs.Receipts.{SeatContent, granted_in};
+    ghost use Rattle.history_seats.specs.Receipts.{SeatContent, Placed, granted_in};
 
     ghost Value = { SeatContent };
 
-    ghost view = { λ s. record { folded = s.folded; folded_grants = s.folded_grants; floor = s.floor; receipts = s.receipts.items; hand = s.hand } };
+    ghost view = { λ s. record { folded = s.folded; folded_grants = s.folded_grants; floor = s.floor; receipts = s.receipts.items; hand = s.hand; places = s.drawn } };
 
     ghost invariant = { λ s.
         (s.steps.parts ≡ 1) × (s.grants.parts ≡ 1)
         × (s.steps.amount ≡ s.told) × (s.grants.amount ≡ s.granted)
         × (s.told ≡ s.folded + length s.receipts.items)
         × (s.granted ≡ s.folded_grants + granted_in s.receipts.items)
-        × (s.folded ≤ s.floor) };
+        × (s.folded ≤ s.floor)
+        × Placed s.folded s.floor s.receipts.items s.drawn };
 }
 
-impl<S: Ledger, G: Ledger> Seat<S, G> {
-    ghost use Rattle.std.specs.Prelude.{◌≡◌};
+impl<S: Ledger, G: Ledger, B: Room> Seat<S, G, B> {
+    ghost use Rattle.std.specs.Prelude.{◌≡◌, []};
     ghost use Rattle.std.specs.Borrow.{sem};
     ghost use Rattle.history_seats.specs.Receipts.{SeatContent, new_seat, steps_at, grants_at};
     ghost use Rattle.history_seats.specs.Lending.{LendsHand};
 
     /// A seat that was told of nothing. Takes no memory.
-    pub(crate) fn new(alloc: Global, steps: Share<S>, grants: Share<G>) -> Self
+    pub(crate) fn new(alloc: Global, steps: Share<S>, grants: Share<G>, drawn: Drawn<B>) -> Self
         requires steps { (steps.parts ≡ 1) × (steps.amount ≡ 0) }
         requires grants { (grants.parts ≡ 1) × (grants.amount ≡ 0) }
+        requires drawn { drawn ≡ [] }
         ensures { result ≡ new_seat }
     {
         Seat {
@@ -66,12 +69,13 @@ impl<S: Ledger, G: Ledger> Seat<S, G> {
             hand: None,
             steps,
             grants,
+            drawn,
         }
     }
 
     /// The job in the seat's hand, lent: it may be taken out, and another put in.
     pub fn hand(&mut self) -> &mut Option<Job>
-        ensures* writes_back { sem 𝓛 (LendsHand S.row G.row S.Ledger G.Ledger self.entry result) }
+        ensures* writes_back { sem 𝓛 (LendsHand S.row G.row B.row S.Ledger G.Ledger B.Room self.entry result) }
         ensures value { result.now ≡ self.old.hand }
     {
         &mut self.hand
@@ -96,20 +100,5 @@ impl<S: Ledger, G: Ledger> Seat<S, G> {
         ensures { result.now ≡ self.now.receipts }
     {
         self.receipts.as_slice()
-    }
-}
-
-#[cfg(test)]
-impl<S: Ledger, G: Ledger> Seat<S, G> {
-    /// Writes over a receipt. Whether it is there, and neither of the two is of a grant: else nothing is done.
-    pub(crate) fn overwrite(&mut self, at: usize, receipt: Receipt) -> bool {
-        if at >= self.receipts.len() {
-            return false;
-        }
-        if grant_count(receipt.brief) + grant_count(self.receipts[at].brief) > 0 {
-            return false;
-        }
-        self.receipts[at] = receipt;
-        true
     }
 }

@@ -1,16 +1,19 @@
-//! The shares of all seats, put together.
-ghost use Rattle.std.specs.Prelude.{◌≡◌, ◌+◌, ◌<◌, length};
+//! The shares and the places of all seats, put together.
+ghost use Rattle.std.specs.Prelude.{◌≡◌, ◌+◌, ◌<◌, ℕ, All, length, sum_by};
+ghost use Rattle.place_tokens.specs.Drawing.{keeping, times, once_below};
+ghost use Rattle.history_seats.specs.Receipts.{IsPlaced};
 ghost use Rattle.history_seats.specs.Audits.{steps_told, grants_told};
 
 use crate::seat::Seat;
+use place_tokens::{PlaceTable, Room, Token, give_back, learn, lend};
 use std::sync::ledger::{Book, Ledger, Share};
 
 /// Lends each seat's shares to those that were seen, until all parts are together and so are the totals, and
 /// gives them back. It does nothing at run time, but to go down the seats.
-pub(crate) fn gather<S: Ledger, G: Ledger>(
+pub(crate) fn gather<S: Ledger, G: Ledger, B: Room>(
     steps: &mut Book<S>,
     grants: &mut Book<G>,
-    seats: &mut [Seat<S, G>],
+    seats: &mut [Seat<S, G, B>],
     seen: &mut Share<S>,
     taken: &mut Share<G>,
 )
@@ -36,4 +39,28 @@ pub(crate) fn gather<S: Ledger, G: Ledger>(
     gather(steps, grants, rest, seen, taken);
     first.steps.merge(seen.split_off(1, told));
     first.grants.merge(taken.split_off(1, granted));
+}
+
+/// Lends the keeper what each seat's token knows, until all are together and it learns that they have each place
+/// once, and gives it back. Each seat costs a few loads of one word.
+pub(crate) fn gather_places<S: Ledger, G: Ledger, B: Room>(
+    table: &PlaceTable,
+    keeper: &mut Token,
+    seats: &mut [Seat<S, G, B>],
+)
+    requires table { (keeper.old.table_id ≡ table.now.shared.table_id) × (table.now.shared.table_id ≡ B.table) × (table.now.shared.table_id.words ≡ 1) }
+    requires keeper { (0 < keeper.old.me.0.parts) × (keeper.old.me ≡ keeping keeper.old.me.0.parts keeper.old.me.0.next keeper.old.me.0.lent) }
+    requires all { keeper.old.me.0.parts + length seats.old ≡ table.now.shared.key }
+    ensures same { (keeper.new.table_id ≡ keeper.old.table_id) × (keeper.new.me ≡ keeper.old.me) }
+    ensures same_seats { seats.new ≡ seats.old }
+    ensures placed { All IsPlaced seats.old }
+    ensures once { (p : ℕ) → sum_by (times p) keeper.old.me.0.lent + sum_by (λ s. times p s.places) seats.old ≡ once_below p keeper.old.me.0.next }
+{
+    let Some((first, rest)) = seats.split_first_mut() else {
+        learn(table, keeper);
+        return;
+    };
+    lend(table, keeper, &mut first.drawn.token);
+    gather_places(table, keeper, rest);
+    give_back(table, keeper, &mut first.drawn.token);
 }

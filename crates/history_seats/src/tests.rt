@@ -3,9 +3,11 @@ ghost use Rattle.std.specs.Prelude.{◌≡◌, IfOk};
 ghost use Rattle.history_core.specs.Histories.{steps_of};
 ghost use Rattle.history_seats.specs.Audits.{IsAudited};
 
+use crate::receipt::grant_count;
 use crate::{AuditFault, Held, Receipt, Seat};
 use history_core::{Brief, Database};
 use pcep_objects::Capabilities;
+use place_tokens::{Room, Unopened};
 use sequence::PlainData;
 use std::alloc::Global;
 use std::marker::Brand;
@@ -33,10 +35,6 @@ enum Forgery {
     Brief,
     /// It has another event.
     Event,
-    /// It is a copy of the first receipt.
-    Copied,
-    /// It is exchanged with the first.
-    Exchanged,
 }
 
 /// What is tested after four steps.
@@ -50,39 +48,33 @@ enum Case {
 
 #[test]
 fn forged_receipts_are_found(rt: HostRuntime) -> Result<(), Fail> {
-    run::<Brand, Brand, _>(&rt, rt.alloc(), Blank::new(2), Blank::new(2), Case::Forged)
+    run_named(&rt, rt.alloc(), Case::Forged)
 }
 
 #[test]
 fn a_missing_seat_is_found(rt: HostRuntime) -> Result<(), Fail> {
-    run::<Brand, Brand, _>(
-        &rt,
-        rt.alloc(),
-        Blank::new(2),
-        Blank::new(2),
-        Case::SeatMissing,
-    )
+    run_named(&rt, rt.alloc(), Case::SeatMissing)
 }
 
 #[test]
 fn a_receipt_forged_after_a_roll_is_found(rt: HostRuntime) -> Result<(), Fail> {
-    run::<Brand, Brand, _>(
-        &rt,
-        rt.alloc(),
-        Blank::new(2),
-        Blank::new(2),
-        Case::ForgedAfterARoll,
-    )
+    run_named(&rt, rt.alloc(), Case::ForgedAfterARoll)
 }
 
 #[test]
 fn receipts_of_rolled_places_are_folded(rt: HostRuntime) -> Result<(), Fail> {
-    run::<Brand, Brand, _>(&rt, rt.alloc(), Blank::new(2), Blank::new(2), Case::Folded)
+    run_named(&rt, rt.alloc(), Case::Folded)
 }
 
 #[test]
 fn an_audited_database_is_given(rt: HostRuntime) -> Result<(), Fail> {
-    let database = run_closed::<Brand, Brand>(rt.alloc(), Blank::new(2), Blank::new(2))?;
+    let room = Unopened::new(rt.alloc(), 2)?;
+    let database = run_closed::<Brand, Brand, Brand>(
+        rt.alloc(),
+        Blank::new(2),
+        Blank::new(2),
+        room,
+    )?;
     assert_eq!(rt; database.steps(), 0);
     Ok(())
 }
@@ -110,40 +102,50 @@ fn new_database(alloc: Global) -> Result<Database, Fail>
     Ok(Database::new(alloc, te)?)
 }
 
+/// The case, under new names.
+fn run_named<R: Abort>(rt: &R, alloc: Global, case: Case) -> Result<(), Fail> {
+    let room = Unopened::new(alloc, 2)?;
+    run::<Brand, Brand, Brand, _>(rt, alloc, Blank::new(2), Blank::new(2), room, case)
+}
+
 /// A new database with two seats, four steps, and the case.
-fn run<S: Ledger, G: Ledger, R: Abort>(
+fn run<S: Ledger, G: Ledger, B: Room, R: Abort>(
     rt: &R,
     alloc: Global,
     steps: Blank,
     grants: Blank,
+    room: Unopened,
     case: Case,
 ) -> Result<(), Fail>
     requires steps { (steps.name ≡ S.name) × (steps.parts ≡ S.parts) × (steps.parts ≡ 2) }
     requires grants { (grants.name ≡ G.name) × (grants.parts ≡ G.parts) × (grants.parts ≡ 2) }
+    requires room { (room.table ≡ B.table) × (room.seats ≡ B.seats) × (room.seats ≡ 2) }
 {
     let database = new_database(alloc)?;
-    let (mut held, mut seats) = Held::<S, G>::new(alloc, database, 2, steps, grants)?;
+    let (mut held, mut seats) = Held::<S, G, B>::new(alloc, database, 2, steps, grants, room)?;
     test_case(rt, alloc, &mut held, &mut seats, case)
 }
 
 /// The database with no step, once it was audited.
-fn run_closed<S: Ledger, G: Ledger>(
+fn run_closed<S: Ledger, G: Ledger, B: Room>(
     alloc: Global,
     steps: Blank,
     grants: Blank,
+    room: Unopened,
 ) -> Result<Database, Fail>
     requires steps { (steps.name ≡ S.name) × (steps.parts ≡ S.parts) × (steps.parts ≡ 2) }
     requires grants { (grants.name ≡ G.name) × (grants.parts ≡ G.parts) × (grants.parts ≡ 2) }
+    requires room { (room.table ≡ B.table) × (room.seats ≡ B.seats) × (room.seats ≡ 2) }
 {
     let database = new_database(alloc)?;
-    let (held, mut seats) = Held::<S, G>::new(alloc, database, 2, steps, grants)?;
+    let (held, mut seats) = Held::<S, G, B>::new(alloc, database, 2, steps, grants, room)?;
     Ok(closed(held, &mut seats)?)
 }
 
 /// The database, once its audit has passed.
-fn closed<S: Ledger, G: Ledger>(
-    held: Held<S, G>,
-    seats: &mut Vec<Seat<S, G>>,
+fn closed<S: Ledger, G: Ledger, B: Room>(
+    held: Held<S, G, B>,
+    seats: &mut Vec<Seat<S, G, B>>,
 ) -> Result<Database, AuditFault>
     ensures audited { IfOk result (λ database. IsAudited S.parts database seats.old.items) }
     ensures same_seats { seats.new.items ≡ seats.old.items }
@@ -153,11 +155,11 @@ fn closed<S: Ledger, G: Ledger>(
     Ok(held.into_database())
 }
 
-fn test_case<S: Ledger, G: Ledger, R: Abort>(
+fn test_case<S: Ledger, G: Ledger, B: Room, R: Abort>(
     rt: &R,
     alloc: Global,
-    held: &mut Held<S, G>,
-    seats: &mut Vec<Seat<S, G>>,
+    held: &mut Held<S, G, B>,
+    seats: &mut Vec<Seat<S, G, B>>,
     case: Case,
 ) -> Result<(), Fail> {
     take_steps(held, seats)?;
@@ -170,9 +172,9 @@ fn test_case<S: Ledger, G: Ledger, R: Abort>(
 }
 
 /// One event of a seat.
-fn step_at<S: Ledger, G: Ledger>(
-    held: &mut Held<S, G>,
-    seats: &mut Vec<Seat<S, G>>,
+fn step_at<S: Ledger, G: Ledger, B: Room>(
+    held: &mut Held<S, G, B>,
+    seats: &mut Vec<Seat<S, G, B>>,
     at: usize,
     event: Event,
 ) -> Result<(), Fail> {
@@ -182,9 +184,9 @@ fn step_at<S: Ledger, G: Ledger>(
 }
 
 /// The first seat steps at the places 0 and 2, and the second at 1 and 3.
-fn take_steps<S: Ledger, G: Ledger>(
-    held: &mut Held<S, G>,
-    seats: &mut Vec<Seat<S, G>>,
+fn take_steps<S: Ledger, G: Ledger, B: Room>(
+    held: &mut Held<S, G, B>,
+    seats: &mut Vec<Seat<S, G, B>>,
 ) -> Result<(), Fail> {
     step_at(
         held,
@@ -201,101 +203,100 @@ fn take_steps<S: Ledger, G: Ledger>(
 }
 
 /// A copy of a receipt of the first seat.
-fn receipt<S: Ledger, G: Ledger>(seats: &Vec<Seat<S, G>>, at: usize) -> Result<Receipt, Fail> {
+fn receipt<S: Ledger, G: Ledger, B: Room>(
+    seats: &Vec<Seat<S, G, B>>,
+    at: usize,
+) -> Result<Receipt, Fail> {
     let seat = seats.first().ok_or("a seat")?;
     let receipt = seat.receipts().get(at).ok_or("a receipt")?;
     Ok(receipt.copy()?)
 }
 
+/// Writes over a receipt. Whether it is there, the other is of its place, and neither is of a grant: else nothing is
+/// done. A receipt of another place fits no seat.
+fn overwrite_in<S: Ledger, G: Ledger, B: Room>(
+    seat: &mut Seat<S, G, B>,
+    at: usize,
+    receipt: Receipt,
+) -> bool {
+    if at >= seat.receipts.len() {
+        return false;
+    }
+    if receipt.place != seat.receipts[at].place {
+        return false;
+    }
+    if grant_count(receipt.brief) + grant_count(seat.receipts[at].brief) > 0 {
+        return false;
+    }
+    seat.receipts[at] = receipt;
+    true
+}
+
 /// Writes over a receipt of the first seat.
-fn overwrite<S: Ledger, G: Ledger>(
-    seats: &mut Vec<Seat<S, G>>,
+fn overwrite<S: Ledger, G: Ledger, B: Room>(
+    seats: &mut Vec<Seat<S, G, B>>,
     at: usize,
     receipt: Receipt,
 ) -> Result<(), Fail> {
     let seat = seats.first_mut().ok_or("a seat")?;
-    if seat.overwrite(at, receipt) {
+    if overwrite_in(seat, at, receipt) {
         Ok(())
     } else {
         Err(Fail::from("receipts of no grant"))
     }
 }
 
-/// Exchanges the two receipts of the first seat.
-fn exchange<S: Ledger, G: Ledger>(seats: &mut Vec<Seat<S, G>>) -> Result<(), Fail> {
-    let first = receipt(seats, 0)?;
-    let second = receipt(seats, 1)?;
-    overwrite(seats, 0, second)?;
-    overwrite(seats, 1, first)
-}
-
-fn forge<S: Ledger, G: Ledger>(
+fn forge<S: Ledger, G: Ledger, B: Room>(
     alloc: Global,
-    seats: &mut Vec<Seat<S, G>>,
+    seats: &mut Vec<Seat<S, G, B>>,
     forgery: Forgery,
 ) -> Result<(), Fail> {
     let mut forged = receipt(seats, 1)?;
     match forgery {
         Forgery::Brief => forged.brief = Brief::Gone,
         Forgery::Event => forged.event = SharedEvent::new(alloc, Event::Marker { peer: 2 })?,
-        Forgery::Copied => forged = receipt(seats, 0)?,
-        Forgery::Exchanged => return exchange(seats),
     }
     overwrite(seats, 1, forged)
 }
 
-/// Undoes what `forge` did to this receipt.
-fn restore<S: Ledger, G: Ledger>(
-    seats: &mut Vec<Seat<S, G>>,
-    forgery: Forgery,
-    right: Receipt,
-) -> Result<(), Fail> {
-    match forgery {
-        Forgery::Exchanged => exchange(seats),
-        _ => overwrite(seats, 1, right),
-    }
-}
-
 /// The audit finds a forgery twice, so changes nothing, and nothing once the forgery is undone.
-fn test_forgery<S: Ledger, G: Ledger, R: Abort>(
+fn test_forgery<S: Ledger, G: Ledger, B: Room, R: Abort>(
     rt: &R,
     alloc: Global,
-    held: &mut Held<S, G>,
-    seats: &mut Vec<Seat<S, G>>,
+    held: &mut Held<S, G, B>,
+    seats: &mut Vec<Seat<S, G, B>>,
     forgery: Forgery,
-    fault: AuditFault,
 ) -> Result<(), Fail> {
     let right = receipt(seats, 1)?;
     forge(alloc, seats, forgery)?;
     for _turn in 0..2u8 {
-        assert_eq!(rt; held.audit(seats), Err(fault));
+        assert_eq!(rt; held.audit(seats), Err(AuditFault::ReceiptDiffers(2)));
     }
-    restore(seats, forgery, right)?;
+    overwrite(seats, 1, right)?;
     assert_eq!(rt; held.audit(seats), Ok(()));
     Ok(())
 }
 
-fn test_forgeries<S: Ledger, G: Ledger, R: Abort>(
+fn test_forgeries<S: Ledger, G: Ledger, B: Room, R: Abort>(
     rt: &R,
     alloc: Global,
-    held: &mut Held<S, G>,
-    seats: &mut Vec<Seat<S, G>>,
+    held: &mut Held<S, G, B>,
+    seats: &mut Vec<Seat<S, G, B>>,
 ) -> Result<(), Fail> {
-    for (forgery, fault) in [
-        (Forgery::Brief, AuditFault::ReceiptDiffers(2)),
-        (Forgery::Event, AuditFault::ReceiptDiffers(2)),
-        (Forgery::Copied, AuditFault::PlaceTwice),
-        (Forgery::Exchanged, AuditFault::PlacesFall),
-    ] {
-        test_forgery(rt, alloc, held, seats, forgery, fault)?;
+    for forgery in [Forgery::Brief, Forgery::Event] {
+        test_forgery(rt, alloc, held, seats, forgery)?;
     }
+    // the first receipt fits the seat at no other place
+    let first = receipt(seats, 0)?;
+    let seat = seats.first_mut().ok_or("a seat")?;
+    assert!(rt; !overwrite_in(seat, 1, first));
     Ok(())
 }
 
-fn test_missing_seat<S: Ledger, G: Ledger, R: Abort>(
+fn test_missing_seat<S: Ledger, G: Ledger, B: Room, R: Abort>(
     rt: &R,
-    held: &mut Held<S, G>,
-    seats: &mut Vec<Seat<S, G>>,
+    held: &mut Held<S, G, B>,
+    seats: &mut Vec<Seat<S, G, B>>,
 ) -> Result<(), Fail> {
     let seat = seats.pop().ok_or("a seat")?;
     assert_eq!(rt; held.audit(seats), Err(AuditFault::SeatMissing));
@@ -306,10 +307,10 @@ fn test_missing_seat<S: Ledger, G: Ledger, R: Abort>(
 }
 
 /// The first seat steps once more, and that step's receipt, the only one that it keeps then, is forged.
-fn test_after_a_roll<S: Ledger, G: Ledger, R: Abort>(
+fn test_after_a_roll<S: Ledger, G: Ledger, B: Room, R: Abort>(
     rt: &R,
-    held: &mut Held<S, G>,
-    seats: &mut Vec<Seat<S, G>>,
+    held: &mut Held<S, G, B>,
+    seats: &mut Vec<Seat<S, G, B>>,
 ) -> Result<(), Fail> {
     held.roll()?;
     step_at(held, seats, 0, Event::Take)?;
@@ -326,17 +327,22 @@ fn test_after_a_roll<S: Ledger, G: Ledger, R: Abort>(
 }
 
 /// What a seat counts and keeps.
-fn assert_seat<S: Ledger, G: Ledger, R: Abort>(rt: &R, seat: &Seat<S, G>, steps: u64, kept: usize) {
+fn assert_seat<S: Ledger, G: Ledger, B: Room, R: Abort>(
+    rt: &R,
+    seat: &Seat<S, G, B>,
+    steps: u64,
+    kept: usize,
+) {
     assert_eq!(rt; seat.steps(), steps);
     assert_eq!(rt; seat.grants(), 0);
     assert_eq!(rt; seat.receipts().len(), kept);
 }
 
 /// The second seat's receipts are folded once their places are rolled, and not before.
-fn test_fold<S: Ledger, G: Ledger, R: Abort>(
+fn test_fold<S: Ledger, G: Ledger, B: Room, R: Abort>(
     rt: &R,
-    held: &mut Held<S, G>,
-    seats: &mut Vec<Seat<S, G>>,
+    held: &mut Held<S, G, B>,
+    seats: &mut Vec<Seat<S, G, B>>,
 ) -> Result<(), Fail> {
     let seat = seats.get_mut(1).ok_or("a seat")?;
     assert_eq!(rt; held.fold(seat).len(), 0);

@@ -5,6 +5,7 @@ use crate::server::Sessions;
 use crate::socket::{ACCEPT_WAIT_MS, peer_of};
 use crate::visits::{attend, tell_ended};
 use log::Log;
+use place_tokens::Room;
 use std::io::ErrorKind;
 use std::net::{Net, SocketAddr, TcpListener, TcpStream};
 use std::sync::Wait;
@@ -75,7 +76,8 @@ pub(crate) fn accept_all<
     R: Wait + Clock + Log + Net<Listener = TcpListener, Stream = TcpStream> + Threads + Sync,
     S: Ledger + Send + Sync,
     G: Ledger + Send + Sync,
->(floor: &Floor<'_, R, S, G>, listener: &TcpListener, sessions: Sessions) {
+    B: Room + Send + Sync,
+>(floor: &Floor<'_, R, S, G, B>, listener: &TcpListener, sessions: Sessions) {
     let rt = floor.rt;
     thread::scope(thread::scope_env(), rt, |scope| {
         let mut tally = Tally {

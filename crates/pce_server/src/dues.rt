@@ -1,5 +1,8 @@
 //! Which peers are to be forgotten, and when.
+use place_tokens::Room;
+use shared_pce::{Event, Fault, Seat, Shared};
 use std::alloc::{AllocError, Global};
+use std::sync::ledger::Ledger;
 use std::sync::{Mutex, Wait};
 
 /// What is to be submitted of a peer, from a moment on, in milliseconds since the run began.
@@ -9,6 +12,13 @@ pub(crate) struct Due {
     pub at_ms: u64,
     /// Its Down couldn't be submitted yet, and comes first.
     pub is_up: bool,
+}
+
+/// Whether anything was due.
+#[derive(Clone, Copy, PartialEq, Eq, Debug)]
+pub(crate) enum Settled {
+    One,
+    Nothing,
 }
 
 /// At most one entry for each peer.
@@ -41,11 +51,13 @@ impl Dues {
         Ok(())
     }
 
-    /// An entry whose moment has come.
-    pub fn next<R: Wait>(&self, rt: &R, now_ms: u64) -> Option<Due> {
-        let dues = self.dues.lock(rt);
-        let at = dues.iter().position(|due| due.at_ms <= now_ms)?;
-        dues.get(at).copied()
+    /// Takes a peer's entry away, so that it isn't forgotten while it is here. One whose Down is still to come stays.
+    pub fn take<R: Wait>(&self, rt: &R, peer: u32) -> Option<Due> {
+        let mut dues = self.dues.lock(rt);
+        let at = dues.iter().position(|due| due.peer == peer && !due.is_up)?;
+        let due = dues.get(at).copied();
+        remove(&mut dues, at);
+        due
     }
 
     /// Whether a peer's Down couldn't be submitted yet.
@@ -53,18 +65,53 @@ impl Dues {
         self.dues.lock(rt).iter().any(|due| due.is_up)
     }
 
-    /// An entry was settled: what comes after it stands in its place. Nothing is done where its peer has another
-    /// entry since.
-    pub fn settled<R: Wait>(&self, rt: &R, settled: Due, after: Option<Due>) {
+    /// Submits what is due of a peer whose moment has come, if there is one. Meanwhile no entry is noted or taken
+    /// away: so a peer that comes is either forgotten before its session comes up, or isn't. After a fault it stays
+    /// due.
+    pub fn settle<R: Wait, S: Ledger, G: Ledger, B: Room>(
+        &self,
+        rt: &R,
+        shared: &Shared<S, G, B>,
+        seat: &mut Seat<S, G, B>,
+        now_ms: u64,
+        keep_ms: u64,
+    ) -> Result<Settled, Fault> {
         let mut dues = self.dues.lock(rt);
-        let Some(at) = dues.iter().position(|due| *due == settled) else {
-            return;
+        let Some(at) = dues.iter().position(|due| due.at_ms <= now_ms) else {
+            return Ok(Settled::Nothing);
         };
-        match after {
+        let Some(due) = dues.get(at).copied() else {
+            return Ok(Settled::Nothing);
+        };
+        let _reply = shared.submit(rt, seat, event_of(due))?;
+        match due_after(due, now_ms, keep_ms) {
             Some(after) => replace(&mut dues, at, after),
             None => remove(&mut dues, at),
         }
+        Ok(Settled::One)
     }
+}
+
+/// What is to be submitted of a peer.
+fn event_of(due: Due) -> Event {
+    let peer = due.peer;
+    if due.is_up {
+        Event::Down { peer }
+    } else {
+        Event::Expire { peer }
+    }
+}
+
+/// What comes after it, if anything.
+fn due_after(due: Due, now_ms: u64, keep_ms: u64) -> Option<Due> {
+    if !due.is_up {
+        return None;
+    }
+    Some(Due {
+        peer: due.peer,
+        at_ms: now_ms.saturating_add(keep_ms),
+        is_up: false,
+    })
 }
 
 fn replace(dues: &mut [Due], at: usize, due: Due) {

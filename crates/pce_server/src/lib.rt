@@ -17,9 +17,9 @@
 //! ```
 //!
 //! The modules, lowest first: `traits` (what a connection asks of its surroundings), `talk` (a connection), `socket`,
-//! `places` (where seats rest), `dues` (who expires when), `alarms` (what wakes a connection), `run` (whether the run is
-//! to end, and why), `floor` (what each thread is lent), `staff` (workers and keeper), `visits` (a connection's thread), `door` (the acceptor),
-//! `operator`, `server`.
+//! `places` (where seats rest), `dues` (who expires when), `alarms` (what wakes a connection, and how many an address
+//! has), `run` (whether the run is to end, and why), `floor` (what each thread is lent), `staff` (workers and keeper),
+//! `visits` (a connection's thread), `door` (the acceptor), `operator`, `server`.
 #![tactic(auto)]
 
 mod alarms;
@@ -36,9 +36,10 @@ mod talk;
 mod traits;
 mod visits;
 
+pub use alarms::OF_ONE_ADDRESS;
 pub use operator::{LINE_LIMIT, operate};
 pub use run::RunFault;
 pub use server::{AT_ONCE, Orders, Sessions, serve_run};
 pub use shared_pce::{Audit, AuditFault, Fault};
-pub use talk::{Ended, connection};
+pub use talk::{Ended, TAKEN_WITHIN_MS, connection};
 pub use traits::{Desk, Patient, Watch};

@@ -13,6 +13,7 @@ use crate::socket::bound_accepts;
 use crate::staff::{keep_time, work};
 use history_core::Database;
 use log::Log;
+use place_tokens::{Room, Unopened};
 use seated_store::Seated;
 use shared_pce::{Audit, Fault, Seat, Shared};
 use std::alloc::Global;
@@ -85,12 +86,20 @@ where
 {
     let seats = live_of(orders.sessions) + orders.workers + 2;
     let (steps, grants) = (Blank::new(seats), Blank::new(seats));
-    seated_run::<Brand, Brand, R, I, O>(
-        rt, listener, te, orders, seats, reader, writer, steps, grants,
+    let room = Unopened::new(rt.alloc(), seats)?;
+    seated_run::<Brand, Brand, Brand, R, I, O>(
+        rt, listener, te, orders, seats, reader, writer, steps, grants, room,
     )
 }
 
-fn seated_run<S: Ledger + Send + Sync, G: Ledger + Send + Sync, R, I: Read, O: Write>(
+fn seated_run<
+    S: Ledger + Send + Sync,
+    G: Ledger + Send + Sync,
+    B: Room + Send + Sync,
+    R,
+    I: Read,
+    O: Write,
+>(
     rt: &R,
     listener: &TcpListener,
     te: TeBase,
@@ -100,6 +109,7 @@ fn seated_run<S: Ledger + Send + Sync, G: Ledger + Send + Sync, R, I: Read, O: W
     writer: &mut O,
     steps: Blank,
     grants: Blank,
+    room: Unopened,
 ) -> Result<Audit, RunFault>
 where
     R: Wait
@@ -113,13 +123,14 @@ where
     requires seats { (1 ≤ seats) × (seats ≤ 256) }
     requires steps { (steps.name ≡ S.name) × (steps.parts ≡ S.parts) × (steps.parts ≡ seats) }
     requires grants { (grants.name ≡ G.name) × (grants.parts ≡ G.parts) × (grants.parts ≡ seats) }
+    requires room { (room.table ≡ B.table) × (room.seats ≡ B.seats) × (room.seats ≡ seats) }
 {
     let alloc = rt.alloc();
     if bound_accepts(listener).is_err() {
         return Err(RunFault::Device);
     }
     let database = Database::new(alloc, te)?;
-    let (shared, all) = Shared::<S, G>::new(alloc, database, seats, steps, grants)?;
+    let (shared, all) = Shared::<S, G, B>::new(alloc, database, seats, steps, grants, room)?;
     let places = Places::new(alloc, all)?;
     serve_all(
         rt, alloc, &shared, &places, listener, orders, reader, writer,
@@ -128,9 +139,9 @@ where
 }
 
 /// Closes the database with all seats.
-fn close<S: Ledger, G: Ledger>(
-    shared: Shared<S, G>,
-    seats: Vec<Seat<S, G>>,
+fn close<S: Ledger, G: Ledger, B: Room>(
+    shared: Shared<S, G, B>,
+    seats: Vec<Seat<S, G, B>>,
 ) -> Result<Audit, RunFault> {
     match shared.close(seats) {
         Ok(audit) => Ok(audit),
@@ -139,11 +150,18 @@ fn close<S: Ledger, G: Ledger>(
 }
 
 /// Serves all until the end. All seats rest in their places then.
-fn serve_all<S: Ledger + Send + Sync, G: Ledger + Send + Sync, R, I: Read, O: Write>(
+fn serve_all<
+    S: Ledger + Send + Sync,
+    G: Ledger + Send + Sync,
+    B: Room + Send + Sync,
+    R,
+    I: Read,
+    O: Write,
+>(
     rt: &R,
     alloc: Global,
-    shared: &Shared<S, G>,
-    places: &Places<S, G>,
+    shared: &Shared<S, G, B>,
+    places: &Places<S, G, B>,
     listener: &TcpListener,
     orders: Orders,
     reader: &mut I,
@@ -187,8 +205,15 @@ where
 
 /// Starts the threads, hears the operator, and joins them in order: the acceptor first, for workers are needed as
 /// long as connections live. Places: of connections, then of workers, of the keeper of time, of the operator.
-fn staff<S: Ledger + Send + Sync, G: Ledger + Send + Sync, R, I: Read, O: Write>(
-    floor: &Floor<'_, R, S, G>,
+fn staff<
+    S: Ledger + Send + Sync,
+    G: Ledger + Send + Sync,
+    B: Room + Send + Sync,
+    R,
+    I: Read,
+    O: Write,
+>(
+    floor: &Floor<'_, R, S, G, B>,
     listener: &TcpListener,
     orders: Orders,
     reader: &mut I,
@@ -232,8 +257,8 @@ where
 }
 
 /// Answers the operator's lines from the seat of this place.
-fn hear_operator<S: Ledger, G: Ledger, R: Wait + Clock, I: Read, O: Write>(
-    floor: &Floor<'_, R, S, G>,
+fn hear_operator<S: Ledger, G: Ledger, B: Room, R: Wait + Clock, I: Read, O: Write>(
+    floor: &Floor<'_, R, S, G, B>,
     at: usize,
     reader: &mut I,
     writer: &mut O,

@@ -17,6 +17,12 @@ const SERVED_EVERY_MS: u64 = 10_000;
 /// And so often where memory was refused to it.
 const RETRIED_EVERY_MS: u64 = 50;
 
+/// A peer takes a turn's bytes within so many milliseconds, or its connection ends.
+pub const TAKEN_WITHIN_MS: u64 = 10_000;
+
+/// So often a turn's writes may be interrupted, or take nothing.
+const INTERRUPTS: usize = 1000;
+
 /// So often it is tried to submit that a peer went down.
 const HANG_UPS: u32 = 4;
 
@@ -32,7 +38,7 @@ pub enum Ended {
     SessionEnded,
     /// A read failed.
     ReadFault,
-    /// A write failed, or the peer took nothing for too long.
+    /// A write failed, or the peer didn't take all of it in time.
     WriteFault,
     /// That the peer went down could not be submitted, four times over.
     StoreFault(Fault),
@@ -118,7 +124,7 @@ fn talk_on<R: Wait, I: Patient, O: Write, W: Watch, D: Desk>(
 ) -> Ended {
     let mut buffer = [0u8; PIECE];
     let now_ms = watch.now_ms();
-    if let Some(ended) = answer(talk, &[], now_ms, writer, store) {
+    if let Some(ended) = answer(talk, &[], now_ms, writer, watch, store) {
         return ended;
     }
     for _ in rt.forever() {
@@ -139,7 +145,7 @@ fn turn<I: Patient, O: Write, W: Watch, D: Desk>(
     store: &mut D,
 ) -> Option<Ended> {
     if watch.is_closing() {
-        return Some(close(talk, writer));
+        return Some(close(talk, writer, watch));
     }
     let most = Duration::from_millis(patience_ms(talk, watch.now_ms()));
     reader.set_patience(most);
@@ -147,8 +153,15 @@ fn turn<I: Patient, O: Write, W: Watch, D: Desk>(
     let now_ms = watch.now_ms();
     match heard {
         Heard::Ended(ended) => Some(ended),
-        Heard::Bytes(count) => answer(talk, &buffer[..count], now_ms, writer, store),
-        Heard::Nothing if is_due(talk, now_ms, store) => answer(talk, &[], now_ms, writer, store),
+        Heard::Bytes(count) => answer(talk, &buffer[..count], now_ms, writer, watch, store),
+        Heard::Nothing if is_due(talk, now_ms, store) => answer(
+            talk,
+            &[],
+            now_ms,
+            writer,
+            watch,
+            store,
+        ),
         Heard::Nothing => None,
     }
 }
@@ -183,11 +196,12 @@ fn hear<I: Patient>(reader: &mut I, buffer: &mut [u8]) -> Heard
 }
 
 /// Serves a piece, and writes what the session has to say in one call.
-fn answer<O: Write, D: Desk>(
+fn answer<O: Write, W: Watch, D: Desk>(
     talk: &mut Talk,
     piece: &[u8],
     now_ms: u64,
     writer: &mut O,
+    watch: &W,
     store: &mut D,
 ) -> Option<Ended> {
     talk.served_ms = now_ms;
@@ -197,7 +211,7 @@ fn answer<O: Write, D: Desk>(
     if let Err(fault) = served {
         make_room(fault, store);
     }
-    if !is_written(talk, writer) {
+    if !is_written(talk, writer, watch) {
         return Some(Ended::WriteFault);
     }
     if talk.client.session.state().is_closed() {
@@ -207,15 +221,36 @@ fn answer<O: Write, D: Desk>(
 }
 
 /// Writes what the session has to say, and says whether it went out.
-fn is_written<O: Write>(talk: &mut Talk, writer: &mut O) -> bool {
+fn is_written<O: Write, W: Watch>(talk: &mut Talk, writer: &mut O, watch: &W) -> bool {
     let output = talk.client.session.take_output();
-    output.is_empty() || writer.write_all(&output).is_ok()
+    output.is_empty() || is_taken(writer, watch, &output)
+}
+
+/// Writes bytes, in one call but where a write takes a part of them alone. Says whether the peer took all of them
+/// in time. A write that waited for its time has used it up, though a part was taken meanwhile.
+fn is_taken<O: Write, W: Watch>(writer: &mut O, watch: &W, bytes: &[u8]) -> bool {
+    let begun_ms = watch.now_ms();
+    let mut rest = bytes;
+    for _write in 0..bytes.len().saturating_add(INTERRUPTS) {
+        match writer.write(rest) {
+            Ok(count) => rest = &rest[count..],
+            Err(error) if error.kind() == ErrorKind::Interrupted => {}
+            Err(_) => return false,
+        }
+        if rest.is_empty() {
+            return true;
+        }
+        if watch.now_ms().saturating_sub(begun_ms) >= TAKEN_WITHIN_MS {
+            return false;
+        }
+    }
+    false
 }
 
 /// Ends the session from this side, with a Close where there is memory for it.
-fn close<O: Write>(talk: &mut Talk, writer: &mut O) -> Ended {
+fn close<O: Write, W: Watch>(talk: &mut Talk, writer: &mut O, watch: &W) -> Ended {
     let _ended = talk.client.session.end(None, Some(NO_EXPLANATION));
-    if is_written(talk, writer) {
+    if is_written(talk, writer, watch) {
         Ended::SessionEnded
     } else {
         Ended::WriteFault

@@ -1,5 +1,6 @@
 //! What a connection asks of its store, its socket and its run: each a trait, so that a test can have it fail.
 use engine_core::Store;
+use place_tokens::Room;
 use seated_store::Seated;
 use std::io::Read;
 use std::sync::Wait;
@@ -12,7 +13,7 @@ pub trait Desk: Store {
     fn queued(&self, peer: u32) -> bool;
 }
 
-impl<'a, R: Wait + Clock, S: Ledger, G: Ledger> Desk for Seated<'a, R, S, G> {
+impl<'a, R: Wait + Clock, S: Ledger, G: Ledger, B: Room> Desk for Seated<'a, R, S, G, B> {
     fn queued(&self, peer: u32) -> bool {
         Seated::queued(self, peer)
     }

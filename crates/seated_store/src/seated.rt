@@ -4,6 +4,7 @@ ghost use Rattle.history_core.specs.Histories.{Content, Replays};
 ghost use Rattle.step_core.specs.States.{is_queued};
 
 use engine_core::{Call, Store};
+use place_tokens::Room;
 use sequence::PlainData;
 use shared_pce::{Event, Fault, Seat, Shared, SharedEvent};
 use std::alloc::{AllocError, Global};
@@ -13,21 +14,21 @@ use std::time::{Clock, Duration};
 
 /// A seat of a shared database, with the calls that were made with it.
 #[derive(Drop)]
-pub struct Seated<'a, R: Wait, S: Ledger, G: Ledger> {
+pub struct Seated<'a, R: Wait, S: Ledger, G: Ledger, B: Room> {
     rt: &'a R,
-    shared: &'a Shared<S, G>,
-    seat: &'a mut Seat<S, G>,
+    shared: &'a Shared<S, G, B>,
+    seat: &'a mut Seat<S, G, B>,
     calls: Vec<Call>,
 }
 
-impl<'a, R: Wait, S: Ledger, G: Ledger> Seated<'a, R, S, G> {
+impl<'a, R: Wait, S: Ledger, G: Ledger, B: Room> Seated<'a, R, S, G, B> {
     /// The seat, with no calls yet. Takes no memory.
     pub fn new(
         rt: &'a R,
         alloc: Global,
-        shared: &'a Shared<S, G>,
-        seat: &'a mut Seat<S, G>,
-    ) -> Seated<'a, R, S, G>
+        shared: &'a Shared<S, G, B>,
+        seat: &'a mut Seat<S, G, B>,
+    ) -> Seated<'a, R, S, G, B>
         ensures same_loan { result.seat.ghost_name ≡ seat.entry.ghost_name }
         ensures seat { result.seat.now ≡ seat.old }
         ensures calls { result.calls.items ≡ [] }
@@ -48,7 +49,7 @@ impl<'a, R: Wait, S: Ledger, G: Ledger> Seated<'a, R, S, G> {
     }
 }
 
-impl<'a, R: Wait + Clock, S: Ledger, G: Ledger> Seated<'a, R, S, G> {
+impl<'a, R: Wait + Clock, S: Ledger, G: Ledger, B: Room> Seated<'a, R, S, G, B> {
     /// Waits until messages wait for the peer or the time is up, and says whether they do.
     pub fn await_queued(&self, peer: u32, most: Duration) -> bool
         ensures { (d : Content) × Replays d × (result ≡ is_queued d.state peer) }
@@ -57,7 +58,7 @@ impl<'a, R: Wait + Clock, S: Ledger, G: Ledger> Seated<'a, R, S, G> {
     }
 }
 
-impl<'a, R: Wait, S: Ledger, G: Ledger> Store for Seated<'a, R, S, G> {
+impl<'a, R: Wait, S: Ledger, G: Ledger, B: Room> Store for Seated<'a, R, S, G, B> {
     ghost use Rattle.seated_store.specs.Seating.{SeatedMoves, SeatedRolls, SameSeat, WasFull};
     ghost use Rattle.seated_store.specs.SeatingLaws.{moves_nowhere, moves_on};
 

@@ -14,7 +14,7 @@
 //! missed. That anybody is ever served, and how soon, is not proved.
 //!
 //! ```text
-//! fn worker<R: Wait + Clock, S: Ledger, G: Ledger>(rt: &R, shared: &Shared<S, G>, seat: &mut Seat<S, G>) -> Result<(), Fault>
+//! fn worker<R: Wait + Clock, S: Ledger, G: Ledger, B: Room>(rt: &R, shared: &Shared<S, G, B>, seat: &mut Seat<S, G, B>) -> Result<(), Fault>
 //! {
 //!     while !shared.is_over() {
 //!         if shared.await_work(rt, Duration::from_millis(250)) {

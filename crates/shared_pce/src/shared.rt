@@ -12,6 +12,7 @@ use crate::work::{Gate, Worked};
 use history_core::{Database, Event, Fault, Job, Reply, SharedEvent};
 use history_seats::{Held, Seat};
 use job_search::search;
+use place_tokens::{Room, Unopened};
 use sequence::PlainData;
 use std::alloc::{AllocError, Global};
 use std::sync::ledger::{Blank, Ledger};
@@ -20,9 +21,9 @@ use std::time::{Clock, Duration};
 
 /// One database for all threads, behind one lock.
 #[derive(Drop)]
-pub struct Shared<S: Ledger, G: Ledger> {
+pub struct Shared<S: Ledger, G: Ledger, B: Room> {
     alloc: Global,
-    held: Mutex<Held<S, G>>,
+    held: Mutex<Held<S, G, B>>,
     bells: Bells,
 }
 
@@ -38,7 +39,7 @@ fn peer_in(event: &Event) -> Option<u32> {
     }
 }
 
-impl<S: Ledger, G: Ledger> Shared<S, G> {
+impl<S: Ledger, G: Ledger, B: Room> Shared<S, G, B> {
     /// Puts a database of which no step was taken behind a lock, with so many seats, 1 to 256. All is dropped
     /// where memory is refused.
     pub fn new(
@@ -47,15 +48,17 @@ impl<S: Ledger, G: Ledger> Shared<S, G> {
         seats: u64,
         steps: Blank,
         grants: Blank,
-    ) -> Result<(Shared<S, G>, Vec<Seat<S, G>>), AllocError>
+        room: Unopened,
+    ) -> Result<(Shared<S, G, B>, Vec<Seat<S, G, B>>), AllocError>
         requires none_taken { steps_of database ≡ 0 }
         requires seats { (1 ≤ seats) × (seats ≤ 256) }
         requires steps { (steps.name ≡ S.name) × (steps.parts ≡ S.parts) × (steps.parts ≡ seats) }
         requires grants { (grants.name ≡ G.name) × (grants.parts ≡ G.parts) × (grants.parts ≡ seats) }
+        requires room { (room.table ≡ B.table) × (room.seats ≡ B.seats) × (room.seats ≡ seats) }
         ensures { IfOk result (λ made. made.1.items ≡ replicate seats new_seat) }
     {
         let bells = Bells::new(alloc)?;
-        let (held, seats) = Held::new(alloc, database, seats, steps, grants)?;
+        let (held, seats) = Held::new(alloc, database, seats, steps, grants, room)?;
         let shared = Shared {
             alloc,
             held: Mutex::new(held),
@@ -69,7 +72,7 @@ impl<S: Ledger, G: Ledger> Shared<S, G> {
     pub fn submit<R: Wait>(
         &self,
         rt: &R,
-        seat: &mut Seat<S, G>,
+        seat: &mut Seat<S, G, B>,
         event: Event,
     ) -> Result<Reply, Fault>
         ensures told { IfOk result (Told seat.old event seat.new) }
@@ -85,7 +88,7 @@ impl<S: Ledger, G: Ledger> Shared<S, G> {
     pub fn submit_shared<R: Wait>(
         &self,
         rt: &R,
-        seat: &mut Seat<S, G>,
+        seat: &mut Seat<S, G, B>,
         event: SharedEvent,
     ) -> Result<Reply, Fault>
         ensures told { IfOk result (Told seat.old event seat.new) }
@@ -108,7 +111,7 @@ impl<S: Ledger, G: Ledger> Shared<S, G> {
     }
 
     /// Takes a ticket, if one waits.
-    fn take<R: Wait>(&self, rt: &R, seat: &mut Seat<S, G>) -> Result<Option<Job>, Fault>
+    fn take<R: Wait>(&self, rt: &R, seat: &mut Seat<S, G, B>) -> Result<Option<Job>, Fault>
         ensures took { IfOk result (Takes seat.old seat.new) }
         ensures unchanged_on_fault { OnErr result (seat.new ≡ seat.old) }
     {
@@ -119,7 +122,12 @@ impl<S: Ledger, G: Ledger> Shared<S, G> {
     }
 
     /// Searches for the job's path, and commits what was found. No lock is held during the search.
-    fn finish_job<R: Wait>(&self, rt: &R, seat: &mut Seat<S, G>, job: &Job) -> Result<Reply, Fault>
+    fn finish_job<R: Wait>(
+        &self,
+        rt: &R,
+        seat: &mut Seat<S, G, B>,
+        job: &Job,
+    ) -> Result<Reply, Fault>
         ensures committed { IfOk result (Commits seat.old job.now seat.new) }
         ensures unchanged_on_fault { OnErr result (seat.new ≡ seat.old) }
     {
@@ -139,7 +147,7 @@ impl<S: Ledger, G: Ledger> Shared<S, G> {
     pub fn work_one<R: Wait, A: Gate>(
         &self,
         rt: &R,
-        seat: &mut Seat<S, G>,
+        seat: &mut Seat<S, G, B>,
         gate: &mut A,
     ) -> Result<Worked, Fault>
         ensures worked { IfOk result (Works seat.old seat.new) }
@@ -198,7 +206,7 @@ impl<S: Ledger, G: Ledger> Shared<S, G> {
     }
 
     /// Lets a seat that waits keep its receipts of rolled places no longer; they stay counted. It is no step.
-    pub fn fold<R: Wait>(&self, rt: &R, seat: &mut Seat<S, G>)
+    pub fn fold<R: Wait>(&self, rt: &R, seat: &mut Seat<S, G, B>)
         ensures { (d : Content) × Replays d × (seat.new ≡ tidy d.rolled seat.old) }
     {
         let held = self.held.lock(rt);
@@ -251,7 +259,7 @@ impl<S: Ledger, G: Ledger> Shared<S, G> {
 
     /// Takes the database from behind the lock and audits all of its seats. Where the audit fails everything is
     /// handed back.
-    pub fn close(self, seats: Vec<Seat<S, G>>) -> Result<Audit, AuditRefused<S, G>>
+    pub fn close(self, seats: Vec<Seat<S, G, B>>) -> Result<Audit, AuditRefused<S, G, B>>
         ensures audited { IfOk result (λ audit. IsAudited S.parts audit.database seats.items) }
         ensures replays { IfOk result (λ audit. Replays audit.database) }
         ensures sound { IfOk result (λ audit. IsSound audit.database) }

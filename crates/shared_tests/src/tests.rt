@@ -3,6 +3,7 @@ ghost use Rattle.std.specs.Prelude.{◌≡◌, IfOk};
 ghost use Rattle.history_core.specs.Histories.{steps_of};
 
 use history_core::{Database, Event, Reply};
+use place_tokens::Room;
 use script_lines::event_in;
 use shared_pce::{Fault, Seat, Shared};
 use std::alloc::Global;
@@ -14,6 +15,7 @@ use te_base::TeBase;
 mod lives;
 mod looks;
 mod meeting;
+mod memory;
 mod seated;
 
 static DIAMOND: &str = r#"
@@ -42,10 +44,10 @@ fn event_of(alloc: Global, line: &str) -> Result<Event, Fail> {
 }
 
 /// The peer comes up, and is in sync at once.
-fn come_up<R: Wait, S: Ledger, G: Ledger>(
+fn come_up<R: Wait, S: Ledger, G: Ledger, B: Room>(
     rt: &R,
-    shared: &Shared<S, G>,
-    seat: &mut Seat<S, G>,
+    shared: &Shared<S, G, B>,
+    seat: &mut Seat<S, G, B>,
     peer: u32,
 ) -> Result<(), Fault> {
     let capabilities = Some(pcep_objects::Capabilities {
@@ -58,11 +60,11 @@ fn come_up<R: Wait, S: Ledger, G: Ledger>(
 }
 
 /// What an operator's line is answered.
-fn answered<R: Wait, S: Ledger, G: Ledger>(
+fn answered<R: Wait, S: Ledger, G: Ledger, B: Room>(
     rt: &R,
     alloc: Global,
-    shared: &Shared<S, G>,
-    seat: &mut Seat<S, G>,
+    shared: &Shared<S, G, B>,
+    seat: &mut Seat<S, G, B>,
     line: &str,
 ) -> Result<Reply, Fail> {
     let event = event_of(alloc, line)?;

@@ -1,8 +1,9 @@
 //! Each end of a connection.
-use super::fakes::{Beat, Beats, Faulty, Noon, Tap};
+use super::fakes::{Beat, Beats, Faulty, Noon, Slow, Tap};
 use super::*;
 use engine_core::Fault;
 use pce_server::{Ended, connection};
+use std::cell::Cell;
 use std::collections::VecDeque;
 use std::process::Abort;
 use std::sync::Wait;
@@ -104,6 +105,7 @@ fn ends<R: Wait + Abort>(rt: &R, alloc: Global, case: Case) -> Result<(), Fail> 
     let mut reader = Beats { beats };
     let mut writer = Tap {
         left: case.writes,
+        most: usize::MAX,
         bytes: Vec::new(alloc),
     };
     let mut store = Faulty {
@@ -131,30 +133,60 @@ fn each_end_hangs_up(rt: HostRuntime) -> Result<(), Fail> {
     Ok(())
 }
 
-/// Where the run is to end, the session is closed at its next turn.
-#[test]
-fn a_closing_run_closes_its_sessions(rt: HostRuntime) -> Result<(), Fail> {
-    let alloc = rt.alloc();
-    let mut reader = Beats {
-        beats: VecDeque::new(alloc),
-    };
-    let mut writer = Tap {
-        left: 9,
-        bytes: Vec::new(alloc),
-    };
-    let mut store = Faulty {
+/// A store that replies Done to all.
+fn done(alloc: Global) -> Faulty {
+    Faulty {
         calls: Vec::new(alloc),
         fault: Fault::OutOfMemory,
         faults: 0,
         downs: 0,
         rolls: 0,
+    }
+}
+
+/// Where the run is to end, the session is closed at its next turn. All bytes go out, however few a write takes.
+#[test]
+fn a_closing_run_closes_its_sessions(rt: HostRuntime) -> Result<(), Fail> {
+    let alloc = rt.alloc();
+    for most in [usize::MAX, 3] {
+        let mut reader = Beats {
+            beats: VecDeque::new(alloc),
+        };
+        let mut writer = Tap {
+            left: 99,
+            most,
+            bytes: Vec::new(alloc),
+        };
+        let watch = Noon { is_closing: true };
+        let mut store = done(alloc);
+        let ended = connection(&rt, alloc, 7, &mut reader, &mut writer, &watch, &mut store);
+        assert_eq!(rt; ended, Ended::SessionEnded);
+        let Some(close) = writer.bytes.as_slice().strip_prefix(OPEN) else {
+            return Err(Fail::new("no Open was sent"));
+        };
+        assert_eq!(rt; close, CLOSE);
+    }
+    Ok(())
+}
+
+/// A write that takes a part once its time is over isn't followed by another.
+#[test]
+fn a_part_taken_late_ends_the_connection(rt: HostRuntime) -> Result<(), Fail> {
+    let alloc = rt.alloc();
+    let mut reader = Beats {
+        beats: VecDeque::new(alloc),
     };
-    let watch = Noon { is_closing: true };
+    let mut writer = Tap {
+        left: 99,
+        most: 1,
+        bytes: Vec::new(alloc),
+    };
+    let watch = Slow {
+        now_ms: Cell::new(0),
+    };
+    let mut store = done(alloc);
     let ended = connection(&rt, alloc, 7, &mut reader, &mut writer, &watch, &mut store);
-    assert_eq!(rt; ended, Ended::SessionEnded);
-    let Some(close) = writer.bytes.as_slice().strip_prefix(OPEN) else {
-        return Err(Fail::new("no Open was sent"));
-    };
-    assert_eq!(rt; close, CLOSE);
+    assert_eq!(rt; ended, Ended::WriteFault);
+    assert_eq!(rt; writer.bytes.len(), 1);
     Ok(())
 }

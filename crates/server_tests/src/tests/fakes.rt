@@ -1,8 +1,9 @@
 //! Readers, writers, watches and stores that do what a test wants.
 use engine_core::{Call, Event, Fault, Reply, Store};
 use history_core::SharedEvent;
-use pce_server::{Desk, Patient, Watch};
+use pce_server::{Desk, Patient, TAKEN_WITHIN_MS, Watch};
 use std::alloc::AllocError;
+use std::cell::Cell;
 use std::collections::VecDeque;
 use std::io;
 use std::io::{ErrorKind, Read, Write};
@@ -41,10 +42,11 @@ impl Patient for Beats {
     fn set_patience(&mut self, _most: Duration) {}
 }
 
-/// A writer that takes so many writes and then fails.
+/// A writer that takes so many writes, of so many bytes each at most, and then fails.
 #[derive(Drop)]
 pub struct Tap {
     pub left: u64,
+    pub most: usize,
     pub bytes: Vec<u8>,
 }
 
@@ -54,8 +56,9 @@ impl Write for Tap {
             return Err(io::Error::from(ErrorKind::BrokenPipe));
         }
         self.left -= 1;
-        match self.bytes.extend_from_slice(buf) {
-            Ok(()) => Ok(buf.len()),
+        let count = buf.len().min(self.most);
+        match self.bytes.extend_from_slice(&buf[..count]) {
+            Ok(()) => Ok(count),
             Err(_) => Err(io::Error::from(ErrorKind::OutOfMemory)),
         }
     }
@@ -78,6 +81,26 @@ impl Watch for Noon {
 
     fn is_closing(&self) -> bool {
         self.is_closing
+    }
+
+    fn ring(&self, _peer: u32) {}
+}
+
+/// A watch by which each look takes as long as a peer may let a write wait.
+#[derive(Drop)]
+pub struct Slow {
+    pub now_ms: Cell<u64>,
+}
+
+impl Watch for Slow {
+    fn now_ms(&self) -> u64 {
+        self.now_ms
+            .set(self.now_ms.get().saturating_add(TAKEN_WITHIN_MS));
+        self.now_ms.get()
+    }
+
+    fn is_closing(&self) -> bool {
+        false
     }
 
     fn ring(&self, _peer: u32) {}

@@ -19,6 +19,7 @@ fn answered(alloc: Global, input: &[u8], writes: u64) -> (Result<(), RunFault>, 
     let mut reader = input;
     let mut writer = Tap {
         left: writes,
+        most: usize::MAX,
         bytes: Vec::new(alloc),
     };
     let mut store = store_in(alloc);

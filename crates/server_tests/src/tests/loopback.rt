@@ -3,10 +3,10 @@ ghost use Rattle.std.specs.Prelude.{◌≡◌};
 ghost use Rattle.pce_server.specs.Ranges.{AreSessions, AreOrders};
 
 use super::fakes::Tap;
-use super::routers::{ask_and_report, ask_or_be_refused, babble, is_closed, look_in};
+use super::routers::{ask_and_report, ask_or_be_refused, babble, crowd, is_closed, look_in};
 use super::*;
 use log::Log;
-use pce_server::{Audit, Orders, Sessions, serve_run};
+use pce_server::{Audit, OF_ONE_ADDRESS, Orders, Sessions, serve_run};
 use pcep_word::Priority;
 use std::alloc::AllocError;
 use std::io::Read;
@@ -48,6 +48,7 @@ fn serve<
     let mut reader = lines;
     let mut writer = Tap {
         left: 9,
+        most: usize::MAX,
         bytes: Vec::new(rt.alloc()),
     };
     let orders = orders_for(sessions);
@@ -141,6 +142,22 @@ fn sixteen_at_once(rt: HostRuntime) -> Result<(), Fail> {
     Ok(())
 }
 
+/// One address can't take all places.
+#[test]
+fn an_address_has_sixteen_connections(rt: HostRuntime) -> Result<(), Fail> {
+    let te = diamond(rt.alloc())?;
+    let (listener, address) = listen_somewhere(&rt)?;
+    let all = OF_ONE_ADDRESS as u64 + 1;
+    let (is_let_go, audit) = thread::join(
+        &rt,
+        || crowd(&rt, address).unwrap_or(false),
+        || serve(&rt, &listener, te, Sessions::Count(all), b""),
+    );
+    assert!(rt; is_let_go);
+    assert!(rt; audit.is_some());
+    Ok(())
+}
+
 /// An operator who says nothing, and goes once the gate is open, or after ten seconds.
 #[derive(Drop)]
 struct Patience<'a, R: Clock> {
@@ -173,6 +190,7 @@ fn serve_behind<
     let mut reader = Patience { rt, gate };
     let mut writer = Tap {
         left: 9,
+        most: usize::MAX,
         bytes: Vec::new(rt.alloc()),
     };
     let orders = orders_for(Sessions::Endless);

@@ -7,6 +7,7 @@ use super::*;
 use engine_core::Event;
 use history_core::Database;
 use pce_server::{Ended, connection};
+use place_tokens::{Room, Unopened};
 use seated_store::Seated;
 use shared_pce::{Audit, Seat, Shared};
 use std::collections::VecDeque;
@@ -65,16 +66,17 @@ fn beats_of(alloc: Global, visit: Visit) -> Result<Beats, Fail> {
 }
 
 /// One connection, and what was written to it.
-fn visited<R: Wait + Clock + Abort, S: Ledger, G: Ledger>(
+fn visited<R: Wait + Clock + Abort, S: Ledger, G: Ledger, B: Room>(
     rt: &R,
     alloc: Global,
-    shared: &Shared<S, G>,
-    seat: &mut Seat<S, G>,
+    shared: &Shared<S, G, B>,
+    seat: &mut Seat<S, G, B>,
     visit: Visit,
 ) -> Result<Vec<u8>, Fail> {
     let mut reader = beats_of(alloc, visit)?;
     let mut writer = Tap {
         left: visit.writes,
+        most: usize::MAX,
         bytes: Vec::new(alloc),
     };
     let watch = Noon { is_closing: false };
@@ -108,10 +110,10 @@ fn all_are_down(rt: &impl Abort, audit: &Audit) {
     }
 }
 
-fn is_closed<R: Abort, S: Ledger, G: Ledger>(
+fn is_closed<R: Abort, S: Ledger, G: Ledger, B: Room>(
     rt: &R,
-    shared: Shared<S, G>,
-    seats: Vec<Seat<S, G>>,
+    shared: Shared<S, G, B>,
+    seats: Vec<Seat<S, G, B>>,
 ) -> Result<(), Fail> {
     let Ok(audit) = shared.close(seats) else {
         return Err(Fail::new("the audit failed"));
@@ -121,11 +123,11 @@ fn is_closed<R: Abort, S: Ledger, G: Ledger>(
 }
 
 /// Two connections fail, and the one behind them is answered.
-fn visit_all<R: Wait + Clock + Abort, S: Ledger, G: Ledger>(
+fn visit_all<R: Wait + Clock + Abort, S: Ledger, G: Ledger, B: Room>(
     rt: &R,
     alloc: Global,
-    shared: &Shared<S, G>,
-    seat: &mut Seat<S, G>,
+    shared: &Shared<S, G, B>,
+    seat: &mut Seat<S, G, B>,
 ) -> Result<(), Fail> {
     for visit in [DEAF, GONE] {
         let _written = visited(rt, alloc, shared, seat, visit)?;
@@ -138,16 +140,24 @@ fn visit_all<R: Wait + Clock + Abort, S: Ledger, G: Ledger>(
     Ok(())
 }
 
-fn go_on<S: Ledger + Send + Sync, G: Ledger + Send + Sync, R: Wait + Clock + Abort + Sync>(
-    rt: &R,
-    alloc: Global,
-    steps: Blank,
-    grants: Blank,
-) -> Result<(), Fail>
+fn go_on<
+    S: Ledger + Send + Sync,
+    G: Ledger + Send + Sync,
+    B: Room + Send + Sync,
+    R: Wait + Clock + Abort + Sync,
+>(rt: &R, alloc: Global, steps: Blank, grants: Blank, room: Unopened) -> Result<(), Fail>
     requires steps { (steps.name ≡ S.name) × (steps.parts ≡ S.parts) × (steps.parts ≡ 1) }
     requires grants { (grants.name ≡ G.name) × (grants.parts ≡ G.parts) × (grants.parts ≡ 1) }
+    requires room { (room.table ≡ B.table) × (room.seats ≡ B.seats) × (room.seats ≡ 1) }
 {
-    let (shared, mut seats) = Shared::<S, G>::new(alloc, new_database(alloc)?, 1, steps, grants)?;
+    let (shared, mut seats) = Shared::<S, G, B>::new(
+        alloc,
+        new_database(alloc)?,
+        1,
+        steps,
+        grants,
+        room,
+    )?;
     let mut seat = seats.pop().ok_or("a seat")?;
     visit_all(rt, alloc, &shared, &mut seat)?;
     seats.push(seat)?;
@@ -156,5 +166,6 @@ fn go_on<S: Ledger + Send + Sync, G: Ledger + Send + Sync, R: Wait + Clock + Abo
 
 #[test]
 fn others_go_on_after_a_fault(rt: HostRuntime) -> Result<(), Fail> {
-    go_on::<Brand, Brand, _>(&rt, rt.alloc(), Blank::new(1), Blank::new(1))
+    let room = Unopened::new(rt.alloc(), 1)?;
+    go_on::<Brand, Brand, Brand, _>(&rt, rt.alloc(), Blank::new(1), Blank::new(1), room)
 }

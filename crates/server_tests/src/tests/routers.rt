@@ -1,5 +1,6 @@
 //! Routers that connect over loopback.
 use super::*;
+use pce_server::OF_ONE_ADDRESS;
 use std::io;
 use std::io::{Read, Write};
 use std::net::{Net, SocketAddr, TcpStream};
@@ -98,4 +99,23 @@ pub fn look_in<R: Net<Stream = TcpStream>>(rt: &R, address: SocketAddr) -> io::R
     let stream = connect(rt, address)?;
     drop(stream);
     Ok(true)
+}
+
+/// As many silent connections as an address may have, and one more, which the server lets go unheard.
+pub fn crowd<R: Net<Stream = TcpStream> + AllocGlobal>(
+    rt: &R,
+    address: SocketAddr,
+) -> io::Result<bool> {
+    let mut held = Vec::new(rt.alloc());
+    for _place in 0..OF_ONE_ADDRESS {
+        let stream = connect(rt, address)?;
+        if !hears(&stream, OPEN)? {
+            return Ok(false);
+        }
+        held.push(stream)?;
+    }
+    let late = connect(rt, address)?;
+    let mut rest = [0u8; 1];
+    let mut reader = &late;
+    Ok(reader.read(&mut rest)? == 0)
 }

@@ -4,6 +4,7 @@ ghost use Rattle.std.specs.Prelude.{◌≡◌, ◌<◌};
 use super::*;
 use lsp_base::{Path, Tunnel};
 use pcep_word::Priority;
+use place_tokens::{Room, Unopened};
 use script_lines::{Order, order_of};
 use shared_pce::Quiet;
 use std::alloc::AllocError;
@@ -90,11 +91,11 @@ fn event_at_random(
     }
 }
 
-fn live<R: Wait, S: Ledger, G: Ledger>(
+fn live<R: Wait, S: Ledger, G: Ledger, B: Room>(
     rt: &R,
     alloc: Global,
-    shared: &Shared<S, G>,
-    seat: &mut Seat<S, G>,
+    shared: &Shared<S, G, B>,
+    seat: &mut Seat<S, G, B>,
     peer: u32,
 ) -> Result<(), Fault> {
     let mut random = Random { state: peer };
@@ -107,10 +108,10 @@ fn live<R: Wait, S: Ledger, G: Ledger>(
     Ok(())
 }
 
-fn work<R: Wait, S: Ledger, G: Ledger>(
+fn work<R: Wait, S: Ledger, G: Ledger, B: Room>(
     rt: &R,
-    shared: &Shared<S, G>,
-    seat: &mut Seat<S, G>,
+    shared: &Shared<S, G, B>,
+    seat: &mut Seat<S, G, B>,
 ) -> Result<(), Fault> {
     for turn in 0..TURNS {
         let _worked = shared.work_one(rt, seat, &mut Quiet)?;
@@ -123,11 +124,11 @@ fn work<R: Wait, S: Ledger, G: Ledger>(
 }
 
 /// What one thread does with the seat at a place.
-fn take_part<R: Wait, S: Ledger, G: Ledger>(
+fn take_part<R: Wait, S: Ledger, G: Ledger, B: Room>(
     rt: &R,
     alloc: Global,
-    shared: &Shared<S, G>,
-    seat: &mut Seat<S, G>,
+    shared: &Shared<S, G, B>,
+    seat: &mut Seat<S, G, B>,
     place: usize,
 ) -> Result<(), Fault> {
     if place < PEERS {
@@ -180,7 +181,7 @@ fn is_booked(rt: &impl Abort, database: &mut Database) -> Result<(), Fail> {
 }
 
 /// The steps and the grants that all seats were told of.
-fn told<S: Ledger, G: Ledger>(seats: &[Seat<S, G>]) -> (u64, u64) {
+fn told<S: Ledger, G: Ledger, B: Room>(seats: &[Seat<S, G, B>]) -> (u64, u64) {
     let mut steps = 0u64;
     let mut grants = 0u64;
     for seat in seats {
@@ -191,10 +192,10 @@ fn told<S: Ledger, G: Ledger>(seats: &[Seat<S, G>]) -> (u64, u64) {
 }
 
 /// The seats' sums are the steps and the grants, and the book is right.
-fn is_closed<R: Abort, S: Ledger, G: Ledger>(
+fn is_closed<R: Abort, S: Ledger, G: Ledger, B: Room>(
     rt: &R,
-    shared: Shared<S, G>,
-    seats: Vec<Seat<S, G>>,
+    shared: Shared<S, G, B>,
+    seats: Vec<Seat<S, G, B>>,
 ) -> Result<(), Fail> {
     let told = told(&seats);
     let Ok(mut audit) = shared.close(seats) else {
@@ -208,12 +209,21 @@ fn is_closed<R: Abort, S: Ledger, G: Ledger>(
 fn live_together<
     S: Ledger + Send + Sync,
     G: Ledger + Send + Sync,
+    B: Room + Send + Sync,
     R: Threads + Wait + Abort + Sync,
->(rt: &R, alloc: Global, steps: Blank, grants: Blank) -> Result<(), Fail>
+>(rt: &R, alloc: Global, steps: Blank, grants: Blank, room: Unopened) -> Result<(), Fail>
     requires steps { (steps.name ≡ S.name) × (steps.parts ≡ S.parts) × (steps.parts ≡ 20) }
     requires grants { (grants.name ≡ G.name) × (grants.parts ≡ G.parts) × (grants.parts ≡ 20) }
+    requires room { (room.table ≡ B.table) × (room.seats ≡ B.seats) × (room.seats ≡ 20) }
 {
-    let (shared, mut seats) = Shared::<S, G>::new(alloc, diamond(alloc)?, 20, steps, grants)?;
+    let (shared, mut seats) = Shared::<S, G, B>::new(
+        alloc,
+        diamond(alloc)?,
+        20,
+        steps,
+        grants,
+        room,
+    )?;
     thread::for_each_mut(
         rt,
         seats.as_mut_slice(),
@@ -227,5 +237,6 @@ fn live_together<
 
 #[test]
 fn sixteen_peers_and_four_workers(rt: HostRuntime) -> Result<(), Fail> {
-    live_together::<Brand, Brand, _>(&rt, rt.alloc(), Blank::new(20), Blank::new(20))
+    let room = Unopened::new(rt.alloc(), 20)?;
+    live_together::<Brand, Brand, Brand, _>(&rt, rt.alloc(), Blank::new(20), Blank::new(20), room)
 }

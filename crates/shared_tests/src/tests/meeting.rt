@@ -2,6 +2,7 @@
 ghost use Rattle.std.specs.Prelude.{◌≡◌};
 
 use super::*;
+use place_tokens::{Room, Unopened};
 use shared_pce::{AuditFault, Gate, Quiet, Worked};
 use std::marker::Brand;
 use std::process::Abort;
@@ -72,10 +73,10 @@ fn came_to(worked: &Worked) -> Came {
     }
 }
 
-fn turn<R: Wait + Clock, S: Ledger, G: Ledger>(
+fn turn<R: Wait + Clock, S: Ledger, G: Ledger, B: Room>(
     rt: &R,
-    shared: &Shared<S, G>,
-    seat: &mut Seat<S, G>,
+    shared: &Shared<S, G, B>,
+    seat: &mut Seat<S, G, B>,
     meeting: &Meeting,
     is_late: bool,
 ) -> Result<Came, Fault> {
@@ -95,11 +96,16 @@ fn turn<R: Wait + Clock, S: Ledger, G: Ledger>(
 }
 
 /// The turns of both workers at once, of the late one and of the early one.
-fn work_at_once<R: Threads + Wait + Clock + Sync, S: Ledger + Send + Sync, G: Ledger + Send + Sync>(
+fn work_at_once<
+    R: Threads + Wait + Clock + Sync,
+    S: Ledger + Send + Sync,
+    G: Ledger + Send + Sync,
+    B: Room + Send + Sync,
+>(
     rt: &R,
-    shared: &Shared<S, G>,
-    late: &mut Seat<S, G>,
-    early: &mut Seat<S, G>,
+    shared: &Shared<S, G, B>,
+    late: &mut Seat<S, G, B>,
+    early: &mut Seat<S, G, B>,
 ) -> Result<(Came, Came), Fault> {
     let meeting = Meeting {
         called: AtomicU32::new(0),
@@ -114,11 +120,11 @@ fn work_at_once<R: Threads + Wait + Clock + Sync, S: Ledger + Send + Sync, G: Le
 }
 
 /// Two initiations of which the links over B bear one.
-fn ask_twice<R: Wait, S: Ledger, G: Ledger>(
+fn ask_twice<R: Wait, S: Ledger, G: Ledger, B: Room>(
     rt: &R,
     alloc: Global,
-    shared: &Shared<S, G>,
-    seat: &mut Seat<S, G>,
+    shared: &Shared<S, G, B>,
+    seat: &mut Seat<S, G, B>,
 ) -> Result<(), Fail> {
     come_up(rt, shared, seat, 1)?;
     for line in [
@@ -131,10 +137,10 @@ fn ask_twice<R: Wait, S: Ledger, G: Ledger>(
 }
 
 /// The ticket that is to wait again is granted over C, behind a roll.
-fn grant_the_other<R: Wait + Abort, S: Ledger, G: Ledger>(
+fn grant_the_other<R: Wait + Abort, S: Ledger, G: Ledger, B: Room>(
     rt: &R,
-    shared: &Shared<S, G>,
-    seat: &mut Seat<S, G>,
+    shared: &Shared<S, G, B>,
+    seat: &mut Seat<S, G, B>,
 ) -> Result<(), Fail> {
     assert!(rt; shared.waiting(rt));
     assert_eq!(rt; shared.kept(rt), 8);
@@ -148,10 +154,10 @@ fn grant_the_other<R: Wait + Abort, S: Ledger, G: Ledger>(
 }
 
 /// The seats' sums are all steps and grants, and 400,000 are left on each link.
-fn is_closed<R: Abort, S: Ledger, G: Ledger>(
+fn is_closed<R: Abort, S: Ledger, G: Ledger, B: Room>(
     rt: &R,
-    shared: Shared<S, G>,
-    seats: Vec<Seat<S, G>>,
+    shared: Shared<S, G, B>,
+    seats: Vec<Seat<S, G, B>>,
 ) -> Result<(), Fail> {
     let Ok(audit) = shared.close(seats) else {
         return Err(Fail::new("the audit failed"));
@@ -174,12 +180,13 @@ fn meet_between<
     R: Threads + Wait + Clock + Abort + Sync,
     S: Ledger + Send + Sync,
     G: Ledger + Send + Sync,
+    B: Room + Send + Sync,
 >(
     rt: &R,
     alloc: Global,
-    shared: &Shared<S, G>,
-    first: &mut Seat<S, G>,
-    second: &mut Seat<S, G>,
+    shared: &Shared<S, G, B>,
+    first: &mut Seat<S, G, B>,
+    second: &mut Seat<S, G, B>,
 ) -> Result<(), Fail> {
     ask_twice(rt, alloc, shared, first)?;
     let (late, early) = work_at_once(rt, shared, first, second)?;
@@ -188,16 +195,24 @@ fn meet_between<
     grant_the_other(rt, shared, first)
 }
 
-fn meet<S: Ledger + Send + Sync, G: Ledger + Send + Sync, R: Threads + Wait + Clock + Abort + Sync>(
-    rt: &R,
-    alloc: Global,
-    steps: Blank,
-    grants: Blank,
-) -> Result<(), Fail>
+fn meet<
+    S: Ledger + Send + Sync,
+    G: Ledger + Send + Sync,
+    B: Room + Send + Sync,
+    R: Threads + Wait + Clock + Abort + Sync,
+>(rt: &R, alloc: Global, steps: Blank, grants: Blank, room: Unopened) -> Result<(), Fail>
     requires steps { (steps.name ≡ S.name) × (steps.parts ≡ S.parts) × (steps.parts ≡ 2) }
     requires grants { (grants.name ≡ G.name) × (grants.parts ≡ G.parts) × (grants.parts ≡ 2) }
+    requires room { (room.table ≡ B.table) × (room.seats ≡ B.seats) × (room.seats ≡ 2) }
 {
-    let (shared, mut seats) = Shared::<S, G>::new(alloc, diamond(alloc)?, 2, steps, grants)?;
+    let (shared, mut seats) = Shared::<S, G, B>::new(
+        alloc,
+        diamond(alloc)?,
+        2,
+        steps,
+        grants,
+        room,
+    )?;
     let mut second = seats.pop().ok_or("two seats")?;
     let mut first = seats.pop().ok_or("two seats")?;
     meet_between(rt, alloc, &shared, &mut first, &mut second)?;
@@ -208,15 +223,16 @@ fn meet<S: Ledger + Send + Sync, G: Ledger + Send + Sync, R: Threads + Wait + Cl
 
 #[test]
 fn workers_meet(rt: HostRuntime) -> Result<(), Fail> {
-    meet::<Brand, Brand, _>(&rt, rt.alloc(), Blank::new(2), Blank::new(2))
+    let room = Unopened::new(rt.alloc(), 2)?;
+    meet::<Brand, Brand, Brand, _>(&rt, rt.alloc(), Blank::new(2), Blank::new(2), room)
 }
 
 /// The audit of seats of which one is missing hands them back.
-fn is_refused<R: Abort, S: Ledger, G: Ledger>(
+fn is_refused<R: Abort, S: Ledger, G: Ledger, B: Room>(
     rt: &R,
-    shared: Shared<S, G>,
-    seats: Vec<Seat<S, G>>,
-) -> Result<(Shared<S, G>, Vec<Seat<S, G>>), Fail> {
+    shared: Shared<S, G, B>,
+    seats: Vec<Seat<S, G, B>>,
+) -> Result<(Shared<S, G, B>, Vec<Seat<S, G, B>>), Fail> {
     let Err(refused) = shared.close(seats) else {
         return Err(Fail::new("a seat is missing"));
     };
@@ -226,10 +242,10 @@ fn is_refused<R: Abort, S: Ledger, G: Ledger>(
 }
 
 /// All seats are here, and two steps were made through them.
-fn passes<R: Abort, S: Ledger, G: Ledger>(
+fn passes<R: Abort, S: Ledger, G: Ledger, B: Room>(
     rt: &R,
-    shared: Shared<S, G>,
-    seats: Vec<Seat<S, G>>,
+    shared: Shared<S, G, B>,
+    seats: Vec<Seat<S, G, B>>,
 ) -> Result<(), Fail> {
     let Ok(audit) = shared.close(seats) else {
         return Err(Fail::new("all seats are here"));
@@ -239,16 +255,24 @@ fn passes<R: Abort, S: Ledger, G: Ledger>(
 }
 
 /// The seats are handed back, and with the other one they pass.
-fn miss<S: Ledger + Send + Sync, G: Ledger + Send + Sync, R: Wait + Abort + Sync>(
-    rt: &R,
-    alloc: Global,
-    steps: Blank,
-    grants: Blank,
-) -> Result<(), Fail>
+fn miss<
+    S: Ledger + Send + Sync,
+    G: Ledger + Send + Sync,
+    B: Room + Send + Sync,
+    R: Wait + Abort + Sync,
+>(rt: &R, alloc: Global, steps: Blank, grants: Blank, room: Unopened) -> Result<(), Fail>
     requires steps { (steps.name ≡ S.name) × (steps.parts ≡ S.parts) × (steps.parts ≡ 2) }
     requires grants { (grants.name ≡ G.name) × (grants.parts ≡ G.parts) × (grants.parts ≡ 2) }
+    requires room { (room.table ≡ B.table) × (room.seats ≡ B.seats) × (room.seats ≡ 2) }
 {
-    let (shared, mut seats) = Shared::<S, G>::new(alloc, diamond(alloc)?, 2, steps, grants)?;
+    let (shared, mut seats) = Shared::<S, G, B>::new(
+        alloc,
+        diamond(alloc)?,
+        2,
+        steps,
+        grants,
+        room,
+    )?;
     let mut second = seats.pop().ok_or("two seats")?;
     come_up(rt, &shared, &mut second, 1)?;
     let (shared, mut seats) = is_refused(rt, shared, seats)?;
@@ -258,5 +282,6 @@ fn miss<S: Ledger + Send + Sync, G: Ledger + Send + Sync, R: Wait + Abort + Sync
 
 #[test]
 fn a_seat_is_missing(rt: HostRuntime) -> Result<(), Fail> {
-    miss::<Brand, Brand, _>(&rt, rt.alloc(), Blank::new(2), Blank::new(2))
+    let room = Unopened::new(rt.alloc(), 2)?;
+    miss::<Brand, Brand, Brand, _>(&rt, rt.alloc(), Blank::new(2), Blank::new(2), room)
 }

@@ -3,6 +3,7 @@ ghost use Rattle.std.specs.Prelude.{◌≡◌};
 
 use super::*;
 use engine_core::{Client, Lent, Store, hang_up, serve};
+use place_tokens::{Room, Unopened};
 use seated_store::Seated;
 use std::marker::Brand;
 use std::process::Abort;
@@ -37,11 +38,11 @@ fn said<T: Store>(alloc: Global, store: &mut T) -> Result<Vec<u8>, Fail> {
     Ok(said)
 }
 
-fn said_through_a_seat<R: Wait + Abort, S: Ledger, G: Ledger>(
+fn said_through_a_seat<R: Wait + Abort, S: Ledger, G: Ledger, B: Room>(
     rt: &R,
     alloc: Global,
-    shared: &Shared<S, G>,
-    seat: &mut Seat<S, G>,
+    shared: &Shared<S, G, B>,
+    seat: &mut Seat<S, G, B>,
 ) -> Result<Vec<u8>, Fail> {
     let mut store = Seated::new(rt, alloc, shared, seat);
     let said = said(alloc, &mut store)?;
@@ -58,16 +59,24 @@ fn said_through_a_lent_database(alloc: Global) -> Result<Vec<u8>, Fail> {
     said(alloc, &mut Lent::new(alloc, &mut database))
 }
 
-fn compare<S: Ledger + Send + Sync, G: Ledger + Send + Sync, R: Wait + Abort + Sync>(
-    rt: &R,
-    alloc: Global,
-    steps: Blank,
-    grants: Blank,
-) -> Result<(), Fail>
+fn compare<
+    S: Ledger + Send + Sync,
+    G: Ledger + Send + Sync,
+    B: Room + Send + Sync,
+    R: Wait + Abort + Sync,
+>(rt: &R, alloc: Global, steps: Blank, grants: Blank, room: Unopened) -> Result<(), Fail>
     requires steps { (steps.name ≡ S.name) × (steps.parts ≡ S.parts) × (steps.parts ≡ 1) }
     requires grants { (grants.name ≡ G.name) × (grants.parts ≡ G.parts) × (grants.parts ≡ 1) }
+    requires room { (room.table ≡ B.table) × (room.seats ≡ B.seats) × (room.seats ≡ 1) }
 {
-    let (shared, mut seats) = Shared::<S, G>::new(alloc, diamond(alloc)?, 1, steps, grants)?;
+    let (shared, mut seats) = Shared::<S, G, B>::new(
+        alloc,
+        diamond(alloc)?,
+        1,
+        steps,
+        grants,
+        room,
+    )?;
     let mut seat = seats.pop().ok_or("a seat")?;
     let seated = said_through_a_seat(rt, alloc, &shared, &mut seat)?;
     let lent = said_through_a_lent_database(alloc)?;
@@ -78,5 +87,6 @@ fn compare<S: Ledger + Send + Sync, G: Ledger + Send + Sync, R: Wait + Abort + S
 
 #[test]
 fn a_seat_says_what_a_lent_database_says(rt: HostRuntime) -> Result<(), Fail> {
-    compare::<Brand, Brand, _>(&rt, rt.alloc(), Blank::new(1), Blank::new(1))
+    let room = Unopened::new(rt.alloc(), 1)?;
+    compare::<Brand, Brand, Brand, _>(&rt, rt.alloc(), Blank::new(1), Blank::new(1), room)
 }

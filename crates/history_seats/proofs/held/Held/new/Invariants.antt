@@ -1,4 +1,4 @@
-use Rattle.std.specs.Prelude.{◌≡◌, ◌+◌, replicate}
+use Rattle.std.specs.Prelude.{◌≡◌, ◌+◌, All, [], replicate, vec_len}
 use Rattle.history_seats.specs.Receipts.{new_seat}
 use Rattle.history_seats.proofs.held.Held.new.Given as goal
 
@@ -9,4 +9,6 @@ invariant-loop-i g l = record {
   grants_parts : l.grants_left.parts + l._i ≡ l.n;
   grants_amount : l.grants_left.amount ≡ 0;
   seats : l.seats.items ≡ replicate l._i new_seat;
+  tokens : vec_len l.tokens + l._i ≡ l.n;
+  none_drawn : All (λ d. d ≡ []) l.tokens.items;
 }

@@ -5,3 +5,6 @@ ghosts-go_on-S-Ledger g a = record { name = a.steps.name; parts = a.steps.parts 
 
 abbrev pub ghosts-go_on-G-Ledger : goal.ghosts-go_on-G-Ledger
 ghosts-go_on-G-Ledger g a = record { name = a.grants.name; parts = a.grants.parts }
+
+abbrev pub ghosts-go_on-B-Room : goal.ghosts-go_on-B-Room
+ghosts-go_on-B-Room g a = record { table = a.room.table; seats = a.room.seats }

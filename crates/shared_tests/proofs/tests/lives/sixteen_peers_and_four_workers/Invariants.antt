@@ -5,3 +5,6 @@ ghosts-live_together-S-Ledger g a = record { name = a.steps.name; parts = a.step
 
 abbrev pub ghosts-live_together-G-Ledger : goal.ghosts-live_together-G-Ledger
 ghosts-live_together-G-Ledger g a = record { name = a.grants.name; parts = a.grants.parts }
+
+abbrev pub ghosts-live_together-B-Room : goal.ghosts-live_together-B-Room
+ghosts-live_together-B-Room g a = record { table = a.room.table; seats = a.room.seats }

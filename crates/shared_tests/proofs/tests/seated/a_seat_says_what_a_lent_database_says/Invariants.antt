@@ -5,3 +5,6 @@ ghosts-compare-S-Ledger g a = record { name = a.steps.name; parts = a.steps.part
 
 abbrev pub ghosts-compare-G-Ledger : goal.ghosts-compare-G-Ledger
 ghosts-compare-G-Ledger g a = record { name = a.grants.name; parts = a.grants.parts }
+
+abbrev pub ghosts-compare-B-Room : goal.ghosts-compare-B-Room
+ghosts-compare-B-Room g a = record { table = a.room.table; seats = a.room.seats }
