@@ -52,7 +52,7 @@ stale_bucket peer x = by (eqb x.peer peer)
     by true = refl
     by false = refl
 
-stands-map : {A : Type 0} (f : A → ℕ) (h : A → A) → ((x : A) → f (h x) ≡ f x) → (xs : List A) (b p : ℕ) → stands (is_in f b) (map h xs) p ≡ stands (is_in f b) xs p
+pub stands-map : {A : Type 0} (f : A → ℕ) (h : A → A) → ((x : A) → f (h x) ≡ f x) → (xs : List A) (b p : ℕ) → stands (is_in f b) (map h xs) p ≡ stands (is_in f b) xs p
 stands-map f h k [] b p = refl
 stands-map f h k (x ∷ xs) b zero = ap (λ (n : ℕ). eqb n b) (k x)
 stands-map f h k (x ∷ xs) b (suc p) = stands-map f h k xs b p

@@ -1,7 +1,9 @@
 pub mod Chains
 pub mod Distinct
 pub mod Keys
+pub mod OfPeer
 pub mod PathLists
+pub mod PlaceBits
 pub mod Removal
 mod ShareRows
 pub mod SrpNumbers

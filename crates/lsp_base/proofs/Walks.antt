@@ -28,7 +28,7 @@ filter-free_all [] t (suc b) f = refl
 filter-free_all (x ∷ xs) t zero f = refl
 filter-free_all (x ∷ xs) t (suc b) f = ap (λ c. cond c (x ∷ filter t (take b xs)) (filter t (take b xs))) (f.free zero (omega arith) (omega arith)) ∙ filter-free_all xs t b (IsFree-rest_zero x xs t b f)
 
-filter-free : {A : Type 0} (xs : List A) (t : A → Bool) (a b : ℕ) → a ≤ b → IsFree xs t a b → filter t (take b xs) ≡ filter t (take a xs)
+pub filter-free : {A : Type 0} (xs : List A) (t : A → Bool) (a b : ℕ) → a ≤ b → IsFree xs t a b → filter t (take b xs) ≡ filter t (take a xs)
 filter-free xs t zero b l f = filter-free_all xs t b f
 filter-free xs t (suc a) zero l f = absurd (omega arith)
 filter-free [] t (suc a) (suc b) l f = refl

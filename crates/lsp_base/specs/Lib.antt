@@ -5,6 +5,7 @@ pub mod Base
 pub mod Rooms
 pub mod Grants
 pub mod Chains
+pub mod Marks
 pub mod Tables
 pub mod Refusals
 pub mod Pending

@@ -1,5 +1,5 @@
 -- What tables of paths and of records hold, beside the room that was made in them.
-use Rattle.std.specs.Prelude.{ℕ, ◌+◌, ◌*◌, ◌%◌, ◌≡◌, ◌||◌, Bool, true, List}
+use Rattle.std.specs.Prelude.{ℕ, ◌+◌, ◌*◌, ◌%◌, ◌≡◌, ◌==◌, ◌||◌, Bool, true, List}
 use Rattle.lsp_base.specs.Base.{is_path_of}
 use Rattle.lsp_base.specs.declared.path.Path.{Path}
 use Rattle.lsp_base.specs.declared.effect.Record.{Record}
@@ -27,3 +27,11 @@ record_bucket r = bucket_number r.peer r.plsp
 -- whatever passes the test is one of the LSP's paths, or a grant of the peer that is not bound to an LSP
 pub record PicksFrom (test : Path → Bool) (peer plsp : ℕ) : Type 0 where
   pub of : (x : Path) → test x ≡ true → (is_path_of peer plsp x || is_path_of peer 0 x) ≡ true
+
+-- whatever passes the test is a path or a grant of the peer
+pub record PicksOfPeer (test : Path → Bool) (peer : ℕ) : Type 0 where
+  pub of : (x : Path) → test x ≡ true → (x.peer == peer) ≡ true
+
+-- whatever passes the test is a record of the peer
+pub record MeetsOfPeer (test : Record → Bool) (peer : ℕ) : Type 0 where
+  pub of : (r : Record) → test r ≡ true → (r.peer == peer) ≡ true

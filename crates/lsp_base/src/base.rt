@@ -1,16 +1,18 @@
 //! The paths and the records of all LSPs.
-ghost use Rattle.std.specs.Prelude.{◌≡◌, ◌≤◌, ◌++◌, false, length, filter, IsPermutation, OnOk, IfOk, option_copied, slice_get};
+ghost use Rattle.std.specs.Prelude.{◌≡◌, ◌≤◌, ◌++◌, false, length, filter, map, IsPermutation, OnOk, IfOk, option_copied, slice_get};
 ghost use Rattle.std.specs.List.{list_any};
 ghost use Rattle.lsp_base.specs.Base.{AreDistinct, HasAll, no_lsps, lsp_at, changed, with_stale};
 ghost use Rattle.lsp_base.specs.Grants.{has_grant};
 ghost use Rattle.lsp_base.specs.Pending.{is_grant_as, is_removed_as};
 ghost use Rattle.lsp_base.specs.Rooms.{HasRoom, IsWithinLimit};
-ghost use Rattle.lsp_base.specs.Tables.{PicksFrom};
+ghost use Rattle.lsp_base.specs.Tables.{PicksFrom, PicksOfPeer, MeetsOfPeer};
 
-use crate::effect::{Change, Effect, Record};
+use crate::chained::Sought;
+use crate::effect::{Change, Effect, Record, RecordChange};
 use crate::grants::GrantOf;
 use crate::lists::Choice;
 use crate::lsp::Lsp;
+use crate::of_peer::Becoming;
 use crate::path::Path;
 use crate::path_table::PathTable;
 use crate::record_table::RecordTable;
@@ -97,7 +99,7 @@ impl LspBase {
         self.records.set_all(peer, records.into_vec());
     }
 
-    /// Makes the peer's paths stale, and changes nothing else.
+    /// Makes the peer's paths stale, and changes nothing else. No pass over all.
     #[tactic(auto, unfolding(crate::specs::Base::with_stale))]
     pub fn mark_stale(&mut self, peer: u32)
         ensures stale { self.new.content ≡ with_stale self.old.content peer }
@@ -136,6 +138,50 @@ impl LspBase {
         ensures { result ≡ list_any (C.chooses choice.now) self.now.content.paths }
     {
         self.paths.any_chosen_of(peer, plsp, choice)
+    }
+
+    /// Copies of the paths that pass the test, in order, with no pass over all: it goes by the peer's places.
+    /// All of them are the peer's, bound to an LSP or not.
+    pub fn chosen_of_peer<C: Choice>(
+        &self,
+        alloc: Global,
+        peer: u32,
+        choice: &C,
+    ) -> Result<Vec<Path>, AllocError>
+        requires { PicksOfPeer (C.chooses choice.now) peer }
+        ensures { IfOk result (λ found. found.items ≡ filter (C.chooses choice.now) self.now.content.paths) }
+    {
+        self.paths.chosen_of_peer(alloc, peer, choice)
+    }
+
+    /// Whether a path passes the test, with no pass over all. All that pass it are the peer's. Takes no memory.
+    pub fn any_chosen_of_peer<C: Choice>(&self, peer: u32, choice: &C) -> bool
+        requires { PicksOfPeer (C.chooses choice.now) peer }
+        ensures { result ≡ list_any (C.chooses choice.now) self.now.content.paths }
+    {
+        self.paths.any_chosen_of_peer(peer, choice)
+    }
+
+    /// What becomes of the records that pass the test, in their order, with no pass over all. All of them are
+    /// the peer's.
+    pub fn changes_of_peer<R: Becoming>(
+        &self,
+        alloc: Global,
+        peer: u32,
+        rule: &R,
+    ) -> Result<Vec<RecordChange>, AllocError>
+        requires { MeetsOfPeer (R.meets rule.now) peer }
+        ensures { IfOk result (λ changes. changes.items ≡ map (R.becomes rule.now) (filter (R.meets rule.now) self.now.content.records)) }
+    {
+        self.records.changes_of_peer(alloc, peer, rule)
+    }
+
+    /// Whether a record is sought, with no pass over all. All that are sought are the peer's. Takes no memory.
+    pub fn any_record_of_peer<S: Sought<Record>>(&self, peer: u32, sought: &S) -> bool
+        requires { MeetsOfPeer (S.seeks sought.now) peer }
+        ensures { result ≡ list_any (S.seeks sought.now) self.now.content.records }
+    {
+        self.records.any_of_peer(peer, sought)
     }
 
     /// Whether the LSP has a grant, with no pass over all.

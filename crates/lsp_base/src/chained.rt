@@ -1,6 +1,5 @@
 //! Lists with a chain through them: items that come at the end, that go, and that are looked for.
-ghost use Rattle.std.specs.Prelude.{◌≡◌, ◌<◌, ◌≤◌, ◌+◌, ◌-◌, ◌++◌, ◌∷◌, [], Bool, length, take, slice_set, slice_index_or, OnOk, IfSome, IfNone, vec_len, vec_capacity};
-ghost use Rattle.lsp_base.specs.Base.{without_first};
+ghost use Rattle.std.specs.Prelude.{◌≡◌, ◌<◌, ◌≤◌, ◌+◌, ◌-◌, ◌++◌, ◌∷◌, [], length, take, slice_set, slice_index_or, OnOk, IfSome, IfNone, vec_len, vec_capacity};
 ghost use Rattle.lsp_base.specs.Chains.{IsFree, IsChain, IsFirst, IsWithin};
 
 use crate::chain::{
@@ -71,7 +70,7 @@ pub fn push_last<T, B: Bucketing<T>>(items: &mut Vec<T>, chain: &mut Chain, item
 }
 
 /// Takes the last item.
-fn take_last<T, B: Bucketing<T>>(items: &mut Vec<T>, chain: &mut Chain) -> T
+pub fn take_last<T, B: Bucketing<T>>(items: &mut Vec<T>, chain: &mut Chain) -> T
     requires some { 0 < length items.old.items }
     requires chain { IsChain B.bucket_of items.old.items chain.old.newest.items chain.old.earlier.items }
     ensures value { result ≡ slice_index_or items.old.items (length items.old.items - 1) result }
@@ -103,22 +102,6 @@ pub fn put_at<T: Drop, B: Bucketing<T>>(
     hang_at::<T, B>(items.as_slice(), chain, place, &item);
     items[place] = item;
     lead_past::<T, B>(items.as_slice(), chain, bucket, place, end);
-}
-
-/// Takes the item at a place away; the last one takes its place.
-pub fn swap_out<T: Drop, B: Bucketing<T>>(items: &mut Vec<T>, chain: &mut Chain, place: usize)
-    requires within { place < length items.old.items }
-    requires chain { IsChain B.bucket_of items.old.items chain.old.newest.items chain.old.earlier.items }
-    ensures items { (test : T → Bool) → IsFirst items.old.items test place → items.new.items ≡ without_first test items.old.items }
-    ensures count { length items.new.items + 1 ≡ length items.old.items }
-    ensures chain { IsChain B.bucket_of items.new.items chain.new.newest.items chain.new.earlier.items }
-    ensures room { vec_capacity items.new ≡ vec_capacity items.old }
-    ensures chain_room { vec_capacity chain.new.earlier ≡ vec_capacity chain.old.earlier }
-{
-    let last = take_last::<T, B>(items, chain);
-    if place < items.len() {
-        put_at::<T, B>(items, chain, place, last);
-    }
 }
 
 /// The first place at which what is sought stands. All of it is in the bucket.

@@ -1,12 +1,14 @@
 //! Paths that go, with the records that then have none.
-ghost use Rattle.std.specs.Prelude.{◌≡◌, ◌&&◌, not, map, filter, IfOk, IsPermutation};
+ghost use Rattle.std.specs.Prelude.{◌≡◌, ◌&&◌, not, filter, IfOk, IsPermutation};
 ghost use Rattle.std.specs.List.{list_any};
-ghost use Rattle.lsp_base.specs.Base.{is_path_of, taking, has_none_left, ended_records, ended_record, changed, dropping};
+ghost use Rattle.lsp_base.specs.Base.{is_path_of, ended_records, ended_record, changed, dropping};
 ghost use Rattle.lsp_base.specs.Rooms.{IsWithinLimit};
+ghost use Rattle.lsp_base.specs.Tables.{PicksOfPeer};
 
 use crate::base::LspBase;
 use crate::effect::{Effect, Record, RecordChange};
-use crate::lists::{Choice, chosen};
+use crate::lists::Choice;
+use crate::of_peer::Becoming;
 use crate::path::Path;
 use pcep_objects::Plsp;
 use std::alloc::{AllocError, Global};
@@ -44,10 +46,31 @@ fn keeps_a_path<C: Choice>(base: &LspBase, peer: u32, plsp: Plsp, going: &C) -> 
     base.any_chosen_of(peer, plsp, &StaysOf { going, peer, plsp })
 }
 
-fn has_ended<C: Choice>(base: &LspBase, known: &Record, peer: u32, going: &C) -> bool
-    ensures { result ≡ has_none_left (C.chooses going.now) peer base.now.content.paths known.now }
-{
-    known.peer == peer && !keeps_a_path(base, peer, known.plsp, going)
+/// The peer's records of which no path stays where those of the choice go.
+#[derive(Drop)]
+struct NoneLeft<'a, C: Choice> {
+    base: &'a LspBase,
+    going: &'a C,
+    peer: u32,
+}
+
+impl<'a, C: Choice> Becoming for NoneLeft<'a, C> {
+    ghost use Rattle.lsp_base.specs.Base.{has_none_left, taking};
+
+    ghost meets = { λ s r. has_none_left (C.chooses s.going.now) s.peer s.base.now.content.paths r };
+
+    ghost becomes = { λ s r. taking r };
+
+    fn meets(&self, known: &Record) -> bool {
+        known.peer == self.peer && !keeps_a_path(self.base, self.peer, known.plsp, self.going)
+    }
+
+    fn becomes(&self, known: &Record) -> Result<RecordChange, AllocError> {
+        Ok(RecordChange {
+            plsp: known.plsp,
+            lsp: None,
+        })
+    }
 }
 
 /// Takes the LSP's record away, where no path of it stays where those of the choice go.
@@ -76,44 +99,26 @@ fn ended<C: Choice>(
 ) -> Result<Vec<RecordChange>, AllocError>
     ensures { IfOk result (λ changes. changes.items ≡ ended_records base.now.content peer (C.chooses going.now)) }
 {
-    ended_among(alloc, base, base.records(), peer, going)
+    base.changes_of_peer(alloc, peer, &NoneLeft { base, going, peer })
 }
 
-fn ended_among<C: Choice>(
-    alloc: Global,
-    base: &LspBase,
-    records: &[Record],
-    peer: u32,
-    going: &C,
-) -> Result<Vec<RecordChange>, AllocError>
-    ensures { IfOk result (λ changes. changes.items ≡ map taking (filter (has_none_left (C.chooses going.now) peer base.now.content.paths) records.now)) }
-{
-    let mut changes = Vec::new(alloc);
-    for record in records {
-        if has_ended(base, record, peer, going) {
-            changes.push(RecordChange {
-                plsp: record.plsp,
-                lsp: None,
-            })?;
-        }
-    }
-    Ok(changes)
-}
-
-/// Drops the paths of the choice, with the peer's records that then have none.
+/// Drops the paths of the choice, all of which are the peer's, with the peer's records that then have none. No
+/// pass over all: it goes by the paths and records of the peer.
 #[tactic(auto, unfolding(crate::specs::Base::dropping))]
-pub fn dropping_effect<C: Choice>(
+pub fn dropping_of_peer<C: Choice>(
     alloc: Global,
     base: &LspBase,
     peer: u32,
     choice: &C,
 ) -> Result<Effect, AllocError>
+    requires { PicksOfPeer (C.chooses choice.now) peer }
     ensures dropping { IfOk result (λ effect. effect ≡ dropping base.now.content peer (C.chooses choice.now)) }
     ensures stay { IfOk result (λ effect. IsPermutation (filter (λ x. not (C.chooses choice.now x)) base.now.content.paths)
         (changed base.now.content peer effect).paths) }
     ensures few { IfOk result (λ effect. IsWithinLimit base.now.content effect) }
 {
-    let dropped = chosen(alloc, base.paths(), choice)?;
+    let _few = base.paths();
+    let dropped = base.chosen_of_peer(alloc, peer, choice)?;
     let records = ended(alloc, base, peer, choice)?;
     Ok(Effect::new(dropped, Vec::new(alloc), records, false))
 }

@@ -44,7 +44,7 @@ impl Bucketing<Record> for ByLsp {
 }
 
 /// Puts a copy of the path at the end, where it passes the test.
-fn add_copy<C: Choice>(found: &mut Vec<Path>, path: &Path, choice: &C) -> Result<(), AllocError>
+pub fn add_copy<C: Choice>(found: &mut Vec<Path>, path: &Path, choice: &C) -> Result<(), AllocError>
     ensures { OnOk result (found.new.items ≡ found.old.items ++ filter (C.chooses choice.now) (path.now ∷ [])) }
 {
     if choice.chooses(path) {

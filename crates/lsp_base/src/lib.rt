@@ -5,8 +5,8 @@
 //! path or record takes the place of one that goes; that at most one record of an LSP stands, and that at
 //! most 16,384 paths ever stand. What paths reserve is defined in `specs/Shares.antt` (shared explicit
 //! reservation, RFC 3209), the lists after a change in `specs/Base.antt`. An LSP's paths and its record are
-//! found by chains through the two lists, with no pass over all: hints, of which `specs/Chains.antt` says
-//! that they skip nothing. Of the SRP-IDs of grants and removals a number is kept for each peer that none of
+//! found by chains through the two lists, and those of a whole peer by bits for their places, with no pass over
+//! all: hints, of which `specs/Chains.antt` and `specs/Marks.antt` say that they skip nothing. Of the SRP-IDs of grants and removals a number is kept for each peer that none of
 //! them exceeds (`specs/SrpNumbers.antt`).
 //!
 //! ```text
@@ -23,6 +23,7 @@
 #![tactic(auto)]
 
 mod base;
+mod bits;
 mod chain;
 mod chained;
 mod drops;
@@ -31,6 +32,9 @@ mod found;
 mod grants;
 mod lists;
 mod lsp;
+mod marked;
+mod marks;
+mod of_peer;
 mod path;
 mod path_table;
 mod pending;
@@ -40,13 +44,15 @@ mod tunnel;
 mod why;
 
 pub use base::{LspBase, PATH_LIMIT};
+pub use bits::{first_in, rest_of};
 pub use chain::{Bucketing, Chain, earlier_end, hang_at, hang_last, lead_past, unhang_last};
 pub use chained::{BUCKETS, Sought, first_place, make_room};
-pub use drops::{dropping_effect, ended_record, is_path_of_lsp};
+pub use drops::{dropping_of_peer, ended_record, is_path_of_lsp};
 pub use effect::{Change, Effect, Record, RecordChange};
 pub use grants::{carries_srp, is_grant_of_lsp, is_unbound};
-pub use lists::{Choice, Edit, any_chosen, chosen, edit_all};
+pub use lists::{Choice, Edit, edit_all};
 pub use lsp::{Constraints, Lsp, OtherBounds};
+pub use of_peer::Becoming;
 pub use path::Path;
 pub use pcep_word::Priorities;
 pub use pending::{GrantAs, is_created, is_delegated, is_pending, is_removed_as, is_removing};

@@ -1,10 +1,7 @@
-//! Paths in lists: those that pass a test, and changes of each.
-ghost use Rattle.std.specs.Prelude.{◌≡◌, IfOk, filter, map, vec_capacity};
-ghost use Rattle.std.specs.List.{list_any};
+//! Tests of paths, and changes of each in a list.
+ghost use Rattle.std.specs.Prelude.{◌≡◌, map, vec_capacity};
 
 use crate::path::Path;
-use sequence::PlainData;
-use std::alloc::{AllocError, Global};
 
 /// A test of paths.
 pub trait Choice {
@@ -25,31 +22,6 @@ pub trait Edit {
 
     fn edit(&self, path: &mut Path)
         ensures { path.new ≡ edited self.now path.old };
-}
-
-/// Copies of the paths that pass the test, in order.
-pub fn chosen<C: Choice>(alloc: Global, paths: &[Path], choice: &C) -> Result<Vec<Path>, AllocError>
-    ensures { IfOk result (λ found. found.items ≡ filter (C.chooses choice.now) paths.now) }
-{
-    let mut found = Vec::new(alloc);
-    for path in paths {
-        if choice.chooses(path) {
-            found.push(path.copy()?)?;
-        }
-    }
-    Ok(found)
-}
-
-/// Whether a path passes the test.
-pub fn any_chosen<C: Choice>(paths: &[Path], choice: &C) -> bool
-    ensures { result ≡ list_any (C.chooses choice.now) paths.now }
-{
-    for path in paths {
-        if choice.chooses(path) {
-            return true;
-        }
-    }
-    false
 }
 
 /// Changes each of the paths.

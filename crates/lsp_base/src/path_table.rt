@@ -1,13 +1,16 @@
-//! Paths in one order, of which an LSP's are found without a pass over all.
+//! Paths in one order, of which an LSP's and a peer's are found without a pass over all.
 ghost use Rattle.std.specs.Prelude.{◌≡◌, ◌<◌, ◌≤◌, ◌+◌, ◌++◌, ◌∷◌, [], length, filter, map, IfOk, OnOk};
 ghost use Rattle.std.specs.List.{list_any};
 ghost use Rattle.lsp_base.specs.Base.{without_path, without, made_stale};
-ghost use Rattle.lsp_base.specs.Tables.{bucket_number, PicksFrom};
+ghost use Rattle.lsp_base.specs.Tables.{bucket_number, PicksFrom, PicksOfPeer};
 
 use crate::chain::{Bucketing, Chain};
-use crate::chained::{Sought, first_place, make_room, push_last, swap_out};
+use crate::chained::{Sought, first_place};
 use crate::found::{ByLsp, any_chosen_in, bucket_of_lsp, chosen_in};
-use crate::lists::{Choice, Edit, edit_all};
+use crate::lists::{Choice, Edit};
+use crate::marked::{make_room, push_last, swap_out};
+use crate::marks::Marks;
+use crate::of_peer::{ByPeer, any_in_column, chosen_in_column, column_of_peer, edit_column};
 use crate::path::{Path, is_same_path};
 use pcep_objects::Plsp;
 use std::alloc::{AllocError, Global};
@@ -18,18 +21,21 @@ use std::marker::Model;
 pub struct PathTable {
     items: Vec<Path>,
     chain: Chain,
+    marks: Marks,
 }
 
 impl Model for PathTable {
     ghost use Rattle.std.specs.Prelude.{min, vec_capacity};
     ghost use Rattle.lsp_base.specs.Chains.{IsChain};
+    ghost use Rattle.lsp_base.specs.Marks.{AreMarked, path_column};
     ghost use Rattle.lsp_base.specs.Tables.{PathRoom, path_bucket};
 
     ghost Value = { PathRoom };
 
     ghost view = { λ t. record { paths = t.items.items; room = min (vec_capacity t.items) (vec_capacity t.chain.earlier) } };
 
-    ghost invariant = { λ t. IsChain path_bucket t.items.items t.chain.newest.items t.chain.earlier.items };
+    ghost invariant = { λ t. IsChain path_bucket t.items.items t.chain.newest.items t.chain.earlier.items
+        × AreMarked path_column t.items.items t.marks.words.items };
 }
 
 /// The paths that are this one.
@@ -66,6 +72,20 @@ impl Edit for MadeStale {
     }
 }
 
+/// The paths that pass a test.
+#[derive(Drop)]
+struct Chosen<'a, C: Choice> {
+    choice: &'a C,
+}
+
+impl<'a, C: Choice> Sought<Path> for Chosen<'a, C> {
+    ghost seeks = { λ s x. C.chooses s.choice.now x };
+
+    fn seeks(&self, item: &Path) -> bool {
+        self.choice.chooses(item)
+    }
+}
+
 /// The buckets of the LSP's paths and of the peer's grants that are not bound.
 fn buckets_of_lsp(peer: u32, plsp: Plsp) -> (usize, usize)
     ensures first { result.0 ≡ bucket_number peer plsp }
@@ -85,6 +105,7 @@ impl PathTable {
                 newest: Vec::new(alloc),
                 earlier: Vec::new(alloc),
             },
+            marks: Marks::new(alloc),
         }
     }
 
@@ -100,7 +121,13 @@ impl PathTable {
         ensures paths { self.new.paths ≡ self.old.paths }
     {
         let alloc = *self.items.allocator();
-        make_room::<Path, ByLsp>(&mut self.items, &mut self.chain, alloc, more)
+        make_room::<Path, ByLsp, ByPeer>(
+            &mut self.items,
+            &mut self.chain,
+            &mut self.marks,
+            alloc,
+            more,
+        )
     }
 
     /// Takes the first path away that is this one: the last takes its place.
@@ -116,7 +143,12 @@ impl PathTable {
             &SameAs { path },
         );
         if let Some(place) = place {
-            swap_out::<Path, ByLsp>(&mut self.items, &mut self.chain, place);
+            swap_out::<Path, ByLsp, ByPeer>(
+                &mut self.items,
+                &mut self.chain,
+                &mut self.marks,
+                place,
+            );
         }
     }
 
@@ -126,7 +158,7 @@ impl PathTable {
         ensures paths { self.new.paths ≡ self.old.paths ++ path ∷ [] }
         ensures room { self.new.room ≡ self.old.room }
     {
-        push_last::<Path, ByLsp>(&mut self.items, &mut self.chain, path);
+        push_last::<Path, ByLsp, ByPeer>(&mut self.items, &mut self.chain, &mut self.marks, path);
     }
 
     /// Takes each of these paths away.
@@ -161,12 +193,17 @@ impl PathTable {
         self.add_all(added);
     }
 
-    /// Makes the peer's paths stale, and changes nothing else: a pass over all.
+    /// Makes the peer's paths stale, and changes nothing else. No pass over all.
     pub fn mark_stale(&mut self, peer: u32)
         ensures paths { self.new.paths ≡ map (made_stale peer) self.old.paths }
         ensures room { self.new.room ≡ self.old.room }
     {
-        edit_all(&mut self.items, &MadeStale { peer });
+        edit_column(
+            &mut self.items,
+            &self.marks,
+            column_of_peer(peer),
+            &MadeStale { peer },
+        );
     }
 
     /// Copies of the paths that pass the test, in order. All of them are the LSP's, or grants of the peer
@@ -201,6 +238,37 @@ impl PathTable {
             &self.chain,
             buckets_of_lsp(peer, plsp),
             choice,
+        )
+    }
+    /// Copies of the paths that pass the test, in order. All of them are the peer's.
+    pub fn chosen_of_peer<C: Choice>(
+        &self,
+        alloc: Global,
+        peer: u32,
+        choice: &C,
+    ) -> Result<Vec<Path>, AllocError>
+        requires { PicksOfPeer (C.chooses choice.now) peer }
+        ensures { IfOk result (λ found. found.items ≡ filter (C.chooses choice.now) self.now.paths) }
+    {
+        chosen_in_column(
+            alloc,
+            self.items.as_slice(),
+            &self.marks,
+            column_of_peer(peer),
+            choice,
+        )
+    }
+
+    /// Whether a path passes the test. All that pass it are the peer's.
+    pub fn any_chosen_of_peer<C: Choice>(&self, peer: u32, choice: &C) -> bool
+        requires { PicksOfPeer (C.chooses choice.now) peer }
+        ensures { result ≡ list_any (C.chooses choice.now) self.now.paths }
+    {
+        any_in_column::<Path, ByPeer, Chosen<C>>(
+            self.items.as_slice(),
+            &self.marks,
+            column_of_peer(peer),
+            &Chosen { choice },
         )
     }
 }

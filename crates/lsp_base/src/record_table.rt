@@ -1,12 +1,17 @@
-//! Records in one order, of which an LSP's is found without a pass over all.
-ghost use Rattle.std.specs.Prelude.{◌≡◌, ◌<◌, ◌≤◌, ◌+◌, [], length, OnOk, option_copied};
+//! Records in one order, of which an LSP's and a peer's are found without a pass over all.
+ghost use Rattle.std.specs.Prelude.{◌≡◌, ◌<◌, ◌≤◌, ◌+◌, [], length, map, filter, IfOk, OnOk, option_copied};
+ghost use Rattle.std.specs.List.{list_any};
 ghost use Rattle.lsp_base.specs.Base.{lsp_at, put, taken_away, set_record, set_records};
+ghost use Rattle.lsp_base.specs.Tables.{MeetsOfPeer};
 
 use crate::chain::Chain;
-use crate::chained::{Sought, first_place, make_room, push_last, put_at, swap_out};
+use crate::chained::{Sought, first_place};
 use crate::effect::{Record, RecordChange};
 use crate::found::{ByLsp, bucket_of_lsp};
 use crate::lsp::Lsp;
+use crate::marked::{make_room, push_last, put_at, swap_out};
+use crate::marks::Marks;
+use crate::of_peer::{Becoming, ByPeer, any_in_column, changes_in_column, column_of_peer};
 use pcep_objects::Plsp;
 use std::alloc::{AllocError, Global};
 use std::marker::Model;
@@ -16,18 +21,21 @@ use std::marker::Model;
 pub struct RecordTable {
     items: Vec<Record>,
     chain: Chain,
+    marks: Marks,
 }
 
 impl Model for RecordTable {
     ghost use Rattle.std.specs.Prelude.{min, vec_capacity};
     ghost use Rattle.lsp_base.specs.Chains.{IsChain};
+    ghost use Rattle.lsp_base.specs.Marks.{AreMarked, record_column};
     ghost use Rattle.lsp_base.specs.Tables.{RecordRoom, record_bucket};
 
     ghost Value = { RecordRoom };
 
     ghost view = { λ t. record { records = t.items.items; room = min (vec_capacity t.items) (vec_capacity t.chain.earlier) } };
 
-    ghost invariant = { λ t. IsChain record_bucket t.items.items t.chain.newest.items t.chain.earlier.items };
+    ghost invariant = { λ t. IsChain record_bucket t.items.items t.chain.newest.items t.chain.earlier.items
+        × AreMarked record_column t.items.items t.marks.words.items };
 }
 
 /// The records of an LSP.
@@ -58,6 +66,7 @@ impl RecordTable {
                 newest: Vec::new(alloc),
                 earlier: Vec::new(alloc),
             },
+            marks: Marks::new(alloc),
         }
     }
 
@@ -73,7 +82,13 @@ impl RecordTable {
         ensures records { self.new.records ≡ self.old.records }
     {
         let alloc = *self.items.allocator();
-        make_room::<Record, ByLsp>(&mut self.items, &mut self.chain, alloc, more)
+        make_room::<Record, ByLsp, ByPeer>(
+            &mut self.items,
+            &mut self.chain,
+            &mut self.marks,
+            alloc,
+            more,
+        )
     }
 
     /// What is known of the LSP.
@@ -108,9 +123,20 @@ impl RecordTable {
         );
         match place {
             Some(place) => {
-                put_at::<Record, ByLsp>(&mut self.items, &mut self.chain, place, record);
+                put_at::<Record, ByLsp, ByPeer>(
+                    &mut self.items,
+                    &mut self.chain,
+                    &mut self.marks,
+                    place,
+                    record,
+                );
             }
-            None => push_last::<Record, ByLsp>(&mut self.items, &mut self.chain, record),
+            None => push_last::<Record, ByLsp, ByPeer>(
+                &mut self.items,
+                &mut self.chain,
+                &mut self.marks,
+                record,
+            ),
         }
     }
 
@@ -127,7 +153,12 @@ impl RecordTable {
             &OfLsp { peer, plsp },
         );
         if let Some(place) = place {
-            swap_out::<Record, ByLsp>(&mut self.items, &mut self.chain, place);
+            swap_out::<Record, ByLsp, ByPeer>(
+                &mut self.items,
+                &mut self.chain,
+                &mut self.marks,
+                place,
+            );
         }
     }
 
@@ -154,5 +185,36 @@ impl RecordTable {
         for change in changes {
             self.set(peer, change);
         }
+    }
+    /// What becomes of the records that pass the test, in order. All of them are the peer's.
+    pub fn changes_of_peer<R: Becoming>(
+        &self,
+        alloc: Global,
+        peer: u32,
+        rule: &R,
+    ) -> Result<Vec<RecordChange>, AllocError>
+        requires { MeetsOfPeer (R.meets rule.now) peer }
+        ensures { IfOk result (λ changes. changes.items ≡ map (R.becomes rule.now) (filter (R.meets rule.now) self.now.records)) }
+    {
+        changes_in_column(
+            alloc,
+            self.items.as_slice(),
+            &self.marks,
+            column_of_peer(peer),
+            rule,
+        )
+    }
+
+    /// Whether a record is sought. All that are sought are the peer's.
+    pub fn any_of_peer<S: Sought<Record>>(&self, peer: u32, sought: &S) -> bool
+        requires { MeetsOfPeer (S.seeks sought.now) peer }
+        ensures { result ≡ list_any (S.seeks sought.now) self.now.records }
+    {
+        any_in_column::<Record, ByPeer, S>(
+            self.items.as_slice(),
+            &self.marks,
+            column_of_peer(peer),
+            sought,
+        )
     }
 }

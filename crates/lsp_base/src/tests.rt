@@ -86,19 +86,20 @@ fn add(
     Ok(())
 }
 
-/// The paths of one LSP ID.
+/// The paths of peer 1 with one LSP ID.
 #[derive(Drop)]
 struct OfPart {
     part: Part,
 }
 
 impl Choice for OfPart {
+    ghost use Rattle.std.specs.Prelude.{◌==◌, ◌&&◌};
     ghost use Rattle.lsp_base.specs.Same.{same_part};
 
-    ghost chooses = { λ s x. same_part x.part s.part };
+    ghost chooses = { λ s x. x.peer == 1 && same_part x.part s.part };
 
     fn chooses(&self, path: &Path) -> bool {
-        tunnel::is_same_part(&path.part, &self.part)
+        path.peer == 1 && tunnel::is_same_part(&path.part, &self.part)
     }
 }
 
@@ -107,7 +108,7 @@ fn remove(alloc: Global, base: &mut LspBase, lsp: u16) -> Result<(), AllocError>
     let gone = OfPart {
         part: Part::Reported(lsp),
     };
-    let effect = dropping_effect(alloc, base, 1, &gone)?;
+    let effect = dropping_of_peer(alloc, base, 1, &gone)?;
     base.reserve(&effect)?;
     base.change(1, effect);
     Ok(())

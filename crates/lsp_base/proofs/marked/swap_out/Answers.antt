@@ -1,6 +1,6 @@
 use Rattle.std.proofs.Common.{◌-◌, length, length-take, set, ap, ◌∙◌, arith}
 use Rattle.lsp_base.proofs.Chains.{filled_by_last, last_taken}
-use Rattle.lsp_base.proofs.chained.swap_out.Goals as goal
+use Rattle.lsp_base.proofs.marked.swap_out.Goals as goal
 
 pub returns-then-place-len-clause-items : goal.returns-then-place-len-clause-items
 returns-then-place-len-clause-items g c = λ test first.

@@ -1,6 +1,0 @@
-use Rattle.std.proofs.Common.{◌≡◌, take}
-use Rattle.std.specs.Prelude.{filter}
-use Rattle.lsp_base.proofs.lists.chosen.Given as goal
-
-abbrev pub invariant-loop-path : goal.invariant-loop-path
-invariant-loop-path g l = l.found.items ≡ filter (g.C.Choice.chooses l.choice) (take l.path-index l.paths)
