@@ -3,7 +3,9 @@ ghost use Rattle.lsp_base.specs.Base.{changed, effect_of};
 ghost use Rattle.lsp_base.specs.Rooms.{IsWithinLimit};
 ghost use Rattle.sync_rules.specs.Peers.{is_stale_of, is_of_peer, left_alone, marker_effect, up_effect, down_effect, expire_effect};
 
-use lsp_base::{Choice, Effect, Lsp, LspBase, Path, Record, RecordChange, dropping_effect};
+use lsp_base::{
+    Becoming, Choice, Effect, Lsp, LspBase, Path, Record, RecordChange, dropping_of_peer,
+};
 use pcep_objects::Capabilities;
 use sequence::PlainData;
 use std::alloc::{AllocError, Global};
@@ -41,7 +43,7 @@ impl Choice for OfPeer {
 }
 
 /// The end of the peer's synchronization: what it did not report again is gone, with the records that then
-/// have no path (RFC 8231 section 5.6).
+/// have no path (RFC 8231 section 5.6). It goes by the peer's paths and records, with no pass over all.
 #[tactic(auto, unfolding(crate::specs::Peers::marker_effect))]
 pub fn on_marker(alloc: Global, base: &LspBase, peer: u32) -> Result<Effect, AllocError>
     ensures effect { IfOk result (λ effect. effect ≡ marker_effect base.now.content peer) }
@@ -49,10 +51,11 @@ pub fn on_marker(alloc: Global, base: &LspBase, peer: u32) -> Result<Effect, All
         (changed base.now.content peer effect).paths) }
     ensures few { IfOk result (λ effect. IsWithinLimit base.now.content effect) }
 {
-    dropping_effect(alloc, base, peer, &StaleOf { peer })
+    dropping_of_peer(alloc, base, peer, &StaleOf { peer })
 }
 
-/// The peer is given up: all that it reported or was granted goes, with its records.
+/// The peer is given up: all that it reported or was granted goes, with its records. It goes by the peer's
+/// paths and records, with no pass over all.
 #[tactic(auto, unfolding(crate::specs::Peers::expire_effect))]
 pub fn on_expire(alloc: Global, base: &LspBase, peer: u32) -> Result<Effect, AllocError>
     ensures effect { IfOk result (λ effect. effect ≡ expire_effect base.now.content peer) }
@@ -60,7 +63,7 @@ pub fn on_expire(alloc: Global, base: &LspBase, peer: u32) -> Result<Effect, All
         (changed base.now.content peer effect).paths) }
     ensures few { IfOk result (λ effect. IsWithinLimit base.now.content effect) }
 {
-    dropping_effect(alloc, base, peer, &OfPeer { peer })
+    dropping_of_peer(alloc, base, peer, &OfPeer { peer })
 }
 
 /// The effect that keeps all paths and sets these records.
@@ -109,26 +112,37 @@ fn left_by_itself(known: &Record) -> Result<RecordChange, AllocError>
     })
 }
 
-fn all_left(alloc: Global, records: &[Record], peer: u32) -> Result<Vec<RecordChange>, AllocError>
-    ensures { IfOk result (λ changes. changes.items ≡ map left_alone (filter (λ r. r.peer == peer) records.now)) }
-{
-    let mut changes = Vec::new(alloc);
-    for known in records {
-        if known.peer == peer {
-            changes.push(left_by_itself(known)?)?;
-        }
+/// The records of the peer, each left by itself.
+#[derive(Drop)]
+struct LeftBy {
+    peer: u32,
+}
+
+impl Becoming for LeftBy {
+    ghost use Rattle.std.specs.Prelude.{◌==◌};
+    ghost use Rattle.sync_rules.specs.Peers.{left_alone};
+
+    ghost meets = { λ s r. r.peer == s.peer };
+
+    ghost becomes = { λ s r. left_alone r };
+
+    fn meets(&self, known: &Record) -> bool {
+        known.peer == self.peer
     }
-    Ok(changes)
+
+    fn becomes(&self, known: &Record) -> Result<RecordChange, AllocError> {
+        left_by_itself(known)
+    }
 }
 
 /// The session of the peer has ended: its delegations and removals end. No path goes (the caller makes
-/// them stale).
+/// them stale). It goes by the peer's records, with no pass over all.
 #[tactic(auto, unfolding(crate::specs::Peers::down_effect))]
 pub fn on_down(alloc: Global, base: &LspBase, peer: u32) -> Result<Effect, AllocError>
     ensures effect { IfOk result (λ effect. effect ≡ down_effect base.now.content peer) }
     ensures stay { IfOk result (λ effect. (changed base.now.content peer effect).paths ≡ base.now.content.paths) }
     ensures few { IfOk result (λ effect. IsWithinLimit base.now.content effect) }
 {
-    let records = all_left(alloc, base.records(), peer)?;
+    let records = base.changes_of_peer(alloc, peer, &LeftBy { peer })?;
     Ok(keeping_paths(alloc, base, peer, records))
 }
