@@ -1,12 +1,11 @@
 //! A peer refuses what the PCE asked it for.
-ghost use Rattle.std.specs.Prelude.{◌≡◌, map, filter, IfOk};
-ghost use Rattle.lsp_base.specs.Pending.{is_grant_as, is_removed_as};
+ghost use Rattle.std.specs.Prelude.{◌≡◌, IfOk};
 ghost use Rattle.lsp_base.specs.Rooms.{IsWithinLimit};
 ghost use Rattle.delegate_rules.specs.Refusals.{has_no_other, record_ended, records_ended, removal_cleared, removals_cleared, refused_effect};
 
 use crate::reported::has_no_path;
 use lsp_base::{
-    Choice, Effect, GrantAs, Lsp, LspBase, Path, Record, RecordChange, chosen, is_path_of_lsp,
+    Becoming, Choice, Effect, GrantAs, Lsp, LspBase, Path, Record, RecordChange, is_path_of_lsp,
     is_removed_as,
 };
 use pcep_objects::Plsp;
@@ -80,21 +79,40 @@ fn removal_cleared(known: &Record) -> Result<RecordChange, AllocError>
     })
 }
 
+/// The peer's records whose removal has the SRP-ID, each with its removal cleared.
+#[derive(Drop)]
+struct ClearedOf {
+    peer: u32,
+    srp: u32,
+}
+
+impl Becoming for ClearedOf {
+    ghost use Rattle.lsp_base.specs.Pending.{is_removed_as};
+    ghost use Rattle.delegate_rules.specs.Refusals.{removal_cleared};
+
+    ghost meets = { λ s r. is_removed_as s.peer s.srp r };
+
+    ghost becomes = { λ s r. removal_cleared r };
+
+    fn meets(&self, known: &Record) -> bool {
+        is_removed_as(known, self.peer, self.srp)
+    }
+
+    fn becomes(&self, known: &Record) -> Result<RecordChange, AllocError> {
+        removal_cleared(known)
+    }
+}
+
+#[tactic(auto, using(lsp_base::proofs::OfPeer::removed_as_met))]
 fn removals_cleared(
     alloc: Global,
-    records: &[Record],
+    base: &LspBase,
     peer: u32,
     srp: u32,
 ) -> Result<Vec<RecordChange>, AllocError>
-    ensures { IfOk result (λ changes. changes.items ≡ map removal_cleared (filter (is_removed_as peer srp) records.now)) }
+    ensures { IfOk result (λ changes. changes.items ≡ removals_cleared base.now.content peer srp) }
 {
-    let mut changes = Vec::new(alloc);
-    for known in records {
-        if is_removed_as(known, peer, srp) {
-            changes.push(removal_cleared(known)?)?;
-        }
-    }
-    Ok(changes)
+    base.changes_of_peer(alloc, peer, &ClearedOf { peer, srp })
 }
 
 /// The peer refused the request of this SRP-ID (a PCErr, RFC 8231 section 6.3): its grant of the number, bound
@@ -102,16 +120,17 @@ fn removals_cleared(
 /// grant has the number, the removal that has it isn't awaited any more. A number that neither has changes
 /// nothing.
 ///
-/// Grants are not kept by their numbers, so it goes over all paths once, and where none of them is the grant
-/// over all records once.
-#[tactic(auto, unfolding(crate::specs::Refusals::refused_effect))]
+/// Grants are not kept by their numbers, so it goes over the peer's paths, and where none of them is the grant
+/// over the peer's records. It makes no pass over all.
+#[tactic(auto, unfolding(crate::specs::Refusals::refused_effect), using(lsp_base::proofs::OfPeer::grant_as_picked))]
 pub fn on_refused(alloc: Global, base: &LspBase, peer: u32, srp: u32) -> Result<Effect, AllocError>
     ensures effect { IfOk result (λ effect. effect ≡ refused_effect base.now.content peer srp) }
     ensures few { IfOk result (λ effect. IsWithinLimit base.now.content effect) }
 {
-    let grants = chosen(alloc, base.paths(), &GrantAs { peer, srp })?;
+    let _few = base.paths();
+    let grants = base.chosen_of_peer(alloc, peer, &GrantAs { peer, srp })?;
     if has_no_path(grants.as_slice()) {
-        let records = removals_cleared(alloc, base.records(), peer, srp)?;
+        let records = removals_cleared(alloc, base, peer, srp)?;
         return Ok(Effect::new(grants, Vec::new(alloc), records, false));
     }
     let records = records_ended(alloc, base, peer, srp, grants.as_slice())?;
