@@ -5,7 +5,7 @@ ghost use Rattle.lsp_base.specs.Refusals.{answered_unless};
 ghost use Rattle.lsp_base.specs.Same.{same_links};
 ghost use Rattle.initiate_rules.specs.Checks.{is_named, must_be_new, may_be_deleted};
 
-use lsp_base::{LspBase, Record, Why, is_created, is_delegated, is_pending};
+use lsp_base::{LspBase, Record, Sought, Why, is_created, is_delegated, is_pending};
 use pcep_objects::Plsp;
 
 /// Whether two symbolic path names are the same, byte for byte. Takes no memory.
@@ -23,24 +23,37 @@ pub fn is_same_name(a: &[u8], b: &[u8]) -> bool
     true
 }
 
-fn any_named(records: &[Record], peer: u32, name: &[u8]) -> bool
-    ensures { result ≡ list_any (is_named peer name.now) records.now }
-{
-    for record in records {
-        if record.peer == peer && is_same_name(record.lsp.name.as_slice(), name) {
-            return true;
-        }
+/// The records of the peer's LSPs that have a symbolic path name.
+#[derive(Drop)]
+struct Named<'a> {
+    peer: u32,
+    name: &'a [u8],
+}
+
+impl<'a> Sought<Record> for Named<'a> {
+    ghost use Rattle.initiate_rules.specs.Checks.{is_named};
+
+    ghost seeks = { λ s r. is_named s.peer s.name.now r };
+
+    fn seeks(&self, item: &Record) -> bool {
+        item.peer == self.peer && is_same_name(item.lsp.name.as_slice(), self.name)
     }
-    false
+}
+
+#[tactic(auto, using(crate::proofs::Named::named_met))]
+fn any_named(base: &LspBase, peer: u32, name: &[u8]) -> bool
+    ensures { result ≡ list_any (is_named peer name.now) base.now.content.records }
+{
+    base.any_record_of_peer(peer, &Named { peer, name })
 }
 
 /// Refuses an initiation with `Why::NameInUse` where an LSP of the peer has the symbolic path name already, or
 /// where it is held: what the PCE asks for or granted, and no report told of yet, has it (RFC 8281 section
-/// 5.3). Takes no memory; it goes over all records once.
+/// 5.3). Takes no memory; it goes over the peer's records, with no pass over all.
 pub fn check_initiate(base: &LspBase, peer: u32, name: &[u8], held: bool) -> Result<(), Why>
     ensures { result ≡ answered_unless (must_be_new base.now.content peer name.now held) tt }
 {
-    if any_named(base.records(), peer, name) || held {
+    if any_named(base, peer, name) || held {
         return Err(Why::NameInUse);
     }
     Ok(())
