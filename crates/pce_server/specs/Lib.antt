@@ -1,2 +1,7 @@
+pub mod Book
 pub mod Heard
 pub mod Ranges
+pub mod Goings
+pub mod Visits
+pub mod Operators
+pub mod Dues

@@ -1,5 +1,5 @@
 -- What a run may be told.
-use Rattle.std.specs.Prelude.{◌≤◌, ⊤}
+use Rattle.std.specs.Prelude.{◌≤◌, ◌-◌, ⊤}
 use Rattle.pce_server.specs.declared.server.Sessions.{Sessions}
 use Rattle.pce_server.specs.declared.server.Sessions.TheVariants.{Count, Endless}
 use Rattle.pce_server.specs.declared.server.Orders.{Orders}
@@ -12,3 +12,8 @@ AreSessions Endless = ⊤
 -- 1 to 16 workers, and at most an hour for a peer that is down
 abbrev pub AreOrders : Orders → Type 0
 AreOrders orders = (1 ≤ orders.workers) × (orders.workers ≤ 16) × AreSessions orders.sessions × (orders.keep_seconds ≤ 3600)
+
+-- how many connections are still to come once one came
+abbrev pub one_fewer : Sessions → Sessions
+one_fewer (Count n) = Count (n - 1)
+one_fewer Endless = Endless

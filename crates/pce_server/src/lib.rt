@@ -4,9 +4,10 @@
 //! the database is closed with the audit of all seats (`shared_pce`).
 //!
 //! `connection` is one connection over any reader, writer and store. However it ends, the peer's Down is submitted
-//! before it returns, and nothing of another connection is touched. What a session makes of bytes, what a step does
-//! and what an audit says is proved in the layers below; that threads run, that sockets deliver and that nothing
-//! waits for ever is shown by tests alone.
+//! before it returns, or that is told as a fault of the store; every other call is one that the engine's table names
+//! for this peer and the bytes that came (`specs/Visits`). What a session makes of bytes, what a step does and what an
+//! audit says is proved in the layers below; that threads run, that sockets deliver and that nothing waits for ever is
+//! shown by tests alone.
 //!
 //! ```text
 //! fn run<R: Wait + Threads + Clock + Net<Listener = TcpListener, Stream = TcpStream> + AllocGlobal + Log + Sync>(rt: &R, listener: &TcpListener, te: TeBase) -> Result<Audit, RunFault>
@@ -19,10 +20,11 @@
 //! The modules, lowest first: `traits` (what a connection asks of its surroundings), `talk` (a connection), `socket`,
 //! `places` (where seats rest), `dues` (who expires when), `alarms` (what wakes a connection, and how many an address
 //! has), `run` (whether the run is to end, and why), `floor` (what each thread is lent), `staff` (workers and keeper),
-//! `visits` (a connection's thread), `door` (the acceptor), `operator`, `server`.
+//! `visits` (a connection's thread), `door` (the acceptor), `book` (its text), `operator`, `server`.
 #![tactic(auto)]
 
 mod alarms;
+mod book;
 mod door;
 mod dues;
 mod floor;
@@ -37,6 +39,7 @@ mod traits;
 mod visits;
 
 pub use alarms::OF_ONE_ADDRESS;
+pub use book::books_read_alike;
 pub use operator::{LINE_LIMIT, operate};
 pub use run::RunFault;
 pub use server::{AT_ONCE, Orders, Sessions, serve_run};

@@ -1,5 +1,12 @@
 //! One connection: its reads, its writes and its end, over any reader, writer and store.
-ghost use Rattle.pce_server.specs.Heard.{IsWithin};
+ghost use Rattle.std.specs.Prelude.{◌≡◌, ◌<◌, ◌≤◌, ◌-◌, ◌⊎◌, if◌then◌else◌, ℕ, true, false, [], List, length, take, Option, None, Some, MatchOption};
+ghost use Rattle.std.specs.Io.KnownBytes.{Consumes, Appends, Keeps};
+ghost use Rattle.engine_core.specs.Engine.{ending};
+ghost use Rattle.engine_core.specs.Joining.{joined_after};
+ghost use Rattle.engine_core.specs.declared.store.Call.{Call};
+ghost use Rattle.pce_server.specs.Goings.{Goes};
+ghost use Rattle.pce_server.specs.Heard.{IsWithin, Hears};
+ghost use Rattle.pce_server.specs.Visits.{SoFar, Takes, GoesOut, IsToldOf, spoken, Leaves, owes_down, Visited, IsNoVisit};
 
 use crate::traits::{Desk, Patient, Watch};
 use engine_core::{Client, Fault, hang_up, serve};
@@ -29,7 +36,7 @@ const HANG_UPS: u32 = 4;
 /// No explanation (RFC 5440 section 7.17).
 const NO_EXPLANATION: u8 = 1;
 
-/// How a connection ended. But for `StoreFault`, the peer is down where it was up.
+/// How a connection ended. The peer is left joined where that is `StoreFault`, and only there.
 #[derive(Clone, Copy, PartialEq, Eq, Debug)]
 pub enum Ended {
     /// The peer sends no more.
@@ -63,8 +70,10 @@ struct Talk {
     is_behind: bool,
 }
 
-/// Serves one peer until its end. The last calls in the store's list are those of its end: a Down, where the peer
-/// was up.
+/// Serves one peer until its end. Every call that the store gets is one that the engine's table names for this peer and
+/// the bytes that the reader gave, or the Down of its end; the store's list has that alone, or nothing where the peer
+/// wasn't joined. All that the session says goes to the writer. Where there is no memory for a session, nothing is
+/// done, and that is told as `SessionEnded`.
 pub fn connection<R: Wait, I: Patient, O: Write, W: Watch, D: Desk>(
     rt: &R,
     alloc: Global,
@@ -73,7 +82,11 @@ pub fn connection<R: Wait, I: Patient, O: Write, W: Watch, D: Desk>(
     writer: &mut O,
     watch: &W,
     store: &mut D,
-) -> Ended {
+) -> Ended
+    ensures down { (calls : List Call) × Goes D.moves D.same_but_calls D.rolls store.old calls store.new × (joined_after false calls ≡ owes_down result) }
+    ensures visited { IsNoVisit result store.old store.new reader.old reader.new writer.old writer.new
+        ⊎ Visited D.calls D.moves D.same_but_calls D.rolls peer store.old (I.remaining reader.old) (O.contents writer.old) result store.new (I.remaining reader.new) (O.contents writer.new) }
+{
     let now_ms = watch.now_ms();
     let Ok(client) = Client::new(alloc, now_ms) else {
         return Ended::SessionEnded;
@@ -85,7 +98,6 @@ pub fn connection<R: Wait, I: Patient, O: Write, W: Watch, D: Desk>(
         is_behind: false,
     };
     let ended = talk_on(rt, &mut talk, reader, writer, watch, store);
-    store.forget();
     match leave(&mut talk, store) {
         Ok(()) => ended,
         Err(fault) => Ended::StoreFault(fault),
@@ -93,16 +105,22 @@ pub fn connection<R: Wait, I: Patient, O: Write, W: Watch, D: Desk>(
 }
 
 /// A history that is full is rolled, so that the next call finds room.
-pub(crate) fn make_room<D: Desk>(fault: Fault, store: &mut D) {
+pub(crate) fn make_room<D: Desk>(fault: Fault, store: &mut D)
+    ensures { (start : D) (calls : List Call) → Goes D.moves D.same_but_calls D.rolls start calls store.old → Goes D.moves D.same_but_calls D.rolls start calls store.new }
+{
     if fault == Fault::HistoryFull {
         let _rolled = store.roll();
     }
 }
 
-/// Hangs up, and again after a fault.
-fn leave<D: Desk>(talk: &mut Talk, store: &mut D) -> Result<(), Fault> {
+/// Hangs up, and again after a fault. The list of the store has the calls of that alone.
+fn leave<D: Desk>(talk: &mut Talk, store: &mut D) -> Result<(), Fault>
+    ensures { (start : D) (calls : List Call) → Goes D.moves D.same_but_calls D.rolls start calls store.old
+        → Leaves result D.calls D.moves D.same_but_calls D.rolls talk.old.peer talk.old.client.joined start calls store.new }
+{
     let mut last = Fault::OutOfMemory;
     for _try in 0..HANG_UPS {
+        store.forget();
         match hang_up(&mut talk.client, talk.peer, store) {
             Ok(()) => return Ok(()),
             Err(fault) => {
@@ -121,7 +139,13 @@ fn talk_on<R: Wait, I: Patient, O: Write, W: Watch, D: Desk>(
     writer: &mut O,
     watch: &W,
     store: &mut D,
-) -> Ended {
+) -> Ended
+    ensures silent { talk.new.client.session.output ≡ [] }
+    ensures peer { talk.new.peer ≡ talk.old.peer }
+    ensures ended { (start : D) (unread blank : Option (List ℕ))
+        → SoFar D.moves D.same_but_calls D.rolls talk.old.peer start unread blank None store.old (I.remaining reader.old) (O.contents writer.old) talk.old.client
+        → SoFar D.moves D.same_but_calls D.rolls talk.old.peer start unread blank (Some result) store.new (I.remaining reader.new) (O.contents writer.new) talk.new.client }
+{
     let mut buffer = [0u8; PIECE];
     let now_ms = watch.now_ms();
     if let Some(ended) = answer(talk, &[], now_ms, writer, watch, store) {
@@ -143,9 +167,17 @@ fn turn<I: Patient, O: Write, W: Watch, D: Desk>(
     writer: &mut O,
     watch: &W,
     store: &mut D,
-) -> Option<Ended> {
+) -> Option<Ended>
+    requires room { 0 < length buffer.old }
+    ensures silent { talk.old.client.session.output ≡ [] → talk.new.client.session.output ≡ [] }
+    ensures peer { talk.new.peer ≡ talk.old.peer }
+    ensures turned { (start : D) (unread blank : Option (List ℕ))
+        → SoFar D.moves D.same_but_calls D.rolls talk.old.peer start unread blank None store.old (I.remaining reader.old) (O.contents writer.old) talk.old.client
+        → SoFar D.moves D.same_but_calls D.rolls talk.old.peer start unread blank result store.new (I.remaining reader.new) (O.contents writer.new) talk.new.client }
+{
     if watch.is_closing() {
-        return Some(close(talk, writer, watch));
+        close(talk);
+        return say(talk, writer, watch);
     }
     let most = Duration::from_millis(patience_ms(talk, watch.now_ms()));
     reader.set_patience(most);
@@ -167,7 +199,9 @@ fn turn<I: Patient, O: Write, W: Watch, D: Desk>(
 }
 
 /// How long the session may wait until it is to be served, in milliseconds.
-fn patience_ms(talk: &Talk, now_ms: u64) -> u64 {
+fn patience_ms(talk: &Talk, now_ms: u64) -> u64
+    ensures { result ≡ (if talk.now.is_behind then 50 else 10000) - (now_ms - talk.now.served_ms) }
+{
     let every_ms = if talk.is_behind {
         RETRIED_EVERY_MS
     } else {
@@ -183,7 +217,9 @@ fn is_due<D: Desk>(talk: &Talk, now_ms: u64, store: &D) -> bool {
 
 /// Reads once. What came stands at the front of the buffer.
 fn hear<I: Patient>(reader: &mut I, buffer: &mut [u8]) -> Heard
+    requires room { 0 < length buffer.old }
     ensures within { IsWithin result buffer.new }
+    ensures heard { Hears result (I.remaining reader.old) (I.remaining reader.new) buffer.new }
 {
     match reader.read(buffer) {
         Ok(0) => Heard::Ended(Ended::PeerClosed),
@@ -195,6 +231,22 @@ fn hear<I: Patient>(reader: &mut I, buffer: &mut [u8]) -> Heard
     }
 }
 
+/// Serves a piece.
+fn heed<D: Desk>(talk: &mut Talk, piece: &[u8], now_ms: u64, store: &mut D)
+    ensures peer { talk.new.peer ≡ talk.old.peer }
+    ensures heeded { (start : D) (unread blank left read written : Option (List ℕ))
+        → SoFar D.moves D.same_but_calls D.rolls talk.old.peer start unread blank None store.old left written talk.old.client → Consumes left read piece.now
+        → SoFar D.moves D.same_but_calls D.rolls talk.old.peer start unread blank None store.new read written talk.new.client }
+{
+    talk.served_ms = now_ms;
+    let served = serve(&mut talk.client, talk.peer, piece, now_ms, store);
+    store.forget();
+    talk.is_behind = served.is_err();
+    if let Err(fault) = served {
+        make_room(fault, store);
+    }
+}
+
 /// Serves a piece, and writes what the session has to say in one call.
 fn answer<O: Write, W: Watch, D: Desk>(
     talk: &mut Talk,
@@ -203,15 +255,26 @@ fn answer<O: Write, W: Watch, D: Desk>(
     writer: &mut O,
     watch: &W,
     store: &mut D,
-) -> Option<Ended> {
-    talk.served_ms = now_ms;
-    let served = serve(&mut talk.client, talk.peer, piece, now_ms, store);
-    store.forget();
-    talk.is_behind = served.is_err();
-    if let Err(fault) = served {
-        make_room(fault, store);
-    }
-    if !is_written(talk, writer, watch) {
+) -> Option<Ended>
+    ensures silent { talk.new.client.session.output ≡ [] }
+    ensures peer { talk.new.peer ≡ talk.old.peer }
+    ensures answered { (start : D) (unread blank left read : Option (List ℕ))
+        → SoFar D.moves D.same_but_calls D.rolls talk.old.peer start unread blank None store.old left (O.contents writer.old) talk.old.client → Consumes left read piece.now
+        → SoFar D.moves D.same_but_calls D.rolls talk.old.peer start unread blank result store.new read (O.contents writer.new) talk.new.client }
+{
+    heed(talk, piece, now_ms, store);
+    say(talk, writer, watch)
+}
+
+/// Writes what the session has to say, and gives the end, where that has come.
+fn say<O: Write, W: Watch>(talk: &mut Talk, writer: &mut O, watch: &W) -> Option<Ended>
+    ensures peer { talk.new.peer ≡ talk.old.peer }
+    ensures spoken { talk.new.client ≡ spoken talk.old.client }
+    ensures out { GoesOut result (O.contents writer.old) (O.contents writer.new) talk.old.client.session.output }
+    ensures told { (left : Option (List ℕ)) → IsToldOf result left talk.new.client }
+{
+    let output = talk.client.session.take_output();
+    if !is_taken(writer, watch, &output) {
         return Some(Ended::WriteFault);
     }
     if talk.client.session.state().is_closed() {
@@ -220,23 +283,33 @@ fn answer<O: Write, W: Watch, D: Desk>(
     None
 }
 
-/// Writes what the session has to say, and says whether it went out.
-fn is_written<O: Write, W: Watch>(talk: &mut Talk, writer: &mut O, watch: &W) -> bool {
-    let output = talk.client.session.take_output();
-    output.is_empty() || is_taken(writer, watch, &output)
+/// Writes once, and says how many bytes were taken: none where the write was interrupted. `None` where it failed.
+fn write_once<O: Write>(writer: &mut O, bytes: &[u8]) -> Option<usize>
+    ensures { MatchOption result (Keeps (O.contents writer.old) (O.contents writer.new))
+        (λ count. (count ≤ length bytes.now) × Appends (O.contents writer.old) (O.contents writer.new) (take count bytes.now)) }
+{
+    match writer.write(bytes) {
+        Ok(count) => Some(count),
+        Err(error) if error.kind() == ErrorKind::Interrupted => Some(0),
+        Err(_) => None,
+    }
 }
 
 /// Writes bytes, in one call but where a write takes a part of them alone. Says whether the peer took all of them
 /// in time. A write that waited for its time has used it up, though a part was taken meanwhile.
-fn is_taken<O: Write, W: Watch>(writer: &mut O, watch: &W, bytes: &[u8]) -> bool {
+fn is_taken<O: Write, W: Watch>(writer: &mut O, watch: &W, bytes: &[u8]) -> bool
+    ensures { Takes result (O.contents writer.old) (O.contents writer.new) bytes.now }
+{
+    if bytes.is_empty() {
+        return true;
+    }
     let begun_ms = watch.now_ms();
     let mut rest = bytes;
     for _write in 0..bytes.len().saturating_add(INTERRUPTS) {
-        match writer.write(rest) {
-            Ok(count) => rest = &rest[count..],
-            Err(error) if error.kind() == ErrorKind::Interrupted => {}
-            Err(_) => return false,
-        }
+        let Some(count) = write_once(writer, rest) else {
+            return false;
+        };
+        rest = &rest[count..];
         if rest.is_empty() {
             return true;
         }
@@ -248,11 +321,12 @@ fn is_taken<O: Write, W: Watch>(writer: &mut O, watch: &W, bytes: &[u8]) -> bool
 }
 
 /// Ends the session from this side, with a Close where there is memory for it.
-fn close<O: Write, W: Watch>(talk: &mut Talk, writer: &mut O, watch: &W) -> Ended {
-    let _ended = talk.client.session.end(None, Some(NO_EXPLANATION));
-    if is_written(talk, writer, watch) {
-        Ended::SessionEnded
-    } else {
-        Ended::WriteFault
+fn close(talk: &mut Talk)
+    ensures peer { talk.new.peer ≡ talk.old.peer }
+    ensures closed { (reason : Option ℕ) × (talk.new.client ≡ ending None reason talk.old.client) }
+{
+    let session = &mut talk.client.session;
+    if session.end(None, Some(NO_EXPLANATION)).is_err() {
+        let _ended = session.end(None, None);
     }
 }

@@ -33,6 +33,7 @@ Standard input has an operator's lines, each answered on standard output:
   update PEER PLSP a path is asked for, to update an LSP
   return PEER PLSP an LSP is given back to its router
   delete PEER PLSP an LSP that was initiated is to be removed
+  book             what is left of each link at the priorities 0 to 7
 PEER is a number or a dotted address. docs/OPERATING.md tells how to run it.";
 
 /// What `serve` is told.

@@ -1,7 +1,8 @@
 //! A seat of a shared database as the store of a session.
-ghost use Rattle.std.specs.Prelude.{◌≡◌, [], true};
+ghost use Rattle.std.specs.Prelude.{◌≡◌, [], true, IfOk};
 ghost use Rattle.history_core.specs.Histories.{Content, Replays};
 ghost use Rattle.step_core.specs.States.{is_queued};
+ghost use Rattle.te_snapshot.specs.Left.{all_left};
 
 use engine_core::{Call, Store};
 use place_tokens::Room;
@@ -46,6 +47,13 @@ impl<'a, R: Wait, S: Ledger, G: Ledger, B: Room> Seated<'a, R, S, G, B> {
         ensures { (d : Content) × Replays d × (result ≡ is_queued d.state peer) }
     {
         self.shared.queued(self.rt, peer)
+    }
+
+    /// What is left of every link at each of the eight priorities, in bytes per second, by the number of the link.
+    pub fn left(&self) -> Result<Vec<[i64; 8]>, AllocError>
+        ensures { IfOk result (λ table. (d : Content) × Replays d × (table.items ≡ all_left d.state.te.links d.state.base.paths)) }
+    {
+        self.shared.left(self.rt)
     }
 }
 

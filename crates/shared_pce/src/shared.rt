@@ -1,6 +1,7 @@
 //! The lock, what is done under it, and the waits for what it holds.
 ghost use Rattle.std.specs.Prelude.{◌≡◌, ◌≤◌, [], true, length, IfOk, IfErr, OnErr, replicate};
 ghost use Rattle.step_core.specs.States.{has_waiting, is_queued};
+ghost use Rattle.te_snapshot.specs.Left.{all_left};
 ghost use Rattle.history_core.specs.Histories.{Content, Replays, IsSound, is_full, steps_of, grants_of};
 ghost use Rattle.history_seats.specs.Receipts.{new_seat, tidy};
 ghost use Rattle.history_seats.specs.Audits.{IsAudited, Fails};
@@ -8,6 +9,7 @@ ghost use Rattle.shared_pce.specs.Turns.{Takes, Told, Commits, Works, Pauses};
 
 use crate::audit::{Audit, AuditRefused};
 use crate::bells::Bells;
+use crate::looks::left_on_each;
 use crate::work::{Gate, Worked};
 use history_core::{Database, Event, Fault, Job, Reply, SharedEvent};
 use history_seats::{Held, Seat};
@@ -114,6 +116,7 @@ impl<S: Ledger, G: Ledger, B: Room> Shared<S, G, B> {
     fn take<R: Wait>(&self, rt: &R, seat: &mut Seat<S, G, B>) -> Result<Option<Job>, Fault>
         ensures took { IfOk result (Takes seat.old seat.new) }
         ensures unchanged_on_fault { OnErr result (seat.new ≡ seat.old) }
+        ensures full { result ≡ Err Fault.HistoryFull → (d : Content) × Replays d × (is_full d ≡ true) }
     {
         match self.submit(rt, seat, Event::Take)? {
             Reply::Job(job) => Ok(Some(job)),
@@ -130,6 +133,7 @@ impl<S: Ledger, G: Ledger, B: Room> Shared<S, G, B> {
     ) -> Result<Reply, Fault>
         ensures committed { IfOk result (Commits seat.old job.now seat.new) }
         ensures unchanged_on_fault { OnErr result (seat.new ≡ seat.old) }
+        ensures full { result ≡ Err Fault.HistoryFull → (d : Content) × Replays d × (is_full d ≡ true) }
     {
         let offer = search(self.alloc, job)?;
         let event = Event::Commit {
@@ -144,6 +148,7 @@ impl<S: Ledger, G: Ledger, B: Room> Shared<S, G, B> {
     /// One turn of a worker: the job in the seat's hand, or else a ticket that waits, is searched for and
     /// committed. No lock is held while the gate is told, nor during the search. After a fault nothing was done,
     /// or the ticket was taken and its job is in hand, to be finished by the next turn.
+    /// `HistoryFull` where no further step could be kept.
     pub fn work_one<R: Wait, A: Gate>(
         &self,
         rt: &R,
@@ -152,6 +157,7 @@ impl<S: Ledger, G: Ledger, B: Room> Shared<S, G, B> {
     ) -> Result<Worked, Fault>
         ensures worked { IfOk result (Works seat.old seat.new) }
         ensures paused { OnErr result (Pauses seat.old seat.new) }
+        ensures full { result ≡ Err Fault.HistoryFull → (d : Content) × Replays d × (is_full d ≡ true) }
     {
         let in_hand = seat.hand().take();
         let job = match in_hand {
@@ -190,6 +196,17 @@ impl<S: Ledger, G: Ledger, B: Room> Shared<S, G, B> {
         ensures { (d : Content) × Replays d × (result ≡ length d.history) }
     {
         self.held.lock(rt).database().history().len() as u64
+    }
+
+    /// What is left of every link at each of the eight priorities, in bytes per second, by the number of the link:
+    /// what may be reserved on it, minus what is reserved, all at one moment. It is below zero where more is reported
+    /// than the link bears. Of the lock it takes as long as reading eight numbers for each link.
+    pub fn left<R: Wait>(&self, rt: &R) -> Result<Vec<[i64; 8]>, AllocError>
+        ensures { IfOk result (λ table. (d : Content) × Replays d × (table.items ≡ all_left d.state.te.links d.state.base.paths)) }
+    {
+        let held = self.held.lock(rt);
+        let _replays = held.database().history();
+        left_on_each(self.alloc, held.database())
     }
 
     /// Rolls the history: the state becomes its base, and the steps that were kept are let go once the lock is

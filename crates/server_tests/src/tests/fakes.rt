@@ -168,7 +168,19 @@ impl Store for Faulty {
 }
 
 impl Desk for Faulty {
+    ghost use Rattle.std.specs.Prelude.{⊤};
+
+    ghost is_left = { λ _ table. ⊤ };
+
     fn queued(&self, _peer: u32) -> bool {
         false
+    }
+
+    /// Of two links, the second of which bears less than is reported.
+    fn left(&self) -> Result<Vec<[i64; 8]>, AllocError> {
+        let mut table = Vec::new(*self.calls.allocator());
+        table.push([1, 2, 3, 4, 5, 6, 7, 8])?;
+        table.push([-1; 8])?;
+        Ok(table)
     }
 }

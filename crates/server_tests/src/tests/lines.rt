@@ -29,11 +29,11 @@ fn answered(alloc: Global, input: &[u8], writes: u64) -> (Result<(), RunFault>, 
 }
 
 #[test]
-fn bad_lines_are_answered_by_number(rt: HostRuntime) -> Result<(), Fail> {
-    let table: [(&[u8], &[u8]); 7] = [
+fn lines_are_answered_and_bad_ones_by_number(rt: HostRuntime) -> Result<(), Fail> {
+    let table: [(&[u8], &[u8]); 8] = [
         (b"", b""),
         (b"\n", b"bad line 1\n"),
-        (b"book\nupdate 1 1\n", b"bad line 1\ndone\n"),
+        (b"books\nupdate 1 1\n", b"bad line 1\ndone\n"),
         (
             b"update 1 1\n\xff\xfe\nreturn 1 1",
             b"done\nbad line 2\ndone\n",
@@ -45,6 +45,10 @@ fn bad_lines_are_answered_by_number(rt: HostRuntime) -> Result<(), Fail> {
         ),
         (b"delete 1 1 \n", b"bad line 1\n"),
         (b"initiate 1 t1 10.0.0.1 10.0.0.4 600000 7 0\n", b"done\n"),
+        (
+            b"book\nupdate 1 1\n",
+            b"link 0 1 2 3 4 5 6 7 8\nlink 1 -1 -1 -1 -1 -1 -1 -1 -1\ndone\n",
+        ),
     ];
     for (input, want) in table {
         let (end, told) = answered(rt.alloc(), input, 99);
@@ -70,7 +74,7 @@ fn a_long_line_is_bad_and_the_next_is_heard(rt: HostRuntime) -> Result<(), Fail>
 
 #[test]
 fn a_writer_that_fails_ends_the_run(rt: HostRuntime) -> Result<(), Fail> {
-    let (end, told) = answered(rt.alloc(), b"book\nbook\n", 0);
+    let (end, told) = answered(rt.alloc(), b"book\nupdate 1 1\n", 0);
     assert_eq!(rt; end, Err(RunFault::Device));
     assert!(rt; told.is_empty());
     Ok(())

@@ -50,6 +50,9 @@ fn said_through_a_seat<R: Wait + Abort, S: Ledger, G: Ledger, B: Room>(
     store.forget();
     assert_eq!(rt; store.calls().len(), 0);
     assert!(rt; !store.queued(1));
+    // the report's path stands beyond its session
+    let left = [[500_000; 8], [500_000; 8], [1_000_000; 8], [1_000_000; 8]];
+    assert_eq!(rt; store.left()?.as_slice(), left.as_slice());
     assert_eq!(rt; store.roll()?, 9);
     Ok(said)
 }

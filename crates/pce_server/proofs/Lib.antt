@@ -1,0 +1,5 @@
+pub mod Books
+pub mod Going
+pub mod Flowing
+pub mod Leaving
+pub mod Visiting
