@@ -13,3 +13,4 @@ pub mod Concluded
 pub mod AskTests
 pub mod NameTables
 pub mod TicketPlaces
+pub mod AskCounts

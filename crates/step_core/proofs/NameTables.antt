@@ -6,10 +6,10 @@ use Rattle.std.proofs.lemmas.Bool.{eq-eqb, eqb-true, and_parts}
 use Rattle.lsp_base.specs.Base.{last_in_front, without_first}
 use Rattle.lsp_base.specs.Chains.{stands, IsFirst, IsFree, IsWithin}
 use Rattle.lsp_base.specs.Same.{same_links}
-use Rattle.step_core.specs.Names.{by_grant, by_name, grant_bucket, is_of_grant, name_bucket}
+use Rattle.step_core.specs.Names.{by_grant, by_name, is_of_grant, name_bucket, number_bucket}
 use Rattle.step_core.specs.States.{is_awaited_as}
 
-same_bytes : (xs ys : List ℕ) → same_links xs ys ≡ true → xs ≡ ys
+pub same_bytes : (xs ys : List ℕ) → same_links xs ys ≡ true → xs ≡ ys
 same_bytes [] [] is = refl
 same_bytes [] (y ∷ ys) is = absurd (cc (is))
 same_bytes (x ∷ xs) [] is = absurd (cc (is))
@@ -19,12 +19,12 @@ same_bytes (x ∷ xs) (y ∷ ys) is =
     ap (λ (z : ℕ). z ∷ xs) first ∙ ap (λ (zs : List ℕ). y ∷ zs) (same_bytes xs ys parts.1)
 
 -- a grant's name is in the grant's bucket
-pub within_grant : (peer srp : ℕ) → IsWithin by_grant (is_of_grant peer srp) (grant_bucket peer srp)
+pub within_grant : (peer srp : ℕ) → IsWithin by_grant (is_of_grant peer srp) (number_bucket peer srp)
 within_grant peer srp = record {
   of = λ a is.
       let parts = and_parts (a.peer == peer) (a.srp == srp) is in
-      let e : by_grant a ≡ grant_bucket peer srp = ap (λ (n : ℕ). grant_bucket n a.srp) (eqb-true a.peer peer parts.0) ∙ ap (grant_bucket peer) (eqb-true a.srp srp parts.1) in
-      eq-eqb (by_grant a) (grant_bucket peer srp) e;
+      let e : by_grant a ≡ number_bucket peer srp = ap (λ (n : ℕ). number_bucket n a.srp) (eqb-true a.peer peer parts.0) ∙ ap (number_bucket peer) (eqb-true a.srp srp parts.1) in
+      eq-eqb (by_grant a) (number_bucket peer srp) e;
 }
 
 -- a peer's name is in its bucket

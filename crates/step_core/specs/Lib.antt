@@ -1,5 +1,6 @@
 pub mod Tickets
 pub mod TicketPlaces
+pub mod AskCounts
 pub mod States
 pub mod Names
 pub mod Bases

@@ -9,9 +9,9 @@ pub record NameRoom : Type 0 where
   pub names : List AwaitedName
   pub room : ℕ
 
--- the bucket of a grant: any function of its peer and SRP-ID would do
-unfoldable pub grant_bucket : ℕ → ℕ → ℕ
-grant_bucket peer srp = (peer * 7919 + srp) % 16384
+-- the bucket of a number that a peer knows, as an SRP-ID or a PLSP-ID: any function of the two would do
+unfoldable pub number_bucket : ℕ → ℕ → ℕ
+number_bucket peer number = (peer * 7919 + number) % 16384
 
 -- with one byte more
 abbrev pub mixed_in : ℕ → ℕ → ℕ
@@ -22,7 +22,7 @@ unfoldable pub name_bucket : ℕ → List ℕ → ℕ
 name_bucket peer name = fold mixed_in (peer % 16384) name
 
 abbrev pub by_grant : AwaitedName → ℕ
-by_grant a = grant_bucket a.peer a.srp
+by_grant a = number_bucket a.peer a.srp
 
 abbrev pub by_name : AwaitedName → ℕ
 by_name a = name_bucket a.peer a.name

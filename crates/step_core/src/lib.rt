@@ -20,6 +20,7 @@
 //! ```
 #![tactic(auto)]
 
+mod ask_counts;
 mod base;
 mod event;
 mod job;

@@ -8,7 +8,7 @@ ghost use Rattle.step_core.specs.Names.{AreChained, by_name, is_of_grant};
 ghost use Rattle.step_core.specs.States.{is_awaited_as, is_grant_of_name, names_without};
 
 use crate::names::{
-    AwaitedName, ByGrant, ByName, Named, OfGrant, grant_bucket, name_bucket, unbound_srp,
+    AwaitedName, ByGrant, ByName, Named, OfGrant, name_bucket, number_bucket, unbound_srp,
 };
 use lsp_base::{
     Bucketing, Chain, Path, earlier_end, first_place, hang_at, hang_last, lead_past, make_room,
@@ -135,7 +135,7 @@ fn drop_first(
     let place = first_place::<AwaitedName, ByGrant, OfGrant>(
         items.as_slice(),
         grants,
-        grant_bucket(peer, srp),
+        number_bucket(peer, srp),
         &OfGrant { peer, srp },
     );
     if let Some(place) = place {

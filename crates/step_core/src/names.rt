@@ -1,7 +1,7 @@
 //! The names of initiations that were granted.
 ghost use Rattle.std.specs.Prelude.{◌≡◌, ◌<◌, false, IfSome, IfNone};
 ghost use Rattle.step_core.specs.declared.names.AwaitedName.{AwaitedName};
-ghost use Rattle.step_core.specs.Names.{grant_bucket, is_of_grant, mixed_in, name_bucket};
+ghost use Rattle.step_core.specs.Names.{is_of_grant, mixed_in, name_bucket, number_bucket};
 ghost use Rattle.step_core.specs.States.{is_grant_of_name};
 
 use commit_core::LspName;
@@ -43,12 +43,12 @@ pub(crate) fn unbound_srp(path: &Path) -> Option<u32>
     }
 }
 
-/// The bucket of a peer's grant.
-#[tactic(auto, unfolding(crate::specs::Names::grant_bucket))]
-pub(crate) fn grant_bucket(peer: u32, srp: u32) -> usize
-    ensures { result ≡ grant_bucket peer srp }
+/// The bucket of a number that a peer knows: of a grant's SRP-ID, or a PLSP-ID.
+#[tactic(auto, unfolding(crate::specs::Names::number_bucket))]
+pub(crate) fn number_bucket(peer: u32, number: u32) -> usize
+    ensures { result ≡ number_bucket peer number }
 {
-    (peer as usize * 7919 + srp as usize) % 16384
+    (peer as usize * 7919 + number as usize) % 16384
 }
 
 fn mixed_in(bucket: usize, byte: u8) -> usize
@@ -80,7 +80,7 @@ impl Bucketing<AwaitedName> for ByGrant {
     ghost bucket_of = { by_grant };
 
     fn bucket(item: &AwaitedName) -> usize {
-        grant_bucket(item.peer, item.srp)
+        number_bucket(item.peer, item.srp)
     }
 }
 

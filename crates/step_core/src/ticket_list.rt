@@ -1,9 +1,12 @@
 //! Tickets, in the order in which they were asked for.
 ghost use Rattle.std.specs.Prelude.{◌≡◌, ◌<◌, ◌≤◌, ◌-◌, ◌++◌, ◌∷◌, [], ℕ, true, length, OnOk, OnErr, IfSome, IfNone, option_copied, vec_capacity};
 ghost use Rattle.lsp_base.specs.Chains.{IsFirst, IsFree};
+ghost use Rattle.step_core.specs.AskCounts.{AreCounted};
 ghost use Rattle.step_core.specs.TicketPlaces.{AreRising, IsKept, id_at};
 ghost use Rattle.step_core.specs.Tickets.{first_waiting, ticket_at, is_update_of, is_update_asked, is_initiation_of, is_name_asked, take_first, put_back, without_ticket, has_tries_left, is_ticket, is_waiting};
 
+use crate::ask_counts::{count_last, counts_none, discount, start_counts};
+use crate::names::{name_bucket, number_bucket};
 use commit_core::{Purpose, TRY_LIMIT, Ticket};
 use initiate_rules::is_same_name;
 use pcep_objects::Plsp;
@@ -22,18 +25,21 @@ pub struct TicketList {
     first: usize,
     /// The numbers rise, so that one is found by halving. They do wherever tickets come with rising numbers.
     rises: bool,
+    /// For each bucket of what is asked for no less than its tickets' number.
+    counts: Vec<u16>,
 }
 
 impl Model for TicketList {
     ghost use Rattle.std.specs.Prelude.{List};
     ghost use Rattle.commit_core.specs.declared.ticket.Ticket.{Ticket};
+    ghost use Rattle.step_core.specs.AskCounts.{AreCounted};
     ghost use Rattle.step_core.specs.TicketPlaces.{IsKept};
 
     ghost Value = { List Ticket };
 
     ghost view = { λ t. t.tickets.items };
 
-    ghost invariant = { λ t. IsKept t.tickets.items t.first t.rises };
+    ghost invariant = { λ t. IsKept t.tickets.items t.first t.rises × AreCounted t.tickets.items t.counts.items };
 }
 
 fn is_update_of(plsp: Plsp, purpose: &Purpose) -> bool
@@ -180,12 +186,21 @@ fn put_back(tickets: &mut Vec<Ticket>, first: &mut usize, rises: bool, id: u64)
 }
 
 /// Takes the ticket of the number out.
-fn take_out(tickets: &mut Vec<Ticket>, first: &mut usize, rises: bool, id: u64)
-    requires { IsKept tickets.old.items first.old rises }
+fn take_out(
+    tickets: &mut Vec<Ticket>,
+    counts: &mut Vec<u16>,
+    first: &mut usize,
+    rises: bool,
+    id: u64,
+)
+    requires kept { IsKept tickets.old.items first.old rises }
+    requires counted { AreCounted tickets.old.items counts.old.items }
     ensures gone { tickets.new.items ≡ without_ticket tickets.old.items id }
     ensures kept { IsKept tickets.new.items first.new rises }
+    ensures counted { AreCounted tickets.new.items counts.new.items }
 {
     if let Some(place) = place_of(tickets.as_slice(), rises, id) {
+        discount(tickets.as_slice(), counts, place);
         let _ended = tickets.remove(place);
         if place < *first {
             *first -= 1;
@@ -225,6 +240,7 @@ impl TicketList {
             tickets: Vec::new(alloc),
             first: 0,
             rises: true,
+            counts: Vec::new(alloc),
         }
     }
 
@@ -241,6 +257,9 @@ impl TicketList {
         ensures unchanged { OnErr result (self.new ≡ self.old) }
     {
         self.tickets.reserve(1)?;
+        let alloc = *self.tickets.allocator();
+        start_counts(self.tickets.as_slice(), &mut self.counts, alloc)?;
+        count_last(self.tickets.as_slice(), &mut self.counts, &ticket);
         self.rises = push_last(&mut self.tickets, self.first, self.rises, ticket);
         Ok(())
     }
@@ -285,13 +304,22 @@ impl TicketList {
     pub fn end(&mut self, id: u64)
         ensures { self.new ≡ without_ticket self.old id }
     {
-        take_out(&mut self.tickets, &mut self.first, self.rises, id);
+        take_out(
+            &mut self.tickets,
+            &mut self.counts,
+            &mut self.first,
+            self.rises,
+            id,
+        );
     }
 
     /// Whether an update of the LSP is asked for.
     pub fn is_update_asked(&self, peer: u32, plsp: Plsp) -> bool
         ensures { result ≡ is_update_asked self.now peer plsp }
     {
+        if counts_none(self.counts.as_slice(), number_bucket(peer, plsp.number())) {
+            return false;
+        }
         is_update_asked(self.tickets.as_slice(), peer, plsp)
     }
 
@@ -299,6 +327,9 @@ impl TicketList {
     pub fn is_name_asked(&self, peer: u32, name: &[u8]) -> bool
         ensures { result ≡ is_name_asked self.now peer name.now }
     {
+        if counts_none(self.counts.as_slice(), name_bucket(peer, name)) {
+            return false;
+        }
         is_name_asked(self.tickets.as_slice(), peer, name)
     }
 }

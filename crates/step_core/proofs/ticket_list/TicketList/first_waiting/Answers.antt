@@ -15,7 +15,7 @@ pub returns-in-Some-clause-tries : goal.returns-in-Some-clause-tries
 returns-in-Some-clause-tries c =
     let xs = c.self.inside.tickets.items in
     let first : IsFirst xs is_waiting c.in-Some.place = subst (λ ys. IsFirst ys is_waiting c.in-Some.place) c.as_slice.ensures.value c.in-Some.ensures.some in
-    first_waiting_tries xs c.index.result.now (find-first is_waiting xs c.in-Some.place c.index.result.now first c.index.ensures) c.self.invariant.tries
+    first_waiting_tries xs c.index.result.now (find-first is_waiting xs c.in-Some.place c.index.result.now first c.index.ensures) c.self.invariant.0.tries
 
 pub returns-in-None-clause-first : goal.returns-in-None-clause-first
 returns-in-None-clause-first c =
