@@ -96,11 +96,11 @@ NoneAbove-more old new t xs i x w is r here h =
 
 -- ---- a turn of the two loops
 
-pub IsRaised-by : (old new : List ℕ) (peer : ℕ) (o : Option ℕ) → length old ≡ 256 → new ≡ raised old peer o → IsRaised old new
+pub IsRaised-by : (old new : List ℕ) (peer : ℕ) (o : Option ℕ) → length old ≡ 251 → new ≡ raised old peer o → IsRaised old new
 IsRaised-by old new peer o all is = subst (IsRaised old) (sym is) (IsRaised-raised old peer o (omega arith))
 
 -- what has this SRP-ID, or none, as the owner's has none above
-pub none_by : (old new : List ℕ) (owner peer srp : ℕ) (o : Option ℕ) → length old ≡ 256 → new ≡ raised old owner o → greatest_of new peer < srp → (eqb owner peer && is_number o srp) ≡ false
+pub none_by : (old new : List ℕ) (owner peer srp : ℕ) (o : Option ℕ) → length old ≡ 251 → new ≡ raised old owner o → greatest_of new peer < srp → (eqb owner peer && is_number o srp) ≡ false
 none_by old new owner peer srp o all is l = number_of_peer old owner peer srp o (omega arith) (subst (λ (numbers : List ℕ). greatest_of numbers peer < srp) is l)
 
 eqb_swap : (a b : ℕ) → eqb a b ≡ eqb b a

@@ -7,9 +7,9 @@ use Rattle.lsp_base.specs.Chains.{stands, is_in}
 use Rattle.lsp_base.specs.declared.path.Path.{Path}
 use Rattle.lsp_base.specs.declared.effect.Record.{Record}
 
--- the column of a peer: any function of it would do
+-- the column of a peer: any function of it would do; by a prime, so that addresses a power of two apart are in different ones
 unfoldable pub peer_column : ℕ → ℕ
-peer_column peer = peer % 64
+peer_column peer = peer % 61
 
 abbrev pub path_column : Path → ℕ
 path_column x = peer_column x.peer

@@ -20,7 +20,7 @@ is_set_as owner peer srp c = owner == peer && is_number (srp_of_removal c) srp
 
 -- the place of a peer's number: any function of the peer would do
 abbrev pub number_place : ℕ → ℕ
-number_place peer = peer % 256
+number_place peer = peer % 251
 
 -- the number that is kept for a peer
 abbrev pub greatest_of : List ℕ → ℕ → ℕ

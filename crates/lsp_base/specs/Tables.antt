@@ -14,9 +14,9 @@ pub record RecordRoom : Type 0 where
   pub records : List Record
   pub room : ℕ
 
--- the bucket of an LSP: any function of it would do
+-- the bucket of an LSP: any function of it would do; by a prime, so that peers a power of two apart are in different ones
 unfoldable pub bucket_number : ℕ → ℕ → ℕ
-bucket_number peer plsp = (peer * 7919 + plsp) % 16384
+bucket_number peer plsp = (peer * 7919 + plsp) % 16381
 
 abbrev pub path_bucket : Path → ℕ
 path_bucket x = bucket_number x.peer x.plsp

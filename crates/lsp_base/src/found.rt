@@ -17,7 +17,7 @@ use std::alloc::{AllocError, Global};
 pub fn bucket_of_lsp(peer: u32, plsp: Plsp) -> usize
     ensures { result ≡ bucket_number peer plsp }
 {
-    ((u64::from(peer) * 7919 + u64::from(plsp.number())) % 16384) as usize
+    ((u64::from(peer) * 7919 + u64::from(plsp.number())) % 16381) as usize
 }
 
 /// A bucket for each LSP, which others may be in too.

@@ -19,7 +19,7 @@ use std::alloc::{AllocError, Global};
 pub fn column_of_peer(peer: u32) -> usize
     ensures { result ≡ peer_column peer }
 {
-    (peer % 64) as usize
+    (peer % 61) as usize
 }
 
 /// A column for each peer, which others may be in too.

@@ -7,19 +7,19 @@ use crate::effect::RecordChange;
 use crate::path::Path;
 use crate::tunnel::Part;
 
-/// For each peer the greatest SRP-ID that a grant or an awaited removal of it ever had. 256 numbers are kept:
+/// For each peer the greatest SRP-ID that a grant or an awaited removal of it ever had. 251 numbers are kept:
 /// peers of one place share theirs, so that a peer's may be greater than any SRP-ID of its own. No number
 /// ever falls.
 #[derive(Drop)]
 pub struct SrpTable {
-    numbers: [u32; 256],
-    ghost all_there: { length numbers ≡ 256 },
+    numbers: [u32; 251],
+    ghost all_there: { length numbers ≡ 251 },
 }
 
 fn number_place(peer: u32) -> usize
     ensures { result ≡ number_place peer }
 {
-    (peer % 256) as usize
+    (peer % 251) as usize
 }
 
 fn srp_of_grant(part: Part) -> Option<u32>
@@ -43,9 +43,9 @@ fn srp_of_removal(change: &RecordChange) -> Option<u32>
 impl SrpTable {
     /// No SRP-ID. Takes no memory.
     pub fn new() -> SrpTable
-        ensures { result.numbers ≡ replicate 256 0 }
+        ensures { result.numbers ≡ replicate 251 0 }
     {
-        SrpTable { numbers: [0; 256] }
+        SrpTable { numbers: [0; 251] }
     }
 
     /// The number that is kept for a peer.

@@ -11,15 +11,15 @@ pub record NameRoom : Type 0 where
 
 -- the bucket of a number that a peer knows, as an SRP-ID or a PLSP-ID: any function of the two would do
 unfoldable pub number_bucket : ℕ → ℕ → ℕ
-number_bucket peer number = (peer * 7919 + number) % 16384
+number_bucket peer number = (peer * 7919 + number) % 16381
 
 -- with one byte more
 abbrev pub mixed_in : ℕ → ℕ → ℕ
-mixed_in bucket byte = (bucket * 7919 + byte) % 16384
+mixed_in bucket byte = (bucket * 7919 + byte) % 16381
 
 -- the bucket of a peer's name: any function of the two would do
 unfoldable pub name_bucket : ℕ → List ℕ → ℕ
-name_bucket peer name = fold mixed_in (peer % 16384) name
+name_bucket peer name = fold mixed_in (peer % 16381) name
 
 abbrev pub by_grant : AwaitedName → ℕ
 by_grant a = number_bucket a.peer a.srp

@@ -48,15 +48,15 @@ pub(crate) fn unbound_srp(path: &Path) -> Option<u32>
 pub(crate) fn number_bucket(peer: u32, number: u32) -> usize
     ensures { result ≡ number_bucket peer number }
 {
-    (peer as usize * 7919 + number as usize) % 16384
+    (peer as usize * 7919 + number as usize) % 16381
 }
 
 fn mixed_in(bucket: usize, byte: u8) -> usize
-    requires { bucket < 16384 }
+    requires { bucket < 16381 }
     ensures mixed { result ≡ mixed_in bucket byte }
-    ensures below { result < 16384 }
+    ensures below { result < 16381 }
 {
-    (bucket * 7919 + usize::from(byte)) % 16384
+    (bucket * 7919 + usize::from(byte)) % 16381
 }
 
 /// The bucket of a peer's name.
@@ -64,7 +64,7 @@ fn mixed_in(bucket: usize, byte: u8) -> usize
 pub(crate) fn name_bucket(peer: u32, name: &[u8]) -> usize
     ensures { result ≡ name_bucket peer name.now }
 {
-    let mut bucket = peer as usize % 16384;
+    let mut bucket = peer as usize % 16381;
     for byte in name {
         bucket = mixed_in(bucket, *byte);
     }
