@@ -1,7 +1,11 @@
 //! The events by which paths are asked for, granted and settled.
 use crate::load::{Load, Lsp, Told, report};
-use crate::routes::Routes;
-use history_core::{Event, Purpose};
+use crate::routes::{Route, Routes};
+use anyhow::{Result, bail};
+use history_core::{Event, LspName, Purpose};
+use lsp_base::{Constraints, OtherBounds, Priorities};
+use pcep_objects::{Colours, MetricType};
+use pcep_word::{Bandwidth, Priority};
 use sequence::Sequence;
 use std::alloc::{AllocError, Global};
 
@@ -18,6 +22,50 @@ pub(crate) fn asks(alloc: Global, load: Load, round: u32) -> Result<Vec<Event>, 
     let mut events = Vec::new(alloc);
     for event in 0..load.asked() {
         events.push(ask(load.asked_lsp(round, event)))?;
+    }
+    Ok(events)
+}
+
+/// A path with the ends of a route.
+fn wanted(route: &Route) -> Constraints {
+    Constraints {
+        source: Some(route.sender),
+        destination: Some(route.endpoint),
+        bandwidth: Bandwidth::zero(),
+        priorities: Priorities::new(Priority::capped(7), Priority::capped(0)),
+        colours: Colours {
+            exclude_any: 0,
+            include_any: 0,
+            include_all: 0,
+        },
+        minimise: MetricType::Te,
+        bound: None,
+        hop_bound: None,
+        other_bounds: OtherBounds {
+            igp: None,
+            te: None,
+        },
+    }
+}
+
+/// An LSP is asked for, with a number as its name.
+fn initiation(alloc: Global, routes: &Routes, number: u32) -> Result<Event> {
+    let bytes = Vec::from_array(alloc, number.to_be_bytes())?;
+    let Some(name) = LspName::new(Sequence::from_vec(bytes)) else {
+        bail!("a number is no name");
+    };
+    let constraints = wanted(&routes.route(alloc, number)?);
+    Ok(Event::Ask {
+        peer: 1,
+        purpose: Purpose::Initiate { name, constraints },
+    })
+}
+
+/// So many LSPs are asked for.
+pub(crate) fn initiations(alloc: Global, routes: &Routes, count: u32) -> Result<Vec<Event>> {
+    let mut events = Vec::new(alloc);
+    for number in 0..count {
+        events.push(initiation(alloc, routes, number)?)?;
     }
     Ok(events)
 }

@@ -7,7 +7,7 @@ use std::rt::Runtime;
 use std::time::{Duration, Instant};
 
 /// An error where the event was refused: then nothing was measured.
-fn accepted(reply: &Reply) -> Result<()> {
+pub(crate) fn accepted(reply: &Reply) -> Result<()> {
     match reply {
         Reply::Refused(_) => bail!("an event was refused"),
         _ => Ok(()),

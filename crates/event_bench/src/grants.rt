@@ -1,5 +1,5 @@
 //! Measures paths that are asked for, searched for and granted.
-use crate::asks::{all_settled, ask, asks, drains, offers, reports, returns, settled};
+use crate::asks::{all_settled, ask, asks, drains, initiations, offers, reports, returns, settled};
 use crate::clock::{apply_all, say, timed};
 use crate::load::{Load, Lsp, left, returned};
 use crate::routes::Routes;
@@ -13,8 +13,11 @@ use std::time::{Duration, Instant};
 /// How often each kind of event is measured for all LSPs that are asked for at a time.
 const ROUNDS: u32 = 8;
 
+/// How many other tickets wait where asks are measured beside many.
+const WAITING: u32 = 950;
+
 /// The number of the ticket that was taken.
-fn ticket_of(reply: &Reply) -> Result<u64> {
+pub(crate) fn ticket_of(reply: &Reply) -> Result<u64> {
     match reply {
         Reply::Job(job) => Ok(job.ticket.id),
         _ => bail!("no ticket was taken"),
@@ -22,7 +25,7 @@ fn ticket_of(reply: &Reply) -> Result<u64> {
 }
 
 /// The SRP-ID of the grant.
-fn srp_of(reply: &Reply) -> Result<u32> {
+pub(crate) fn srp_of(reply: &Reply) -> Result<u32> {
     match reply {
         Reply::Granted(srp) => Ok(*srp),
         _ => bail!("an offer was not granted"),
@@ -162,6 +165,45 @@ fn end_in_vain(database: &mut Database, ticket: u64) -> Result<()> {
         Reply::NoPath => Ok(()),
         _ => bail!("a ticket did not end"),
     }
+}
+
+/// So many tickets are taken, and end.
+fn end_all(database: &mut Database, count: u32) -> Result<()> {
+    for _ in 0..count {
+        let reply = database.apply(Event::Take)?;
+        end_in_vain(database, ticket_of(&reply)?)?;
+    }
+    Ok(())
+}
+
+/// Asks for a path for each LSP of a round while many tickets wait. How long the asks take.
+fn round_beside_many<R: Runtime<A = Global>>(
+    rt: &R,
+    database: &mut Database,
+    routes: &Routes,
+    load: Load,
+    round: u32,
+) -> Result<Duration> {
+    let alloc = rt.alloc();
+    apply_all(database, initiations(alloc, routes, WAITING)?)?;
+    let took = timed(rt, database, asks(alloc, load, round)?)?;
+    end_all(database, WAITING.saturating_add(load.asked()))?;
+    Ok(took)
+}
+
+/// Measures asks while many tickets wait.
+fn measure_beside_many<R: Runtime<A = Global>>(
+    rt: &R,
+    database: &mut Database,
+    routes: &Routes,
+    load: Load,
+) -> Result<()> {
+    let mut spent = Duration::ZERO;
+    for round in 0..ROUNDS {
+        spent = round_beside_many(rt, database, routes, load, round)?.saturating_add(spent);
+    }
+    let count = load.asked().saturating_mul(ROUNDS);
+    say(rt, load, "ask_beside_many", spent, count)
 }
 
 /// Takes a ticket after a change, and lets it end. How long it takes to take it.
@@ -304,6 +346,7 @@ pub(crate) fn measure_asks<R: Runtime<A = Global>>(
     let alloc = rt.alloc();
     apply_all(database, left(alloc, routes, load)?)?;
     measure_grants(rt, database, routes, load)?;
+    measure_beside_many(rt, database, routes, load)?;
     measure_changed(rt, database, routes, load)?;
     measure_searches(rt, database, routes, load)?;
     measure_returns(rt, database, routes, load)?;

@@ -8,13 +8,15 @@ use pcep_word::{Bandwidth, Priority};
 use sequence::Sequence;
 use std::alloc::{AllocError, Global};
 
-/// How many peers with how many LSPs each, how many reports are measured, and how many hops a route has.
+/// How many peers with how many LSPs each, how many reports are measured, how many hops a route has, and how many rounds
+/// of events are measured behind sweeps.
 #[derive(Clone, Copy)]
 pub(crate) struct Load {
     pub peers: u32,
     pub lsps: u32,
     pub events: u32,
     pub hops: u32,
+    pub sweeps: u32,
 }
 
 impl Load {

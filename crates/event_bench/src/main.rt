@@ -1,20 +1,24 @@
-//! How long events take: `event_bench LINKTEXT PEERS LSPS EVENTS [HOPS]` reads a link text, lets LSPs come up
+//! How long events take: `event_bench LINKTEXT PEERS LSPS EVENTS [HOPS [SWEEPS]]` reads a link text, lets LSPs come up
 //! with routes of HOPS hops (4 where it isn't said), at first 100 of four peers, then LSPS of each of PEERS
 //! peers, and says on standard error how many nanoseconds each kind of event took: a report that replaces a
 //! path (the mean of EVENTS, and the slowest), a removal, a new LSP; a path that is asked for to update an LSP,
-//! a ticket that is taken where no path changed since the last and where one did, the commit of an offer that is
-//! the LSP's own route, an ask with its search and commit, an LSP that is given back; the first report of a known
-//! LSP in a new session; and what a whole session took that goes down, comes up again and synchronizes, and the
-//! expiry of a peer. Standard output has the number of steps of each history.
+//! where few tickets wait and where 950 to 1,000 do, a ticket that is taken where no path changed since the last and
+//! where one did, the commit of an offer that is the LSP's own route, an ask with its search and commit, an LSP that
+//! is given back; the first report of a known LSP in a new session; and what a whole session took that goes down,
+//! comes up again and synchronizes, and the expiry of a peer. SWEEPS rounds (0 where it isn't said) of events are measured
+//! with other memory read before each, so that no cache holds what the event needs: these rows begin with `cold_`.
+//! Standard output has the number of steps of each history.
 #![tactic(auto)]
 
 mod asks;
 mod clock;
+mod cold;
 mod grants;
 mod load;
 mod routes;
 
 use crate::clock::{apply_all, say, slowest, timed};
+use crate::cold::measure_cold;
 use crate::grants::measure_asks;
 use crate::load::{Load, back, filled, known_again, removed, replaced};
 use crate::routes::Routes;
@@ -93,6 +97,7 @@ fn measure_all<R: Runtime<A = Global>>(
     measure_reports(rt, database, routes, load)?;
     measure_lsps(rt, database, routes, load)?;
     measure_asks(rt, database, routes, load)?;
+    measure_cold(rt, database, routes, load, load.sweeps)?;
     measure_sessions(rt, database, routes, load)
 }
 
@@ -129,17 +134,20 @@ fn main(rt: HostRuntime) -> Result<()> {
     let text = fs::read_to_string(&rt, path)?;
     let events = number(&words, 4, 16);
     let hops = number(&words, 5, 4);
+    let sweeps = number(&words, 6, 0);
     let few = Load {
         peers: 4,
         lsps: 25,
         events,
         hops,
+        sweeps,
     };
     let many = Load {
         peers: number(&words, 2, 64),
         lsps: number(&words, 3, 256),
         events,
         hops,
+        sweeps,
     };
     for load in [few, many] {
         let steps = measure(&rt, &text, load)?;
