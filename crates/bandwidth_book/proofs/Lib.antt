@@ -14,4 +14,5 @@ pub mod Runs
 pub mod Pending
 pub mod OwnShares
 pub mod Tables
-pub mod Marked
+pub mod Nothing
+pub mod Rising

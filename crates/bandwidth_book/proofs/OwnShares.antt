@@ -1,12 +1,12 @@
 -- What a tunnel holds on each link, and what is found in the list of it.
-use Rattle.std.proofs.Common.{◌≡◌, ◌≤◌, ◌<◌, ℕ, zero, suc, ◌+◌, ◌==◌, nat_le, Bool, true, false, cond, List, [], ◌∷◌, ◌++◌, Some, None, map, filter, length, slice_get, slice_index, refl, sym, ap, subst, ◌-◌, ◌∙◌, arith, inl, inr}
+use Rattle.std.proofs.Common.{◌≡◌, ◌≤◌, ◌<◌, ℕ, zero, suc, ◌+◌, ◌==◌, ◌||◌, ◌&&◌, nat_le, nat_lt, Bool, true, false, cond, List, [], ◌∷◌, ◌++◌, Some, None, map, filter, length, take, slice_get, slice_index, refl, sym, ap, ◌∙◌, arith, inl, inr}
 use Rattle.std.specs.Prelude.{find}
-use Rattle.std.specs.List.{range_with_len}
+use Rattle.std.specs.List.{AllByRecursion, range_with_len}
 use Rattle.std.specs.declared.cmp.PartialEq as equality
 use Rattle.std.specs.declared.hash.Hash as hashing
-use Rattle.std.proofs.lemmas.Bool.{cases_Bool, cases_eq, false_from_ne_true}
+use Rattle.std.proofs.lemmas.Bool.{both_ways, cases_Bool, cases_eq, false_from_ne_true}
 use Rattle.std.proofs.lemmas.Bool.Decides.{nat_tests}
-use Rattle.std.proofs.lemmas.List.{append-nil}
+use Rattle.std.proofs.lemmas.List.{take_more}
 use Rattle.std.proofs.lemmas.List.FromFn.{fill_by_all, filter_of_map_range_with_len_more, get_or-map-range_with_len}
 use Rattle.lsp_base.specs.Shares.{priorities, share}
 use Rattle.lsp_base.specs.declared.path.Path.{Path}
@@ -14,16 +14,16 @@ use Rattle.lsp_base.specs.declared.tunnel.Tunnel.{Tunnel}
 use Rattle.te_snapshot.specs.declared.own.OwnShare.{OwnShare}
 use Rattle.te_snapshot.specs.Own.{is_something, own_share_on, own_shares}
 use Rattle.te_snapshot.specs.Room.{own_share, share_in}
-use Rattle.bandwidth_book.specs.declared.columns.Columns.{Columns}
 use Rattle.bandwidth_book.specs.declared.held.Held.{Held}
 use Rattle.bandwidth_book.specs.declared.ledger.Ledger.{Ledger}
-use Rattle.bandwidth_book.specs.Columns.{columns_of}
 use Rattle.bandwidth_book.specs.Held.{AreMaxima, most, times}
 use Rattle.bandwidth_book.specs.Ledgers.{has_entry_at, held_at}
-use Rattle.bandwidth_book.specs.Marks.{AreMarked, IsMarked}
+use Rattle.bandwidth_book.specs.Links.{AreRising, has_link, is_something_below, own_among}
+use Rattle.bandwidth_book.specs.Marks.{AreMarked}
 use Rattle.bandwidth_book.specs.Paths.{IsHeldBy, held_by, tunnel_eq}
 use Rattle.bandwidth_book.proofs.Counts.{most_same}
-use Rattle.bandwidth_book.proofs.Marked.{nothing_held}
+use Rattle.bandwidth_book.proofs.Nothing.{nothing_held}
+use Rattle.bandwidth_book.proofs.Rising.{all_above, none_below, number_self, numbers_apart}
 use Rattle.bandwidth_book.proofs.Shares.{share_is_most}
 
 -- the maxima of what the tunnel's paths hold are its shares
@@ -41,12 +41,6 @@ own_next paths t n held e =
     ∙ sym (filter_of_map_range_with_len_more is_something (own_share_on paths t) 0 n n (omega arith))
 
 -- ---- what is found
-
-number_self : (a b : ℕ) → a ≡ b → (a == b) ≡ true
-number_self a b e = grind (arith, nat_tests)
-
-numbers_apart : (a b : ℕ) → (a ≡ b → ⊥) → (a == b) ≡ false
-numbers_apart a b n = grind (arith, nat_tests)
 
 found : (f : ℕ → OwnShare) (p : OwnShare → Bool) → ((k : ℕ) → (f k).link ≡ k) → (l : ℕ) → p (f l) ≡ true → (a n : ℕ) → a ≤ l → l < a + n
     → find (λ held. held.link == l) (filter p (map f (range_with_len a n))) ≡ Some (f l)
@@ -120,24 +114,75 @@ nothing_there paths t l hs none same =
     let zero : slice_index (own_share_on paths t l).shares 7 ≡ 0 = omega (arith, last, here, m, s) in
     grind (arith, nat_tests)
 
--- links on which nothing is reserved list nothing
-own_skip : (paths : List Path) (t : Tunnel) (a n : ℕ) → ((l : ℕ) → a ≤ l → l < a + n → is_something (own_share_on paths t l) ≡ false) → own_shares paths t (a + n) ≡ own_shares paths t a
-own_skip paths t a zero none = ap (own_shares paths t) (let e : a + 0 ≡ a = omega arith in e)
-own_skip paths t a (suc n) none =
-    let next : a + suc n ≡ a + n + 1 = omega arith in
-    let gone = none (a + n) (omega arith) (omega arith) in
-    ap (own_shares paths t) next ∙ sym (own_next paths t (a + n) (own_share_on paths t (a + n)) refl) ∙ ap (λ b. own_shares paths t (a + n) ++ cond b (own_share_on paths t (a + n) ∷ []) []) gone ∙ append-nil (own_shares paths t (a + n))
-    ∙ own_skip paths t a n (λ l low high. none l low (omega (arith, high)))
+-- ---- what is looked up
 
-own_until : (paths : List Path) (t : Tunnel) (a b : ℕ) → a ≤ b → ((l : ℕ) → a ≤ l → l < b → is_something (own_share_on paths t l) ≡ false) → own_shares paths t b ≡ own_shares paths t a
-own_until paths t a b h none =
-    let e : b ≡ a + (b - a) = omega (arith, h) in
-    ap (own_shares paths t) e ∙ own_skip paths t a (b - a) (λ l low high. none l low (omega (arith, high, h)))
+list_parts : {A B : Type 0} (p : B → Bool) (f : A → B) (xs : List A) (x : A) → filter p (map f (xs ++ x ∷ [])) ≡ filter p (map f xs) ++ filter p (map f (x ∷ []))
+list_parts p f [] x = refl
+list_parts p f (y ∷ ys) x =
+    let rest = list_parts p f ys x in
+    elim (cases_Bool (p (f y))) [
+      | inl passes ↦ rw passes (ap (λ zs. f y ∷ zs) rest)
+      | inr fails ↦ rw fails rest
+    ]
 
--- links on which the tunnel isn't marked list nothing
-pub own_unmarked : {E : equality.Ghosts Tunnel} {H : hashing.Ghosts Tunnel} (ledgers : List (Ledger Tunnel E H)) (words : List ℕ) (t : Tunnel) (columns : Columns) (a b : ℕ) → columns ≡ columns_of t → AreMarked (has_entry_at tunnel_eq ledgers) words → ((l : ℕ) → a ≤ l → l < b → IsMarked words l columns → ⊥) → a ≤ b → b ≤ length ledgers
-    → (paths : List Path) → IsHeldBy (length ledgers) (held_at tunnel_eq ledgers) paths → own_shares paths t b ≡ own_shares paths t a
-own_unmarked ledgers words t columns a b is h unmarked less within paths held =
-    own_until paths t a b less (λ l low high.
-    let none : has_entry_at tunnel_eq ledgers l t ≡ false = false_from_ne_true _ (λ there. unmarked l low high (subst (IsMarked words l) (sym is) (h.marked l t there))) in
-    nothing_there paths t l (held_at tunnel_eq ledgers l t) (nothing_held (slice_get ledgers l) t none) (λ k. held l t k (omega (arith, high, within))))
+-- one of the links more
+pub among_next : (paths : List Path) (t : Tunnel) (n : ℕ) (links : List ℕ) (i : ℕ) → i < length links
+    → own_among paths t n (take i links) ++ own_among paths t n (slice_index links i ∷ []) ≡ own_among paths t n (take (i + 1) links)
+among_next paths t n links i h =
+    sym (list_parts (is_something_below n) (own_share_on paths t) (take i links) (slice_index links i)) ∙ ap (own_among paths t n) (sym (take_more links i 0 h))
+
+module _ (f : ℕ → OwnShare) (p q : OwnShare → Bool) where
+  none_kept : (links : List ℕ) (a : ℕ) → AllByRecursion (λ l. a ≤ l) links → ((l : ℕ) → a ≤ l → q (f l) ≡ false) → filter q (map f links) ≡ []
+  none_kept [] a above fails = refl
+  none_kept (x ∷ xs) a above fails = let e = fails x above.0 in rw e (none_kept xs a above.1 fails)
+
+  above_next : (x a : ℕ) (xs : List ℕ) → a ≤ x → AllByRecursion (λ y. x < y) xs → AllByRecursion (λ y. a + 1 ≤ y) xs
+  above_next x a [] h all = tt
+  above_next x a (y ∷ ys) h all = (let less = all.0 in omega (arith, less, h), above_next x a ys h all.1)
+
+  -- of the numbers from one on only those that rise in the list pass
+  only_listed : (links : List ℕ) (a n : ℕ) → AreRising links → AllByRecursion (λ l. a ≤ l) links → ((l : ℕ) → l < a + n → q (f l) ≡ p (f l)) → ((l : ℕ) → a + n ≤ l → q (f l) ≡ false)
+      → ((l : ℕ) → a ≤ l → l < a + n → has_link l links ≡ false → p (f l) ≡ false) → filter q (map f links) ≡ filter p (map f (range_with_len a n))
+  only_listed links a zero rising above agree beyond unlisted = none_kept links a above (λ l h. beyond l (omega (arith, h)))
+  only_listed [] a (suc n) rising above agree beyond unlisted =
+      let fails = unlisted a (omega arith) (omega arith) refl in
+      rw fails (only_listed [] (a + 1) n tt tt (λ l h. agree l (omega (arith, h))) (λ l h. beyond l (omega (arith, h))) (λ l low high none. unlisted l (omega (arith, low)) (omega (arith, high)) none))
+  only_listed (x ∷ xs) a (suc n) rising above agree beyond unlisted =
+      elim (cases_eq x a) [
+        | inl is ↦ (
+            let rest = only_listed xs (a + 1) n rising.1 (above_next x a xs above.0 rising.0) (λ l h. agree l (omega (arith, h))) (λ l h. beyond l (omega (arith, h)))
+            (λ l low high none. unlisted l (omega (arith, low)) (omega (arith, high)) (ap (λ b. b || has_link l xs) (numbers_apart x l (λ e. absurd (omega (arith, e, is, low)))) ∙ none)) in
+            let here : q (f x) ≡ p (f a) = ap (λ (k : ℕ). q (f k)) is ∙ agree a (omega arith) in
+            elim (cases_Bool (p (f a))) [
+              | inl passes ↦ (let e = here ∙ passes in rw (e, passes) (ap (λ (k : ℕ). f k ∷ filter q (map f xs)) is ∙ ap (λ zs. f a ∷ zs) rest))
+              | inr fails ↦ (let e = here ∙ fails in rw (e, fails) rest)
+            ])
+        | inr other ↦ (
+            let low = above.0 in
+            let less : a < x = omega (arith, low, other) in
+            let all = all_above a x xs less rising.0 in
+            let fails = unlisted a (omega arith) (omega arith) (none_below a (x ∷ xs) (less, all)) in
+            rw fails (only_listed (x ∷ xs) (a + 1) n rising ((omega (arith, less)), above_next a a xs (omega arith) all) (λ l h. agree l (omega (arith, h))) (λ l h. beyond l (omega (arith, h)))
+            (λ l least high none. unlisted l (omega (arith, least)) (omega (arith, high)) none)))
+      ]
+
+-- the links on which the tunnel isn't marked list nothing
+pub own_listed : {E : equality.Ghosts Tunnel} {H : hashing.Ghosts Tunnel} (ledgers : List (Ledger Tunnel E H)) (marked : ℕ → Tunnel → Bool) (links : List ℕ) (t : Tunnel) → AreMarked (has_entry_at tunnel_eq ledgers) marked → ((l : ℕ) → has_link l links ≡ marked l t) → AreRising links
+    → (paths : List Path) → IsHeldBy (length ledgers) (held_at tunnel_eq ledgers) paths → own_among paths t (length ledgers) links ≡ own_shares paths t (length ledgers)
+unfolding own_shares
+own_listed ledgers marked links t h listed rising paths held =
+    only_listed (own_share_on paths t) is_something (is_something_below (length ledgers)) links 0 (length ledgers) rising (from_zero links)
+    (λ l less. below l (is_something (own_share_on paths t l)) (omega (arith, less))) (λ l past. beyond l (is_something (own_share_on paths t l)) (omega (arith, past)))
+    (λ l low high none.
+    let gone : has_entry_at tunnel_eq ledgers l t ≡ false = false_from_ne_true _ (λ there. both_ways (has_link l links) none (listed l ∙ h.each l t there)) in
+    nothing_there paths t l (held_at tunnel_eq ledgers l t) (nothing_held (slice_get ledgers l) t gone) (λ k. held l t k (omega (arith, high))))
+  where
+    from_zero : (xs : List ℕ) → AllByRecursion (λ l. 0 ≤ l) xs
+    from_zero [] = tt
+    from_zero (x ∷ xs) = (omega arith, from_zero xs)
+
+    below : (l : ℕ) (b : Bool) → l < length ledgers → (nat_lt l (length ledgers) && b) ≡ b
+    below l b less = let e : nat_lt l (length ledgers) ≡ true = grind (arith, nat_tests) in ap (λ a. a && b) e
+
+    beyond : (l : ℕ) (b : Bool) → length ledgers ≤ l → (nat_lt l (length ledgers) && b) ≡ false
+    beyond l b past = let e : nat_lt l (length ledgers) ≡ false = grind (arith, nat_tests) in ap (λ a. a && b) e

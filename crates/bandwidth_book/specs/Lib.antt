@@ -5,6 +5,6 @@ pub mod Ledgers
 pub mod Paths
 pub mod Pending
 pub mod Tables
-pub mod Columns
+pub mod Links
 pub mod Marks
 pub mod Books

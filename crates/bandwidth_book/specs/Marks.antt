@@ -1,28 +1,22 @@
--- Marks on links: each of 512 columns has a bit for each link, in words of 64 links, and each tunnel with an
--- entry on a link has the link's bit set in its columns. So a tunnel of which one isn't set has no entry on the
--- link.
-use Rattle.std.specs.Prelude.{◌≡◌, ◌<◌, ℕ, ◌+◌, ◌*◌, ◌/◌, ◌%◌, Bool, true, List, length, slice_index}
-use Rattle.std.specs.Int.{bit_at}
+-- Marks on links: for each tunnel a list of the links on which it may have entries.
+use Rattle.std.specs.Prelude.{◌≡◌, ℕ, Bool, true, false, List, [], Option, Some, None}
+use Rattle.std.specs.Map.{lookup}
 use Rattle.lsp_base.specs.declared.tunnel.Tunnel.{Tunnel}
-use Rattle.bandwidth_book.specs.declared.columns.Columns.{Columns}
-use Rattle.bandwidth_book.specs.Columns.{columns_of}
+use Rattle.bandwidth_book.specs.Links.{has_link}
 
--- how many words each of the 512 columns has, one column after the other
-abbrev pub width : List ℕ → ℕ
-width words = length words / 512
+-- whether the link is in a list that may be missing
+abbrev pub is_listed : ℕ → Option (List ℕ) → Bool
+is_listed l None = false
+is_listed l (Some links) = has_link l links
 
--- the column has a bit of the link, and it is set
-pub record IsSet (words : List ℕ) (column link : ℕ) : Type 0 where
-  pub below : column < 512
-  pub within : link / 64 < width words
-  pub set : bit_at (slice_index words (column * width words + link / 64)) (link % 64) ≡ 1
+-- whether the link is in the key's list
+abbrev pub is_marked : {K : Type 0} → (K → K → Bool) → List (K × List ℕ) → ℕ → K → Bool
+is_marked eq lists l k = is_listed l (lookup (eq k) lists)
 
--- the bits of the link are set in three columns
-pub record IsMarked (words : List ℕ) (link : ℕ) (columns : Columns) : Type 0 where
-  pub first : IsSet words columns.first link
-  pub second : IsSet words columns.second link
-  pub third : IsSet words columns.third link
+-- no key has an empty list
+abbrev pub HasNoEmptyList : {K : Type 0} → (K → K → Bool) → List (K × List ℕ) → Type 0
+HasNoEmptyList {K} eq lists = (k : K) → lookup (eq k) lists ≡ Some [] → ⊥
 
--- each tunnel that has an entry on a link has the link's bit set in its columns
-pub record AreMarked (has_entry : ℕ → Tunnel → Bool) (words : List ℕ) : Type 0 where
-  pub marked : (l : ℕ) (t : Tunnel) → has_entry l t ≡ true → IsMarked words l (columns_of t)
+-- each tunnel that has an entry on a link is marked there
+pub record AreMarked (has_entry marked : ℕ → Tunnel → Bool) : Type 0 where
+  pub each : (l : ℕ) (t : Tunnel) → has_entry l t ≡ true → marked l t ≡ true

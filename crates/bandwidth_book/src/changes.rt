@@ -40,12 +40,11 @@ impl Book {
     {
         let count = topology.links().len();
         let ledgers = empty_ledgers(alloc, count)?;
-        let marks = Marks::new(alloc, count)?;
         Ok(Book {
             alloc,
             topology,
             ledgers,
-            marks,
+            marks: Marks::new(alloc),
             pending: Vec::new(alloc),
             kept: None,
         })

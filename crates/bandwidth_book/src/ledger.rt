@@ -1,5 +1,5 @@
 //! What is reserved on one link.
-ghost use Rattle.std.specs.Prelude.{◌≡◌, ◌<◌, ◌≤◌, ◌+◌, ◌-◌, ◌^◌, [], ℕ, length, option_copied, option_map, slice_get, slice_index, OnOk, if◌then◌else◌, true, false};
+ghost use Rattle.std.specs.Prelude.{◌≡◌, ◌<◌, ◌≤◌, ◌+◌, ◌-◌, ◌^◌, [], ℕ, length, slice_index, OnOk, if◌then◌else◌, true, false};
 ghost use Rattle.indexmap.specs.IndexMap.{IsUnique, keys};
 ghost use Rattle.std.proofs.lemmas.Map.Keys.{IsDistinct-prop};
 ghost use Rattle.bandwidth_book.specs.Held.{with_one, without_one, most, AreMaxima};
@@ -76,23 +76,6 @@ impl<K: Eq + Hash + Copy + Drop> Ledger<K> {
         ensures kept { (k : K) → kept K.eq self.new.entries.entries k ≡ kept K.eq self.old.entries.entries k }
     {
         withdraw(&mut self.entries, key);
-    }
-
-    /// How many entries there are.
-    pub fn count(&self) -> usize
-        ensures { result ≡ length self.now.entries.entries }
-    {
-        self.entries.len()
-    }
-
-    /// The key of the entry at a place.
-    pub fn key_at(&self, place: usize) -> Option<&K>
-        ensures { option_copied result ≡ option_map (λ e. e.0) (slice_get self.now.entries.entries place) }
-    {
-        match self.entries.get_index(place) {
-            Some((key, _)) => Some(key),
-            None => None,
-        }
     }
 
     /// Whether the key has an entry, which may hold nothing.

@@ -7,7 +7,8 @@
 //! a new one for none, and after `change` one that stood for paths stands for them without the dropped and
 //! with the added ones, for each list that had the dropped ones. What it says of a list for which it stands
 //! are the definitions of `lsp_base`. `reserve` makes all the room, and `change` takes no memory and leaves
-//! no entry without paths, so that a book keeps memory for standing paths alone (`specs/Pending.antt`).
+//! no entry and no mark without paths, so that a book keeps memory for standing paths alone
+//! (`specs/Pending.antt`).
 //! `snapshot` gives a table of what is left of every link, of which a search can be made while the book goes
 //! on; while no path changes it gives the same one again (`specs/Tables.antt`).
 //!
@@ -25,12 +26,12 @@
 
 mod book;
 mod changes;
-mod columns;
 mod entries;
 mod entry;
 mod held;
 mod ledger;
 mod ledgers;
+mod link_list;
 mod looks;
 mod marks;
 mod own;

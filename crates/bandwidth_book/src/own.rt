@@ -7,11 +7,11 @@ ghost use Rattle.te_snapshot.specs.Room.{own_share};
 ghost use Rattle.bandwidth_book.specs.Books.{StandsFor, links_of};
 ghost use Rattle.bandwidth_book.specs.Held.{AreMaxima};
 ghost use Rattle.bandwidth_book.specs.Ledgers.{has_entry_at, held_at};
-ghost use Rattle.bandwidth_book.specs.Marks.{AreMarked};
+ghost use Rattle.bandwidth_book.specs.Links.{own_among};
+ghost use Rattle.bandwidth_book.specs.Marks.{AreMarked, is_marked};
 ghost use Rattle.bandwidth_book.specs.Paths.{IsHeldBy, tunnel_eq};
 
 use crate::book::Book;
-use crate::columns::columns_of;
 use crate::ledger::Ledger;
 use crate::marks::Marks;
 use lsp_base::Tunnel;
@@ -49,23 +49,37 @@ fn list_if_some(own: &mut Vec<OwnShare>, held: OwnShare) -> Result<(), AllocErro
     Ok(())
 }
 
+/// Lists what a tunnel reserves on a link that may be there, if that is something.
+fn list_at(
+    own: &mut Vec<OwnShare>,
+    ledgers: &[Ledger<Tunnel>],
+    tunnel: &Tunnel,
+    link: LinkNumber,
+) -> Result<(), AllocError>
+    ensures { OnOk result ((paths : List Path) → IsHeldBy (length ledgers.now) (held_at tunnel_eq ledgers.now) paths
+        → own.new.items ≡ own.old.items ++ own_among paths tunnel.now (length ledgers.now) (link ∷ [])) }
+{
+    if link < ledgers.len() {
+        list_if_some(own, own_at(ledgers, tunnel, link))?;
+    }
+    Ok(())
+}
+
 /// What a tunnel reserves on each link on which it reserves something. It looks the tunnel up where it is marked.
 fn own_on(
     alloc: Global,
     ledgers: &[Ledger<Tunnel>],
-    marks: &Marks,
+    marks: &Marks<Tunnel>,
     tunnel: &Tunnel,
 ) -> Result<Vec<OwnShare>, AllocError>
-    requires { AreMarked (has_entry_at tunnel_eq ledgers.now) marks.now.words.items }
+    requires { AreMarked (has_entry_at tunnel_eq ledgers.now) (is_marked tunnel_eq marks.now.lists.entries) }
     ensures { IfOk result (λ own. (paths : List Path) → IsHeldBy (length ledgers.now) (held_at tunnel_eq ledgers.now) paths
         → own.items ≡ own_shares paths tunnel.now (length ledgers.now)) }
 {
-    let columns = columns_of(tunnel);
+    let links = marks.list_of(*tunnel);
     let mut own = Vec::new(alloc);
-    let mut link = marks.next(&columns, 0, ledgers.len());
-    while link < ledgers.len() {
-        list_if_some(&mut own, own_at(ledgers, tunnel, link))?;
-        link = marks.next(&columns, link + 1, ledgers.len());
+    for link in links {
+        list_at(&mut own, ledgers, tunnel, *link)?;
     }
     Ok(own)
 }

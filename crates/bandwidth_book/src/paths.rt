@@ -1,12 +1,12 @@
 //! What lists of paths do to the ledgers of the links, by tunnel.
-ghost use Rattle.std.specs.Prelude.{◌≡◌, ◌<◌, ◌≤◌, ◌+◌, ◌*◌, ◌++◌, ◌==◌, ◌&&◌, true, [], ℕ, List, length, OnOk, if◌then◌else◌};
+ghost use Rattle.std.specs.Prelude.{◌≡◌, ◌<◌, ◌≤◌, ◌+◌, ◌++◌, ◌==◌, ◌&&◌, true, false, [], ℕ, List, length, OnOk, if◌then◌else◌};
 ghost use Rattle.lsp_base.specs.Base.{HasAll, without};
 ghost use Rattle.lsp_base.specs.declared.path.Path.{Path};
 ghost use Rattle.lsp_base.specs.declared.tunnel.Tunnel.{Tunnel};
 ghost use Rattle.bandwidth_book.specs.declared.paths.Place.{Place};
 ghost use Rattle.bandwidth_book.specs.Paths.{IsHeldBy, IsPromised, held_by, tunnel_eq};
-ghost use Rattle.bandwidth_book.specs.Pending.{AreNoted, noted};
-ghost use Rattle.bandwidth_book.specs.Marks.{AreMarked, width};
+ghost use Rattle.bandwidth_book.specs.Pending.{AreInUse, AreNoted, noted};
+ghost use Rattle.bandwidth_book.specs.Marks.{AreMarked, is_marked};
 ghost use Rattle.bandwidth_book.specs.Held.{held_of, with_all, without_all};
 ghost use Rattle.bandwidth_book.specs.Ledgers.{has_entry_at, held_at, held_by_path, promised_on};
 
@@ -61,13 +61,13 @@ fn clear_paths(ledgers: &mut [Ledger<Tunnel>], paths: &[Path])
 /// Drops, then adds, and takes out the entries that are left with nothing.
 pub fn change_paths(
     ledgers: &mut [Ledger<Tunnel>],
-    marks: &mut Marks,
+    marks: &mut Marks<Tunnel>,
     dropped: &[Path],
     added: &[Path],
 )
     requires room { IsPromised (length ledgers.old) (promised_on tunnel_eq ledgers.old) added.now }
-    ensures marked { AreMarked (has_entry_at tunnel_eq ledgers.old) marks.old.words.items → AreMarked (has_entry_at tunnel_eq ledgers.new) marks.new.words.items }
-    ensures count { length marks.new.words.items ≡ length marks.old.words.items }
+    ensures marked { AreMarked (has_entry_at tunnel_eq ledgers.old) (is_marked tunnel_eq marks.old.lists.entries) → AreMarked (has_entry_at tunnel_eq ledgers.new) (is_marked tunnel_eq marks.new.lists.entries) }
+    ensures in_use { (places : List Place) → AreInUse (is_marked tunnel_eq marks.old.lists.entries) (held_at tunnel_eq ledgers.old) places → AreInUse (is_marked tunnel_eq marks.new.lists.entries) (held_at tunnel_eq ledgers.new) places }
     ensures noted { (places : List Place) → AreNoted (length ledgers.old) (has_entry_at tunnel_eq ledgers.old) (held_at tunnel_eq ledgers.old) places → AreNoted (length ledgers.old) (has_entry_at tunnel_eq ledgers.new) (held_at tunnel_eq ledgers.new) places }
     ensures kept { (l : ℕ) (t : Tunnel) → l < length ledgers.old → held_at tunnel_eq ledgers.new l t ≡ with_all (without_all (held_at tunnel_eq ledgers.old l t) (held_by l t dropped.now)) (held_by l t added.now) }
     ensures stands { (paths : List Path) → IsHeldBy (length ledgers.old) (held_at tunnel_eq ledgers.old) paths → HasAll paths dropped.now
@@ -91,10 +91,11 @@ fn withdraw_places(ledgers: &mut [Ledger<Tunnel>], places: &[Place])
     }
 }
 
-/// Clears the bits of the tunnels of these places on their links, where they have no entries.
-fn remark_places(ledgers: &[Ledger<Tunnel>], marks: &mut Marks, places: &[Place])
-    ensures marked { AreMarked (has_entry_at tunnel_eq ledgers.now) marks.old.words.items → AreMarked (has_entry_at tunnel_eq ledgers.now) marks.new.words.items }
-    ensures count { length marks.new.words.items ≡ length marks.old.words.items }
+/// Takes the marks of the tunnels of these places on their links back, where they have no entries.
+fn remark_places(ledgers: &[Ledger<Tunnel>], marks: &mut Marks<Tunnel>, places: &[Place])
+    ensures marked { AreMarked (has_entry_at tunnel_eq ledgers.now) (is_marked tunnel_eq marks.old.lists.entries) → AreMarked (has_entry_at tunnel_eq ledgers.now) (is_marked tunnel_eq marks.new.lists.entries) }
+    ensures fewer { (l : ℕ) (t : Tunnel) → is_marked tunnel_eq marks.new.lists.entries l t ≡ true → is_marked tunnel_eq marks.old.lists.entries l t ≡ true }
+    ensures swept { (l : ℕ) (t : Tunnel) → is_marked tunnel_eq marks.new.lists.entries l t ≡ true → has_entry_at tunnel_eq ledgers.now l t ≡ false → noted places.now l t ≡ 0 }
 {
     for place in places {
         remark(ledgers, marks, place.link, &place.tunnel);
@@ -102,12 +103,17 @@ fn remark_places(ledgers: &[Ledger<Tunnel>], marks: &mut Marks, places: &[Place]
 }
 
 /// Gives the room at these places up that wasn't used, and forgets them.
-pub fn give_up_room(ledgers: &mut [Ledger<Tunnel>], marks: &mut Marks, places: &mut Vec<Place>)
+pub fn give_up_room(
+    ledgers: &mut [Ledger<Tunnel>],
+    marks: &mut Marks<Tunnel>,
+    places: &mut Vec<Place>,
+)
     requires noted { AreNoted (length ledgers.old) (has_entry_at tunnel_eq ledgers.old) (held_at tunnel_eq ledgers.old) places.old.items }
+    requires in_use { AreInUse (is_marked tunnel_eq marks.old.lists.entries) (held_at tunnel_eq ledgers.old) places.old.items }
     ensures none { AreNoted (length ledgers.old) (has_entry_at tunnel_eq ledgers.new) (held_at tunnel_eq ledgers.new) [] }
+    ensures in_use { AreInUse (is_marked tunnel_eq marks.new.lists.entries) (held_at tunnel_eq ledgers.new) [] }
     ensures forgotten { places.new.items ≡ [] }
-    ensures marked { AreMarked (has_entry_at tunnel_eq ledgers.old) marks.old.words.items → AreMarked (has_entry_at tunnel_eq ledgers.new) marks.new.words.items }
-    ensures count { length marks.new.words.items ≡ length marks.old.words.items }
+    ensures marked { AreMarked (has_entry_at tunnel_eq ledgers.old) (is_marked tunnel_eq marks.old.lists.entries) → AreMarked (has_entry_at tunnel_eq ledgers.new) (is_marked tunnel_eq marks.new.lists.entries) }
     ensures kept { (l : ℕ) (t : Tunnel) → held_at tunnel_eq ledgers.new l t ≡ held_at tunnel_eq ledgers.old l t }
 {
     withdraw_places(ledgers, places);
@@ -120,20 +126,21 @@ pub fn give_up_room(ledgers: &mut [Ledger<Tunnel>], marks: &mut Marks, places: &
 fn promise_place(
     alloc: Global,
     ledgers: &mut [Ledger<Tunnel>],
-    marks: &mut Marks,
+    marks: &mut Marks<Tunnel>,
     places: &mut Vec<Place>,
     place: &Place,
 ) -> Result<(), AllocError>
     requires noted { AreNoted (length ledgers.old) (has_entry_at tunnel_eq ledgers.old) (held_at tunnel_eq ledgers.old) places.old.items }
+    requires in_use { AreInUse (is_marked tunnel_eq marks.old.lists.entries) (held_at tunnel_eq ledgers.old) places.old.items }
+    ensures in_use { AreInUse (is_marked tunnel_eq marks.new.lists.entries) (held_at tunnel_eq ledgers.new) places.new.items }
     ensures noted { AreNoted (length ledgers.old) (has_entry_at tunnel_eq ledgers.new) (held_at tunnel_eq ledgers.new) places.new.items }
-    ensures marked { length ledgers.old ≤ 64 * width marks.old.words.items → AreMarked (has_entry_at tunnel_eq ledgers.old) marks.old.words.items → AreMarked (has_entry_at tunnel_eq ledgers.new) marks.new.words.items }
-    ensures count { length marks.new.words.items ≡ length marks.old.words.items }
+    ensures marked { AreMarked (has_entry_at tunnel_eq ledgers.old) (is_marked tunnel_eq marks.old.lists.entries) → AreMarked (has_entry_at tunnel_eq ledgers.new) (is_marked tunnel_eq marks.new.lists.entries) }
     ensures places { (l : ℕ) (t : Tunnel) → noted places.new.items l t ≤ noted places.old.items l t + (if place.now.link == l && tunnel_eq place.now.tunnel t then 1 else 0) }
     ensures kept { (l : ℕ) (t : Tunnel) → held_at tunnel_eq ledgers.new l t ≡ held_at tunnel_eq ledgers.old l t }
     ensures ok { OnOk result ((l : ℕ) (t : Tunnel) → l < length ledgers.old → promised_on tunnel_eq ledgers.old l t + (if place.now.link == l && tunnel_eq place.now.tunnel t then 1 else 0) ≤ promised_on tunnel_eq ledgers.new l t) }
 {
     places.push(*place)?;
-    marks.mark(place.link, &place.tunnel);
+    marks.mark(alloc, place.link, place.tunnel)?;
     promise_if_there(alloc, ledgers, place.link, place.tunnel)
 }
 
@@ -141,14 +148,15 @@ fn promise_place(
 fn promise_path(
     alloc: Global,
     ledgers: &mut [Ledger<Tunnel>],
-    marks: &mut Marks,
+    marks: &mut Marks<Tunnel>,
     places: &mut Vec<Place>,
     path: &Path,
 ) -> Result<(), AllocError>
     requires noted { AreNoted (length ledgers.old) (has_entry_at tunnel_eq ledgers.old) (held_at tunnel_eq ledgers.old) places.old.items }
+    requires in_use { AreInUse (is_marked tunnel_eq marks.old.lists.entries) (held_at tunnel_eq ledgers.old) places.old.items }
+    ensures in_use { AreInUse (is_marked tunnel_eq marks.new.lists.entries) (held_at tunnel_eq ledgers.new) places.new.items }
     ensures noted { AreNoted (length ledgers.old) (has_entry_at tunnel_eq ledgers.new) (held_at tunnel_eq ledgers.new) places.new.items }
-    ensures marked { length ledgers.old ≤ 64 * width marks.old.words.items → AreMarked (has_entry_at tunnel_eq ledgers.old) marks.old.words.items → AreMarked (has_entry_at tunnel_eq ledgers.new) marks.new.words.items }
-    ensures count { length marks.new.words.items ≡ length marks.old.words.items }
+    ensures marked { AreMarked (has_entry_at tunnel_eq ledgers.old) (is_marked tunnel_eq marks.old.lists.entries) → AreMarked (has_entry_at tunnel_eq ledgers.new) (is_marked tunnel_eq marks.new.lists.entries) }
     ensures places { (l : ℕ) (t : Tunnel) → noted places.new.items l t ≤ noted places.old.items l t + length (held_by_path tunnel_eq path.now.tunnel (held_of path.now) l t path.now.links) }
     ensures kept { (l : ℕ) (t : Tunnel) → held_at tunnel_eq ledgers.new l t ≡ held_at tunnel_eq ledgers.old l t }
     ensures ok { OnOk result ((l : ℕ) (t : Tunnel) → l < length ledgers.old → promised_on tunnel_eq ledgers.old l t + length (held_by_path tunnel_eq path.now.tunnel (held_of path.now) l t path.now.links) ≤ promised_on tunnel_eq ledgers.new l t) }
@@ -167,14 +175,15 @@ fn promise_path(
 pub fn promise_paths(
     alloc: Global,
     ledgers: &mut [Ledger<Tunnel>],
-    marks: &mut Marks,
+    marks: &mut Marks<Tunnel>,
     places: &mut Vec<Place>,
     paths: &[Path],
 ) -> Result<(), AllocError>
     requires noted { AreNoted (length ledgers.old) (has_entry_at tunnel_eq ledgers.old) (held_at tunnel_eq ledgers.old) places.old.items }
+    requires in_use { AreInUse (is_marked tunnel_eq marks.old.lists.entries) (held_at tunnel_eq ledgers.old) places.old.items }
+    ensures in_use { AreInUse (is_marked tunnel_eq marks.new.lists.entries) (held_at tunnel_eq ledgers.new) places.new.items }
     ensures noted { AreNoted (length ledgers.old) (has_entry_at tunnel_eq ledgers.new) (held_at tunnel_eq ledgers.new) places.new.items }
-    ensures marked { length ledgers.old ≤ 64 * width marks.old.words.items → AreMarked (has_entry_at tunnel_eq ledgers.old) marks.old.words.items → AreMarked (has_entry_at tunnel_eq ledgers.new) marks.new.words.items }
-    ensures count { length marks.new.words.items ≡ length marks.old.words.items }
+    ensures marked { AreMarked (has_entry_at tunnel_eq ledgers.old) (is_marked tunnel_eq marks.old.lists.entries) → AreMarked (has_entry_at tunnel_eq ledgers.new) (is_marked tunnel_eq marks.new.lists.entries) }
     ensures places { (l : ℕ) (t : Tunnel) → noted places.new.items l t ≤ noted places.old.items l t + length (held_by l t paths.now) }
     ensures kept { (l : ℕ) (t : Tunnel) → held_at tunnel_eq ledgers.new l t ≡ held_at tunnel_eq ledgers.old l t }
     ensures ok { OnOk result (IsPromised (length ledgers.old) (promised_on tunnel_eq ledgers.new) paths.now) }

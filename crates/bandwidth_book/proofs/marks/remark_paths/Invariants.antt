@@ -1,11 +1,13 @@
-use Rattle.std.proofs.Common.{◌≡◌, length}
+use Rattle.std.proofs.Common.{◌≡◌, ℕ, true, false, length, drop}
+use Rattle.lsp_base.specs.declared.tunnel.Tunnel.{Tunnel}
 use Rattle.bandwidth_book.specs.Ledgers.{has_entry_at}
-use Rattle.bandwidth_book.specs.Marks.{AreMarked}
-use Rattle.bandwidth_book.specs.Paths.{tunnel_eq}
+use Rattle.bandwidth_book.specs.Marks.{AreMarked, is_marked}
+use Rattle.bandwidth_book.specs.Paths.{held_by, tunnel_eq}
 use Rattle.bandwidth_book.proofs.marks.remark_paths.Given as goal
 
 abbrev pub invariant-loop-path : goal.invariant-loop-path
 invariant-loop-path l = record {
-  marked : AreMarked (has_entry_at tunnel_eq l.ledgers) l.fn.marks.words.items → AreMarked (has_entry_at tunnel_eq l.ledgers) l.marks.words.items;
-  count : length l.marks.words.items ≡ length l.fn.marks.words.items;
+  marked : AreMarked (has_entry_at tunnel_eq l.ledgers) (is_marked tunnel_eq l.fn.marks.lists.entries) → AreMarked (has_entry_at tunnel_eq l.ledgers) (is_marked tunnel_eq l.marks.lists.entries);
+  fewer : (n : ℕ) (k : Tunnel) → is_marked tunnel_eq l.marks.lists.entries n k ≡ true → is_marked tunnel_eq l.fn.marks.lists.entries n k ≡ true;
+  swept : (n : ℕ) (k : Tunnel) → is_marked tunnel_eq l.marks.lists.entries n k ≡ true → has_entry_at tunnel_eq l.ledgers n k ≡ false → length (held_by n k (drop l.path-index l.paths)) ≡ length (held_by n k l.paths);
 }

@@ -8,8 +8,8 @@ loop-link-preserved c =
     record {
       kept = λ n k. c.promise_place.ensures.kept n k ∙ known.kept n k;
       entries = search rules;
-      marked = λ same h. c.promise_place.ensures.marked (let count = known.count in let long = c.loop-link.auto.ledgers in omega (arith, count, long, same)) (known.marked same h);
-      count = c.promise_place.ensures.count ∙ known.count;
+      in_use = c.promise_place.ensures.in_use;
+      marked = λ h. c.promise_place.ensures.marked (known.marked h);
       places = grind (arith, common_steps);
       room = grind (arith, common_steps);
     }

@@ -8,8 +8,8 @@ loop-path-preserved c =
     record {
       kept = λ n k. c.promise_path.ensures.kept n k ∙ known.kept n k;
       entries = search rules;
-      marked = λ same h. c.promise_path.ensures.marked (let count = known.count in let long = c.loop-path.auto.ledgers in omega (arith, count, long, same)) (known.marked same h);
-      count = c.promise_path.ensures.count ∙ known.count;
+      in_use = c.promise_path.ensures.in_use;
+      marked = λ h. c.promise_path.ensures.marked (known.marked h);
       places = grind (arith, common_steps);
       room = grind (arith, common_steps);
     }

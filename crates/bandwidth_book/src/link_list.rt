@@ -1,0 +1,78 @@
+//! Lists of links.
+ghost use Rattle.std.specs.Prelude.{◌≡◌, ◌||◌, ◌&&◌, ◌==◌, [], ◌∷◌, ℕ, not, length, IsTrue, ◌↔◌, IfOk, OnOk, OnErr};
+ghost use Rattle.bandwidth_book.specs.Links.{AreRising, has_link};
+
+use std::alloc::{AllocError, Global};
+use std::marker::Model;
+use te_base::LinkNumber;
+
+/// Links in the order of their numbers, each once.
+#[derive(Drop)]
+pub struct LinkList {
+    links: Vec<LinkNumber>,
+}
+
+impl Model for LinkList {
+    ghost use Rattle.std.specs.Prelude.{ℕ, List};
+
+    ghost Value = { List ℕ };
+
+    ghost use Rattle.bandwidth_book.specs.Links.{AreRising};
+
+    ghost view = { λ l. l.links.items };
+
+    ghost invariant = { λ l. AreRising l.links.items };
+}
+
+impl LinkList {
+    /// The list of one link.
+    pub fn of(alloc: Global, link: LinkNumber) -> Result<LinkList, AllocError>
+        ensures { IfOk result (λ list. list ≡ link ∷ []) }
+    {
+        Ok(LinkList {
+            links: vec![in alloc; link]?,
+        })
+    }
+
+    /// Puts a link in its place, if it isn't there.
+    pub fn put(&mut self, link: LinkNumber) -> Result<(), AllocError>
+        ensures ok { OnOk result ((l : ℕ) → has_link l self.new ≡ (link == l || has_link l self.old)) }
+        ensures err { OnErr result (self.new ≡ self.old) }
+        ensures some { self.new ≡ [] → self.old ≡ [] }
+    {
+        match self.links.binary_search(&link) {
+            Ok(_) => Ok(()),
+            Err(place) => {
+                self.links.insert(place, link)?;
+                Ok(())
+            }
+        }
+    }
+
+    /// Takes a link out, if it is there.
+    pub fn take_out(&mut self, link: LinkNumber)
+        ensures { (l : ℕ) → has_link l self.new ≡ (not (link == l) && has_link l self.old) }
+    {
+        match self.links.binary_search(&link) {
+            Ok(place) => {
+                let _ = self.links.remove(place);
+            }
+            Err(_) => {}
+        }
+    }
+
+    /// Whether there is none.
+    pub fn is_empty(&self) -> bool
+        ensures { IsTrue result ↔ (length self.now ≡ 0) }
+    {
+        self.links.is_empty()
+    }
+
+    /// The links.
+    pub fn as_slice(&self) -> &[LinkNumber]
+        ensures links { result.now ≡ self.now }
+        ensures rising { AreRising self.now }
+    {
+        &self.links
+    }
+}
