@@ -3,3 +3,5 @@ pub mod Going
 pub mod Flowing
 pub mod Leaving
 pub mod Visiting
+pub mod Lines
+pub mod Operating

@@ -4,4 +4,5 @@ pub mod Ranges
 pub mod Goings
 pub mod Visits
 pub mod Operators
+pub mod Listening
 pub mod Dues

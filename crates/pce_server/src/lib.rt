@@ -5,9 +5,10 @@
 //!
 //! `connection` is one connection over any reader, writer and store. However it ends, the peer's Down is submitted
 //! before it returns, or that is told as a fault of the store; every other call is one that the engine's table names
-//! for this peer and the bytes that came (`specs/Visits`). What a session makes of bytes, what a step does and what an
-//! audit says is proved in the layers below; that threads run, that sockets deliver and that nothing waits for ever is
-//! shown by tests alone.
+//! for this peer and the bytes that came (`specs/Visits`). `operate` is an operator over any reader, writer and store:
+//! each line leads to one call of the operator's event that it names, or to none, and is told what came of it
+//! (`specs/Operators`). What a session makes of bytes, what a step does and what an audit says is proved in the layers
+//! below; that threads run, that sockets deliver and that nothing waits for ever is shown by tests alone.
 //!
 //! ```text
 //! fn run<R: Wait + Threads + Clock + Net<Listener = TcpListener, Stream = TcpStream> + AllocGlobal + Log + Sync>(rt: &R, listener: &TcpListener, te: TeBase) -> Result<Audit, RunFault>
@@ -20,11 +21,13 @@
 //! The modules, lowest first: `traits` (what a connection asks of its surroundings), `talk` (a connection), `socket`,
 //! `places` (where seats rest), `dues` (who expires when), `alarms` (what wakes a connection, and how many an address
 //! has), `run` (whether the run is to end, and why), `floor` (what each thread is lent), `staff` (workers and keeper),
-//! `visits` (a connection's thread), `door` (the acceptor), `book` (its text), `operator`, `server`.
+//! `visits` (a connection's thread), `door` (the acceptor), `book` (its text), `commands` (a line of an operator),
+//! `operator`, `server`.
 #![tactic(auto)]
 
 mod alarms;
 mod book;
+mod commands;
 mod door;
 mod dues;
 mod floor;
