@@ -19,7 +19,6 @@ use Rattle.pcep_objects.specs.declared.object.KeptClass.{KeptClass}
 use Rattle.pcep_objects.specs.declared.object.KeptClass.TheVariants.{Iro, Svec, LoadBalancing}
 use Rattle.pcep_objects.specs.declared.object.Hop.{Hop}
 use Rattle.pcep_objects.specs.declared.object.Hop.TheVariants.{Host, Other}
-use Rattle.pcep_objects.specs.declared.object.Identifiers.{Identifiers}
 use Rattle.pcep_objects.specs.declared.object.Lspa.{Lspa}
 use Rattle.pcep_objects.specs.declared.object.Metric.{Metric}
 use Rattle.pcep_objects.specs.declared.object.Object.{Object}

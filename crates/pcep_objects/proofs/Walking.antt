@@ -1,11 +1,11 @@
 -- TLVs that are walked one after the other are those that the bytes are cut into.
-use Rattle.std.proofs.Common.{◌≡◌, ℕ, zero, suc, ◌-◌, ◌+◌, ◌<◌, ◌≤◌, ◌⊎◌, inl, inr, Bool, true, false, not, ◌&&◌, ◌||◌, cond, ltb, eqb, List, [], ◌∷◌, ◌++◌, length, take, drop, Option, Some, None, Result, Ok, Err, refl, sym, ap, ◌∙◌, arith}
+use Rattle.std.proofs.Common.{◌≡◌, ℕ, zero, suc, ◌-◌, ◌+◌, ◌<◌, ◌≤◌, ◌⊎◌, inl, inr, Bool, true, false, ◌||◌, cond, ltb, eqb, List, [], ◌∷◌, length, take, drop, Option, Some, None, Result, Ok, Err, refl, sym, ap, ◌∙◌, arith}
 use Rattle.std.proofs.lemmas.Bool.{eq-eqb, ne_eqb, ltb-false}
 use Rattle.std.proofs.lemmas.List.{take-take}
 use Rattle.std.specs.Option.{option_or}
 use Rattle.pcep_objects.specs.declared.fault.BodyFault.{BodyFault}
 use Rattle.pcep_objects.specs.declared.fault.BodyFault.TheVariants.{BadTlv}
-use Rattle.pcep_objects.specs.Steps.{◌>>=◌, field, cut, pieces}
+use Rattle.pcep_objects.specs.Steps.{◌>>=◌, field, cut}
 use Rattle.pcep_objects.specs.Tlvs.{Tlv, padded, tlv_size, tlv_at, tlvs_in, skipped_tlvs, first_of, may_have, are_sized, first_sized, value_in}
 use Rattle.pcep_objects.proofs.Cutting.{step}
 

@@ -3,10 +3,12 @@
 ghost use Rattle.std.specs.Prelude.{◌≡◌, Ok, IfOk, option_copied};
 ghost use Rattle.pcep_objects.specs.Steps.{Gives};
 ghost use Rattle.pcep_objects.specs.Bodies.{operational_of, bandwidth_body, ero_body, rro_body, lspa_body, kept, lsp_body, srp_body};
+ghost use Rattle.pcep_objects.specs.declared.object.BandwidthType.{BandwidthType};
+ghost use Rattle.pcep_objects.specs.declared.object.Object.TheVariants as objects;
 
 use crate::fault::BodyFault;
 use crate::object::{
-    BandwidthType, Colours, Kept, KeptClass, LspObject, Lspa, Object, Operational, Plsp, Srp,
+    BandwidthType, Colours, Hop, Kept, KeptClass, LspObject, Lspa, Object, Operational, Plsp, Srp,
 };
 use crate::routes::read_hops;
 use crate::tlvs::{read_identifiers, skip_tlvs, value_in};
@@ -15,46 +17,46 @@ use pcep_word::{Bandwidth, Priority};
 use sequence::Sequence;
 use std::alloc::{AllocError, Global};
 
-/// BANDWIDTH (RFC 5440 section 7.7).
+/// Reads the body of a BANDWIDTH (RFC 5440 section 7.7), which is of the same layout in both types.
 #[tactic(auto, unfolding(crate::specs::Bodies::bandwidth_body))]
-pub fn read_bandwidth(kind: BandwidthType, body: &[u8]) -> Result<Object, BodyFault>
-    ensures { Gives (λ x. x) result (bandwidth_body kind body.now) }
+pub fn read_bandwidth(body: &[u8]) -> Result<Bandwidth, BodyFault>
+    ensures { (kind : BandwidthType) → Gives (λ bandwidth. objects.Bandwidth kind bandwidth) result (bandwidth_body kind body.now) }
 {
     if body.len() != 4 {
         return Err(BodyFault::BadLength);
     }
     match Bandwidth::of_word(BigEndian::read_u32(body)) {
         None => Err(BodyFault::BadNumber),
-        Some(bandwidth) => Ok(Object::Bandwidth(kind, bandwidth)),
+        Some(bandwidth) => Ok(bandwidth),
     }
 }
 
-/// ERO (RFC 5440 section 7.9).
+/// Reads the body of an ERO (RFC 5440 section 7.9).
 #[tactic(auto, unfolding(crate::specs::Bodies::ero_body))]
-pub fn read_ero(alloc: Global, body: &[u8]) -> Result<Object, BodyFault>
-    ensures { Gives (λ x. x) result (ero_body body.now) }
+pub fn read_ero(alloc: Global, body: &[u8]) -> Result<Sequence<Hop>, BodyFault>
+    ensures { Gives (λ hops. objects.Ero hops) result (ero_body body.now) }
 {
-    Ok(Object::Ero(read_hops(alloc, true, body)?))
+    read_hops(alloc, true, body)
 }
 
-/// RRO (RFC 5440 section 7.10).
+/// Reads the body of an RRO (RFC 5440 section 7.10).
 #[tactic(auto, unfolding(crate::specs::Bodies::rro_body))]
-pub fn read_rro(alloc: Global, body: &[u8]) -> Result<Object, BodyFault>
-    ensures { Gives (λ x. x) result (rro_body body.now) }
+pub fn read_rro(alloc: Global, body: &[u8]) -> Result<Sequence<Hop>, BodyFault>
+    ensures { Gives (λ hops. objects.Rro hops) result (rro_body body.now) }
 {
-    Ok(Object::Rro(read_hops(alloc, false, body)?))
+    read_hops(alloc, false, body)
 }
 
-/// LSPA (RFC 5440 section 7.11).
+/// Reads the body of an LSPA (RFC 5440 section 7.11).
 #[tactic(auto, unfolding(crate::specs::Bodies::lspa_body))]
-pub fn read_lspa(body: &[u8]) -> Result<Object, BodyFault>
-    ensures { Gives (λ x. x) result (lspa_body body.now) }
+pub fn read_lspa(body: &[u8]) -> Result<Lspa, BodyFault>
+    ensures { Gives (λ lspa. objects.Lspa lspa) result (lspa_body body.now) }
 {
     if body.len() < 16 {
         return Err(BodyFault::BadLength);
     }
     skip_tlvs(&body[16..])?;
-    Ok(Object::Lspa(Lspa {
+    Ok(Lspa {
         colours: Colours {
             exclude_any: BigEndian::read_u32(body),
             include_any: BigEndian::read_u32(&body[4..]),
@@ -63,7 +65,7 @@ pub fn read_lspa(body: &[u8]) -> Result<Object, BodyFault>
         setup: Priority::capped(body[12]),
         hold: Priority::capped(body[13]),
         local_protection: body[14] & 1 != 0,
-    }))
+    })
 }
 
 /// IRO, SVEC or LOAD-BALANCING.
@@ -98,10 +100,10 @@ fn copied(alloc: Global, value: Option<&[u8]>) -> Result<Option<Sequence<u8>>, A
     }
 }
 
-/// LSP (RFC 8231 section 7.3).
+/// Reads the body of an LSP (RFC 8231 section 7.3).
 #[tactic(auto, unfolding(crate::specs::Bodies::lsp_body))]
-pub fn read_lsp(alloc: Global, body: &[u8]) -> Result<Object, BodyFault>
-    ensures { Gives (λ x. x) result (lsp_body body.now) }
+pub fn read_lsp(alloc: Global, body: &[u8]) -> Result<LspObject, BodyFault>
+    ensures { Gives (λ lsp. objects.Lsp lsp) result (lsp_body body.now) }
 {
     if body.len() < 4 {
         return Err(BodyFault::BadLength);
@@ -109,7 +111,7 @@ pub fn read_lsp(alloc: Global, body: &[u8]) -> Result<Object, BodyFault>
     let identifiers = value_in(18, Some(16), &body[4..])?;
     let name = value_in(17, None, &body[4..])?;
     let word = BigEndian::read_u32(body);
-    Ok(Object::Lsp(LspObject {
+    Ok(LspObject {
         plsp: Plsp::new(word >> 12),
         delegate: word & 0x001 != 0,
         sync: word & 0x002 != 0,
@@ -119,20 +121,20 @@ pub fn read_lsp(alloc: Global, body: &[u8]) -> Result<Object, BodyFault>
         created: word & 0x080 != 0,
         name: copied(alloc, name)?,
         identifiers: identifiers.map(read_identifiers),
-    }))
+    })
 }
 
-/// SRP (RFC 8231 section 7.2).
+/// Reads the body of an SRP (RFC 8231 section 7.2).
 #[tactic(auto, unfolding(crate::specs::Bodies::srp_body))]
-pub fn read_srp(body: &[u8]) -> Result<Object, BodyFault>
-    ensures { Gives (λ x. x) result (srp_body body.now) }
+pub fn read_srp(body: &[u8]) -> Result<Srp, BodyFault>
+    ensures { Gives (λ srp. objects.Srp srp) result (srp_body body.now) }
 {
     if body.len() < 8 {
         return Err(BodyFault::BadLength);
     }
     skip_tlvs(&body[8..])?;
-    Ok(Object::Srp(Srp {
+    Ok(Srp {
         remove: BigEndian::read_u32(body) & 1 != 0,
         id: BigEndian::read_u32(&body[4..]),
-    }))
+    })
 }

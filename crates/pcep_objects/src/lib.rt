@@ -5,7 +5,8 @@
 //! fault; `write_object` appends an object's one spelling. The layer above may rely on it that the answer is
 //! exactly the one of the definitions, for every list of bytes, that bytes never both read and have a fault,
 //! that each object that bytes read as, with P as it is written, is spelled as bytes that read as it, and that
-//! after a refusal to write the vector is as before.
+//! after a refusal to write the vector is as before. `front_of` reads the header alone, and `read_body` or the
+//! `read_` function of a class the body, for a caller that takes the object in where its class is known.
 //!
 //! The definitions stand in `specs/`: `Kinds` has the classes and types, `Tlvs` and `Routes` cut
 //! an object's lists into pieces, `Bodies`, `SessionObjects`, `RequestObjects` and `Metrics` have the layout
@@ -44,18 +45,21 @@ mod spelled;
 mod tlvs;
 mod writing;
 
+pub use bodies::{read_bandwidth, read_ero, read_lsp, read_lspa, read_rro, read_srp};
 pub use borrowed::{put_ero, put_named_lsp};
-pub use fault::{ObjectFault, WriteFault};
-pub use metric::put_metric;
+pub use fault::{BodyFault, ObjectFault, WriteFault};
+pub use kind::Kind;
+pub use metric::{put_metric, read_metric};
 pub use object::{
     BandwidthType, Capabilities, Colours, Hop, Identifiers, Kept, KeptClass, LspObject, Lspa,
     Metric, MetricType, MetricValue, Object, Operational, Plsp, Srp,
 };
 pub use paths::put_lsp;
 pub use putting::{put_bandwidth, put_lspa, put_srp};
-pub use reading::{objects_are_read_or_faulty, read_object};
+pub use reading::{Front, front_of, objects_are_read_or_faulty, read_body, read_object};
 pub use request_objects::{
-    EndPoints, NoPath, NoPathVector, Rp, put_end_points, put_no_path, put_rp,
+    EndPoints, NoPath, NoPathVector, Rp, put_end_points, put_no_path, put_rp, read_end_points,
+    read_rp,
 };
 pub use session_objects::{
     Close, Notification, Open, PcepError, put_close, put_error, put_notification, put_open,

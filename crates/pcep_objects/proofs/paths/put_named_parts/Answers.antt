@@ -1,4 +1,4 @@
-use Rattle.std.proofs.Common.{◌≡◌, ◌++◌, ◌+◌, false}
+use Rattle.std.proofs.Common.{◌≡◌, ◌++◌, false}
 use Rattle.byteorder.specs.Endian.{big_bytes}
 use Rattle.pcep_objects.specs.Spelling.{spelled, lsp_word, tlv_written, identifiers_written}
 use Rattle.pcep_objects.proofs.Fronts.{on_ok, lsp_parts}
