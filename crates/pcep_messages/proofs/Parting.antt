@@ -1,7 +1,8 @@
 -- Parts that are taken in one after the other, as a loop does, are the parts of all objects.
-use Rattle.std.proofs.Common.{◌≡◌, false, ℕ, ◌<◌, max, List, [], ◌∷◌, length, drop, map, fold, Option, Some, None, refl, sym, ap, ◌∙◌, arith}
+use Rattle.std.proofs.Common.{◌≡◌, false, ℕ, ◌<◌, max, List, [], ◌∷◌, length, drop, map, fold, Option, Some, None, Result, Ok, Err, refl, sym, ap, ◌∙◌, arith}
 use Rattle.std.specs.Option.{option_or}
-use Rattle.pcep_objects.specs.Objects.{object_at}
+use Rattle.pcep_objects.specs.Objects.{object_at, sized}
+use Rattle.pcep_objects.specs.declared.fault.BodyFault.{BodyFault}
 use Rattle.pcep_objects.specs.declared.fault.ObjectFault.{ObjectFault}
 use Rattle.pcep_objects.specs.declared.object.BandwidthType.{BandwidthType}
 use Rattle.pcep_objects.specs.declared.object.BandwidthType.TheVariants.{Requested, Current}
@@ -23,8 +24,9 @@ use Rattle.pcep_messages.specs.Counting.{first_of, opening_of, rp_of, no_path_of
 use Rattle.pcep_messages.specs.Objects.{Found, found_from, found_in}
 use Rattle.pcep_messages.specs.ObjectSteps.{next_of}
 use Rattle.pcep_messages.specs.Parts as all
-use Rattle.pcep_messages.specs.PartSteps.{no_parts, and_then, kept, ArePartsOf}
+use Rattle.pcep_messages.specs.PartSteps.{no_parts, and_then, joined, kept, ArePartsOf}
 use Rattle.pcep_messages.proofs.Finding.{step, passed}
+use Rattle.pcep_messages.proofs.Stepping.{is_next}
 use Rattle.pcep_messages.proofs.Taking.{or_assoc, or_none}
 
 -- parts that were taken in, with the objects that follow
@@ -88,6 +90,12 @@ goes_on parts taken rest object n whole some pos e is so_far =
     let one : found_in rest ≡ record { objects = object ∷ behind.objects; fault = behind.fault } =
     step false rest some ∙ rw (← e) (ap (λ (f : Found). record { objects = object ∷ f.objects; fault = f.fault }) (passed false rest n pos some)) in
     (ap (λ (p : Parts). with_objects p behind.objects) is ∙ sym (takes parts object behind.objects) ∙ ap (λ (f : Found). with_objects parts f.objects) (sym one) ∙ so_far.0, ap (λ (f : Found). f.fault) (sym one) ∙ so_far.1)
+
+-- the same by the object's body
+pub takes_body : (parts taken : Parts) (rest : List ℕ) (read : Result Object BodyFault) (n : ℕ) (whole : Found) → 0 < length rest → 0 < n → object_at rest ≡ sized n read → joined read parts ≡ Ok taken
+    → Continues parts (found_in rest) whole → Continues taken (found_in (drop n rest)) whole
+takes_body parts taken rest (Ok object) n whole some pos at took so_far = let is : taken ≡ and_then parts object = cc in goes_on parts taken rest object n whole some pos (is_next false rest object n at) is so_far
+takes_body parts taken rest (Err fault) n whole some pos at took so_far = cc
 
 pub skips : (parts : Parts) (rest : List ℕ) (n : ℕ) (whole : Found) → 0 < length rest → 0 < n → next.Skipped n ≡ next_of false (object_at rest) → Continues parts (found_in rest) whole → Continues parts (found_in (drop n rest)) whole
 skips parts rest n whole some pos e so_far =

@@ -1,7 +1,8 @@
 -- The steps by which a reader takes in the objects of a message of one item, one after the other. No public
 -- clause cites them: a lemma shows that they give the parts of the objects (Parts).
-use Rattle.std.specs.Prelude.{◌≡◌, Option, Some, None}
+use Rattle.std.specs.Prelude.{◌≡◌, Option, Some, None, Result, Ok, Err}
 use Rattle.std.specs.Option.{option_or}
+use Rattle.pcep_objects.specs.declared.fault.BodyFault.{BodyFault}
 use Rattle.pcep_objects.specs.declared.fault.ObjectFault.{ObjectFault}
 use Rattle.pcep_objects.specs.declared.object.Object.{Object}
 use Rattle.pcep_objects.specs.declared.object.Object.TheVariants as objects
@@ -39,6 +40,11 @@ and_then parts (objects.Close object) = record parts { close = option_or parts.c
 and_then parts (objects.Lsp object) = record parts { lsp = option_or parts.lsp (Some object) }
 and_then parts (objects.Srp object) = record parts { srp = option_or parts.srp (Some object) }
 and_then parts object = parts
+
+-- with the object of a body, unless that has a fault
+abbrev pub joined : Result Object BodyFault → Parts → Result Parts BodyFault
+joined (Ok object) parts = Ok (and_then parts object)
+joined (Err fault) parts = Err fault
 
 -- what a reader keeps, as the definitions have it
 abbrev pub kept : Parts → all.Parts

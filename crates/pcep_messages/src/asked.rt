@@ -48,6 +48,7 @@ pub fn begun(rp: Rp) -> Asked
 }
 
 /// Takes in one more object; one that a request doesn't name is ignored.
+#[inline(always)]
 pub fn take(asked: &mut Asked, object: &Object)
     ensures { asked.new ≡ taken asked.old object.now }
 {

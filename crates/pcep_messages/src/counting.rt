@@ -6,6 +6,7 @@ ghost use Rattle.std.specs.Option.{option_or};
 use pcep_word::Bandwidth;
 
 /// Keeps the first of its class.
+#[inline(always)]
 pub fn keep_first<T: Drop>(first: &mut Option<T>, next: T)
     ensures { first.new ≡ option_or first.old (Some next) }
 {

@@ -11,6 +11,7 @@ use std::alloc::Global;
 
 /// The body of a PCNtf, whose objects only have to be readable.
 #[tactic(auto, unfolding(crate::specs::Notifications::notification_body))]
+#[inline(never)]
 pub fn read_notification(alloc: Global, body: &[u8]) -> Result<Message, MessageFault>
     ensures { Gives (λ x. x) result (notification_body body.now) }
 {

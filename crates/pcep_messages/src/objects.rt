@@ -3,7 +3,7 @@
 ghost use Rattle.std.specs.Prelude.{◌≡◌, ◌≤◌, length, IfOk};
 ghost use Rattle.pcep_objects.specs.Objects.{object_at};
 ghost use Rattle.pcep_messages.specs.Objects.{found_by, found_in, found_in_request, IsFound};
-ghost use Rattle.pcep_messages.specs.ObjectSteps.{next_of, SizeWithin};
+ghost use Rattle.pcep_messages.specs.ObjectSteps.{next_of, skipped, SizeWithin};
 
 use pcep_objects::{Object, ObjectFault, read_object};
 use std::alloc::{AllocError, Global};
@@ -19,7 +19,6 @@ pub enum Next {
     Bad(ObjectFault),
 }
 
-#[inline(always)]
 pub fn next_object(alloc: Global, bytes: &[u8], heeds_p: bool) -> Result<Next, AllocError>
     ensures next { IfOk result (λ x. x ≡ next_of heeds_p (object_at bytes.now)) }
     ensures size { IfOk result (SizeWithin (length bytes.now)) }
@@ -41,6 +40,17 @@ pub fn next_object(alloc: Global, bytes: &[u8], heeds_p: bool) -> Result<Next, A
         Err(ObjectFault::BadLength) => Ok(Next::Bad(ObjectFault::BadLength)),
         Err(ObjectFault::BadTlv) => Ok(Next::Bad(ObjectFault::BadTlv)),
         Err(ObjectFault::BadNumber) => Ok(Next::Bad(ObjectFault::BadNumber)),
+    }
+}
+
+/// The length of an object that is skipped in place of a fault; None: it isn't.
+pub fn skipped(fault: ObjectFault, heeds_p: bool) -> Option<usize>
+    ensures { result ≡ skipped heeds_p fault }
+{
+    match fault {
+        ObjectFault::UnknownClass { p, size } => { if heeds_p && p { None } else { Some(size) } }
+        ObjectFault::UnknownType { p, size } => { if heeds_p && p { None } else { Some(size) } }
+        _ => None,
     }
 }
 

@@ -1,16 +1,19 @@
 //! The parts of a message that has one item: what counts of its objects.
 
-ghost use Rattle.std.specs.Prelude.{◌≡◌, IfOk};
+ghost use Rattle.std.specs.Prelude.{◌≡◌, IfOk, IfErr};
+ghost use Rattle.pcep_objects.specs.Objects.{body_of};
+ghost use Rattle.pcep_objects.specs.Steps.{Fails, Gives};
 ghost use Rattle.pcep_messages.specs.Objects.{found_in};
 ghost use Rattle.pcep_messages.specs.Counting.{requested_of, greater_of};
-ghost use Rattle.pcep_messages.specs.PartSteps.{no_parts, and_then, ArePartsOf};
+ghost use Rattle.pcep_messages.specs.PartSteps.{no_parts, and_then, joined, ArePartsOf};
 ghost use Rattle.pcep_objects.specs.declared.object.Object.TheVariants as objects;
 
 use crate::counting::{greater, keep_first};
-use crate::objects::{Next, next_object};
+use crate::objects::skipped;
 use pcep_objects::{
-    BandwidthType, Close, EndPoints, Hop, LspObject, Lspa, Metric, NoPath, Object, ObjectFault,
-    Open, Rp, Srp,
+    BandwidthType, BodyFault, Close, EndPoints, Front, Hop, Kind, LspObject, Lspa, Metric, NoPath,
+    Object, ObjectFault, Open, Rp, Srp, front_of, read_bandwidth, read_body, read_ero, read_lsp,
+    read_lspa, read_rp, read_srp,
 };
 use pcep_word::Bandwidth;
 use sequence::Sequence;
@@ -67,6 +70,7 @@ fn requested(
 }
 
 /// Takes one more object in.
+#[inline(always)]
 fn take_in(parts: &mut Parts, object: Object)
     ensures { parts.new ≡ and_then parts.old object }
 {
@@ -88,24 +92,57 @@ fn take_in(parts: &mut Parts, object: Object)
     }
 }
 
+/// Reads the body of an object and takes the object in. Where it has a fault of its own, nothing has changed.
+#[inline(never)]
+fn take_front(alloc: Global, front: Front<'_>, parts: &mut Parts) -> Result<(), BodyFault>
+    ensures taken { Gives (λ done. parts.new) result (joined (body_of front.entry.kind front.entry.p front.entry.body.now) parts.old) }
+    ensures own_fault { IfErr result (λ fault. Fails fault (body_of front.entry.kind front.entry.p front.entry.body.now)) }
+    ensures unchanged { IfErr result (λ fault. parts.new ≡ parts.old) }
+{
+    // The objects of most messages, each made where its class is known.
+    let (kind, p, body) = (front.kind, front.p, front.body);
+    match kind {
+        Kind::Rp => take_in(parts, Object::Rp(read_rp(p, body)?)),
+        Kind::Srp => take_in(parts, Object::Srp(read_srp(body)?)),
+        Kind::Lsp => take_in(parts, Object::Lsp(read_lsp(alloc, body)?)),
+        Kind::Ero => take_in(parts, Object::Ero(read_ero(alloc, body)?)),
+        Kind::Lspa => take_in(parts, Object::Lspa(read_lspa(body)?)),
+        Kind::RequestedBandwidth => {
+            let bandwidth = read_bandwidth(body)?;
+            take_in(
+                parts,
+                Object::Bandwidth(BandwidthType::Requested, bandwidth),
+            );
+        }
+        _ => take_in(parts, read_body(alloc, kind, p, body)?),
+    }
+    Ok(())
+}
+
 /// The parts of the objects up to the first that has a fault of its own, and that fault.
+#[inline(always)]
 pub fn parts_in(alloc: Global, bytes: &[u8]) -> Result<(Parts, Option<ObjectFault>), AllocError>
     ensures { IfOk result (λ x. ArePartsOf (found_in bytes.now) x.0 x.1) }
 {
     let mut parts = no_parts();
     let mut rest = bytes;
     while !rest.is_empty() {
-        match next_object(alloc, rest, false)? {
-            Next::Object(object, size) => {
-                take_in(&mut parts, object);
-                let (_, after) = rest.split_at(size);
-                rest = after;
-            }
-            Next::Skipped(size) => {
-                let (_, after) = rest.split_at(size);
-                rest = after;
-            }
-            Next::Bad(fault) => return Ok((parts, Some(fault))),
+        match front_of(rest) {
+            Ok(front) => match take_front(alloc, front, &mut parts) {
+                Ok(()) => {
+                    let (_, after) = rest.split_at(front.size);
+                    rest = after;
+                }
+                Err(BodyFault::OutOfMemory) => return Err(AllocError),
+                Err(own) => return Ok((parts, Some(own.into()))),
+            },
+            Err(fault) => match skipped(fault, false) {
+                Some(size) => {
+                    let (_, after) = rest.split_at(size);
+                    rest = after;
+                }
+                None => return Ok((parts, Some(fault))),
+            },
         }
     }
     Ok((parts, None))

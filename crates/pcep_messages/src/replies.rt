@@ -69,6 +69,7 @@ fn reply_of(mut parts: Parts) -> Result<Message, MessageFault>
 
 /// The body of a PCRep.
 #[tactic(auto, unfolding(crate::specs::Replies::reply_body))]
+#[inline(never)]
 pub fn read_reply(alloc: Global, body: &[u8]) -> Result<Message, MessageFault>
     ensures { Gives (λ x. x) result (reply_body body.now) }
 {

@@ -1,38 +1,36 @@
 //! State reports, whose items are told apart while their objects are read.
 
-ghost use Rattle.std.specs.Prelude.{◌≡◌};
+ghost use Rattle.std.specs.Prelude.{◌≡◌, None, IfOk, IfErr};
+ghost use Rattle.pcep_objects.specs.Objects.{body_of};
+ghost use Rattle.pcep_objects.specs.Steps.{Fails};
 ghost use Rattle.pcep_messages.specs.Faults.{Gives};
 ghost use Rattle.pcep_messages.specs.Reports.{report_body};
 ghost use Rattle.pcep_messages.specs.Messages.{report_message};
-ghost use Rattle.pcep_messages.specs.ReportSteps.{no_objects, ended, IsInside, after, after_lsp, finished_at, Steps, Ends, begun_by_srp, begun_by_lsp};
+ghost use Rattle.pcep_messages.specs.ObjectSteps.{taken_by};
+ghost use Rattle.pcep_messages.specs.ReportSteps.{no_objects, ended, started, report_from, with_report, IsInside, after, after_lsp, finished_at, Steps, Ends, begun_by_srp, begun_by_lsp};
+ghost use Rattle.pcep_messages.specs.declared.items.Place.TheVariants.{BehindSrp};
 
 use crate::counting::{greater, keep_first};
 use crate::fault::{About, MessageFault};
 use crate::items::{Item, Place, no_objects};
 use crate::message::{Message, StateReport};
-use crate::objects::{Next, next_object};
+use crate::objects::skipped;
 use crate::reports::{cut_off, report_from};
-use pcep_objects::{LspObject, Object, ObjectFault, Srp};
+use pcep_objects::{
+    BandwidthType, BodyFault, Front, Kind, LspObject, Object, ObjectFault, Srp, front_of,
+    read_bandwidth, read_body, read_ero, read_lsp, read_lspa, read_srp,
+};
 use sequence::Sequence;
 use std::alloc::Global;
 use std::mem;
 
-/// Ends the item that was read, where one has begun.
-fn end_item(
-    alloc: Global,
-    place: Place,
-    item: Item,
-    reports: &mut Vec<StateReport>,
-) -> Result<(), MessageFault>
-    ensures { Ends (ended place reports.old.items item) result reports.new.items }
+/// Ends the item that was read.
+#[inline(never)]
+fn end_item(alloc: Global, item: Item, reports: &mut Vec<StateReport>) -> Result<(), MessageFault>
+    ensures { Ends (with_report reports.old.items (report_from item None)) result reports.new.items }
 {
-    match place {
-        Place::InFront => Ok(()),
-        _ => {
-            reports.push(report_from(alloc, item)?)?;
-            Ok(())
-        }
-    }
+    reports.push(report_from(alloc, item)?)?;
+    Ok(())
 }
 
 fn begun_by_srp(srp: Srp) -> Item
@@ -51,7 +49,26 @@ fn begun_by_lsp(lsp: LspObject) -> Item
     item
 }
 
+/// Takes in an SRP, which starts an item.
+#[inline(never)]
+fn take_srp(
+    alloc: Global,
+    srp: Srp,
+    place: Place,
+    item: &mut Item,
+    reports: &mut Vec<StateReport>,
+) -> Result<Place, MessageFault>
+    ensures { Steps (started BehindSrp (begun_by_srp srp) (ended place reports.old.items item.old)) result reports.new.items item.new }
+{
+    match place {
+        Place::InFront => *item = begun_by_srp(srp),
+        _ => end_item(alloc, mem::replace(item, begun_by_srp(srp)), reports)?,
+    }
+    Ok(Place::BehindSrp)
+}
+
 /// Takes in an LSP, which starts an item where no SRP stands right in front of it.
+#[inline(never)]
 fn take_lsp(
     alloc: Global,
     lsp: LspObject,
@@ -63,10 +80,8 @@ fn take_lsp(
 {
     match place {
         Place::BehindSrp => keep_first(&mut item.lsp, lsp),
-        _ => {
-            let before = mem::replace(item, begun_by_lsp(lsp));
-            end_item(alloc, place, before, reports)?;
-        }
+        Place::InFront => *item = begun_by_lsp(lsp),
+        _ => end_item(alloc, mem::replace(item, begun_by_lsp(lsp)), reports)?,
     }
     Ok(Place::Within)
 }
@@ -82,6 +97,7 @@ fn inside(place: Place) -> Result<Place, MessageFault>
 }
 
 /// Takes in one more object; one that a report doesn't name is skipped.
+#[inline(always)]
 fn take_in(
     alloc: Global,
     object: Object,
@@ -92,11 +108,7 @@ fn take_in(
     ensures { Steps (after object (record { reports = reports.old.items; item = item.old; place = place })) result reports.new.items item.new }
 {
     match object {
-        Object::Srp(srp) => {
-            let before = mem::replace(item, begun_by_srp(srp));
-            end_item(alloc, place, before, reports)?;
-            Ok(Place::BehindSrp)
-        }
+        Object::Srp(srp) => take_srp(alloc, srp, place, item, reports),
         Object::Lsp(lsp) => take_lsp(alloc, lsp, place, item, reports),
         Object::Ero(hops) => {
             keep_first(&mut item.ero, hops);
@@ -116,6 +128,54 @@ fn take_in(
         }
         _ => Ok(place),
     }
+}
+
+/// Reads the body of an object and takes the object in. The outer fault is the object's own, and then nothing
+/// has changed.
+#[inline(always)]
+fn take_front(
+    alloc: Global,
+    front: Front<'_>,
+    place: Place,
+    item: &mut Item,
+    reports: &mut Vec<StateReport>,
+) -> Result<Result<Place, MessageFault>, BodyFault>
+    ensures taken { IfOk result (λ step. Steps (taken_by after (body_of front.entry.kind front.entry.p front.entry.body.now) (record { reports = reports.old.items; item = item.old; place = place })) step reports.new.items item.new) }
+    ensures own_fault { IfErr result (λ fault. Fails fault (body_of front.entry.kind front.entry.p front.entry.body.now)) }
+    ensures same_item { IfErr result (λ fault. item.new ≡ item.old) }
+    ensures same_reports { IfErr result (λ fault. reports.new.items ≡ reports.old.items) }
+{
+    // The objects of most reports, each made where its class is known.
+    let (kind, body) = (front.kind, front.body);
+    Ok(match kind {
+        Kind::Srp => take_in(alloc, Object::Srp(read_srp(body)?), place, item, reports),
+        Kind::Lsp => take_in(
+            alloc,
+            Object::Lsp(read_lsp(alloc, body)?),
+            place,
+            item,
+            reports,
+        ),
+        Kind::Ero => take_in(
+            alloc,
+            Object::Ero(read_ero(alloc, body)?),
+            place,
+            item,
+            reports,
+        ),
+        Kind::Lspa => take_in(alloc, Object::Lspa(read_lspa(body)?), place, item, reports),
+        Kind::RequestedBandwidth => {
+            let object = Object::Bandwidth(BandwidthType::Requested, read_bandwidth(body)?);
+            take_in(alloc, object, place, item, reports)
+        }
+        _ => take_in(
+            alloc,
+            read_body(alloc, kind, front.p, body)?,
+            place,
+            item,
+            reports,
+        ),
+    })
 }
 
 /// The reports at the end of the objects, or the fault where an object has one of its own.
@@ -148,23 +208,30 @@ fn reports_in(alloc: Global, body: &[u8]) -> Result<Vec<StateReport>, MessageFau
     let mut place = Place::InFront;
     let mut rest = body;
     while !rest.is_empty() {
-        match next_object(alloc, rest, false)? {
-            Next::Object(object, size) => {
-                place = take_in(alloc, object, place, &mut item, &mut reports)?;
-                let (_, after) = rest.split_at(size);
-                rest = after;
-            }
-            Next::Skipped(size) => {
-                let (_, after) = rest.split_at(size);
-                rest = after;
-            }
-            Next::Bad(fault) => return finish(alloc, place, item, reports, Some(fault)),
+        match front_of(rest) {
+            Ok(front) => match take_front(alloc, front, place, &mut item, &mut reports) {
+                Ok(step) => {
+                    place = step?;
+                    let (_, after) = rest.split_at(front.size);
+                    rest = after;
+                }
+                Err(BodyFault::OutOfMemory) => return Err(MessageFault::OutOfMemory),
+                Err(own) => return finish(alloc, place, item, reports, Some(own.into())),
+            },
+            Err(fault) => match skipped(fault, false) {
+                Some(size) => {
+                    let (_, after) = rest.split_at(size);
+                    rest = after;
+                }
+                None => return finish(alloc, place, item, reports, Some(fault)),
+            },
         }
     }
     finish(alloc, place, item, reports, None)
 }
 
 /// The body of a PCRpt.
+#[inline(never)]
 pub fn read_reports(alloc: Global, body: &[u8]) -> Result<Message, MessageFault>
     ensures { Gives (λ x. x) result (report_message body.now) }
 {

@@ -1,6 +1,10 @@
 //! Requests, which are told apart while the objects of a PCReq are read.
 
-ghost use Rattle.std.specs.Prelude.{◌≡◌, None};
+ghost use Rattle.std.specs.Prelude.{◌≡◌, List, None, Some, Err, IfOk, IfErr};
+ghost use Rattle.pcep_objects.specs.Objects.{body_of};
+ghost use Rattle.pcep_objects.specs.Steps.{Fails};
+ghost use Rattle.pcep_messages.specs.ObjectSteps.{taken_by};
+ghost use Rattle.pcep_messages.specs.declared.message.PathRequest.{PathRequest};
 ghost use Rattle.pcep_messages.specs.Faults.{Gives};
 ghost use Rattle.pcep_messages.specs.Requests.{lacks_rro, request_with, fault_of_kept, fault_in_front, requests_in_body, request_body};
 ghost use Rattle.pcep_messages.specs.RequestSteps.{place_fault, request_from, ended, after_rp, after, finished_at, Steps, Joins};
@@ -8,9 +12,12 @@ ghost use Rattle.pcep_messages.specs.RequestSteps.{place_fault, request_from, en
 use crate::asked::{Asked, begun, take};
 use crate::fault::{About, MessageFault};
 use crate::message::{Message, PathRequest};
-use crate::objects::{Next, next_object};
+use crate::objects::skipped;
 use crate::reports::{colours_of, priorities_of};
-use pcep_objects::{EndPoints, KeptClass, MetricType, Object, ObjectFault, Rp};
+use pcep_objects::{
+    BandwidthType, BodyFault, EndPoints, Front, KeptClass, Kind, MetricType, Object, ObjectFault,
+    Rp, front_of, read_bandwidth, read_body, read_end_points, read_lspa, read_metric, read_rp,
+};
 use sequence::Sequence;
 use std::alloc::Global;
 
@@ -85,7 +92,18 @@ fn place_fault(about: About, first: Option<EndPoints>, object: &Object) -> Optio
     }
 }
 
+/// The fault where an object has one of its own.
+fn cut_off(asked: Option<Asked>, fault: ObjectFault) -> MessageFault
+    ensures { (requests : List PathRequest) → finished_at asked requests (Some fault) ≡ Err result }
+{
+    match asked {
+        None => MessageFault::BadObject(fault, About::Nothing),
+        Some(asked) => MessageFault::BadObject(fault, About::Request(asked.rp.id)),
+    }
+}
+
 /// The requests at the end of the objects, or the fault where an object has one of its own.
+#[inline(always)]
 fn finish(
     asked: Option<Asked>,
     mut requests: Vec<PathRequest>,
@@ -95,10 +113,8 @@ fn finish(
 {
     match (asked, own) {
         (None, None) => Err(MessageFault::Refused(6, 1, About::Nothing)),
-        (None, Some(fault)) => Err(MessageFault::BadObject(fault, About::Nothing)),
-        (Some(asked), Some(fault)) => {
-            Err(MessageFault::BadObject(fault, About::Request(asked.rp.id)))
-        }
+        (None, Some(fault)) => Err(cut_off(None, fault)),
+        (Some(asked), Some(fault)) => Err(cut_off(Some(asked), fault)),
         (Some(asked), None) => {
             requests.push(request_from(&asked)?)?;
             Ok(requests)
@@ -120,6 +136,7 @@ fn end_request(
 }
 
 /// Takes in an RP, which ends the request in front of it and begins its own.
+#[inline(never)]
 fn take_rp(
     rp: Rp,
     asked: &mut Option<Asked>,
@@ -136,6 +153,7 @@ fn take_rp(
 }
 
 /// Takes in an object that is no RP.
+#[inline(always)]
 fn take_other(object: &Object, asked: &mut Option<Asked>) -> Result<(), MessageFault>
     ensures { Joins asked.old object.now result asked.new }
 {
@@ -155,6 +173,7 @@ fn take_other(object: &Object, asked: &mut Option<Asked>) -> Result<(), MessageF
 }
 
 /// Takes in one more object.
+#[inline(always)]
 fn take_in(
     object: Object,
     asked: &mut Option<Asked>,
@@ -169,6 +188,38 @@ fn take_in(
     Ok(requests)
 }
 
+/// Reads the body of an object and takes the object in. The outer fault is the object's own, and then what was
+/// asked has not changed.
+#[inline(always)]
+fn take_front(
+    alloc: Global,
+    front: Front<'_>,
+    asked: &mut Option<Asked>,
+    requests: Vec<PathRequest>,
+) -> Result<Result<Vec<PathRequest>, MessageFault>, BodyFault>
+    ensures taken { IfOk result (λ step. Steps (λ v. v.items) (taken_by after (body_of front.entry.kind front.entry.p front.entry.body.now) (record { requests = requests.items; asked = asked.old })) step asked.new) }
+    ensures own_fault { IfErr result (λ fault. Fails fault (body_of front.entry.kind front.entry.p front.entry.body.now)) }
+    ensures same_asked { IfErr result (λ fault. asked.new ≡ asked.old) }
+{
+    // The objects of most requests, each made where its class is known.
+    let (kind, p, body) = (front.kind, front.p, front.body);
+    Ok(match kind {
+        Kind::Rp => take_in(Object::Rp(read_rp(p, body)?), asked, requests),
+        Kind::EndPoints => take_in(
+            Object::EndPoints(read_end_points(p, body)?),
+            asked,
+            requests,
+        ),
+        Kind::Lspa => take_in(Object::Lspa(read_lspa(body)?), asked, requests),
+        Kind::Metric => take_in(Object::Metric(read_metric(body)?), asked, requests),
+        Kind::RequestedBandwidth => {
+            let object = Object::Bandwidth(BandwidthType::Requested, read_bandwidth(body)?);
+            take_in(object, asked, requests)
+        }
+        _ => take_in(read_body(alloc, kind, p, body)?, asked, requests),
+    })
+}
+
 fn requests_in(alloc: Global, body: &[u8]) -> Result<Vec<PathRequest>, MessageFault>
     ensures { Gives (λ v. v.items) result (requests_in_body body.now) }
 {
@@ -177,17 +228,23 @@ fn requests_in(alloc: Global, body: &[u8]) -> Result<Vec<PathRequest>, MessageFa
     let mut asked = None;
     let mut rest = body;
     while !rest.is_empty() {
-        match next_object(alloc, rest, true)? {
-            Next::Object(object, size) => {
-                requests = take_in(object, &mut asked, requests)?;
-                let (_, after) = rest.split_at(size);
-                rest = after;
-            }
-            Next::Skipped(size) => {
-                let (_, after) = rest.split_at(size);
-                rest = after;
-            }
-            Next::Bad(fault) => return finish(asked, requests, Some(fault)),
+        match front_of(rest) {
+            Ok(front) => match take_front(alloc, front, &mut asked, requests) {
+                Ok(step) => {
+                    requests = step?;
+                    let (_, after) = rest.split_at(front.size);
+                    rest = after;
+                }
+                Err(BodyFault::OutOfMemory) => return Err(MessageFault::OutOfMemory),
+                Err(own) => return Err(cut_off(asked, own.into())),
+            },
+            Err(fault) => match skipped(fault, true) {
+                Some(size) => {
+                    let (_, after) = rest.split_at(size);
+                    rest = after;
+                }
+                None => return finish(asked, requests, Some(fault)),
+            },
         }
     }
     finish(asked, requests, None)
@@ -195,6 +252,7 @@ fn requests_in(alloc: Global, body: &[u8]) -> Result<Vec<PathRequest>, MessageFa
 
 /// The body of a PCReq.
 #[tactic(auto, unfolding(crate::specs::Requests::request_body))]
+#[inline(never)]
 pub fn read_requests(alloc: Global, body: &[u8]) -> Result<Message, MessageFault>
     ensures { Gives (λ x. x) result (request_body body.now) }
 {

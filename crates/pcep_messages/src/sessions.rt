@@ -12,6 +12,7 @@ use std::alloc::Global;
 
 /// The body of an Open.
 #[tactic(auto, unfolding(crate::specs::Sessions::opening_body))]
+#[inline(never)]
 pub fn read_opening(alloc: Global, body: &[u8]) -> Result<Message, MessageFault>
     ensures { Gives (λ x. x) result (opening_body body.now) }
 {
@@ -27,6 +28,7 @@ pub fn read_opening(alloc: Global, body: &[u8]) -> Result<Message, MessageFault>
 
 /// The body of a Keepalive, whose objects are skipped.
 #[tactic(auto, unfolding(crate::specs::Sessions::keepalive_body))]
+#[inline(never)]
 pub fn read_keepalive(alloc: Global, body: &[u8]) -> Result<Message, MessageFault>
     ensures { Gives (λ x. x) result (keepalive_body body.now) }
 {
@@ -48,6 +50,7 @@ fn reason_of(close: Option<Close>) -> u8
 
 /// The body of a Close.
 #[tactic(auto, unfolding(crate::specs::Sessions::close_body))]
+#[inline(never)]
 pub fn read_close(alloc: Global, body: &[u8]) -> Result<Message, MessageFault>
     ensures { Gives (λ x. x) result (close_body body.now) }
 {

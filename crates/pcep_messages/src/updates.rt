@@ -70,6 +70,7 @@ fn update_of(alloc: Global, mut parts: Parts) -> Result<Message, MessageFault>
 
 /// The body of a PCUpd.
 #[tactic(auto, unfolding(crate::specs::Updates::update_body))]
+#[inline(never)]
 pub fn read_update(alloc: Global, body: &[u8]) -> Result<Message, MessageFault>
     ensures { Gives (λ x. x) result (update_body body.now) }
 {
@@ -146,6 +147,7 @@ fn initiate_of(alloc: Global, mut parts: Parts) -> Result<Message, MessageFault>
 
 /// The body of a PCInitiate.
 #[tactic(auto, unfolding(crate::specs::Updates::initiate_body))]
+#[inline(never)]
 pub fn read_initiate(alloc: Global, body: &[u8]) -> Result<Message, MessageFault>
     ensures { Gives (λ x. x) result (initiate_body body.now) }
 {
