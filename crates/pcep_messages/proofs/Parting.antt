@@ -1,11 +1,9 @@
 -- Parts that are taken in one after the other, as a loop does, are the parts of all objects.
-use Rattle.std.proofs.Common.{◌≡◌, false, ℕ, ◌<◌, max, List, [], ◌∷◌, length, drop, map, fold, Option, Some, None, Result, Ok, Err, refl, sym, ap, ◌∙◌, arith}
+use Rattle.std.proofs.Common.{◌≡◌, false, ℕ, ◌<◌, List, [], ◌∷◌, length, drop, map, fold, Option, Some, None, Result, Ok, Err, refl, sym, ap, ◌∙◌, arith}
 use Rattle.std.specs.Option.{option_or}
 use Rattle.pcep_objects.specs.Objects.{object_at, sized}
 use Rattle.pcep_objects.specs.declared.fault.BodyFault.{BodyFault}
 use Rattle.pcep_objects.specs.declared.fault.ObjectFault.{ObjectFault}
-use Rattle.pcep_objects.specs.declared.object.BandwidthType.{BandwidthType}
-use Rattle.pcep_objects.specs.declared.object.BandwidthType.TheVariants.{Requested, Current}
 use Rattle.pcep_objects.specs.declared.object.Hop.{Hop}
 use Rattle.pcep_objects.specs.declared.object.LspObject.{LspObject}
 use Rattle.pcep_objects.specs.declared.object.Lspa.{Lspa}
@@ -20,7 +18,7 @@ use Rattle.pcep_objects.specs.declared.session_objects.Open.{Open}
 use Rattle.pcep_objects.specs.declared.object.Object.TheVariants as objects
 use Rattle.pcep_messages.specs.declared.objects.Next.TheVariants as next
 use Rattle.pcep_messages.specs.declared.parts.Parts.{Parts}
-use Rattle.pcep_messages.specs.Counting.{first_of, opening_of, rp_of, no_path_of, end_points_of, metric_of, ero_of, lspa_of, close_of, lsp_of, srp_of, requested_of, greater_of, greatest_requested}
+use Rattle.pcep_messages.specs.Counting.{first_of, opening_of, rp_of, no_path_of, end_points_of, metric_of, ero_of, lspa_of, close_of, lsp_of, srp_of, requested_of, greater_of}
 use Rattle.pcep_messages.specs.Objects.{Found, found_from, found_in}
 use Rattle.pcep_messages.specs.ObjectSteps.{next_of}
 use Rattle.pcep_messages.specs.Parts as all

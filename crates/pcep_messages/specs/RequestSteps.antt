@@ -1,6 +1,6 @@
 -- The steps by which a reader takes in the objects of a PCReq, one after the other. No public clause cites
 -- them: a lemma shows that they give the requests (Requests).
-use Rattle.std.specs.Prelude.{◌≡◌, max, Bool, false, true, not, ◌&&◌, ◌||◌, nat_lt, List, [], ◌∷◌, ◌++◌, Option, Some, None, is_none, Result, Ok, Err, if◌then◌else◌}
+use Rattle.std.specs.Prelude.{◌≡◌, max, false, true, not, ◌&&◌, ◌||◌, nat_lt, List, [], ◌∷◌, ◌++◌, Option, Some, None, is_none, Result, Ok, Err, if◌then◌else◌}
 use Rattle.std.specs.Option.{option_or}
 use Rattle.pcep_objects.specs.Steps.{◌>>=◌}
 use Rattle.pcep_objects.specs.declared.fault.ObjectFault.{ObjectFault}

@@ -1,5 +1,5 @@
-use Rattle.std.proofs.Common.{◌≡◌, false, ◌<◌, length, rules, arith, refl, sym, ◌∙◌}
-use Rattle.pcep_objects.specs.Objects.{object_at, body_of}
+use Rattle.std.proofs.Common.{◌≡◌, false, ◌<◌, length, rules, arith, sym, ◌∙◌}
+use Rattle.pcep_objects.specs.Objects.{body_of}
 use Rattle.pcep_objects.specs.declared.fault.BodyFault.TheVariants as body
 use Rattle.pcep_messages.specs.Objects.{found_in}
 use Rattle.pcep_messages.proofs.Parting.{begins, takes_body, skips, stops, ends}

@@ -1,6 +1,6 @@
-use Rattle.std.proofs.Common.{◌≡◌, false, ◌<◌, Some, None, Ok, length, rules, arith, refl, sym, ap, ◌∙◌}
+use Rattle.std.proofs.Common.{◌≡◌, false, ◌<◌, Some, length, rules, arith, sym, ◌∙◌}
 use Rattle.std.proofs.lemmas.Result.{err_from_is_err_and}
-use Rattle.pcep_objects.specs.Objects.{object_at, body_of}
+use Rattle.pcep_objects.specs.Objects.{body_of}
 use Rattle.pcep_objects.specs.declared.fault.BodyFault.TheVariants as body
 use Rattle.pcep_messages.specs.Reports.{report_body}
 use Rattle.pcep_messages.specs.ReportSteps.{State, after, finished, finished_at}

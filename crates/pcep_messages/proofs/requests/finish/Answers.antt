@@ -1,4 +1,3 @@
-use Rattle.std.proofs.Common.{◌≡◌}
 use Rattle.pcep_messages.specs.RequestSteps.{finished_at}
 use Rattle.pcep_messages.proofs.Stepping.{is_fault}
 use Rattle.pcep_messages.proofs.requests.finish.Goals as goal
