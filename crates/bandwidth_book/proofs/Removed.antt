@@ -1,5 +1,5 @@
 -- The running sums after an entry is taken out.
-use Rattle.std.proofs.Common.{◌≡◌, ℕ, zero, suc, Bool, List, [], ◌∷◌, Option, Some, None, refl, sym, ap, subst, ◌∙◌, arith, get_or, slice_get, position, sum_by}
+use Rattle.std.proofs.Common.{◌≡◌, ◌<◌, ℕ, length, zero, suc, Bool, List, [], ◌∷◌, Option, Some, None, refl, ap, subst, ◌∙◌, arith, get_or, slice_get, position, sum_by}
 use Rattle.std.specs.List.{swap_remove}
 use Rattle.std.proofs.lemmas.Option.{same_Some}
 use Rattle.std.proofs.lemmas.List.Sums.{sum_by-cons, sum_by-swap_remove}
@@ -24,12 +24,13 @@ at_place (e ∷ es) zero d v h = same_Some _ _ h
 at_place (e ∷ es) (suc i) d v h = at_place es i d v h
 
 unused_part : (p : ℕ) (o : Option Holdings) (v : Holdings) → IsUnused o → o ≡ Some v → most v.held p ≡ 0
-unused_part p None v u h = absurd u
+unused_part p None v u h = absurd (cc)
 unused_part p (Some e) v u h = let same : e ≡ v = same_Some _ _ h in let none : v.held ≡ [] = subst (λ (k : Holdings). k.held ≡ []) same u in ap (λ hs. most hs p) none
 
-some_of : (o : Option Holdings) → IsUnused o → (v : Holdings) × (o ≡ Some v)
-some_of None u = absurd u
-some_of (Some e) u = (e, refl)
+value_at : {K : Type 0} (es : List (K × Holdings)) (i : ℕ) → i < length es → (v : Holdings) × (slice_get (values_of es) i ≡ Some v)
+value_at [] i h = absurd (omega (arith, h))
+value_at (e ∷ es) zero h = (e.1, refl)
+value_at (e ∷ es) (suc i) h = value_at es i (omega (arith, h))
 
 pub total_swap_remove_entry : {K : Type 0} (p : ℕ) (test : K → Bool) (es : List (K × Holdings)) → IsUnused (lookup test es) → total p (swap_remove_entry test es) ≡ total p es
 total_swap_remove_entry p test [] u = refl
@@ -42,9 +43,9 @@ total_swap_remove_entry {K} p test (e ∷ es) u = go (position test (keys_of (e 
     go None h = ap (total p) (swap_remove_entry-missing test (e ∷ es) h)
     go (Some i) h =
         let found = Found-position test (e ∷ es) i h in
-        let v = some_of (lookup test (e ∷ es)) u in
-        let there = at_place (e ∷ es) i e v.0 (sym found.value ∙ v.1) in
-        let nothing : part p (get_or (e ∷ es) i e) ≡ 0 = ap (λ (k : Holdings). most k.held p) there ∙ unused_part p (lookup test (e ∷ es)) v.0 u v.1 in
+        let v = value_at (e ∷ es) i found.within in
+        let there = at_place (e ∷ es) i e v.0 v.1 in
+        let nothing : part p (get_or (e ∷ es) i e) ≡ 0 = ap (λ (k : Holdings). most k.held p) there ∙ unused_part p (lookup test (e ∷ es)) v.0 u (found.value ∙ v.1) in
         let sums = sum_by-swap_remove (part p) (e ∷ es) i e found.within in
         ap (total p) (swap_remove_entry-found test (e ∷ es) i e h)
         ∙ (total-is p (swap_remove (e ∷ es) i e)

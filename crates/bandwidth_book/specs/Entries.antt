@@ -1,5 +1,5 @@
 -- The entries of a link, by key.
-use Rattle.std.specs.Prelude.{◌≡◌, ◌<◌, ℕ, ◌+◌, Bool, List, [], ◌∷◌, Option, Some, None, is_some, slice_index}
+use Rattle.std.specs.Prelude.{⊤, ◌≡◌, ◌<◌, ℕ, ◌+◌, Bool, List, [], ◌∷◌, Option, Some, None, is_some, slice_index}
 use Rattle.std.specs.Map.{lookup}
 use Rattle.bandwidth_book.specs.declared.held.Held.{Held}
 use Rattle.bandwidth_book.specs.Holdings.{Holdings}
@@ -36,7 +36,12 @@ module _ {K : Type 0} where
   abbrev pub promised_to : (K → K → Bool) → List (K × Holdings) → K → ℕ
   promised_to eq es k = promised_in (lookup (eq k) es)
 
--- an entry that holds nothing
+-- no entry, or one that holds nothing
 abbrev pub IsUnused : Option Holdings → Type 0
-IsUnused None = ⊥
+IsUnused None = ⊤
 IsUnused (Some e) = e.held ≡ []
+
+-- an entry that holds something
+abbrev pub IsUsed : Option Holdings → Type 0
+IsUsed None = ⊥
+IsUsed (Some e) = e.held ≡ [] → ⊥

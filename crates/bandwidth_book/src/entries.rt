@@ -1,8 +1,8 @@
 //! The entries of a link by key, and its running sums.
-ghost use Rattle.std.specs.Prelude.{◌≡◌, ◌<◌, ◌≤◌, ◌+◌, ◌-◌, ◌^◌, ◌++◌, ◌∷◌, [], ℕ, length, slice_index, OnOk, OnErr, IsSome, IsTrue, if◌then◌else◌, true, false};
+ghost use Rattle.std.specs.Prelude.{◌≡◌, ◌<◌, ◌≤◌, ◌+◌, ◌-◌, ◌^◌, ◌++◌, ◌∷◌, [], ℕ, length, slice_index, OnOk, OnErr, IsSome, IsTrue, if◌then◌else◌, not, true, false};
 ghost use Rattle.bandwidth_book.specs.Held.{most, AreMaxima, with_one, without_one};
 ghost use Rattle.indexmap.specs.IndexMap.{get, IsUnique};
-ghost use Rattle.bandwidth_book.specs.Entries.{AreSums, has_entry, kept, promised_to, total, IsUnused};
+ghost use Rattle.bandwidth_book.specs.Entries.{AreSums, has_entry, kept, promised_to, total, IsUnused, IsUsed};
 
 use crate::entry::Entry;
 use crate::held::Held;
@@ -188,7 +188,7 @@ pub fn promise_one<K: Eq + Hash + Copy + Drop>(
     promised
 }
 
-/// Takes the promises to the key back, and says whether its entry holds nothing.
+/// Takes the promises to the key back, and says whether it has no entry that holds something.
 #[tactic(auto, using(crate::proofs::Sums::length_set_value))]
 fn take_back<K: Eq + Hash + Copy + Drop>(entries: &mut IndexMap<K, Entry>, key: K) -> bool
     ensures totals { (p : ℕ) → total p entries.new.entries ≡ total p entries.old.entries }
@@ -196,25 +196,25 @@ fn take_back<K: Eq + Hash + Copy + Drop>(entries: &mut IndexMap<K, Entry>, key: 
     ensures entries { (k : K) → has_entry K.eq entries.new.entries k ≡ has_entry K.eq entries.old.entries k }
     ensures kept { (k : K) → kept K.eq entries.new.entries k ≡ kept K.eq entries.old.entries k }
     ensures unused { IsTrue result → IsUnused (get K.eq entries.new key) }
-    ensures used { result ≡ false → has_entry K.eq entries.new.entries key ≡ true → kept K.eq entries.new.entries key ≡ [] → ⊥ }
+    ensures used { result ≡ false → IsUsed (get K.eq entries.new key) }
 {
     match entries.get_mut(&key) {
         Some(entry) => {
             entry.withdraw();
             entry.is_empty()
         }
-        None => false,
+        None => true,
     }
 }
 
-/// Takes the promises to the key back, and says whether its entry holds nothing.
+/// Takes the promises to the key back, and says whether it has no entry that holds something.
 fn withdraw_from<K: Eq + Hash + Copy + Drop>(entries: &mut IndexMap<K, Entry>, key: K) -> bool
     ensures totals { (p : ℕ) → total p entries.new.entries ≡ total p entries.old.entries }
     ensures count { length entries.new.entries ≡ length entries.old.entries }
     ensures entries { (k : K) → has_entry K.eq entries.new.entries k ≡ has_entry K.eq entries.old.entries k }
     ensures kept { (k : K) → kept K.eq entries.new.entries k ≡ kept K.eq entries.old.entries k }
     ensures unused { IsTrue result → IsUnused (get K.eq entries.new key) }
-    ensures used { result ≡ false → has_entry K.eq entries.new.entries key ≡ true → kept K.eq entries.new.entries key ≡ [] → ⊥ }
+    ensures used { result ≡ false → IsUsed (get K.eq entries.new key) }
     ensures unique { IsUnique K.eq entries.new }
 {
     let unused = take_back(entries, key);
@@ -222,9 +222,10 @@ fn withdraw_from<K: Eq + Hash + Copy + Drop>(entries: &mut IndexMap<K, Entry>, k
     unused
 }
 
-/// Takes the promises to the key back, and its entry out if it holds nothing.
+/// Takes the promises to the key back, and its entry out if it holds nothing. Says whether it has none then.
 #[tactic(auto, using(crate::proofs::Removed::total_swap_remove_entry))]
-pub fn withdraw<K: Eq + Hash + Copy + Drop>(entries: &mut IndexMap<K, Entry>, key: K)
+pub fn withdraw<K: Eq + Hash + Copy + Drop>(entries: &mut IndexMap<K, Entry>, key: K) -> bool
+    ensures gone { result ≡ not (has_entry K.eq entries.new.entries key) }
     ensures totals { (p : ℕ) → total p entries.new.entries ≡ total p entries.old.entries }
     ensures count { length entries.new.entries ≤ length entries.old.entries }
     ensures entries { (k : K) → has_entry K.eq entries.new.entries k ≡ true → has_entry K.eq entries.old.entries k ≡ true }
@@ -232,7 +233,9 @@ pub fn withdraw<K: Eq + Hash + Copy + Drop>(entries: &mut IndexMap<K, Entry>, ke
     ensures kept { (k : K) → kept K.eq entries.new.entries k ≡ kept K.eq entries.old.entries k }
     ensures unique { IsUnique K.eq entries.new }
 {
-    if withdraw_from(entries, key) {
+    let unused = withdraw_from(entries, key);
+    if unused {
         let _ = entries.swap_remove(&key);
     }
+    unused
 }

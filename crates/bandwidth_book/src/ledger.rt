@@ -1,5 +1,5 @@
 //! What is reserved on one link.
-ghost use Rattle.std.specs.Prelude.{◌≡◌, ◌<◌, ◌≤◌, ◌+◌, ◌-◌, ◌^◌, [], ℕ, length, slice_index, OnOk, if◌then◌else◌, true, false};
+ghost use Rattle.std.specs.Prelude.{◌≡◌, ◌<◌, ◌≤◌, ◌+◌, ◌-◌, ◌^◌, [], ℕ, length, slice_index, OnOk, if◌then◌else◌, not, true, false};
 ghost use Rattle.indexmap.specs.IndexMap.{IsUnique, keys};
 ghost use Rattle.std.proofs.lemmas.Map.Keys.{IsDistinct-prop};
 ghost use Rattle.bandwidth_book.specs.Held.{with_one, without_one, most, AreMaxima};
@@ -68,21 +68,15 @@ impl<K: Eq + Hash + Copy + Drop> Ledger<K> {
         promise_one(alloc, &mut self.entries, key)
     }
 
-    /// Takes the promises to the key back, and its entry out if it holds nothing.
-    pub fn withdraw(&mut self, key: K)
+    /// Takes the promises to the key back, and its entry out if it holds nothing. Says whether it has none then.
+    pub fn withdraw(&mut self, key: K) -> bool
+        ensures gone { result ≡ not (has_entry K.eq self.new.entries.entries key) }
         ensures sums { self.new.sums ≡ self.old.sums }
         ensures entries { (k : K) → has_entry K.eq self.new.entries.entries k ≡ true → has_entry K.eq self.old.entries.entries k ≡ true }
         ensures swept { (k : K) → has_entry K.eq self.new.entries.entries k ≡ true → kept K.eq self.new.entries.entries k ≡ [] → K.eq key k ≡ false }
         ensures kept { (k : K) → kept K.eq self.new.entries.entries k ≡ kept K.eq self.old.entries.entries k }
     {
-        withdraw(&mut self.entries, key);
-    }
-
-    /// Whether the key has an entry, which may hold nothing.
-    pub fn has(&self, key: K) -> bool
-        ensures { result ≡ has_entry K.eq self.now.entries.entries key }
-    {
-        self.entries.contains_key(&key)
+        withdraw(&mut self.entries, key)
     }
 
     /// The stored sums.

@@ -1,6 +1,6 @@
 //! The ledgers of links in their order, and what one path does to them. A link that isn't there holds
 //! nothing, and a path's part on it is passed over.
-ghost use Rattle.std.specs.Prelude.{◌≡◌, ◌<◌, ◌≤◌, ◌+◌, ◌^◌, ◌∷◌, [], ℕ, length, OnOk, if◌then◌else◌, ◌==◌, ◌&&◌, true, false};
+ghost use Rattle.std.specs.Prelude.{◌≡◌, ◌<◌, ◌≤◌, ◌+◌, ◌^◌, ◌∷◌, [], ℕ, length, OnOk, if◌then◌else◌, ◌==◌, ◌&&◌, not, true, false};
 ghost use Rattle.bandwidth_book.specs.declared.held.Held.{Held};
 ghost use Rattle.bandwidth_book.specs.Held.{with_all, without_all};
 ghost use Rattle.bandwidth_book.specs.Ledgers.{has_entry_at, held_at, promised_on, held_by_path};
@@ -52,15 +52,17 @@ fn promise_at<K: Eq + Hash + Copy + Drop>(
     ledger.promise(alloc, key)
 }
 
-/// Takes the promises to the key back on one link, and its entry out if it holds nothing.
-fn withdraw_at<K: Eq + Hash + Copy + Drop>(ledgers: &mut [Ledger<K>], number: usize, key: K)
+/// Takes the promises to the key back on one link, and its entry out if it holds nothing. Says whether it
+/// has none then.
+fn withdraw_at<K: Eq + Hash + Copy + Drop>(ledgers: &mut [Ledger<K>], number: usize, key: K) -> bool
     requires { number < length ledgers.old }
+    ensures gone { result ≡ not (has_entry_at K.eq ledgers.new number key) }
     ensures entries { (l : ℕ) (k : K) → has_entry_at K.eq ledgers.new l k ≡ true → has_entry_at K.eq ledgers.old l k ≡ true }
     ensures swept { (l : ℕ) (k : K) → has_entry_at K.eq ledgers.new l k ≡ true → held_at K.eq ledgers.new l k ≡ [] → (number == l && K.eq key k) ≡ false }
     ensures kept { (l : ℕ) (k : K) → held_at K.eq ledgers.new l k ≡ held_at K.eq ledgers.old l k }
 {
     let ledger = &mut ledgers[number];
-    ledger.withdraw(key);
+    ledger.withdraw(key)
 }
 
 /// Adds what a path holds on a link that may be there.
@@ -121,17 +123,22 @@ pub fn promise_if_there<K: Eq + Hash + Copy + Drop>(
 }
 
 /// Takes the promises to the key back on a link that may be there, and its entry out if it holds nothing.
+/// Says whether it has none then.
+#[tactic(auto, using(crate::proofs::Nothing::no_entry_past))]
 pub fn withdraw_if_there<K: Eq + Hash + Copy + Drop>(
     ledgers: &mut [Ledger<K>],
     number: usize,
     key: K,
-)
+) -> bool
+    ensures gone { result ≡ not (has_entry_at K.eq ledgers.new number key) }
     ensures entries { (l : ℕ) (k : K) → has_entry_at K.eq ledgers.new l k ≡ true → has_entry_at K.eq ledgers.old l k ≡ true }
     ensures swept { (l : ℕ) (k : K) → l < length ledgers.old → has_entry_at K.eq ledgers.new l k ≡ true → held_at K.eq ledgers.new l k ≡ [] → (number == l && K.eq key k) ≡ false }
     ensures kept { (l : ℕ) (k : K) → held_at K.eq ledgers.new l k ≡ held_at K.eq ledgers.old l k }
 {
     if number < ledgers.len() {
-        withdraw_at(ledgers, number, key);
+        withdraw_at(ledgers, number, key)
+    } else {
+        true
     }
 }
 
@@ -167,16 +174,5 @@ pub fn drop_path<K: Eq + Hash + Copy + Drop>(
 {
     for number in path {
         drop_if_there(ledgers, *number, key, held);
-    }
-}
-
-/// Takes the promises to the key back on a path's links, and the entries out that hold nothing.
-pub fn withdraw_path<K: Eq + Hash + Copy + Drop>(ledgers: &mut [Ledger<K>], key: K, path: &[usize])
-    ensures entries { (l : ℕ) (k : K) → has_entry_at K.eq ledgers.new l k ≡ true → has_entry_at K.eq ledgers.old l k ≡ true }
-    ensures swept { (l : ℕ) (k : K) (held : Held) → l < length ledgers.old → has_entry_at K.eq ledgers.new l k ≡ true → held_at K.eq ledgers.new l k ≡ [] → length (held_by_path K.eq key held l k path.now) ≡ 0 }
-    ensures kept { (l : ℕ) (k : K) → held_at K.eq ledgers.new l k ≡ held_at K.eq ledgers.old l k }
-{
-    for number in path {
-        withdraw_if_there(ledgers, *number, key);
     }
 }

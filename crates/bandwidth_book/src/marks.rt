@@ -1,17 +1,11 @@
 //! Marks on links: for each tunnel a list of the links on which it may have entries. So only these are looked up.
 ghost use Rattle.std.specs.Prelude.{◌≡◌, ◌||◌, ◌&&◌, ◌==◌, [], ℕ, None, Some, not, true, false, length, IsTrue, OnOk, OnErr};
 ghost use Rattle.indexmap.specs.IndexMap.{get};
-ghost use Rattle.lsp_base.specs.declared.tunnel.Tunnel.{Tunnel};
-ghost use Rattle.bandwidth_book.specs.Held.{held_of};
-ghost use Rattle.bandwidth_book.specs.Ledgers.{has_entry_at, held_by_path};
 ghost use Rattle.bandwidth_book.specs.Links.{AreRising, has_link};
-ghost use Rattle.bandwidth_book.specs.Marks.{AreMarked, HasNoEmptyList, is_marked};
-ghost use Rattle.bandwidth_book.specs.Paths.{held_by, tunnel_eq};
+ghost use Rattle.bandwidth_book.specs.Marks.{HasNoEmptyList, is_marked};
 
-use crate::ledger::Ledger;
 use crate::link_list::LinkList;
 use indexmap::IndexMap;
-use lsp_base::{Path, Tunnel};
 use std::alloc::{AllocError, Global};
 use std::hash::Hash;
 use te_base::LinkNumber;
@@ -113,52 +107,5 @@ impl<K: Eq + Hash + Copy + Drop> Marks<K> {
             Some(list) => list.as_slice(),
             None => &[],
         }
-    }
-}
-
-/// Whether the tunnel has an entry on a link that may be there.
-fn has_entry(ledgers: &[Ledger<Tunnel>], link: LinkNumber, tunnel: &Tunnel) -> bool
-    ensures { result ≡ has_entry_at tunnel_eq ledgers.now link tunnel.now }
-{
-    match ledgers.get(link) {
-        Some(ledger) => ledger.has(*tunnel),
-        None => false,
-    }
-}
-
-/// Takes the mark of a tunnel on a link back, where it has no entry.
-pub fn remark(
-    ledgers: &[Ledger<Tunnel>],
-    marks: &mut Marks<Tunnel>,
-    link: LinkNumber,
-    tunnel: &Tunnel,
-)
-    ensures marked { AreMarked (has_entry_at tunnel_eq ledgers.now) (is_marked tunnel_eq marks.old.lists.entries) → AreMarked (has_entry_at tunnel_eq ledgers.now) (is_marked tunnel_eq marks.new.lists.entries) }
-    ensures fewer { (l : ℕ) (t : Tunnel) → is_marked tunnel_eq marks.new.lists.entries l t ≡ true → is_marked tunnel_eq marks.old.lists.entries l t ≡ true }
-    ensures swept { (l : ℕ) (t : Tunnel) → is_marked tunnel_eq marks.new.lists.entries l t ≡ true → has_entry_at tunnel_eq ledgers.now l t ≡ false → (link == l && tunnel_eq tunnel.now t) ≡ false }
-{
-    if !has_entry(ledgers, link, tunnel) {
-        marks.clear(link, *tunnel);
-    }
-}
-
-fn remark_path(ledgers: &[Ledger<Tunnel>], marks: &mut Marks<Tunnel>, path: &Path)
-    ensures marked { AreMarked (has_entry_at tunnel_eq ledgers.now) (is_marked tunnel_eq marks.old.lists.entries) → AreMarked (has_entry_at tunnel_eq ledgers.now) (is_marked tunnel_eq marks.new.lists.entries) }
-    ensures fewer { (l : ℕ) (t : Tunnel) → is_marked tunnel_eq marks.new.lists.entries l t ≡ true → is_marked tunnel_eq marks.old.lists.entries l t ≡ true }
-    ensures swept { (l : ℕ) (t : Tunnel) → is_marked tunnel_eq marks.new.lists.entries l t ≡ true → has_entry_at tunnel_eq ledgers.now l t ≡ false → length (held_by_path tunnel_eq path.now.tunnel (held_of path.now) l t path.now.links) ≡ 0 }
-{
-    for link in path.links.as_slice() {
-        remark(ledgers, marks, *link, &path.tunnel);
-    }
-}
-
-/// Takes the marks of the tunnels of paths that went back on their links, where the tunnels have no entries any more.
-pub fn remark_paths(ledgers: &[Ledger<Tunnel>], marks: &mut Marks<Tunnel>, paths: &[Path])
-    ensures marked { AreMarked (has_entry_at tunnel_eq ledgers.now) (is_marked tunnel_eq marks.old.lists.entries) → AreMarked (has_entry_at tunnel_eq ledgers.now) (is_marked tunnel_eq marks.new.lists.entries) }
-    ensures fewer { (l : ℕ) (t : Tunnel) → is_marked tunnel_eq marks.new.lists.entries l t ≡ true → is_marked tunnel_eq marks.old.lists.entries l t ≡ true }
-    ensures swept { (l : ℕ) (t : Tunnel) → is_marked tunnel_eq marks.new.lists.entries l t ≡ true → has_entry_at tunnel_eq ledgers.now l t ≡ false → length (held_by l t paths.now) ≡ 0 }
-{
-    for path in paths {
-        remark_path(ledgers, marks, path);
     }
 }

@@ -12,8 +12,8 @@ ghost use Rattle.bandwidth_book.specs.Ledgers.{has_entry_at, held_at, held_by_pa
 
 use crate::held::held_of;
 use crate::ledger::Ledger;
-use crate::ledgers::{add_path, drop_path, promise_if_there, withdraw_if_there, withdraw_path};
-use crate::marks::{Marks, remark, remark_paths};
+use crate::ledgers::{add_path, drop_path, promise_if_there, withdraw_if_there};
+use crate::marks::Marks;
 use lsp_base::{Path, Tunnel};
 use std::alloc::{AllocError, Global};
 use te_base::LinkNumber;
@@ -47,18 +47,55 @@ fn add_paths(ledgers: &mut [Ledger<Tunnel>], paths: &[Path])
     }
 }
 
-/// Takes out the entries of these paths that hold nothing.
-fn clear_paths(ledgers: &mut [Ledger<Tunnel>], paths: &[Path])
+/// Takes the promises to a tunnel on a link back, its entry out if it holds nothing, and its mark where it has
+/// no entry then.
+fn clear_at(
+    ledgers: &mut [Ledger<Tunnel>],
+    marks: &mut Marks<Tunnel>,
+    link: LinkNumber,
+    tunnel: &Tunnel,
+)
+    ensures marked { AreMarked (has_entry_at tunnel_eq ledgers.old) (is_marked tunnel_eq marks.old.lists.entries) → AreMarked (has_entry_at tunnel_eq ledgers.new) (is_marked tunnel_eq marks.new.lists.entries) }
+    ensures fewer { (l : ℕ) (t : Tunnel) → is_marked tunnel_eq marks.new.lists.entries l t ≡ true → is_marked tunnel_eq marks.old.lists.entries l t ≡ true }
+    ensures unmarked { (l : ℕ) (t : Tunnel) → is_marked tunnel_eq marks.new.lists.entries l t ≡ true → held_at tunnel_eq ledgers.new l t ≡ [] → (link == l && tunnel_eq tunnel.now t) ≡ false }
+    ensures entries { (l : ℕ) (t : Tunnel) → has_entry_at tunnel_eq ledgers.new l t ≡ true → has_entry_at tunnel_eq ledgers.old l t ≡ true }
+    ensures swept { (l : ℕ) (t : Tunnel) → l < length ledgers.old → has_entry_at tunnel_eq ledgers.new l t ≡ true → held_at tunnel_eq ledgers.new l t ≡ [] → (link == l && tunnel_eq tunnel.now t) ≡ false }
+    ensures kept { (l : ℕ) (t : Tunnel) → held_at tunnel_eq ledgers.new l t ≡ held_at tunnel_eq ledgers.old l t }
+{
+    if withdraw_if_there(ledgers, link, *tunnel) {
+        marks.clear(link, *tunnel);
+    }
+}
+
+/// Takes out the entries of a path that hold nothing, and their marks.
+fn clear_path(ledgers: &mut [Ledger<Tunnel>], marks: &mut Marks<Tunnel>, path: &Path)
+    ensures marked { AreMarked (has_entry_at tunnel_eq ledgers.old) (is_marked tunnel_eq marks.old.lists.entries) → AreMarked (has_entry_at tunnel_eq ledgers.new) (is_marked tunnel_eq marks.new.lists.entries) }
+    ensures fewer { (l : ℕ) (t : Tunnel) → is_marked tunnel_eq marks.new.lists.entries l t ≡ true → is_marked tunnel_eq marks.old.lists.entries l t ≡ true }
+    ensures unmarked { (l : ℕ) (t : Tunnel) → is_marked tunnel_eq marks.new.lists.entries l t ≡ true → held_at tunnel_eq ledgers.new l t ≡ [] → length (held_by_path tunnel_eq path.now.tunnel (held_of path.now) l t path.now.links) ≡ 0 }
+    ensures entries { (l : ℕ) (t : Tunnel) → has_entry_at tunnel_eq ledgers.new l t ≡ true → has_entry_at tunnel_eq ledgers.old l t ≡ true }
+    ensures swept { (l : ℕ) (t : Tunnel) → l < length ledgers.old → has_entry_at tunnel_eq ledgers.new l t ≡ true → held_at tunnel_eq ledgers.new l t ≡ [] → length (held_by_path tunnel_eq path.now.tunnel (held_of path.now) l t path.now.links) ≡ 0 }
+    ensures kept { (l : ℕ) (t : Tunnel) → held_at tunnel_eq ledgers.new l t ≡ held_at tunnel_eq ledgers.old l t }
+{
+    for link in path.links.as_slice() {
+        clear_at(ledgers, marks, *link, &path.tunnel);
+    }
+}
+
+/// Takes out the entries of these paths that hold nothing, and their marks.
+fn clear_paths(ledgers: &mut [Ledger<Tunnel>], marks: &mut Marks<Tunnel>, paths: &[Path])
+    ensures marked { AreMarked (has_entry_at tunnel_eq ledgers.old) (is_marked tunnel_eq marks.old.lists.entries) → AreMarked (has_entry_at tunnel_eq ledgers.new) (is_marked tunnel_eq marks.new.lists.entries) }
+    ensures fewer { (l : ℕ) (t : Tunnel) → is_marked tunnel_eq marks.new.lists.entries l t ≡ true → is_marked tunnel_eq marks.old.lists.entries l t ≡ true }
+    ensures unmarked { (l : ℕ) (t : Tunnel) → is_marked tunnel_eq marks.new.lists.entries l t ≡ true → held_at tunnel_eq ledgers.new l t ≡ [] → length (held_by l t paths.now) ≡ 0 }
     ensures entries { (l : ℕ) (t : Tunnel) → has_entry_at tunnel_eq ledgers.new l t ≡ true → has_entry_at tunnel_eq ledgers.old l t ≡ true }
     ensures swept { (l : ℕ) (t : Tunnel) → l < length ledgers.old → has_entry_at tunnel_eq ledgers.new l t ≡ true → held_at tunnel_eq ledgers.new l t ≡ [] → length (held_by l t paths.now) ≡ 0 }
     ensures kept { (l : ℕ) (t : Tunnel) → held_at tunnel_eq ledgers.new l t ≡ held_at tunnel_eq ledgers.old l t }
 {
     for path in paths {
-        withdraw_path(ledgers, path.tunnel, path.links.as_slice());
+        clear_path(ledgers, marks, path);
     }
 }
 
-/// Drops, then adds, and takes out the entries that are left with nothing.
+/// Drops, then adds, and takes out the entries that are left with nothing, and their marks.
 pub fn change_paths(
     ledgers: &mut [Ledger<Tunnel>],
     marks: &mut Marks<Tunnel>,
@@ -75,30 +112,20 @@ pub fn change_paths(
 {
     drop_paths(ledgers, dropped);
     add_paths(ledgers, added);
-    clear_paths(ledgers, dropped);
-    remark_paths(ledgers, marks, dropped);
+    clear_paths(ledgers, marks, dropped);
 }
 
-/// Takes the promises at these places back, and the entries out that hold nothing.
-fn withdraw_places(ledgers: &mut [Ledger<Tunnel>], places: &[Place])
+/// Takes the promises at these places back, the entries out that hold nothing, and their marks.
+fn clear_places(ledgers: &mut [Ledger<Tunnel>], marks: &mut Marks<Tunnel>, places: &[Place])
     requires noted { AreNoted (length ledgers.old) (has_entry_at tunnel_eq ledgers.old) (held_at tunnel_eq ledgers.old) places.now }
-    ensures entries { (l : ℕ) (t : Tunnel) → has_entry_at tunnel_eq ledgers.new l t ≡ true → has_entry_at tunnel_eq ledgers.old l t ≡ true }
+    requires in_use { AreInUse (is_marked tunnel_eq marks.old.lists.entries) (held_at tunnel_eq ledgers.old) places.now }
     ensures none { AreNoted (length ledgers.old) (has_entry_at tunnel_eq ledgers.new) (held_at tunnel_eq ledgers.new) [] }
+    ensures in_use { AreInUse (is_marked tunnel_eq marks.new.lists.entries) (held_at tunnel_eq ledgers.new) [] }
+    ensures marked { AreMarked (has_entry_at tunnel_eq ledgers.old) (is_marked tunnel_eq marks.old.lists.entries) → AreMarked (has_entry_at tunnel_eq ledgers.new) (is_marked tunnel_eq marks.new.lists.entries) }
     ensures kept { (l : ℕ) (t : Tunnel) → held_at tunnel_eq ledgers.new l t ≡ held_at tunnel_eq ledgers.old l t }
 {
     for place in places {
-        withdraw_if_there(ledgers, place.link, place.tunnel);
-    }
-}
-
-/// Takes the marks of the tunnels of these places on their links back, where they have no entries.
-fn remark_places(ledgers: &[Ledger<Tunnel>], marks: &mut Marks<Tunnel>, places: &[Place])
-    ensures marked { AreMarked (has_entry_at tunnel_eq ledgers.now) (is_marked tunnel_eq marks.old.lists.entries) → AreMarked (has_entry_at tunnel_eq ledgers.now) (is_marked tunnel_eq marks.new.lists.entries) }
-    ensures fewer { (l : ℕ) (t : Tunnel) → is_marked tunnel_eq marks.new.lists.entries l t ≡ true → is_marked tunnel_eq marks.old.lists.entries l t ≡ true }
-    ensures swept { (l : ℕ) (t : Tunnel) → is_marked tunnel_eq marks.new.lists.entries l t ≡ true → has_entry_at tunnel_eq ledgers.now l t ≡ false → noted places.now l t ≡ 0 }
-{
-    for place in places {
-        remark(ledgers, marks, place.link, &place.tunnel);
+        clear_at(ledgers, marks, place.link, &place.tunnel);
     }
 }
 
@@ -116,8 +143,7 @@ pub fn give_up_room(
     ensures marked { AreMarked (has_entry_at tunnel_eq ledgers.old) (is_marked tunnel_eq marks.old.lists.entries) → AreMarked (has_entry_at tunnel_eq ledgers.new) (is_marked tunnel_eq marks.new.lists.entries) }
     ensures kept { (l : ℕ) (t : Tunnel) → held_at tunnel_eq ledgers.new l t ≡ held_at tunnel_eq ledgers.old l t }
 {
-    withdraw_places(ledgers, places);
-    remark_places(ledgers, marks, places);
+    clear_places(ledgers, marks, places);
     places.clear();
 }
 

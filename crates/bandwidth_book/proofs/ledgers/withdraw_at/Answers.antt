@@ -1,7 +1,13 @@
-use Rattle.std.proofs.Common.{◌≡◌, ◌&&◌, true, false, [], refl}
+use Rattle.std.proofs.Common.{◌≡◌, ◌&&◌, not, true, false, true≢false, [], refl, sym}
 use Rattle.bandwidth_book.specs.Ledgers.{has_entry_in, held_in_ledger}
 use Rattle.bandwidth_book.proofs.Places.{set_related}
+use Rattle.bandwidth_book.proofs.Rising.{number_self}
 use Rattle.bandwidth_book.proofs.ledgers.withdraw_at.Goals as goal
+
+pub returns-clause-gone : goal.returns-clause-gone
+returns-clause-gone g c =
+    set_related (λ b o u. b ≡ true → c.withdraw.result ≡ not (has_entry_in g.K.PartialEq.eq u c.args.key)) c.args.ledgers.now c.args.number c.index-ledgers-number.result c.withdraw.new.self c.requires
+    (λ same. c.withdraw.ensures.gone) (λ o other. absurd (true≢false (sym other))) c.args.number (number_self c.args.number c.args.number refl)
 
 pub returns-clause-kept : goal.returns-clause-kept
 returns-clause-kept g c = λ l k.

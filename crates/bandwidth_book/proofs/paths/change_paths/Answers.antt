@@ -1,5 +1,4 @@
 use Rattle.std.proofs.Common.{◌≡◌, ◌<◌, ℕ, [], true, length, sym, ◌∙◌, inl, inr, rules}
-use Rattle.std.proofs.lemmas.Bool.{cases_Bool}
 use Rattle.lsp_base.specs.declared.tunnel.Tunnel.{Tunnel}
 use Rattle.bandwidth_book.specs.Paths.{held_by, tunnel_eq}
 use Rattle.bandwidth_book.specs.Held.{with_all, without_all}
@@ -28,15 +27,9 @@ returns-clause-noted c =
 pub returns-clause-in_use : goal.returns-clause-in_use
 returns-clause-in_use c =
     let kept : (l : ℕ) (t : Tunnel) → l < length c.args.ledgers.now → held_at tunnel_eq c.clear_paths.new.ledgers l t ≡ with_all (without_all (held_at tunnel_eq c.args.ledgers.now l t) (held_by l t c.args.dropped.now)) (held_by l t c.args.added.now) = search rules in
-    let swept : (l : ℕ) (t : Tunnel) → l < length c.args.ledgers.now → has_entry_at tunnel_eq c.clear_paths.new.ledgers l t ≡ true → held_at tunnel_eq c.clear_paths.new.ledgers l t ≡ [] → length (held_by l t c.args.dropped.now) ≡ 0 = search rules in
-    let none : (l : ℕ) (t : Tunnel) → l < length c.args.ledgers.now → is_marked tunnel_eq c.remark_paths.new.marks.lists.entries l t ≡ true → held_at tunnel_eq c.clear_paths.new.ledgers l t ≡ [] → length (held_by l t c.args.dropped.now) ≡ 0 = λ l t less marked empty.
-    elim (cases_Bool (has_entry_at tunnel_eq c.clear_paths.new.ledgers l t)) [
-      | inl there ↦ swept l t less there empty
-      | inr gone ↦ c.remark_paths.ensures.swept l t marked gone
-    ] in
-    let before : (l : ℕ) (t : Tunnel) → is_marked tunnel_eq c.remark_paths.new.marks.lists.entries l t ≡ true → held_at tunnel_eq c.clear_paths.new.ledgers l t ≡ [] → held_at tunnel_eq c.args.ledgers.now l t ≡ [] = λ l t marked empty.
+    let before : (l : ℕ) (t : Tunnel) → is_marked tunnel_eq c.clear_paths.new.marks.lists.entries l t ≡ true → held_at tunnel_eq c.clear_paths.new.ledgers l t ≡ [] → held_at tunnel_eq c.args.ledgers.now l t ≡ [] = λ l t marked empty.
     elim (there_or_past l (length c.args.ledgers.now)) [
-      | inl less ↦ nothing_before (held_at tunnel_eq c.args.ledgers.now l t) (held_by l t c.args.dropped.now) (held_by l t c.args.added.now) (none l t less marked empty) (sym (kept l t less) ∙ empty)
+      | inl less ↦ nothing_before (held_at tunnel_eq c.args.ledgers.now l t) (held_by l t c.args.dropped.now) (held_by l t c.args.added.now) (c.clear_paths.ensures.unmarked l t marked empty) (sym (kept l t less) ∙ empty)
       | inr past ↦ held_past c.args.ledgers.now l t past
     ] in
-    λ places h. record { each = λ l t marked empty. h.each l t (c.remark_paths.ensures.fewer l t marked) (before l t marked empty) }
+    λ places h. record { each = λ l t marked empty. h.each l t (c.clear_paths.ensures.fewer l t marked) (before l t marked empty) }
