@@ -1,5 +1,5 @@
 //! The entries of a link by key, and its running sums.
-ghost use Rattle.std.specs.Prelude.{◌≡◌, ◌<◌, ◌≤◌, ◌+◌, ◌-◌, ◌^◌, ◌++◌, ◌∷◌, [], ℕ, length, slice_index, OnOk, OnErr, IsSome, IsTrue, if◌then◌else◌, not, true, false};
+ghost use Rattle.std.specs.Prelude.{◌≡◌, ◌<◌, ◌≤◌, ◌+◌, ◌-◌, ◌^◌, ◌++◌, ◌∷◌, [], ℕ, length, slice_index, None, OnOk, OnErr, IsTrue, if◌then◌else◌, not, true, false};
 ghost use Rattle.bandwidth_book.specs.Held.{most, AreMaxima, with_one, without_one};
 ghost use Rattle.indexmap.specs.IndexMap.{get, IsUnique};
 ghost use Rattle.bandwidth_book.specs.Entries.{AreSums, has_entry, kept, promised_to, total, IsUnused, IsUsed};
@@ -122,9 +122,34 @@ pub fn drop_held<K: Eq + Hash + Copy + Drop>(
     let _count = entries.len();
 }
 
-/// Puts an empty entry where the key has none. It is refused where the link has `ENTRY_LIMIT` already.
+/// Puts an entry with room for one in, for a key that has none. It is refused where the link has
+/// `ENTRY_LIMIT` already.
 #[tactic(auto, using(crate::proofs::Sums::total_insert, crate::proofs::Sums::length_insert_entry))]
 fn put_entry<K: Eq + Hash + Copy + Drop>(
+    alloc: Global,
+    entries: &mut IndexMap<K, Entry>,
+    key: K,
+) -> Result<(), AllocError>
+    requires { get K.eq entries.old key ≡ None }
+    ensures totals { (p : ℕ) → total p entries.new.entries ≡ total p entries.old.entries }
+    ensures few { length entries.old.entries ≤ 30000 → length entries.new.entries ≤ 30000 }
+    ensures others { (k : K) → K.eq key k ≡ false → has_entry K.eq entries.new.entries k ≡ has_entry K.eq entries.old.entries k }
+    ensures kept { (k : K) → kept K.eq entries.new.entries k ≡ kept K.eq entries.old.entries k }
+    ensures room { (k : K) → promised_to K.eq entries.old.entries k ≤ promised_to K.eq entries.new.entries k }
+    ensures ok { OnOk result ((k : K) → promised_to K.eq entries.old.entries k + (if K.eq key k then 1 else 0) ≤ promised_to K.eq entries.new.entries k) }
+{
+    if entries.len() >= ENTRY_LIMIT {
+        return Err(AllocError);
+    }
+    let mut entry = Entry::new(alloc);
+    entry.promise()?;
+    entries.insert(key, entry)?;
+    Ok(())
+}
+
+/// Promises room for one more in the key's entry, or in a new one.
+#[tactic(auto, using(crate::proofs::Sums::length_set_value))]
+fn promise_in<K: Eq + Hash + Copy + Drop>(
     alloc: Global,
     entries: &mut IndexMap<K, Entry>,
     key: K,
@@ -133,38 +158,12 @@ fn put_entry<K: Eq + Hash + Copy + Drop>(
     ensures few { length entries.old.entries ≤ 30000 → length entries.new.entries ≤ 30000 }
     ensures others { (k : K) → K.eq key k ≡ false → has_entry K.eq entries.new.entries k ≡ has_entry K.eq entries.old.entries k }
     ensures kept { (k : K) → kept K.eq entries.new.entries k ≡ kept K.eq entries.old.entries k }
-    ensures unique { IsUnique K.eq entries.new }
-    ensures there { OnOk result (IsSome (get K.eq entries.new key)) }
-    ensures room { (k : K) → promised_to K.eq entries.old.entries k ≤ promised_to K.eq entries.new.entries k }
-{
-    let count = entries.len();
-    if entries.contains_key(&key) {
-        return Ok(());
-    }
-    if count >= ENTRY_LIMIT {
-        return Err(AllocError);
-    }
-    entries.insert(key, Entry::new(alloc))?;
-    Ok(())
-}
-
-/// Promises room for one more in the key's entry.
-#[tactic(auto, using(crate::proofs::Sums::length_set_value))]
-fn grow_entry<K: Eq + Hash + Copy + Drop>(
-    entries: &mut IndexMap<K, Entry>,
-    key: K,
-) -> Result<(), AllocError>
-    requires there { IsSome (get K.eq entries.old key) }
-    ensures totals { (p : ℕ) → total p entries.new.entries ≡ total p entries.old.entries }
-    ensures count { length entries.new.entries ≡ length entries.old.entries }
-    ensures entries { (k : K) → has_entry K.eq entries.new.entries k ≡ has_entry K.eq entries.old.entries k }
-    ensures kept { (k : K) → kept K.eq entries.new.entries k ≡ kept K.eq entries.old.entries k }
     ensures room { (k : K) → promised_to K.eq entries.old.entries k ≤ promised_to K.eq entries.new.entries k }
     ensures ok { OnOk result ((k : K) → promised_to K.eq entries.old.entries k + (if K.eq key k then 1 else 0) ≤ promised_to K.eq entries.new.entries k) }
 {
     match entries.get_mut(&key) {
         Some(entry) => entry.promise(),
-        None => Ok(()),
+        None => put_entry(alloc, entries, key),
     }
 }
 
@@ -182,8 +181,7 @@ pub fn promise_one<K: Eq + Hash + Copy + Drop>(
     ensures room { (k : K) → promised_to K.eq entries.old.entries k ≤ promised_to K.eq entries.new.entries k }
     ensures ok { OnOk result ((k : K) → promised_to K.eq entries.old.entries k + (if K.eq key k then 1 else 0) ≤ promised_to K.eq entries.new.entries k) }
 {
-    put_entry(alloc, entries, key)?;
-    let promised = grow_entry(entries, key);
+    let promised = promise_in(alloc, entries, key);
     let _count = entries.len();
     promised
 }

@@ -2,7 +2,7 @@ use Rattle.std.proofs.Common.{◌≡◌, Some, arith, rules}
 use Rattle.std.specs.Map.{lookup}
 use Rattle.bandwidth_book.specs.Held.{most}
 use Rattle.bandwidth_book.proofs.Sums.{total-set_value}
-use Rattle.bandwidth_book.proofs.entries.grow_entry.Goals as goal
+use Rattle.bandwidth_book.proofs.entries.promise_in.Goals as goal
 
 pub returns-in-Some-clause-totals : goal.returns-in-Some-clause-totals
 returns-in-Some-clause-totals g c = λ p.
