@@ -104,7 +104,7 @@ fn drop_if_there<K: Eq + Hash + Copy + Drop>(
 
 /// Promises room for one more of the key on a link that may be there.
 #[tactic(auto, using(crate::proofs::Places::not_at))]
-pub fn promise_if_there<K: Eq + Hash + Copy + Drop>(
+fn promise_if_there<K: Eq + Hash + Copy + Drop>(
     alloc: Global,
     ledgers: &mut [Ledger<K>],
     number: usize,
@@ -175,4 +175,21 @@ pub fn drop_path<K: Eq + Hash + Copy + Drop>(
     for number in path {
         drop_if_there(ledgers, *number, key, held);
     }
+}
+
+/// Promises room for one more of the key on each of a path's links.
+pub fn promise_links<K: Eq + Hash + Copy + Drop>(
+    alloc: Global,
+    ledgers: &mut [Ledger<K>],
+    key: K,
+    path: &[usize],
+) -> Result<(), AllocError>
+    ensures others { (l : ℕ) (k : K) (held : Held) → length (held_by_path K.eq key held l k path.now) ≡ 0 → has_entry_at K.eq ledgers.new l k ≡ has_entry_at K.eq ledgers.old l k }
+    ensures kept { (l : ℕ) (k : K) → held_at K.eq ledgers.new l k ≡ held_at K.eq ledgers.old l k }
+    ensures ok { OnOk result ((l : ℕ) (k : K) (held : Held) → l < length ledgers.old → promised_on K.eq ledgers.old l k + length (held_by_path K.eq key held l k path.now) ≤ promised_on K.eq ledgers.new l k) }
+{
+    for number in path {
+        promise_if_there(alloc, ledgers, *number, key)?;
+    }
+    Ok(())
 }

@@ -1,5 +1,5 @@
 //! Lists of links.
-ghost use Rattle.std.specs.Prelude.{◌≡◌, ◌||◌, ◌&&◌, ◌==◌, [], ◌∷◌, ℕ, not, length, IsTrue, ◌↔◌, IfOk, OnOk, OnErr};
+ghost use Rattle.std.specs.Prelude.{◌≡◌, ◌||◌, ◌&&◌, ◌==◌, [], ◌∷◌, ℕ, true, not, length, IsTrue, ◌↔◌, IfOk, OnOk, OnErr};
 ghost use Rattle.bandwidth_book.specs.Links.{AreRising, has_link};
 
 use std::alloc::{AllocError, Global};
@@ -25,17 +25,32 @@ impl Model for LinkList {
 }
 
 impl LinkList {
-    /// The list of one link.
-    pub fn of(alloc: Global, link: LinkNumber) -> Result<LinkList, AllocError>
-        ensures { IfOk result (λ list. list ≡ link ∷ []) }
+    /// The list of these links.
+    pub fn of(alloc: Global, links: &[LinkNumber]) -> Result<LinkList, AllocError>
+        ensures { IfOk result (λ list. (l : ℕ) → has_link l list ≡ has_link l links.now) }
     {
-        Ok(LinkList {
-            links: vec![in alloc; link]?,
-        })
+        let mut list = LinkList {
+            links: Vec::with_capacity(alloc, links.len())?,
+        };
+        list.put_all(links)?;
+        Ok(list)
+    }
+
+    /// Puts links in their places. Where memory is refused some of them may be in.
+    pub fn put_all(&mut self, links: &[LinkNumber]) -> Result<(), AllocError>
+        ensures ok { OnOk result ((l : ℕ) → has_link l self.new ≡ (has_link l links.now || has_link l self.old)) }
+        ensures within { (l : ℕ) → has_link l self.new ≡ true → (has_link l links.now || has_link l self.old) ≡ true }
+        ensures more { (l : ℕ) → has_link l self.old ≡ true → has_link l self.new ≡ true }
+        ensures some { self.new ≡ [] → self.old ≡ [] }
+    {
+        for link in links {
+            self.put(*link)?;
+        }
+        Ok(())
     }
 
     /// Puts a link in its place, if it isn't there.
-    pub fn put(&mut self, link: LinkNumber) -> Result<(), AllocError>
+    fn put(&mut self, link: LinkNumber) -> Result<(), AllocError>
         ensures ok { OnOk result ((l : ℕ) → has_link l self.new ≡ (link == l || has_link l self.old)) }
         ensures err { OnErr result (self.new ≡ self.old) }
         ensures some { self.new ≡ [] → self.old ≡ [] }

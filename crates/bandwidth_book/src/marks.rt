@@ -17,37 +17,40 @@ pub struct Marks<K: Eq + Hash + Drop> {
     ghost full: { HasNoEmptyList K.eq lists.entries },
 }
 
-/// Puts the list of one link in, for a key that has no list.
+/// Puts the list of some links in, for a key that has no list.
 fn put_list<K: Eq + Hash + Copy + Drop>(
     alloc: Global,
     lists: &mut IndexMap<K, LinkList>,
-    link: LinkNumber,
+    links: &[LinkNumber],
     key: K,
 ) -> Result<(), AllocError>
     requires { get K.eq lists.old key ≡ None }
     ensures full { HasNoEmptyList K.eq lists.old.entries → HasNoEmptyList K.eq lists.new.entries }
-    ensures ok { OnOk result ((l : ℕ) (k : K) → is_marked K.eq lists.new.entries l k ≡ (link == l && K.eq key k || is_marked K.eq lists.old.entries l k)) }
+    ensures ok { OnOk result ((l : ℕ) (k : K) → is_marked K.eq lists.new.entries l k ≡ (has_link l links.now && K.eq key k || is_marked K.eq lists.old.entries l k)) }
     ensures err { OnErr result ((l : ℕ) (k : K) → is_marked K.eq lists.new.entries l k ≡ is_marked K.eq lists.old.entries l k) }
 {
-    let list = LinkList::of(alloc, link)?;
-    lists.insert(key, list)?;
+    let list = LinkList::of(alloc, links)?;
+    if !list.is_empty() {
+        lists.insert(key, list)?;
+    }
     Ok(())
 }
 
-/// Puts a link into a key's list, or its first list in.
-fn put_link<K: Eq + Hash + Copy + Drop>(
+/// Puts links into a key's list, or its first list in.
+fn put_links<K: Eq + Hash + Copy + Drop>(
     alloc: Global,
     lists: &mut IndexMap<K, LinkList>,
-    link: LinkNumber,
+    links: &[LinkNumber],
     key: K,
 ) -> Result<(), AllocError>
     ensures full { HasNoEmptyList K.eq lists.old.entries → HasNoEmptyList K.eq lists.new.entries }
-    ensures ok { OnOk result ((l : ℕ) (k : K) → is_marked K.eq lists.new.entries l k ≡ (link == l && K.eq key k || is_marked K.eq lists.old.entries l k)) }
-    ensures err { OnErr result ((l : ℕ) (k : K) → is_marked K.eq lists.new.entries l k ≡ is_marked K.eq lists.old.entries l k) }
+    ensures ok { OnOk result ((l : ℕ) (k : K) → is_marked K.eq lists.new.entries l k ≡ (has_link l links.now && K.eq key k || is_marked K.eq lists.old.entries l k)) }
+    ensures within { (l : ℕ) (k : K) → is_marked K.eq lists.new.entries l k ≡ true → (has_link l links.now && K.eq key k || is_marked K.eq lists.old.entries l k) ≡ true }
+    ensures more { (l : ℕ) (k : K) → is_marked K.eq lists.old.entries l k ≡ true → is_marked K.eq lists.new.entries l k ≡ true }
 {
     match lists.get_mut(&key) {
-        Some(list) => list.put(link),
-        None => put_list(alloc, lists, link, key),
+        Some(list) => list.put_all(links),
+        None => put_list(alloc, lists, links, key),
     }
 }
 
@@ -81,12 +84,18 @@ impl<K: Eq + Hash + Copy + Drop> Marks<K> {
         }
     }
 
-    /// Puts the link into the key's list. Where memory is refused the lists are as they were.
-    pub fn mark(&mut self, alloc: Global, link: LinkNumber, key: K) -> Result<(), AllocError>
-        ensures ok { OnOk result ((l : ℕ) (k : K) → is_marked K.eq self.new.lists.entries l k ≡ (link == l && K.eq key k || is_marked K.eq self.old.lists.entries l k)) }
-        ensures err { OnErr result ((l : ℕ) (k : K) → is_marked K.eq self.new.lists.entries l k ≡ is_marked K.eq self.old.lists.entries l k) }
+    /// Puts a path's links into the key's list. Where memory is refused some of them may be in it.
+    pub fn mark_path(
+        &mut self,
+        alloc: Global,
+        links: &[LinkNumber],
+        key: K,
+    ) -> Result<(), AllocError>
+        ensures ok { OnOk result ((l : ℕ) (k : K) → is_marked K.eq self.new.lists.entries l k ≡ (has_link l links.now && K.eq key k || is_marked K.eq self.old.lists.entries l k)) }
+        ensures within { (l : ℕ) (k : K) → is_marked K.eq self.new.lists.entries l k ≡ true → (has_link l links.now && K.eq key k || is_marked K.eq self.old.lists.entries l k) ≡ true }
+        ensures more { (l : ℕ) (k : K) → is_marked K.eq self.old.lists.entries l k ≡ true → is_marked K.eq self.new.lists.entries l k ≡ true }
     {
-        put_link(alloc, &mut self.lists, link, key)
+        put_links(alloc, &mut self.lists, links, key)
     }
 
     /// Takes the link out of the key's list, and the list out if it is empty then.

@@ -1,5 +1,5 @@
 //! What lists of paths do to the ledgers of the links, by tunnel.
-ghost use Rattle.std.specs.Prelude.{◌≡◌, ◌<◌, ◌≤◌, ◌+◌, ◌++◌, ◌==◌, ◌&&◌, true, false, [], ℕ, List, length, OnOk, if◌then◌else◌};
+ghost use Rattle.std.specs.Prelude.{◌≡◌, ◌<◌, ◌≤◌, ◌+◌, ◌++◌, ◌==◌, ◌&&◌, true, false, [], ℕ, List, length, OnOk, OnErr, if◌then◌else◌};
 ghost use Rattle.lsp_base.specs.Base.{HasAll, without};
 ghost use Rattle.lsp_base.specs.declared.path.Path.{Path};
 ghost use Rattle.lsp_base.specs.declared.tunnel.Tunnel.{Tunnel};
@@ -12,7 +12,7 @@ ghost use Rattle.bandwidth_book.specs.Ledgers.{has_entry_at, held_at, held_by_pa
 
 use crate::held::held_of;
 use crate::ledger::Ledger;
-use crate::ledgers::{add_path, drop_path, promise_if_there, withdraw_if_there};
+use crate::ledgers::{add_path, drop_path, promise_links, withdraw_if_there};
 use crate::marks::Marks;
 use lsp_base::{Path, Tunnel};
 use std::alloc::{AllocError, Global};
@@ -147,30 +147,34 @@ pub fn give_up_room(
     places.clear();
 }
 
-/// Promises room for one more at a place, which it notes and marks before.
+/// Notes a tunnel on a link.
 #[tactic(auto, using(crate::proofs::Pending::noted_push))]
-fn promise_place(
-    alloc: Global,
-    ledgers: &mut [Ledger<Tunnel>],
-    marks: &mut Marks<Tunnel>,
-    places: &mut Vec<Place>,
-    place: &Place,
-) -> Result<(), AllocError>
-    requires noted { AreNoted (length ledgers.old) (has_entry_at tunnel_eq ledgers.old) (held_at tunnel_eq ledgers.old) places.old.items }
-    requires in_use { AreInUse (is_marked tunnel_eq marks.old.lists.entries) (held_at tunnel_eq ledgers.old) places.old.items }
-    ensures in_use { AreInUse (is_marked tunnel_eq marks.new.lists.entries) (held_at tunnel_eq ledgers.new) places.new.items }
-    ensures noted { AreNoted (length ledgers.old) (has_entry_at tunnel_eq ledgers.new) (held_at tunnel_eq ledgers.new) places.new.items }
-    ensures marked { AreMarked (has_entry_at tunnel_eq ledgers.old) (is_marked tunnel_eq marks.old.lists.entries) → AreMarked (has_entry_at tunnel_eq ledgers.new) (is_marked tunnel_eq marks.new.lists.entries) }
-    ensures places { (l : ℕ) (t : Tunnel) → noted places.new.items l t ≤ noted places.old.items l t + (if place.now.link == l && tunnel_eq place.now.tunnel t then 1 else 0) }
-    ensures kept { (l : ℕ) (t : Tunnel) → held_at tunnel_eq ledgers.new l t ≡ held_at tunnel_eq ledgers.old l t }
-    ensures ok { OnOk result ((l : ℕ) (t : Tunnel) → l < length ledgers.old → promised_on tunnel_eq ledgers.old l t + (if place.now.link == l && tunnel_eq place.now.tunnel t then 1 else 0) ≤ promised_on tunnel_eq ledgers.new l t) }
+fn note_place(places: &mut Vec<Place>, link: LinkNumber, tunnel: &Tunnel) -> Result<(), AllocError>
+    ensures ok { OnOk result ((l : ℕ) (t : Tunnel) → noted places.new.items l t ≡ noted places.old.items l t + (if link == l && tunnel_eq tunnel.now t then 1 else 0)) }
+    ensures err { OnErr result ((l : ℕ) (t : Tunnel) → noted places.new.items l t ≡ noted places.old.items l t) }
 {
-    places.push(*place)?;
-    marks.mark(alloc, place.link, place.tunnel)?;
-    promise_if_there(alloc, ledgers, place.link, place.tunnel)
+    let place = Place {
+        link,
+        tunnel: *tunnel,
+    };
+    places.push(place)?;
+    Ok(())
 }
 
-/// Promises room for what a path holds on its links.
+/// Notes the tunnel of a path on its links.
+fn note_path(places: &mut Vec<Place>, path: &Path) -> Result<(), AllocError>
+    ensures ok { OnOk result ((l : ℕ) (t : Tunnel) → noted places.new.items l t ≡ noted places.old.items l t + length (held_by_path tunnel_eq path.now.tunnel (held_of path.now) l t path.now.links)) }
+    ensures within { (l : ℕ) (t : Tunnel) → noted places.new.items l t ≤ noted places.old.items l t + length (held_by_path tunnel_eq path.now.tunnel (held_of path.now) l t path.now.links) }
+    ensures more { (l : ℕ) (t : Tunnel) → noted places.old.items l t ≤ noted places.new.items l t }
+{
+    for link in path.links.as_slice() {
+        note_place(places, *link, &path.tunnel)?;
+    }
+    Ok(())
+}
+
+/// Promises room for what a path holds on its links, where it notes and marks its tunnel before.
+#[tactic(auto, using(crate::proofs::Pending::on_path, crate::proofs::Pending::off_path))]
 fn promise_path(
     alloc: Global,
     ledgers: &mut [Ledger<Tunnel>],
@@ -187,14 +191,10 @@ fn promise_path(
     ensures kept { (l : ℕ) (t : Tunnel) → held_at tunnel_eq ledgers.new l t ≡ held_at tunnel_eq ledgers.old l t }
     ensures ok { OnOk result ((l : ℕ) (t : Tunnel) → l < length ledgers.old → promised_on tunnel_eq ledgers.old l t + length (held_by_path tunnel_eq path.now.tunnel (held_of path.now) l t path.now.links) ≤ promised_on tunnel_eq ledgers.new l t) }
 {
-    for link in path.links.as_slice() {
-        let place = Place {
-            link: *link,
-            tunnel: path.tunnel,
-        };
-        promise_place(alloc, ledgers, marks, places, &place)?;
-    }
-    Ok(())
+    let links = path.links.as_slice();
+    note_path(places, path)?;
+    marks.mark_path(alloc, links, path.tunnel)?;
+    promise_links(alloc, ledgers, path.tunnel, links)
 }
 
 /// Promises room for what the paths hold, and notes each place.

@@ -1,15 +1,20 @@
-use Rattle.std.proofs.Common.{◌∙◌, arith, rules}
-use Rattle.std.proofs.lemmas.Grind.{common_steps}
+use Rattle.std.proofs.Common.{◌&&◌, ◌||◌, Bool, ap, sym, ◌∙◌, inl, inr}
+use Rattle.std.proofs.lemmas.Bool.{cases_Bool}
+use Rattle.bandwidth_book.specs.Held.{held_of}
+use Rattle.bandwidth_book.specs.Links.{has_link}
+use Rattle.bandwidth_book.specs.Marks.{is_marked}
+use Rattle.bandwidth_book.specs.Paths.{tunnel_eq}
+use Rattle.bandwidth_book.proofs.Pending.{off_path}
 use Rattle.bandwidth_book.proofs.paths.promise_path.Goals as goal
 
-pub loop-link-preserved : goal.loop-link-preserved
-loop-link-preserved c =
-    let known = c.loop-link.invariant in
-    record {
-      kept = λ n k. c.promise_place.ensures.kept n k ∙ known.kept n k;
-      entries = search rules;
-      in_use = c.promise_place.ensures.in_use;
-      marked = λ h. c.promise_place.ensures.marked (known.marked h);
-      places = grind (arith, common_steps);
-      room = grind (arith, common_steps);
-    }
+pub returns-clause-marked : goal.returns-clause-marked
+returns-clause-marked c = λ h. record {
+  each = λ l t there.
+      elim (cases_Bool (has_link l c.as_slice-links.result.now && tunnel_eq c.args.path.now.tunnel t)) [
+        | inl on ↦ c.in_ok-mark_path.ensures.ok l t ∙ ap (λ (b : Bool). b || is_marked tunnel_eq c.args.marks.now.lists.entries l t) on
+        | inr off ↦ (
+            let none = off_path tunnel_eq c.args.path.now.tunnel (held_of c.args.path.now) l t c.as_slice-links.result.now off in
+            let same = c.promise_links.ensures.others l t (held_of c.args.path.now) none in
+            c.in_ok-mark_path.ensures.more l t (h.each l t (sym same ∙ there)))
+      ];
+}
