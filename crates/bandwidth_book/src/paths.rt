@@ -174,7 +174,7 @@ fn note_path(places: &mut Vec<Place>, path: &Path) -> Result<(), AllocError>
 }
 
 /// Promises room for what a path holds on its links, where it notes and marks its tunnel before.
-#[tactic(auto, using(crate::proofs::Pending::on_path, crate::proofs::Pending::off_path))]
+#[tactic(auto, using(crate::proofs::Pending::on_path))]
 fn promise_path(
     alloc: Global,
     ledgers: &mut [Ledger<Tunnel>],
