@@ -1,8 +1,8 @@
 -- A session that has nothing to do.
-use Rattle.std.proofs.Common.{◌≡◌, Bool, true, false, not, ◌||◌, refl, sym, ap, ◌∙◌}
+use Rattle.std.proofs.Common.{◌≡◌, Bool, true, false, not, ◌||◌, refl, ap, ◌∙◌}
 use Rattle.std.specs.Prelude.{Option, Some, None, is_some}
 use Rattle.pcep_session.specs.Framing.{front_of, is_waiting}
-use Rattle.pcep_session.specs.Turns.{Turn, is_closed, next, next_in, after_end, by_front, by_timer, due_in}
+use Rattle.pcep_session.specs.Turns.{is_closed, next, next_in, after_end, by_front, by_timer, due_in}
 use Rattle.pcep_session.specs.declared.contents.Contents.{Contents}
 use Rattle.pcep_session.specs.declared.framing.Front.{Front}
 use Rattle.pcep_session.specs.declared.framing.Front.TheVariants.{Waiting, Bad, Whole}

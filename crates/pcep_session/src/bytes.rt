@@ -1,6 +1,6 @@
 //! Bytes that come at the end and go at the front.
 
-ghost use Rattle.std.specs.Prelude.{◌≡◌, ◌≤◌, ◌*◌, [], ◌++◌, length, drop, vec_capacity, OnOk, OnErr, IfErr, true, false};
+ghost use Rattle.std.specs.Prelude.{◌≡◌, ◌≤◌, ◌*◌, [], ◌++◌, ◌∷◌, length, drop, vec_capacity, OnOk, OnErr, IfErr, true, false};
 ghost use Rattle.pcep_messages.specs.Spelling.{is_written, fits, written};
 ghost use Rattle.pcep_objects.specs.declared.fault.WriteFault.TheVariants.{TooLong};
 
@@ -82,10 +82,25 @@ impl Pending {
         self.items.capacity()
     }
 
+    /// Appends one byte, as a peer's bytes may come one by one. Then some wait, and no room is let go.
+    fn push(&mut self, byte: u8) -> Result<(), AllocError>
+        ensures ok { OnOk result (self.new ≡ self.old ++ byte ∷ []) }
+        ensures err { OnErr result (self.new ≡ self.old) }
+    {
+        if self.items.push(byte).is_ok() {
+            return Ok(());
+        }
+        release(&mut self.items);
+        Err(AllocError)
+    }
+
     pub fn append(&mut self, piece: &[u8]) -> Result<(), AllocError>
         ensures ok { OnOk result (self.new ≡ self.old ++ piece.now) }
         ensures err { OnErr result (self.new ≡ self.old) }
     {
+        if piece.len() == 1 {
+            return self.push(piece[0]);
+        }
         let appended = self.items.extend_from_slice(piece);
         release(&mut self.items);
         appended

@@ -129,6 +129,21 @@ fn due_in(contents: &Contents) -> Option<Timer>
     )
 }
 
+/// Whether a timer is due. A DeadTimer is a second at least.
+fn is_any_due(contents: &Contents) -> bool
+    ensures { result ≡ is_some (due_in contents.now) }
+{
+    let received_ago = contents.moment_ms.saturating_sub(contents.received_ms);
+    match contents.state {
+        State::Closed => false,
+        State::Up => {
+            contents.moment_ms.saturating_sub(contents.sent_ms) >= 30_000
+                || received_ago >= 1000 && is_silent(contents.peer, received_ago)
+        }
+        _ => received_ago >= 60_000,
+    }
+}
+
 fn expire(alloc: Global, contents: &mut Contents, timer: Timer) -> Result<Option<Input>, AllocError>
     ensures ok { IfOk result (λ input. IsTurn (by_timer (Some timer) contents.old) input contents.new) }
     ensures err { OnErr result (contents.new ≡ contents.old) }
@@ -208,7 +223,7 @@ pub fn has_input(contents: &Contents) -> bool
     if contents.state.is_closed() {
         return contents.down_pending;
     }
-    !is_waiting(front_in(contents.bytes.as_slice())) || due_in(contents).is_some()
+    !is_waiting(front_in(contents.bytes.as_slice())) || is_any_due(contents)
 }
 
 #[inline(never)]
