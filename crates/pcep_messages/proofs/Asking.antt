@@ -12,12 +12,12 @@ use Rattle.pcep_objects.specs.declared.request_objects.Rp.{Rp}
 use Rattle.pcep_messages.specs.Constraints.{plsp_of, is_rro, is_above_zero, bandwidth_asked, minimised_by, bound_on, lesser}
 use Rattle.pcep_messages.specs.Counting.{first_of, end_points_of, lspa_of}
 use Rattle.pcep_messages.specs.Objects.{found_in_request}
-use Rattle.pcep_messages.specs.Requests.{about_rp, is_rp, up_to_rp, kept_fault, fault_in_place, request_of, own_fault, request_or_fault, requests_of, fault_in_front, requests_behind, requests_in, requests_in_body}
+use Rattle.pcep_messages.specs.Requests.{about_rp, up_to_rp, kept_fault, fault_in_place, request_of, own_fault, request_or_fault, requests_of, fault_in_front, requests_behind, requests_in, requests_in_body}
 use Rattle.pcep_messages.specs.RequestSteps.{State, begin, begun, taken, place_fault, request_from, with_request, at_rp, unless, after, finished}
 use Rattle.pcep_messages.specs.declared.asked.Asked.{Asked}
 use Rattle.pcep_messages.specs.declared.fault.About.{About}
 use Rattle.pcep_messages.specs.declared.fault.MessageFault.{MessageFault}
-use Rattle.pcep_messages.specs.declared.fault.MessageFault.TheVariants.{BadP, Refused}
+use Rattle.pcep_messages.specs.declared.fault.MessageFault.TheVariants.{BadP}
 use Rattle.pcep_messages.specs.declared.message.PathRequest.{PathRequest}
 use Rattle.pcep_messages.proofs.Running.{with_front, regroup, no_front, run, run_to_end, rest_gives}
 use Rattle.pcep_messages.proofs.Taking.{or_assoc, or_none, max_nothing}

@@ -1,5 +1,5 @@
 -- A message that bytes read as is normal.
-use Rattle.std.proofs.Common.{◌≡◌, ℕ, ◌<◌, ◌≤◌, ◌⊎◌, inl, inr, max, min, Bool, true, false, not, ◌&&◌, cond, eqb, List, [], ◌∷◌, drop, get_or, fold, map, Option, Some, None, is_none, Result, Ok, Err, refl, sym, subst, arith}
+use Rattle.std.proofs.Common.{◌≡◌, ℕ, inl, inr, max, Bool, true, false, not, ◌&&◌, cond, eqb, List, [], ◌∷◌, drop, get_or, fold, map, Option, Some, None, is_none, Result, Ok, Err, sym, subst, arith}
 use Rattle.std.proofs.lemmas.Bool.{cases_lt}
 use Rattle.std.specs.List.{AllByRecursion, filter_map, cons_option}
 use Rattle.std.specs.Option.{option_or, option_map, unwrap_or}
@@ -19,7 +19,6 @@ use Rattle.pcep_objects.specs.declared.object.Srp.{Srp}
 use Rattle.pcep_objects.specs.declared.request_objects.EndPoints.{EndPoints}
 use Rattle.pcep_objects.specs.declared.request_objects.NoPath.{NoPath}
 use Rattle.pcep_objects.specs.declared.request_objects.Rp.{Rp}
-use Rattle.pcep_objects.specs.declared.session_objects.Close.{Close}
 use Rattle.pcep_objects.specs.declared.session_objects.Open.{Open}
 use Rattle.pcep_messages.specs.Counting.{first_of, rp_of, end_points_of, metric_of, ero_of, lspa_of, lsp_of, srp_of, requested_of, greater_of}
 use Rattle.pcep_messages.specs.Errors.{named_request, named_srp, errors_of, errors_body}
@@ -28,11 +27,11 @@ use Rattle.pcep_messages.specs.Normal.{IsWord, IsNormal, IsAnswer, MayBeCost, Ma
 use Rattle.pcep_messages.specs.Notifications.{notify_or_fault, notification_body}
 use Rattle.pcep_messages.specs.Objects.{found_in}
 use Rattle.pcep_messages.specs.Parts.{Parts, parts_of, unless_bad}
-use Rattle.pcep_messages.specs.Replies.{about_reply, cost_of, answer_or_missing, reply_or_missing, reply_of, reply_body}
+use Rattle.pcep_messages.specs.Replies.{about_reply, cost_of, answer_or_missing, reply_or_missing, reply_body}
 use Rattle.pcep_messages.specs.Reports.{report_body}
 use Rattle.pcep_messages.specs.Requests.{requests_in_body, request_body}
 use Rattle.pcep_messages.specs.Sessions.{opening_or_missing, opening_body, keepalive_body, reason_of, close_body}
-use Rattle.pcep_messages.specs.Updates.{about_parts, attributes_of, update_with, update_or_missing, update_of, update_body, create_with, create_or_missing, initiate_or_missing, initiate_of, initiate_body}
+use Rattle.pcep_messages.specs.Updates.{about_parts, attributes_of, update_with, update_or_missing, update_body, create_with, create_or_missing, initiate_or_missing, initiate_body}
 use Rattle.pcep_messages.specs.declared.fault.About.{About}
 use Rattle.pcep_messages.specs.declared.fault.MessageFault.{MessageFault}
 use Rattle.pcep_messages.specs.declared.fault.MessageFault.TheVariants.{Missing}

@@ -3,7 +3,6 @@ use Rattle.std.proofs.Common.{◌≡◌, ℕ, max, Bool, true, false, List, [], 
 use Rattle.std.specs.Option.{option_or}
 use Rattle.pcep_objects.specs.Steps.{◌>>=◌}
 use Rattle.pcep_objects.specs.declared.fault.ObjectFault.{ObjectFault}
-use Rattle.pcep_objects.specs.declared.object.BandwidthType.{BandwidthType}
 use Rattle.pcep_objects.specs.declared.object.Hop.{Hop}
 use Rattle.pcep_objects.specs.declared.object.LspObject.{LspObject}
 use Rattle.pcep_objects.specs.declared.object.Lspa.{Lspa}
@@ -18,7 +17,7 @@ use Rattle.pcep_messages.specs.ReportSteps.{State, no_objects, begin, begun_by_s
 use Rattle.pcep_messages.specs.declared.fault.MessageFault.{MessageFault}
 use Rattle.pcep_messages.specs.declared.items.Item.{Item}
 use Rattle.pcep_messages.specs.declared.items.Place.{Place}
-use Rattle.pcep_messages.specs.declared.items.Place.TheVariants.{InFront, BehindSrp, Within}
+use Rattle.pcep_messages.specs.declared.items.Place.TheVariants.{BehindSrp, Within}
 use Rattle.pcep_messages.specs.declared.message.StateReport.{StateReport}
 use Rattle.pcep_messages.proofs.Running.{with_front, regroup, no_front, run, run_to_end, rest_gives}
 

@@ -1,5 +1,5 @@
 -- What counts of several objects: the first of each class, and of BANDWIDTHs the greatest (RFC 5440 section 7).
-use Rattle.std.specs.Prelude.{ℕ, max, Bool, true, false, List, [], ◌∷◌, map, fold, Option, Some, None}
+use Rattle.std.specs.Prelude.{ℕ, max, List, [], ◌∷◌, map, fold, Option, Some, None}
 use Rattle.std.specs.Option.{option_or}
 use Rattle.pcep_objects.specs.declared.object.BandwidthType.TheVariants.{Requested}
 use Rattle.pcep_objects.specs.declared.object.Hop.{Hop}

@@ -1,5 +1,5 @@
 -- Normal messages: each field is one that the wire can have, so that the message is spelled as it reads.
-use Rattle.std.specs.Prelude.{◌≡◌, ℕ, ◌^◌, ◌<◌, ◌≤◌, true, Option, Some, None}
+use Rattle.std.specs.Prelude.{ℕ, ◌^◌, ◌<◌, ◌≤◌, true, Option, Some, None}
 use Rattle.std.specs.List.{AllByRecursion}
 use Rattle.pcep_word.specs.Priority.{InForce}
 use Rattle.pcep_word.specs.Word.{IsBandwidth, IsBound}

@@ -53,6 +53,11 @@ abbrev pub IsInside : Place → Result Place MessageFault → Type 0
 IsInside InFront result = result ≡ Err (Refused 6 8 about.Nothing)
 IsInside place result = result ≡ Ok Within
 
+-- in front of the first item nothing of one was read
+abbrev pub IsEmptyInFront : Place → Item → Type 0
+IsEmptyInFront InFront item = item ≡ no_objects
+IsEmptyInFront place item = Unit {0}
+
 abbrev pub started : Place → Item → Result (List StateReport) MessageFault → Result State MessageFault
 started place item before = before >>= λ reports. Ok (record { reports = reports; item = item; place = place })
 

@@ -106,10 +106,15 @@ finished_at (Some asked) requests own = with_request requests (request_from aske
 abbrev pub finished : State → Option ObjectFault → Result (List PathRequest) MessageFault
 finished s own = finished_at s.asked s.requests own
 
--- what a step returned, seen by view, with what was read of the next request as it is then
-abbrev pub Steps : {V : Type 0} → (V → List PathRequest) → Result State MessageFault → Result V MessageFault → Option Asked → Type 0
-Steps view step (Ok requests) asked = step ≡ Ok (record { requests = view requests; asked = asked })
-Steps view step (Err fault) asked = Fails fault step
+-- what a step returned, with the requests and what was read of the next as they are then
+abbrev pub Steps : {U : Type 0} → Result State MessageFault → Result U MessageFault → List PathRequest → Option Asked → Type 0
+Steps step (Ok done) requests asked = step ≡ Ok (record { requests = requests; asked = asked })
+Steps step (Err fault) requests asked = Fails fault step
+
+-- what a step returned that may add a request
+abbrev pub Ends : {U : Type 0} → Result (List PathRequest) MessageFault → Result U MessageFault → List PathRequest → Type 0
+Ends step (Ok done) requests = step ≡ Ok requests
+Ends step (Err fault) requests = Fails fault step
 
 -- the same of an object that is no RP, whatever requests have ended
 abbrev pub Joins : {U : Type 0} → Option Asked → Object → Result U MessageFault → Option Asked → Type 0

@@ -2,11 +2,12 @@
 
 ghost use Rattle.std.specs.Prelude.{◌≡◌};
 ghost use Rattle.pcep_messages.specs.RequestSteps.{begun, taken};
+ghost use Rattle.pcep_objects.specs.declared.object.Object.TheVariants as objects;
 
 use crate::constraints::{bandwidth_asked, bounded, minimised_by};
 use crate::counting::{greater, keep_first};
 use crate::message::Bounds;
-use pcep_objects::{EndPoints, Lspa, MetricType, Object, Plsp, Rp};
+use pcep_objects::{BandwidthType, EndPoints, Lspa, MetricType, Object, Plsp, Rp};
 use pcep_word::Bandwidth;
 
 /// An RP, and what counts of the objects behind it that were read.
@@ -47,20 +48,34 @@ pub fn begun(rp: Rp) -> Asked
     }
 }
 
+/// Takes in END-POINTS.
+#[inline(always)]
+pub fn take_end_points(asked: &mut Asked, ends: EndPoints)
+    ensures { asked.new ≡ taken asked.old (objects.EndPoints ends) }
+{
+    keep_first(&mut asked.ends, ends);
+}
+
+/// Takes in a bandwidth.
+#[inline(always)]
+pub fn take_bandwidth(asked: &mut Asked, kind: BandwidthType, bandwidth: Bandwidth)
+    ensures { asked.new ≡ taken asked.old (objects.Bandwidth kind bandwidth) }
+{
+    asked.has_bandwidth = asked.has_bandwidth || 0 < bandwidth.value();
+    asked.bandwidth = greater(asked.bandwidth, bandwidth_asked(kind, bandwidth));
+}
+
 /// Takes in one more object; one that a request doesn't name is ignored.
 #[inline(always)]
 pub fn take(asked: &mut Asked, object: &Object)
     ensures { asked.new ≡ taken asked.old object.now }
 {
     match object {
-        Object::EndPoints(ends) => keep_first(&mut asked.ends, *ends),
+        Object::EndPoints(ends) => take_end_points(asked, *ends),
         Object::Lsp(lsp) => keep_first(&mut asked.plsp, lsp.plsp),
         Object::Lspa(lspa) => keep_first(&mut asked.lspa, *lspa),
         Object::Rro(_) => asked.has_rro = true,
-        Object::Bandwidth(kind, bandwidth) => {
-            asked.has_bandwidth = asked.has_bandwidth || 0 < bandwidth.value();
-            asked.bandwidth = greater(asked.bandwidth, bandwidth_asked(*kind, *bandwidth));
-        }
+        Object::Bandwidth(kind, bandwidth) => take_bandwidth(asked, *kind, *bandwidth),
         Object::Metric(metric) => {
             asked.minimised = asked.minimised.or(minimised_by(metric));
             asked.bounds = bounded(asked.bounds, metric);

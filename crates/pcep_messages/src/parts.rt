@@ -1,6 +1,7 @@
 //! The parts of a message that has one item: what counts of its objects.
 
 ghost use Rattle.std.specs.Prelude.{◌≡◌, IfOk, IfErr};
+ghost use Rattle.pcep_objects.specs.Bodies.{lsp_body};
 ghost use Rattle.pcep_objects.specs.Objects.{body_of};
 ghost use Rattle.pcep_objects.specs.Steps.{Fails, Gives};
 ghost use Rattle.pcep_messages.specs.Objects.{found_in};
@@ -92,29 +93,48 @@ fn take_in(parts: &mut Parts, object: Object)
     }
 }
 
-/// Reads the body of an object and takes the object in. Where it has a fault of its own, nothing has changed.
+/// Reads the body of an object of any class and takes the object in.
 #[inline(never)]
+fn take_any(alloc: Global, front: Front<'_>, parts: &mut Parts) -> Result<(), BodyFault>
+    ensures taken { Gives (λ done. parts.new) result (joined (body_of front.entry.kind front.entry.p front.entry.body.now) parts.old) }
+    ensures own_fault { IfErr result (λ fault. Fails fault (body_of front.entry.kind front.entry.p front.entry.body.now)) }
+    ensures unchanged { IfErr result (λ fault. parts.new ≡ parts.old) }
+{
+    take_in(parts, read_body(alloc, front.kind, front.p, front.body)?);
+    Ok(())
+}
+
+/// Reads the body of an LSP and takes it in.
+#[inline(always)]
+fn take_lsp(alloc: Global, body: &[u8], parts: &mut Parts) -> Result<(), BodyFault>
+    ensures taken { Gives (λ done. parts.new) result (joined (lsp_body body.now) parts.old) }
+    ensures own_fault { IfErr result (λ fault. Fails fault (lsp_body body.now)) }
+    ensures unchanged { IfErr result (λ fault. parts.new ≡ parts.old) }
+{
+    keep_first(&mut parts.lsp, read_lsp(alloc, body)?);
+    Ok(())
+}
+
+/// Reads the body of an object and takes the object in. Where it has a fault of its own, nothing has changed.
+#[inline(always)]
 fn take_front(alloc: Global, front: Front<'_>, parts: &mut Parts) -> Result<(), BodyFault>
     ensures taken { Gives (λ done. parts.new) result (joined (body_of front.entry.kind front.entry.p front.entry.body.now) parts.old) }
     ensures own_fault { IfErr result (λ fault. Fails fault (body_of front.entry.kind front.entry.p front.entry.body.now)) }
     ensures unchanged { IfErr result (λ fault. parts.new ≡ parts.old) }
 {
-    // The objects of most messages, each made where its class is known.
-    let (kind, p, body) = (front.kind, front.p, front.body);
-    match kind {
-        Kind::Rp => take_in(parts, Object::Rp(read_rp(p, body)?)),
-        Kind::Srp => take_in(parts, Object::Srp(read_srp(body)?)),
-        Kind::Lsp => take_in(parts, Object::Lsp(read_lsp(alloc, body)?)),
-        Kind::Ero => take_in(parts, Object::Ero(read_ero(alloc, body)?)),
-        Kind::Lspa => take_in(parts, Object::Lspa(read_lspa(body)?)),
+    // The objects of most messages, each taken in where its class is known.
+    let (p, body) = (front.p, front.body);
+    match front.kind {
+        Kind::Rp => keep_first(&mut parts.rp, read_rp(p, body)?),
+        Kind::Srp => keep_first(&mut parts.srp, read_srp(body)?),
+        Kind::Lsp => take_lsp(alloc, body, parts)?,
+        Kind::Ero => keep_first(&mut parts.ero, read_ero(alloc, body)?),
+        Kind::Lspa => keep_first(&mut parts.lspa, read_lspa(body)?),
         Kind::RequestedBandwidth => {
             let bandwidth = read_bandwidth(body)?;
-            take_in(
-                parts,
-                Object::Bandwidth(BandwidthType::Requested, bandwidth),
-            );
+            parts.bandwidth = requested(BandwidthType::Requested, bandwidth, parts.bandwidth);
         }
-        _ => take_in(parts, read_body(alloc, kind, p, body)?),
+        _ => take_any(alloc, front, parts)?,
     }
     Ok(())
 }

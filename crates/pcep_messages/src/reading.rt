@@ -1,7 +1,7 @@
 //! Whole messages.
 
 ghost use Rattle.std.specs.Prelude.{◌≡◌, ◌≢◌, ℕ, List, true, IfOk, IfErr};
-ghost use Rattle.pcep_messages.specs.Messages.{has_header, message_of, message_in, Reads, IsFaulty, ReadsOrIsFaulty};
+ghost use Rattle.pcep_messages.specs.Messages.{has_header, message_in, Reads, IsFaulty, ReadsOrIsFaulty};
 ghost use Rattle.pcep_messages.specs.Faults.{Gives};
 ghost use Rattle.pcep_messages.specs.declared.fault.MessageFault.TheVariants.{OutOfMemory};
 
@@ -10,11 +10,12 @@ use crate::fault::{About, MessageFault};
 use crate::message::Message;
 use crate::notifications::read_notification;
 use crate::replies::read_reply;
-use crate::report_steps::read_reports;
-use crate::requests::read_requests;
+use crate::report_steps::reports_in;
+use crate::requests::requests_in;
 use crate::sessions::{read_close, read_keepalive, read_opening};
 use crate::updates::{read_initiate, read_update};
 use byteorder::{BigEndian, ByteOrder};
+use sequence::Sequence;
 use std::alloc::Global;
 
 fn has_header(bytes: &[u8]) -> bool
@@ -26,25 +27,9 @@ fn has_header(bytes: &[u8]) -> bool
         && bytes.len() % 4 == 0
 }
 
-fn read_body(alloc: Global, kind: u8, body: &[u8]) -> Result<Message, MessageFault>
-    ensures { Gives (λ x. x) result (message_of kind body.now) }
-{
-    match kind {
-        1 => read_opening(alloc, body),
-        2 => read_keepalive(alloc, body),
-        3 => read_requests(alloc, body),
-        4 => read_reply(alloc, body),
-        5 => read_notification(alloc, body),
-        6 => read_errors(alloc, body),
-        7 => read_close(alloc, body),
-        10 => read_reports(alloc, body),
-        11 => read_update(alloc, body),
-        12 => read_initiate(alloc, body),
-        _ => Ok(Message::Unknown(kind)),
-    }
-}
-
-#[tactic(auto, unfolding(crate::specs::Messages::message_in))]
+// What may be long is made where it is handed out: a message that is moved is copied.
+#[tactic(auto, unfolding(crate::specs::Messages::message_in, crate::specs::Requests::request_body))]
+#[inline(never)]
 fn read(alloc: Global, bytes: &[u8]) -> Result<Message, MessageFault>
     ensures gives { Gives (λ x. x) result (message_in bytes.now) }
     ensures memory { IfErr result (λ e. e ≡ OutOfMemory → has_header bytes.now ≡ true) }
@@ -52,7 +37,26 @@ fn read(alloc: Global, bytes: &[u8]) -> Result<Message, MessageFault>
     if !has_header(bytes) {
         return Err(MessageFault::BadHeader);
     }
-    read_body(alloc, bytes[1], &bytes[4..])
+    let (kind, body) = (bytes[1], &bytes[4..]);
+    match kind {
+        1 => read_opening(alloc, body),
+        2 => read_keepalive(alloc, body),
+        3 => {
+            let requests = requests_in(alloc, body)?;
+            return Ok(Message::Request(Sequence::from_vec(requests)));
+        }
+        4 => read_reply(alloc, body),
+        5 => read_notification(alloc, body),
+        6 => read_errors(alloc, body),
+        7 => read_close(alloc, body),
+        10 => {
+            let reports = reports_in(alloc, body)?;
+            return Ok(Message::Report(Sequence::from_vec(reports)));
+        }
+        11 => read_update(alloc, body),
+        12 => read_initiate(alloc, body),
+        _ => Ok(Message::Unknown(kind)),
+    }
 }
 
 /// Reads the bytes of one whole message.

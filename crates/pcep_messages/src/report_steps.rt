@@ -1,26 +1,26 @@
 //! State reports, whose items are told apart while their objects are read.
 
-ghost use Rattle.std.specs.Prelude.{◌≡◌, None, IfOk, IfErr};
+ghost use Rattle.std.specs.Prelude.{◌≡◌, List, None, Some, Err, IfOk, IfErr};
+ghost use Rattle.pcep_objects.specs.Bodies.{lsp_body};
 ghost use Rattle.pcep_objects.specs.Objects.{body_of};
 ghost use Rattle.pcep_objects.specs.Steps.{Fails};
 ghost use Rattle.pcep_messages.specs.Faults.{Gives};
 ghost use Rattle.pcep_messages.specs.Reports.{report_body};
-ghost use Rattle.pcep_messages.specs.Messages.{report_message};
+ghost use Rattle.pcep_messages.specs.declared.message.StateReport.{StateReport};
 ghost use Rattle.pcep_messages.specs.ObjectSteps.{taken_by};
-ghost use Rattle.pcep_messages.specs.ReportSteps.{no_objects, ended, started, report_from, with_report, IsInside, after, after_lsp, finished_at, Steps, Ends, begun_by_srp, begun_by_lsp};
+ghost use Rattle.pcep_messages.specs.ReportSteps.{no_objects, ended, started, report_from, with_report, IsInside, IsEmptyInFront, after, after_lsp, finished_at, Steps, Ends, begun_by_srp, begun_by_lsp};
 ghost use Rattle.pcep_messages.specs.declared.items.Place.TheVariants.{BehindSrp};
 
 use crate::counting::{greater, keep_first};
 use crate::fault::{About, MessageFault};
 use crate::items::{Item, Place, no_objects};
-use crate::message::{Message, StateReport};
+use crate::message::StateReport;
 use crate::objects::skipped;
 use crate::reports::{cut_off, report_from};
 use pcep_objects::{
-    BandwidthType, BodyFault, Front, Kind, LspObject, Object, ObjectFault, Srp, front_of,
-    read_bandwidth, read_body, read_ero, read_lsp, read_lspa, read_srp,
+    BodyFault, Front, Kind, LspObject, Object, ObjectFault, Srp, front_of, read_bandwidth,
+    read_body, read_ero, read_lsp, read_lspa, read_srp,
 };
-use sequence::Sequence;
 use std::alloc::Global;
 use std::mem;
 
@@ -49,8 +49,36 @@ fn begun_by_lsp(lsp: LspObject) -> Item
     item
 }
 
-/// Takes in an SRP, which starts an item.
+/// Ends the item that was read, and begins one by this SRP.
 #[inline(never)]
+fn begin_by_srp(
+    alloc: Global,
+    srp: Srp,
+    item: &mut Item,
+    reports: &mut Vec<StateReport>,
+) -> Result<(), MessageFault>
+    ensures ends { Ends (with_report reports.old.items (report_from item.old None)) result reports.new.items }
+    ensures begins { item.new ≡ begun_by_srp srp }
+{
+    end_item(alloc, mem::replace(item, begun_by_srp(srp)), reports)
+}
+
+/// Ends the item that was read, and begins one by this LSP.
+#[inline(never)]
+fn begin_by_lsp(
+    alloc: Global,
+    lsp: LspObject,
+    item: &mut Item,
+    reports: &mut Vec<StateReport>,
+) -> Result<(), MessageFault>
+    ensures ends { Ends (with_report reports.old.items (report_from item.old None)) result reports.new.items }
+    ensures begins { item.new ≡ begun_by_lsp lsp }
+{
+    end_item(alloc, mem::replace(item, begun_by_lsp(lsp)), reports)
+}
+
+/// Takes in an SRP, which starts an item.
+#[inline(always)]
 fn take_srp(
     alloc: Global,
     srp: Srp,
@@ -58,17 +86,18 @@ fn take_srp(
     item: &mut Item,
     reports: &mut Vec<StateReport>,
 ) -> Result<Place, MessageFault>
+    requires { IsEmptyInFront place item.old }
     ensures { Steps (started BehindSrp (begun_by_srp srp) (ended place reports.old.items item.old)) result reports.new.items item.new }
 {
     match place {
-        Place::InFront => *item = begun_by_srp(srp),
-        _ => end_item(alloc, mem::replace(item, begun_by_srp(srp)), reports)?,
+        Place::InFront => item.srp = Some(srp),
+        _ => begin_by_srp(alloc, srp, item, reports)?,
     }
     Ok(Place::BehindSrp)
 }
 
 /// Takes in an LSP, which starts an item where no SRP stands right in front of it.
-#[inline(never)]
+#[inline(always)]
 fn take_lsp(
     alloc: Global,
     lsp: LspObject,
@@ -76,12 +105,13 @@ fn take_lsp(
     item: &mut Item,
     reports: &mut Vec<StateReport>,
 ) -> Result<Place, MessageFault>
+    requires { IsEmptyInFront place item.old }
     ensures { Steps (after_lsp place lsp (record { reports = reports.old.items; item = item.old; place = place })) result reports.new.items item.new }
 {
     match place {
         Place::BehindSrp => keep_first(&mut item.lsp, lsp),
-        Place::InFront => *item = begun_by_lsp(lsp),
-        _ => end_item(alloc, mem::replace(item, begun_by_lsp(lsp)), reports)?,
+        Place::InFront => item.lsp = Some(lsp),
+        _ => begin_by_lsp(alloc, lsp, item, reports)?,
     }
     Ok(Place::Within)
 }
@@ -105,6 +135,7 @@ fn take_in(
     item: &mut Item,
     reports: &mut Vec<StateReport>,
 ) -> Result<Place, MessageFault>
+    requires { IsEmptyInFront place item.old }
     ensures { Steps (after object (record { reports = reports.old.items; item = item.old; place = place })) result reports.new.items item.new }
 {
     match object {
@@ -130,6 +161,44 @@ fn take_in(
     }
 }
 
+/// Reads the body of an LSP and takes it in.
+#[inline(always)]
+fn take_lsp_body(
+    alloc: Global,
+    body: &[u8],
+    place: Place,
+    item: &mut Item,
+    reports: &mut Vec<StateReport>,
+) -> Result<Result<Place, MessageFault>, BodyFault>
+    requires { IsEmptyInFront place item.old }
+    ensures taken { IfOk result (λ step. Steps (taken_by after (lsp_body body.now) (record { reports = reports.old.items; item = item.old; place = place })) step reports.new.items item.new) }
+    ensures own_fault { IfErr result (λ fault. Fails fault (lsp_body body.now)) }
+    ensures same_item { IfErr result (λ fault. item.new ≡ item.old) }
+    ensures same_reports { IfErr result (λ fault. reports.new.items ≡ reports.old.items) }
+{
+    let lsp = read_lsp(alloc, body)?;
+    Ok(take_lsp(alloc, lsp, place, item, reports))
+}
+
+/// Reads the body of an object of any class and takes the object in.
+#[inline(always)]
+fn take_any(
+    alloc: Global,
+    front: Front<'_>,
+    place: Place,
+    item: &mut Item,
+    reports: &mut Vec<StateReport>,
+) -> Result<Result<Place, MessageFault>, BodyFault>
+    requires { IsEmptyInFront place item.old }
+    ensures taken { IfOk result (λ step. Steps (taken_by after (body_of front.entry.kind front.entry.p front.entry.body.now) (record { reports = reports.old.items; item = item.old; place = place })) step reports.new.items item.new) }
+    ensures own_fault { IfErr result (λ fault. Fails fault (body_of front.entry.kind front.entry.p front.entry.body.now)) }
+    ensures same_item { IfErr result (λ fault. item.new ≡ item.old) }
+    ensures same_reports { IfErr result (λ fault. reports.new.items ≡ reports.old.items) }
+{
+    let object = read_body(alloc, front.kind, front.p, front.body)?;
+    Ok(take_in(alloc, object, place, item, reports))
+}
+
 /// Reads the body of an object and takes the object in. The outer fault is the object's own, and then nothing
 /// has changed.
 #[inline(always)]
@@ -140,66 +209,65 @@ fn take_front(
     item: &mut Item,
     reports: &mut Vec<StateReport>,
 ) -> Result<Result<Place, MessageFault>, BodyFault>
+    requires { IsEmptyInFront place item.old }
     ensures taken { IfOk result (λ step. Steps (taken_by after (body_of front.entry.kind front.entry.p front.entry.body.now) (record { reports = reports.old.items; item = item.old; place = place })) step reports.new.items item.new) }
     ensures own_fault { IfErr result (λ fault. Fails fault (body_of front.entry.kind front.entry.p front.entry.body.now)) }
     ensures same_item { IfErr result (λ fault. item.new ≡ item.old) }
     ensures same_reports { IfErr result (λ fault. reports.new.items ≡ reports.old.items) }
 {
-    // The objects of most reports, each made where its class is known.
-    let (kind, body) = (front.kind, front.body);
-    Ok(match kind {
-        Kind::Srp => take_in(alloc, Object::Srp(read_srp(body)?), place, item, reports),
-        Kind::Lsp => take_in(
-            alloc,
-            Object::Lsp(read_lsp(alloc, body)?),
-            place,
-            item,
-            reports,
-        ),
-        Kind::Ero => take_in(
-            alloc,
-            Object::Ero(read_ero(alloc, body)?),
-            place,
-            item,
-            reports,
-        ),
-        Kind::Lspa => take_in(alloc, Object::Lspa(read_lspa(body)?), place, item, reports),
-        Kind::RequestedBandwidth => {
-            let object = Object::Bandwidth(BandwidthType::Requested, read_bandwidth(body)?);
-            take_in(alloc, object, place, item, reports)
+    // The objects of most reports, each taken in where its class is known.
+    let body = front.body;
+    Ok(match front.kind {
+        Kind::Srp => take_srp(alloc, read_srp(body)?, place, item, reports),
+        Kind::Lsp => take_lsp_body(alloc, body, place, item, reports)?,
+        Kind::Ero => {
+            keep_first(&mut item.ero, read_ero(alloc, body)?);
+            inside(place)
         }
-        _ => take_in(
-            alloc,
-            read_body(alloc, kind, front.p, body)?,
-            place,
-            item,
-            reports,
-        ),
+        Kind::Lspa => {
+            keep_first(&mut item.lspa, read_lspa(body)?);
+            inside(place)
+        }
+        Kind::RequestedBandwidth => {
+            item.bandwidth = greater(item.bandwidth, read_bandwidth(body)?);
+            inside(place)
+        }
+        _ => take_any(alloc, front, place, item, reports)?,
     })
 }
 
-/// The reports at the end of the objects, or the fault where an object has one of its own.
+/// The fault where an object has one of its own.
+fn fault_at(place: Place, item: &Item, fault: ObjectFault) -> MessageFault
+    ensures { (reports : List StateReport) → finished_at place reports item.now (Some fault) ≡ Err result }
+{
+    match place {
+        Place::InFront => MessageFault::BadObject(fault, About::Nothing),
+        _ => cut_off(item, fault),
+    }
+}
+
+/// The reports at the end of the objects.
+#[inline(always)]
 fn finish(
     alloc: Global,
     place: Place,
     item: Item,
     mut reports: Vec<StateReport>,
-    own: Option<ObjectFault>,
 ) -> Result<Vec<StateReport>, MessageFault>
-    ensures { Gives (λ v. v.items) result (finished_at place reports.items item own) }
+    ensures { Gives (λ v. v.items) result (finished_at place reports.items item None) }
 {
-    match (place, own) {
-        (Place::InFront, None) => Err(MessageFault::Refused(6, 8, About::Nothing)),
-        (Place::InFront, Some(fault)) => Err(MessageFault::BadObject(fault, About::Nothing)),
-        (_, Some(fault)) => Err(cut_off(&item, fault)),
-        (_, None) => {
+    match place {
+        Place::InFront => Err(MessageFault::Refused(6, 8, About::Nothing)),
+        _ => {
             reports.push(report_from(alloc, item)?)?;
             Ok(reports)
         }
     }
 }
 
-fn reports_in(alloc: Global, body: &[u8]) -> Result<Vec<StateReport>, MessageFault>
+/// The reports of the body of a PCRpt.
+#[inline(never)]
+pub fn reports_in(alloc: Global, body: &[u8]) -> Result<Vec<StateReport>, MessageFault>
     ensures { Gives (λ v. v.items) result (report_body body.now) }
 {
     // Most messages have one.
@@ -216,25 +284,16 @@ fn reports_in(alloc: Global, body: &[u8]) -> Result<Vec<StateReport>, MessageFau
                     rest = after;
                 }
                 Err(BodyFault::OutOfMemory) => return Err(MessageFault::OutOfMemory),
-                Err(own) => return finish(alloc, place, item, reports, Some(own.into())),
+                Err(own) => return Err(fault_at(place, &item, own.into())),
             },
             Err(fault) => match skipped(fault, false) {
                 Some(size) => {
                     let (_, after) = rest.split_at(size);
                     rest = after;
                 }
-                None => return finish(alloc, place, item, reports, Some(fault)),
+                None => return Err(fault_at(place, &item, fault)),
             },
         }
     }
-    finish(alloc, place, item, reports, None)
-}
-
-/// The body of a PCRpt.
-#[inline(never)]
-pub fn read_reports(alloc: Global, body: &[u8]) -> Result<Message, MessageFault>
-    ensures { Gives (λ x. x) result (report_message body.now) }
-{
-    let reports = reports_in(alloc, body)?;
-    Ok(Message::Report(Sequence::from_vec(reports)))
+    finish(alloc, place, item, reports)
 }

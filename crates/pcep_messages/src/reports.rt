@@ -71,6 +71,7 @@ pub fn hops_or_empty(alloc: Global, ero: Option<Sequence<Hop>>) -> Sequence<Hop>
 }
 
 /// The report of an item that has an LSP.
+#[inline(always)]
 fn report_with(alloc: Global, item: Item, lsp: LspObject) -> StateReport
     ensures { result ≡ report_with item.srp lsp item.ero item.rro item.lspa item.bandwidth }
 {

@@ -6,19 +6,22 @@ ghost use Rattle.pcep_objects.specs.Steps.{Fails};
 ghost use Rattle.pcep_messages.specs.ObjectSteps.{taken_by};
 ghost use Rattle.pcep_messages.specs.declared.message.PathRequest.{PathRequest};
 ghost use Rattle.pcep_messages.specs.Faults.{Gives};
-ghost use Rattle.pcep_messages.specs.Requests.{lacks_rro, request_with, fault_of_kept, fault_in_front, requests_in_body, request_body};
-ghost use Rattle.pcep_messages.specs.RequestSteps.{place_fault, request_from, ended, after_rp, after, finished_at, Steps, Joins};
+ghost use Rattle.pcep_messages.specs.Requests.{lacks_rro, request_with, fault_of_kept, fault_in_front, requests_in_body};
+ghost use Rattle.pcep_messages.specs.RequestSteps.{place_fault, request_from, ended, after_rp, after, finished_at, Steps, Ends, Joins};
+ghost use Rattle.pcep_objects.specs.declared.object.BandwidthType.TheVariants.{Requested};
+ghost use Rattle.pcep_objects.specs.declared.object.Object.TheVariants as objects;
 
-use crate::asked::{Asked, begun, take};
+use crate::asked::{Asked, begun, take, take_bandwidth, take_end_points};
 use crate::fault::{About, MessageFault};
-use crate::message::{Message, PathRequest};
+use crate::message::PathRequest;
 use crate::objects::skipped;
 use crate::reports::{colours_of, priorities_of};
 use pcep_objects::{
-    BandwidthType, BodyFault, EndPoints, Front, KeptClass, Kind, MetricType, Object, ObjectFault,
-    Rp, front_of, read_bandwidth, read_body, read_end_points, read_lspa, read_metric, read_rp,
+    BandwidthType, BodyFault, EndPoints, Front, KeptClass, Kind, Lspa, Metric, MetricType, Object,
+    ObjectFault, Plsp, Rp, front_of, read_bandwidth, read_body, read_end_points, read_lspa,
+    read_metric, read_rp,
 };
-use sequence::Sequence;
+use pcep_word::Bandwidth;
 use std::alloc::Global;
 
 fn request_with(asked: &Asked, ends: EndPoints) -> PathRequest
@@ -93,8 +96,8 @@ fn place_fault(about: About, first: Option<EndPoints>, object: &Object) -> Optio
 }
 
 /// The fault where an object has one of its own.
-fn cut_off(asked: Option<Asked>, fault: ObjectFault) -> MessageFault
-    ensures { (requests : List PathRequest) → finished_at asked requests (Some fault) ≡ Err result }
+fn cut_off(asked: &Option<Asked>, fault: ObjectFault) -> MessageFault
+    ensures { (requests : List PathRequest) → finished_at asked.now requests (Some fault) ≡ Err result }
 {
     match asked {
         None => MessageFault::BadObject(fault, About::Nothing),
@@ -102,54 +105,86 @@ fn cut_off(asked: Option<Asked>, fault: ObjectFault) -> MessageFault
     }
 }
 
-/// The requests at the end of the objects, or the fault where an object has one of its own.
+/// Ends the request in front of an RP, where one has begun.
+#[inline(never)]
+fn end_before(asked: &Option<Asked>, requests: &mut Vec<PathRequest>) -> Result<(), MessageFault>
+    ensures { Ends (ended asked.now requests.old.items) result requests.new.items }
+{
+    if let Some(asked) = asked {
+        // The prover has to be told of the types in a request.
+        let _plsp: Option<Plsp> = asked.plsp;
+        requests.push(request_from(asked)?)?;
+    }
+    Ok(())
+}
+
+/// The requests at the end of the objects.
 #[inline(always)]
 fn finish(
     asked: Option<Asked>,
     mut requests: Vec<PathRequest>,
-    own: Option<ObjectFault>,
 ) -> Result<Vec<PathRequest>, MessageFault>
-    ensures { Gives (λ v. v.items) result (finished_at asked requests.items own) }
+    ensures { Gives (λ v. v.items) result (finished_at asked requests.items None) }
 {
-    match (asked, own) {
-        (None, None) => Err(MessageFault::Refused(6, 1, About::Nothing)),
-        (None, Some(fault)) => Err(cut_off(None, fault)),
-        (Some(asked), Some(fault)) => Err(cut_off(Some(asked), fault)),
-        (Some(asked), None) => {
+    match asked {
+        None => Err(MessageFault::Refused(6, 1, About::Nothing)),
+        Some(asked) => {
+            // The prover has to be told of the types in a request.
+            let _plsp: Option<Plsp> = asked.plsp;
             requests.push(request_from(&asked)?)?;
             Ok(requests)
         }
     }
 }
 
-/// The requests with the one that was read, where one has begun.
-fn end_request(
-    asked: Option<Asked>,
-    requests: Vec<PathRequest>,
-) -> Result<Vec<PathRequest>, MessageFault>
-    ensures { Gives (λ v. v.items) result (ended asked requests.items) }
-{
-    if asked.is_none() {
-        return Ok(requests);
-    }
-    finish(asked, requests, None)
-}
-
 /// Takes in an RP, which ends the request in front of it and begins its own.
-#[inline(never)]
+#[inline(always)]
 fn take_rp(
     rp: Rp,
     asked: &mut Option<Asked>,
-    requests: Vec<PathRequest>,
-) -> Result<Vec<PathRequest>, MessageFault>
-    ensures { Steps (λ v. v.items) (after_rp rp asked.old requests.items) result asked.new }
+    requests: &mut Vec<PathRequest>,
+) -> Result<(), MessageFault>
+    ensures { Steps (after_rp rp asked.old requests.old.items) result requests.new.items asked.new }
 {
-    let ended = end_request(*asked, requests)?;
+    if asked.is_some() {
+        end_before(asked, requests)?;
+    }
     if !rp.p {
         return Err(MessageFault::BadP(About::Request(rp.id)));
     }
     *asked = Some(begun(rp));
-    Ok(ended)
+    Ok(())
+}
+
+/// Takes in END-POINTS, of which the first have to have P set.
+#[inline(always)]
+fn take_ends(ends: EndPoints, asked: &mut Option<Asked>) -> Result<(), MessageFault>
+    ensures { Joins asked.old (objects.EndPoints ends) result asked.new }
+{
+    match asked {
+        None => Err(MessageFault::Refused(6, 1, About::Nothing)),
+        Some(asked) if asked.ends.is_none() && !ends.p => {
+            Err(MessageFault::BadP(About::Request(asked.rp.id)))
+        }
+        Some(asked) => {
+            take_end_points(asked, ends);
+            Ok(())
+        }
+    }
+}
+
+/// Takes in the bandwidth that is asked for.
+#[inline(always)]
+fn take_requested(bandwidth: Bandwidth, asked: &mut Option<Asked>) -> Result<(), MessageFault>
+    ensures { Joins asked.old (objects.Bandwidth Requested bandwidth) result asked.new }
+{
+    match asked {
+        None => Err(MessageFault::Refused(6, 1, About::Nothing)),
+        Some(asked) => {
+            take_bandwidth(asked, BandwidthType::Requested, bandwidth);
+            Ok(())
+        }
+    }
 }
 
 /// Takes in an object that is no RP.
@@ -177,15 +212,47 @@ fn take_other(object: &Object, asked: &mut Option<Asked>) -> Result<(), MessageF
 fn take_in(
     object: Object,
     asked: &mut Option<Asked>,
-    requests: Vec<PathRequest>,
-) -> Result<Vec<PathRequest>, MessageFault>
-    ensures { Steps (λ v. v.items) (after object (record { requests = requests.items; asked = asked.old })) result asked.new }
+    requests: &mut Vec<PathRequest>,
+) -> Result<(), MessageFault>
+    ensures { Steps (after object (record { requests = requests.old.items; asked = asked.old })) result requests.new.items asked.new }
 {
     if let Object::Rp(rp) = object {
         return take_rp(rp, asked, requests);
     }
-    take_other(&object, asked)?;
-    Ok(requests)
+    take_other(&object, asked)
+}
+
+/// Takes in an LSPA.
+#[inline(always)]
+fn take_lspa(lspa: Lspa, asked: &mut Option<Asked>) -> Result<(), MessageFault>
+    ensures { Joins asked.old (objects.Lspa lspa) result asked.new }
+{
+    take_other(&Object::Lspa(lspa), asked)
+}
+
+/// Takes in a METRIC.
+#[inline(always)]
+fn take_metric(metric: Metric, asked: &mut Option<Asked>) -> Result<(), MessageFault>
+    ensures { Joins asked.old (objects.Metric metric) result asked.new }
+{
+    take_other(&Object::Metric(metric), asked)
+}
+
+/// Reads the body of an object of any class and takes the object in.
+#[inline(always)]
+fn take_any(
+    alloc: Global,
+    front: Front<'_>,
+    asked: &mut Option<Asked>,
+    requests: &mut Vec<PathRequest>,
+) -> Result<Result<(), MessageFault>, BodyFault>
+    ensures taken { IfOk result (λ step. Steps (taken_by after (body_of front.entry.kind front.entry.p front.entry.body.now) (record { requests = requests.old.items; asked = asked.old })) step requests.new.items asked.new) }
+    ensures own_fault { IfErr result (λ fault. Fails fault (body_of front.entry.kind front.entry.p front.entry.body.now)) }
+    ensures same_asked { IfErr result (λ fault. asked.new ≡ asked.old) }
+    ensures same_requests { IfErr result (λ fault. requests.new.items ≡ requests.old.items) }
+{
+    let object = read_body(alloc, front.kind, front.p, front.body)?;
+    Ok(take_in(object, asked, requests))
 }
 
 /// Reads the body of an object and takes the object in. The outer fault is the object's own, and then what was
@@ -195,32 +262,28 @@ fn take_front(
     alloc: Global,
     front: Front<'_>,
     asked: &mut Option<Asked>,
-    requests: Vec<PathRequest>,
-) -> Result<Result<Vec<PathRequest>, MessageFault>, BodyFault>
-    ensures taken { IfOk result (λ step. Steps (λ v. v.items) (taken_by after (body_of front.entry.kind front.entry.p front.entry.body.now) (record { requests = requests.items; asked = asked.old })) step asked.new) }
+    requests: &mut Vec<PathRequest>,
+) -> Result<Result<(), MessageFault>, BodyFault>
+    ensures taken { IfOk result (λ step. Steps (taken_by after (body_of front.entry.kind front.entry.p front.entry.body.now) (record { requests = requests.old.items; asked = asked.old })) step requests.new.items asked.new) }
     ensures own_fault { IfErr result (λ fault. Fails fault (body_of front.entry.kind front.entry.p front.entry.body.now)) }
     ensures same_asked { IfErr result (λ fault. asked.new ≡ asked.old) }
+    ensures same_requests { IfErr result (λ fault. requests.new.items ≡ requests.old.items) }
 {
-    // The objects of most requests, each made where its class is known.
-    let (kind, p, body) = (front.kind, front.p, front.body);
-    Ok(match kind {
-        Kind::Rp => take_in(Object::Rp(read_rp(p, body)?), asked, requests),
-        Kind::EndPoints => take_in(
-            Object::EndPoints(read_end_points(p, body)?),
-            asked,
-            requests,
-        ),
-        Kind::Lspa => take_in(Object::Lspa(read_lspa(body)?), asked, requests),
-        Kind::Metric => take_in(Object::Metric(read_metric(body)?), asked, requests),
-        Kind::RequestedBandwidth => {
-            let object = Object::Bandwidth(BandwidthType::Requested, read_bandwidth(body)?);
-            take_in(object, asked, requests)
-        }
-        _ => take_in(read_body(alloc, kind, p, body)?, asked, requests),
+    // The objects of most requests, each taken in where its class is known.
+    let (p, body) = (front.p, front.body);
+    Ok(match front.kind {
+        Kind::Rp => take_rp(read_rp(p, body)?, asked, requests),
+        Kind::EndPoints => take_ends(read_end_points(p, body)?, asked),
+        Kind::Lspa => take_lspa(read_lspa(body)?, asked),
+        Kind::Metric => take_metric(read_metric(body)?, asked),
+        Kind::RequestedBandwidth => take_requested(read_bandwidth(body)?, asked),
+        _ => take_any(alloc, front, asked, requests)?,
     })
 }
 
-fn requests_in(alloc: Global, body: &[u8]) -> Result<Vec<PathRequest>, MessageFault>
+/// The requests of the body of a PCReq.
+#[inline(never)]
+pub fn requests_in(alloc: Global, body: &[u8]) -> Result<Vec<PathRequest>, MessageFault>
     ensures { Gives (λ v. v.items) result (requests_in_body body.now) }
 {
     // Most messages have one.
@@ -229,33 +292,23 @@ fn requests_in(alloc: Global, body: &[u8]) -> Result<Vec<PathRequest>, MessageFa
     let mut rest = body;
     while !rest.is_empty() {
         match front_of(rest) {
-            Ok(front) => match take_front(alloc, front, &mut asked, requests) {
+            Ok(front) => match take_front(alloc, front, &mut asked, &mut requests) {
                 Ok(step) => {
-                    requests = step?;
+                    step?;
                     let (_, after) = rest.split_at(front.size);
                     rest = after;
                 }
                 Err(BodyFault::OutOfMemory) => return Err(MessageFault::OutOfMemory),
-                Err(own) => return Err(cut_off(asked, own.into())),
+                Err(own) => return Err(cut_off(&asked, own.into())),
             },
             Err(fault) => match skipped(fault, true) {
                 Some(size) => {
                     let (_, after) = rest.split_at(size);
                     rest = after;
                 }
-                None => return finish(asked, requests, Some(fault)),
+                None => return Err(cut_off(&asked, fault)),
             },
         }
     }
-    finish(asked, requests, None)
-}
-
-/// The body of a PCReq.
-#[tactic(auto, unfolding(crate::specs::Requests::request_body))]
-#[inline(never)]
-pub fn read_requests(alloc: Global, body: &[u8]) -> Result<Message, MessageFault>
-    ensures { Gives (λ x. x) result (request_body body.now) }
-{
-    let requests = requests_in(alloc, body)?;
-    Ok(Message::Request(Sequence::from_vec(requests)))
+    finish(asked, requests)
 }

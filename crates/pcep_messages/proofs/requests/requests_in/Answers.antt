@@ -17,18 +17,18 @@ loop-rest-preserved-in-Ok-take_front c =
     let some : 0 < length c.loop-rest.rest.now = search rules in
     let front = c.in-Ok.front in
     let s : State = record { requests = c.loop-rest.requests.items; asked = c.loop-rest.asked } in
-    let t : State = record { requests = c.in_ok-requests-in-Ok-take_front.requests.items; asked = c.take_front.new.asked } in
-    let took = rw c.in_ok-requests-in-Ok-take_front.was at c.in-Ok-take_front.ensures.taken in
+    let t : State = record { requests = c.take_front.new.requests.items; asked = c.take_front.new.asked } in
+    let took = rw c.in_ok-step-in-Ok-take_front.was at c.in-Ok-take_front.ensures.taken in
     rw c.split_at.ensures.back (goes_on after finished true s t c.loop-rest.rest.now (body_of front.kind front.p front.body.now) front.size (requests_in_body c.args.body.now) some (omega (arith, c.in-Ok.ensures.least)) c.in-Ok.ensures.reads took c.loop-rest.invariant)
 
-pub returns-in_err-requests-in-Ok-take_front : goal.returns-in_err-requests-in-Ok-take_front
-returns-in_err-requests-in-Ok-take_front c =
+pub returns-in_err-step-in-Ok-take_front : goal.returns-in_err-step-in-Ok-take_front
+returns-in_err-step-in-Ok-take_front c =
     let some : 0 < length c.loop-rest.rest.now = search rules in
     let front = c.in-Ok.front in
     let s : State = record { requests = c.loop-rest.requests.items; asked = c.loop-rest.asked } in
-    let failed = rw c.in_err-requests-in-Ok-take_front.was at c.in-Ok-take_front.ensures.taken in
-    let p = err_from_is_err_and c.from_residual-in_err-requests-in-Ok-take_front.result c.from_residual-in_err-requests-in-Ok-take_front.ensures.1 in
-    rw (p.1, p.2) (takes_none after finished true s c.loop-rest.rest.now (body_of front.kind front.p front.body.now) front.size c.in_err-requests-in-Ok-take_front.field-0.0 (requests_in_body c.args.body.now) some (omega (arith, c.in-Ok.ensures.least)) c.in-Ok.ensures.reads failed c.loop-rest.invariant)
+    let failed = rw c.in_err-step-in-Ok-take_front.was at c.in-Ok-take_front.ensures.taken in
+    let p = err_from_is_err_and c.from_residual-in_err-step-in-Ok-take_front.result c.from_residual-in_err-step-in-Ok-take_front.ensures.1 in
+    rw (p.1, p.2) (takes_none after finished true s c.loop-rest.rest.now (body_of front.kind front.p front.body.now) front.size c.in_err-step-in-Ok-take_front.field-0.0 (requests_in_body c.args.body.now) some (omega (arith, c.in-Ok.ensures.least)) c.in-Ok.ensures.reads failed c.loop-rest.invariant)
 
 pub returns-in-Err-take_front : goal.returns-in-Err-take_front
 returns-in-Err-take_front c =
@@ -55,10 +55,10 @@ returns-in-None c =
     let s : State = record { requests = c.loop-rest.requests.items; asked = c.loop-rest.asked } in
     let is = sym c.skipped.ensures ∙ c.in-None.is in
     let e = stops after finished true s c.loop-rest.rest.now c.in-Err.fault (requests_in_body c.args.body.now) some (is_bad true c.loop-rest.rest.now c.in-Err.fault c.in-Err.ensures.first_fault is) c.loop-rest.invariant in
-    gives_after (λ v. v.items) c.finish.result _ _ e c.finish.ensures
+    is_fault c.cut_off-in-None.result (requests_in_body c.args.body.now) (sym e ∙ c.cut_off-in-None.ensures c.loop-rest.requests.items)
 
 pub returns : goal.returns
 returns c =
     let none : length c.loop-rest.rest.now ≡ 0 = search rules in
     let s : State = record { requests = c.loop-rest.requests.items; asked = c.loop-rest.asked } in
-    gives_after (λ v. v.items) c.finish-2.result _ _ (ends after finished true s c.loop-rest.rest.now (requests_in_body c.args.body.now) none c.loop-rest.invariant) c.finish-2.ensures
+    gives_after (λ v. v.items) c.finish.result _ _ (ends after finished true s c.loop-rest.rest.now (requests_in_body c.args.body.now) none c.loop-rest.invariant) c.finish.ensures

@@ -1,4 +1,4 @@
-use Rattle.std.proofs.Common.{◌≡◌, ℕ, ◌+◌, ◌/◌, ◌%◌, List, [], ◌∷◌, ◌++◌, length, slice_set, slice_index_or, rules, sym, ap, ◌∙◌, arith, length-append}
+use Rattle.std.proofs.Common.{◌≡◌, ℕ, ◌+◌, ◌/◌, ◌%◌, List, [], ◌∷◌, ◌++◌, length, slice_index_or, rules, ap, ◌∙◌, arith, length-append}
 use Rattle.pcep_messages.specs.Spelling.{kind_number, objects_written, objects_spelled}
 use Rattle.pcep_messages.proofs.Mended.{mended}
 use Rattle.pcep_messages.proofs.writing.put_message.Goals as goal
