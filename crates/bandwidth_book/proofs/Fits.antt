@@ -1,14 +1,16 @@
 -- What one more path reserves.
-use Rattle.std.proofs.Common.{◌≡◌, ◌≤◌, ◌<◌, ℕ, zero, suc, ◌==◌, get_or, drop, ◌+◌, ◌-◌, Bool, true, false, ◌||◌, ◌&&◌, nat_le, nat_lt, not, max, int_le, pos, ◌-ℤ◌, List, [], ◌∷◌, ◌++◌, length, refl, sym, ap, subst, ◌∙◌, arith, inl, inr, true≢false, if◌then◌else◌}
+use Rattle.std.proofs.Common.{◌≡◌, ◌≤◌, ◌<◌, ◌^◌, ℕ, zero, suc, ◌==◌, get_or, drop, ◌+◌, ◌-◌, Bool, true, false, ◌||◌, ◌&&◌, nat_le, nat_lt, not, max, int_le, pos, ◌-ℤ◌, List, [], ◌∷◌, ◌++◌, length, refl, sym, ap, subst, ◌∙◌, arith, inl, inr, true≢false, if◌then◌else◌}
 use Rattle.std.proofs.lemmas.Bool.{cases_Bool}
 use Rattle.std.proofs.lemmas.Bool.Decides.{nat_tests}
-use Rattle.std.specs.List.{list_all, list_any, range_with_len}
+use Rattle.std.specs.List.{All, list_all, list_any, range_with_len}
 use Rattle.lsp_base.specs.Shares.{fits_at, has_link, is_of_tunnel, reservable, reserved, rises, share, tunnels_of, unreserved}
+use Rattle.std.proofs.lemmas.List.Elements.{All-head, All-tail}
+use Rattle.te_base.specs.Base.{IsLinkAmong}
 use Rattle.te_base.specs.declared.network.Link.{Link}
 use Rattle.lsp_base.specs.declared.path.Path.{Path}
 use Rattle.lsp_base.specs.declared.tunnel.Tunnel.{Tunnel}
 use Rattle.bandwidth_book.specs.Held.{held_of, most}
-use Rattle.bandwidth_book.specs.Ledgers.{held_by_path}
+use Rattle.bandwidth_book.specs.Tunnels.{held_by_path}
 use Rattle.bandwidth_book.specs.Paths.{held_by, tunnel_eq}
 use Rattle.bandwidth_book.proofs.Counts.{most_append}
 use Rattle.bandwidth_book.proofs.Distinct.{picked, sum_add, sum_pointwise, sums_agree}
@@ -145,3 +147,9 @@ all_done test (x ∷ xs) (suc i) n = all_done test xs i (omega (arith, n))
 
 pub lt_true : (m n : ℕ) → m < n → nat_lt m n ≡ true
 lt_true m n h = grind (arith, nat_tests)
+
+-- on each link of a network little may be reserved
+pub reservable_small : (nodes : ℕ) (links : List Link) → All (IsLinkAmong nodes) links → (l : ℕ) → reservable links l < 2 ^ 48
+reservable_small nodes [] a l = omega arith
+reservable_small nodes (x ∷ xs) a zero = (All-head (IsLinkAmong nodes) x xs a).reservable_small
+reservable_small nodes (x ∷ xs) a (suc l) = reservable_small nodes xs (All-tail (IsLinkAmong nodes) x xs a) l

@@ -1,8 +1,11 @@
+pub mod Rising
+pub mod LinkLists
 pub mod Sums
 pub mod Removed
 pub mod Places
 pub mod Order
 pub mod Totals
+pub mod Written
 pub mod Counts
 pub mod Same
 pub mod Stands
@@ -14,5 +17,3 @@ pub mod Runs
 pub mod Pending
 pub mod OwnShares
 pub mod Tables
-pub mod Nothing
-pub mod Rising

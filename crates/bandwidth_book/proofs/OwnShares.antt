@@ -1,10 +1,8 @@
 -- What a tunnel holds on each link, and what is found in the list of it.
-use Rattle.std.proofs.Common.{◌≡◌, ◌≤◌, ◌<◌, ℕ, zero, suc, ◌+◌, ◌==◌, ◌||◌, ◌&&◌, nat_le, nat_lt, Bool, true, false, cond, List, [], ◌∷◌, ◌++◌, Some, None, map, filter, length, take, slice_get, slice_index, refl, sym, ap, ◌∙◌, arith, inl, inr}
+use Rattle.std.proofs.Common.{◌≡◌, ◌≤◌, ◌<◌, ℕ, zero, suc, ◌+◌, ◌==◌, ◌||◌, ◌&&◌, nat_le, nat_lt, Bool, true, false, cond, List, [], ◌∷◌, ◌++◌, Some, None, map, filter, length, take, slice_get, slice_index, refl, sym, ap, ◌∙◌, arith, inl, inr, true≢false}
 use Rattle.std.specs.Prelude.{find}
 use Rattle.std.specs.List.{AllByRecursion, range_with_len}
-use Rattle.std.specs.declared.cmp.PartialEq as equality
-use Rattle.std.specs.declared.hash.Hash as hashing
-use Rattle.std.proofs.lemmas.Bool.{both_ways, cases_Bool, cases_eq, false_from_ne_true}
+use Rattle.std.proofs.lemmas.Bool.{cases_Bool, cases_eq}
 use Rattle.std.proofs.lemmas.Bool.Decides.{nat_tests}
 use Rattle.std.proofs.lemmas.List.{take_more}
 use Rattle.std.proofs.lemmas.List.FromFn.{fill_by_all, filter_of_map_range_with_len_more, get_or-map-range_with_len}
@@ -15,15 +13,13 @@ use Rattle.te_snapshot.specs.declared.own.OwnShare.{OwnShare}
 use Rattle.te_snapshot.specs.Own.{is_something, own_share_on, own_shares}
 use Rattle.te_snapshot.specs.Room.{own_share, share_in}
 use Rattle.bandwidth_book.specs.declared.held.Held.{Held}
-use Rattle.bandwidth_book.specs.declared.ledger.Ledger.{Ledger}
+use Rattle.bandwidth_book.specs.declared.link_entries.LinkEntry.{LinkEntry}
 use Rattle.bandwidth_book.specs.Held.{AreMaxima, most, times}
-use Rattle.bandwidth_book.specs.Ledgers.{has_entry_at, held_at}
+use Rattle.bandwidth_book.specs.Entries as entries
 use Rattle.bandwidth_book.specs.Links.{AreRising, has_link, is_something_below, own_among}
-use Rattle.bandwidth_book.specs.Marks.{AreMarked}
-use Rattle.bandwidth_book.specs.Paths.{IsHeldBy, held_by, tunnel_eq}
+use Rattle.bandwidth_book.specs.Paths.{IsHeldBy, held_by}
 use Rattle.bandwidth_book.proofs.Counts.{most_same}
-use Rattle.bandwidth_book.proofs.Nothing.{nothing_held}
-use Rattle.bandwidth_book.proofs.Rising.{all_above, none_below, number_self, numbers_apart}
+use Rattle.bandwidth_book.proofs.Rising.{number_self, numbers_apart}
 use Rattle.bandwidth_book.proofs.Shares.{share_is_most}
 
 -- the maxima of what the tunnel's paths hold are its shares
@@ -131,6 +127,14 @@ pub among_next : (paths : List Path) (t : Tunnel) (n : ℕ) (links : List ℕ) (
 among_next paths t n links i h =
     sym (list_parts (is_something_below n) (own_share_on paths t) (take i links) (slice_index links i)) ∙ ap (own_among paths t n) (sym (take_more links i 0 h))
 
+all_above : (a x : ℕ) (xs : List ℕ) → a < x → AllByRecursion (λ y. x < y) xs → AllByRecursion (λ y. a < y) xs
+all_above a x [] h all = tt
+all_above a x (y ∷ ys) h all = (let less = all.0 in omega (arith, less, h), all_above a x ys h all.1)
+
+none_below : (a : ℕ) (xs : List ℕ) → AllByRecursion (λ y. a < y) xs → has_link a xs ≡ false
+none_below a [] all = refl
+none_below a (x ∷ xs) all = let less = all.0 in let e = numbers_apart x a (λ s. absurd (omega (arith, less, s))) in rw e (none_below a xs all.1)
+
 module _ (f : ℕ → OwnShare) (p q : OwnShare → Bool) where
   none_kept : (links : List ℕ) (a : ℕ) → AllByRecursion (λ l. a ≤ l) links → ((l : ℕ) → a ≤ l → q (f l) ≡ false) → filter q (map f links) ≡ []
   none_kept [] a above fails = refl
@@ -166,23 +170,52 @@ module _ (f : ℕ → OwnShare) (p q : OwnShare → Bool) where
             (λ l least high none. unlisted l (omega (arith, least)) (omega (arith, high)) none)))
       ]
 
--- the links on which the tunnel isn't marked list nothing
-pub own_listed : {E : equality.Ghosts Tunnel} {H : hashing.Ghosts Tunnel} (ledgers : List (Ledger Tunnel E H)) (marked : ℕ → Tunnel → Bool) (links : List ℕ) (t : Tunnel) → AreMarked (has_entry_at tunnel_eq ledgers) marked → ((l : ℕ) → has_link l links ≡ marked l t) → AreRising links
-    → (paths : List Path) → IsHeldBy (length ledgers) (held_at tunnel_eq ledgers) paths → own_among paths t (length ledgers) links ≡ own_shares paths t (length ledgers)
+-- ---- the entries
+
+all_links : (x : ℕ) (xs : List LinkEntry) → AllByRecursion (λ (y : LinkEntry). x < y.link) xs → AllByRecursion (λ y. x < y) (entries.links_with xs)
+all_links x [] a = tt
+all_links x (y ∷ ys) a = (a.0, all_links x ys a.1)
+
+pub rising_links : (xs : List LinkEntry) → entries.AreRising xs → AreRising (entries.links_with xs)
+rising_links [] r = tt
+rising_links (x ∷ xs) r = (all_links x.link xs r.0, rising_links xs r.1)
+
+link_at : (xs : List LinkEntry) (i : ℕ) (y : LinkEntry) → slice_get xs i ≡ Some y → (i < length (entries.links_with xs)) × (slice_index (entries.links_with xs) i ≡ y.link)
+link_at [] i y h = absurd (cc)
+link_at (x ∷ xs) zero y h = (omega arith, (let e : x ≡ y = cc in ap (λ (z : LinkEntry). z.link) e))
+link_at (x ∷ xs) (suc i) y h = let ih = link_at xs i y h in (let less = ih.0 in omega (arith, less), ih.1)
+
+-- the link of one of the entries more
+pub among_next_entry : (paths : List Path) (t : Tunnel) (n : ℕ) (xs : List LinkEntry) (i : ℕ) (y : LinkEntry) → slice_get xs i ≡ Some y
+    → own_among paths t n (take i (entries.links_with xs)) ++ own_among paths t n (y.link ∷ []) ≡ own_among paths t n (take (i + 1) (entries.links_with xs))
+among_next_entry paths t n xs i y h =
+    let there = link_at xs i y h in
+    ap (λ (l : ℕ). own_among paths t n (take i (entries.links_with xs)) ++ own_among paths t n (l ∷ [])) (sym there.1) ∙ among_next paths t n (entries.links_with xs) i there.0
+
+-- a link that isn't listed has no entry
+pub unlisted : (l : ℕ) (xs : List LinkEntry) → has_link l (entries.links_with xs) ≡ false → entries.entry_on l xs ≡ None
+unlisted l [] e = refl
+unlisted l (x ∷ xs) e =
+    elim (cases_Bool (x.link == l)) [
+      | inl here ↦ absurd (let no : true ≡ false = rw here at e in true≢false no)
+      | inr other ↦ (let rest : has_link l (entries.links_with xs) ≡ false = rw other at e in rw other (unlisted l xs rest))
+    ]
+
+-- the links without an entry of the tunnel list nothing
+pub own_listed : (held : ℕ → Tunnel → List Held) (count : ℕ) (links : List ℕ) (t : Tunnel) → ((l : ℕ) → has_link l links ≡ false → held l t ≡ []) → AreRising links
+    → (paths : List Path) → IsHeldBy count held paths → own_among paths t count links ≡ own_shares paths t count
 unfolding own_shares
-own_listed ledgers marked links t h listed rising paths held =
-    only_listed (own_share_on paths t) is_something (is_something_below (length ledgers)) links 0 (length ledgers) rising (from_zero links)
+own_listed held count links t gone rising paths same =
+    only_listed (own_share_on paths t) is_something (is_something_below count) links 0 count rising (from_zero links)
     (λ l less. below l (is_something (own_share_on paths t l)) (omega (arith, less))) (λ l past. beyond l (is_something (own_share_on paths t l)) (omega (arith, past)))
-    (λ l low high none.
-    let gone : has_entry_at tunnel_eq ledgers l t ≡ false = false_from_ne_true _ (λ there. both_ways (has_link l links) none (listed l ∙ h.each l t there)) in
-    nothing_there paths t l (held_at tunnel_eq ledgers l t) (nothing_held (slice_get ledgers l) t gone) (λ k. held l t k (omega (arith, high))))
+    (λ l low high none. nothing_there paths t l (held l t) (gone l none) (λ k. same l t k (omega (arith, high))))
   where
     from_zero : (xs : List ℕ) → AllByRecursion (λ l. 0 ≤ l) xs
     from_zero [] = tt
     from_zero (x ∷ xs) = (omega arith, from_zero xs)
 
-    below : (l : ℕ) (b : Bool) → l < length ledgers → (nat_lt l (length ledgers) && b) ≡ b
-    below l b less = let e : nat_lt l (length ledgers) ≡ true = grind (arith, nat_tests) in ap (λ a. a && b) e
+    below : (l : ℕ) (b : Bool) → l < count → (nat_lt l count && b) ≡ b
+    below l b less = let e : nat_lt l count ≡ true = grind (arith, nat_tests) in ap (λ a. a && b) e
 
-    beyond : (l : ℕ) (b : Bool) → length ledgers ≤ l → (nat_lt l (length ledgers) && b) ≡ false
-    beyond l b past = let e : nat_lt l (length ledgers) ≡ false = grind (arith, nat_tests) in ap (λ a. a && b) e
+    beyond : (l : ℕ) (b : Bool) → count ≤ l → (nat_lt l count && b) ≡ false
+    beyond l b past = let e : nat_lt l count ≡ false = grind (arith, nat_tests) in ap (λ a. a && b) e

@@ -1,11 +1,10 @@
 -- Entries without paths, and where they are noted.
-use Rattle.std.proofs.Common.{◌≡◌, ◌<◌, ◌≤◌, ℕ, ◌+◌, ◌==◌, ◌&&◌, ◌||◌, Bool, true, false, List, [], ◌∷◌, ◌++◌, refl, ap, arith, length, if◌then◌else◌}
+use Rattle.std.proofs.Common.{◌≡◌, ◌<◌, ◌≤◌, ℕ, ◌+◌, ◌==◌, ◌&&◌, Bool, true, false, List, [], ◌∷◌, ◌++◌, refl, ap, arith, length, if◌then◌else◌, add-one, drop, drop-cons, get_or}
 use Rattle.lsp_base.specs.declared.tunnel.Tunnel.{Tunnel}
 use Rattle.bandwidth_book.specs.declared.held.Held.{Held}
 use Rattle.bandwidth_book.specs.declared.paths.Place.{Place}
 use Rattle.bandwidth_book.specs.Held.{with_all, with_one, without_all}
-use Rattle.bandwidth_book.specs.Ledgers.{held_by_path}
-use Rattle.bandwidth_book.specs.Links.{has_link}
+use Rattle.bandwidth_book.specs.Tunnels.{held_by_path}
 use Rattle.bandwidth_book.specs.Paths.{tunnel_eq}
 use Rattle.bandwidth_book.specs.Pending.{noted}
 use Rattle.bandwidth_book.proofs.Order.{length_with_one}
@@ -14,6 +13,20 @@ use Rattle.bandwidth_book.proofs.Order.{length_with_one}
 pub noted_push : (xs : List Place) (x : Place) (l : ℕ) (t : Tunnel) → noted (xs ++ x ∷ []) l t ≡ noted xs l t + (if x.link == l && tunnel_eq x.tunnel t then 1 else 0)
 noted_push [] x l t = omega arith
 noted_push (y ∷ xs) x l t = let ih = noted_push xs x l t in omega (arith, ih)
+
+-- a place that is passed was noted once itself, and for the others the rest has it
+pub noted_after : (xs : List Place) (i : ℕ) (x : Place) (held : Held) (l : ℕ) (t : Tunnel) → i < length xs → x ≡ get_or xs i x → 0 < noted (drop i xs) l t
+    → length (held_by_path tunnel_eq x.tunnel held l t (x.link ∷ [])) ≡ 0 → 0 < noted (drop (i + 1) xs) l t
+noted_after xs i x held l t less is before none =
+    let cons = drop-cons xs i x less in
+    let next = add-one i in
+    let e : drop i xs ≡ x ∷ drop (i + 1) xs = cc in
+    let n : 0 < noted (x ∷ drop (i + 1) xs) l t = rw e at before in
+    rest (x.link == l && tunnel_eq x.tunnel t) (noted (drop (i + 1) xs) l t) n none
+  where
+    rest : (here : Bool) (n : ℕ) → 0 < (if here then 1 else 0) + n → length ((if here then held ∷ [] else []) ++ []) ≡ 0 → 0 < n
+    rest true n h e = absurd (omega (arith, e))
+    rest false n h e = omega (arith, h)
 
 length_with_all : (hs xs : List Held) → length hs ≤ length (with_all hs xs)
 length_with_all hs [] = omega arith
@@ -31,23 +44,3 @@ nothing_before hs dropped added none e =
     let b = length_with_all hs added in
     let n : length (with_all hs added) ≡ 0 = ap length e2 in
     length_nil hs (omega (arith, b, n))
-
--- a path holds something for a tunnel on a link just where the link is in it and the tunnel is its own
-pub on_path : (eq : Tunnel → Tunnel → Bool) (tunnel : Tunnel) (held : Held) (l : ℕ) (t : Tunnel) (links : List ℕ) → (has_link l links && eq tunnel t) ≡ true → 0 < length (held_by_path eq tunnel held l t links)
-on_path eq tunnel held l t [] e = absurd (cc)
-on_path eq tunnel held l t (x ∷ xs) e = by (x == l) (eq tunnel t) (has_link l xs) e (on_path eq tunnel held l t xs)
-  where
-    by : (here same rest : Bool) → ((here || rest) && same) ≡ true → ((rest && same) ≡ true → 0 < length (held_by_path eq tunnel held l t xs)) → 0 < length ((if here && same then held ∷ [] else []) ++ held_by_path eq tunnel held l t xs)
-    by true true rest e f = omega arith
-    by true false rest e f = absurd (cc)
-    by false same rest e f = f e
-
-pub off_path : (eq : Tunnel → Tunnel → Bool) (tunnel : Tunnel) (held : Held) (l : ℕ) (t : Tunnel) (links : List ℕ) → (has_link l links && eq tunnel t) ≡ false → length (held_by_path eq tunnel held l t links) ≡ 0
-off_path eq tunnel held l t [] e = refl
-off_path eq tunnel held l t (x ∷ xs) e = by (x == l) (eq tunnel t) (has_link l xs) e (off_path eq tunnel held l t xs)
-  where
-    by : (here same rest : Bool) → ((here || rest) && same) ≡ false → ((rest && same) ≡ false → length (held_by_path eq tunnel held l t xs) ≡ 0) → length ((if here && same then held ∷ [] else []) ++ held_by_path eq tunnel held l t xs) ≡ 0
-    by true true rest e f = absurd (cc)
-    by true false true e f = f refl
-    by true false false e f = f refl
-    by false same rest e f = f e

@@ -19,9 +19,6 @@ related R (x ∷ xs) (suc n) d new h there others (suc l) b same other = related
 not_same : (a b : ℕ) → (a == b) ≡ false → a ≡ b → ⊥
 not_same a b f e = grind (arith, nat_tests)
 
-pub not_at : (n l : ℕ) → l < n → (n == l) ≡ false
-not_at n l h = grind (arith, nat_tests)
-
 pub set_related : {A : Type 0} (R : Bool → Option A → Option A → Type 0) (xs : List A) (n : ℕ) (d new : A) → n < length xs → R true (Some (get_or xs n d)) (Some new) → ((o : Option A) → R false o o) → (l : ℕ) → R (n == l) (slice_get xs l) (slice_get (slice_set xs n new) l)
 set_related R xs n d new h there others l = related R xs n d new h there others l (n == l) (eqb-true n l) (not_same n l)
 
@@ -32,10 +29,6 @@ more_one false hs h = refl
 pub less_one : (b : Bool) (hs : List Held) (h : Held) → (if b then without_one h hs else hs) ≡ without_all hs (if b then h ∷ [] else [])
 less_one true hs h = refl
 less_one false hs h = refl
-
-pub one_more : (b : Bool) (h : Held) → (if b then 1 else 0) ≡ length (if b then h ∷ [] else [])
-one_more true h = refl
-one_more false h = refl
 
 -- what holds past the end, and of the new element, holds after a push
 pub pushed : {A : Type 0} (P : Option A → Type 0) (xs : List A) (x : A) → P (Some x) → P None → ((n : ℕ) → P (slice_get xs n)) → (n : ℕ) → P (slice_get (xs ++ x ∷ []) n)

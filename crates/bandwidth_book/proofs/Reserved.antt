@@ -1,18 +1,19 @@
 -- The stored sums are what the paths reserve.
-use Rattle.std.proofs.Common.{◌≡◌, ℕ, true, false, ◌||◌, List, [], ◌∷◌, map, filter, sum_by, refl, sym, ap, subst, ◌∙◌, arith, inl, inr, true≢false}
+use Rattle.std.proofs.Common.{◌≡◌, ℕ, true, false, ◌||◌, List, [], ◌∷◌, Option, None, map, filter, sum_by, refl, sym, ap, subst, ◌∙◌, arith, inl, inr, true≢false}
 use Rattle.std.proofs.lemmas.Bool.{cases_Bool}
 use Rattle.std.proofs.lemmas.List.Sums.{sum_by-cons}
 use Rattle.std.specs.List.{list_any, AllByRecursion, IsDistinct}
 use Rattle.std.specs.Cmp.{IsEquivalence}
-use Rattle.std.specs.Map.{keys_of}
+use Rattle.std.specs.Map.{keys_of, lookup}
 use Rattle.lsp_base.specs.Same.{same_tunnel}
 use Rattle.lsp_base.specs.Shares.{greatest, is_held, is_of_tunnel, reserved, share, tunnels_of}
 use Rattle.lsp_base.specs.declared.path.Path.{Path}
 use Rattle.lsp_base.specs.declared.tunnel.Tunnel.{Tunnel}
 use Rattle.bandwidth_book.specs.declared.held.Held.{Held}
-use Rattle.bandwidth_book.specs.Holdings.{Holdings}
-use Rattle.bandwidth_book.specs.Held.{most, times}
-use Rattle.bandwidth_book.specs.Entries.{kept, total}
+use Rattle.bandwidth_book.specs.declared.link_entries.LinkEntry.{LinkEntry}
+use Rattle.bandwidth_book.specs.Held.{times}
+use Rattle.bandwidth_book.specs.Entries.{held_in}
+use Rattle.bandwidth_book.specs.Tunnels.{entry_of, most_on, total}
 use Rattle.bandwidth_book.specs.Paths.{held_by, tunnel_eq}
 use Rattle.bandwidth_book.proofs.Counts.{most_same}
 use Rattle.bandwidth_book.proofs.Distinct.{sums_agree}
@@ -100,25 +101,27 @@ reserved_is paths l p = sym (sum_over_is (λ t. share paths t l p) (tunnels_of p
 
 -- ---- the sums
 
-no_entry : (es : List (Tunnel × Holdings)) (t : Tunnel) (p : ℕ) → list_any (tunnel_eq t) (keys_of es) ≡ false → most (kept tunnel_eq es t) p ≡ 0
-no_entry [] t p n = refl
-no_entry (e ∷ es) t p n =
+-- a tunnel without a value counts as one that is missing
+no_value : {V : Type 0} (f : Option V → ℕ) (es : List (Tunnel × V)) (t : Tunnel) → list_any (tunnel_eq t) (keys_of es) ≡ false → f (lookup (tunnel_eq t) es) ≡ f None
+no_value f [] t n = refl
+no_value f (e ∷ es) t n =
     elim (cases_Bool (tunnel_eq t e.0)) [
       | inl here ↦ absurd (true≢false (let m : true ≡ false = rw here at n in m))
-      | inr other ↦ (let m : list_any (tunnel_eq t) (keys_of es) ≡ false = rw other at n in rw other (no_entry es t p m))
+      | inr other ↦ (let m : list_any (tunnel_eq t) (keys_of es) ≡ false = rw other at n in rw other (no_value f es t m))
     ]
 
 everywhere : (f g : Tunnel → ℕ) (ts : List Tunnel) → ((t : Tunnel) → f t ≡ g t) → AllByRecursion (λ t. f t ≡ g t) ts
 everywhere f g [] e = tt
 everywhere f g (t ∷ ts) e = (e t, everywhere f g ts e)
 
-pub total_is_reserved : (es : List (Tunnel × Holdings)) (paths : List Path) (l p : ℕ) → IsDistinct tunnel_eq (keys_of es)
-    → ((t : Tunnel) (h : Held) → times h (kept tunnel_eq es t) ≡ times h (held_by l t paths)) → total p es ≡ reserved paths l p
+pub total_is_reserved : (es : List (Tunnel × List LinkEntry)) (paths : List Path) (l p : ℕ) → IsDistinct tunnel_eq (keys_of es)
+    → ((t : Tunnel) (h : Held) → times h (held_in (entry_of tunnel_eq es l t)) ≡ times h (held_by l t paths)) → total (most_on l p) es ≡ reserved paths l p
 total_is_reserved es paths l p d s =
     let f : Tunnel → ℕ = λ t. share paths t l p in
-    let each : (t : Tunnel) → most (kept tunnel_eq es t) p ≡ share paths t l p = λ t. most_same (kept tunnel_eq es t) (held_by l t paths) p (s t) ∙ sym (share_is_most paths t l p) in
-    total_over_keys tunnel_eq tunnel_laws p es d
-    ∙ (sum_same (λ t. most (kept tunnel_eq es t) p) f (keys_of es) (everywhere (λ t. most (kept tunnel_eq es t) p) f (keys_of es) each)
+    let g : Tunnel → ℕ = λ t. most_on l p (lookup (tunnel_eq t) es) in
+    let each : (t : Tunnel) → g t ≡ f t = λ t. most_same (held_in (entry_of tunnel_eq es l t)) (held_by l t paths) p (s t) ∙ sym (share_is_most paths t l p) in
+    total_over_keys tunnel_eq tunnel_laws (most_on l p) es d
+    ∙ (sum_same g f (keys_of es) (everywhere g f (keys_of es) each)
     ∙ (sums_agree tunnel_eq tunnel_laws f (λ a b e. ap f (tunnel_eq_true a b e)) (keys_of es) (tunnels_of paths) d (tunnels_distinct paths)
-    (λ t n. sym (each t) ∙ no_entry es t p n) (λ t n. no_share t l p paths n)
+    (λ t n. sym (each t) ∙ no_value (most_on l p) es t n) (λ t n. no_share t l p paths n)
     ∙ sym (reserved_is paths l p)))

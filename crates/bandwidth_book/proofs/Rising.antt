@@ -1,13 +1,11 @@
--- Lists of rising numbers.
-use Rattle.std.proofs.Common.{◌≡◌, ◌<◌, ◌≤◌, ℕ, zero, suc, ◌==◌, ◌||◌, ◌&&◌, not, Bool, true, false, List, [], ◌∷◌, length, get_or, insert, remove, refl, sym, ap, subst, ◌∙◌, arith, inl, inr, Ok, Err, if◌then◌else◌}
+-- Lists of entries whose links rise.
+use Rattle.std.proofs.Common.{◌≡◌, ◌<◌, ◌≤◌, ◌+◌, ℕ, zero, suc, ◌==◌, true, false, List, [], ◌∷◌, Some, None, length, get_or, slice_get, slice_set, insert, remove, refl, ap, subst, ◌∙◌, arith, inl, inr, if◌then◌else◌, nat_lt}
 use Rattle.std.specs.List.{AllByRecursion}
-use Rattle.std.specs.List.Sorted.{IsBinarySearchResult}
-use Rattle.std.specs.Ordering.{nat_cmp}
-use Rattle.std.proofs.lemmas.List.Sorted.{searched}
-use Rattle.std.proofs.lemmas.Bool.{cases_eq}
+use Rattle.std.proofs.lemmas.Bool.{cases_Bool, eqb-true}
 use Rattle.std.proofs.lemmas.Bool.Decides.{nat_tests}
-use Rattle.bandwidth_book.specs.Links.{AreRising, has_link}
-use Rattle.bandwidth_book.proofs.Nothing.{there_or_past}
+use Rattle.bandwidth_book.specs.declared.link_entries.LinkEntry.{LinkEntry}
+use Rattle.bandwidth_book.specs.Holdings.{Holdings}
+use Rattle.bandwidth_book.specs.Entries.{AreRising, entry_on, place_on}
 
 pub number_self : (a b : ℕ) → a ≡ b → (a == b) ≡ true
 number_self a b e = grind (arith, nat_tests)
@@ -15,159 +13,226 @@ number_self a b e = grind (arith, nat_tests)
 pub numbers_apart : (a b : ℕ) → (a ≡ b → ⊥) → (a == b) ≡ false
 numbers_apart a b n = grind (arith, nat_tests)
 
--- ---- the order
+above_not : (l m : ℕ) → m < l → (l == m) ≡ false
+above_not l m h = grind (arith, nat_tests)
 
--- a later number is greater
-pub later : (x : ℕ) (xs : List ℕ) (k : ℕ) → AllByRecursion (λ y. x < y) xs → k < length xs → x < get_or xs k 0
-later x [] k a n = absurd (omega (arith, n))
-later x (y ∷ ys) zero a n = a.0
-later x (y ∷ ys) (suc k) a n = later x ys k a.1 (omega (arith, n))
+-- ---- the place
 
-pub rising_index : (xs : List ℕ) → AreRising xs → (i j : ℕ) → i ≤ j → j < length xs → get_or xs i 0 ≤ get_or xs j 0
-rising_index [] r i j h n = absurd (omega (arith, n))
-rising_index (x ∷ xs) r zero zero h n = omega arith
-rising_index (x ∷ xs) r zero (suc j) h n = let g = later x xs j r.0 (omega (arith, n)) in omega (arith, g)
-rising_index (x ∷ xs) r (suc i) zero h n = absurd (omega (arith, h))
-rising_index (x ∷ xs) r (suc i) (suc j) h n = rising_index xs r.1 i j (omega (arith, h)) (omega (arith, n))
+pub place_within : (l : ℕ) (xs : List LinkEntry) → place_on l xs ≤ length xs
+place_within l [] = omega arith
+place_within l (x ∷ xs) =
+    elim (cases_Bool (nat_lt x.link l)) [
+      | inl here ↦ (let ih = place_within l xs in rw here (omega (arith, ih)))
+      | inr other ↦ rw other (omega arith)
+    ]
 
-pub all_above : (a x : ℕ) (xs : List ℕ) → a < x → AllByRecursion (λ y. x < y) xs → AllByRecursion (λ y. a < y) xs
+later : (x d : LinkEntry) (xs : List LinkEntry) (k : ℕ) → AllByRecursion (λ (y : LinkEntry). x.link < y.link) xs → k < length xs → x.link < (get_or xs k d).link
+later x d [] k a n = absurd (omega (arith, n))
+later x d (y ∷ ys) zero a n = a.0
+later x d (y ∷ ys) (suc k) a n = later x d ys k a.1 (omega (arith, n))
+
+lt_true : (m n : ℕ) → m < n → nat_lt m n ≡ true
+lt_true m n h = grind (arith, nat_tests)
+
+lt_false : (m n : ℕ) → n ≤ m → nat_lt m n ≡ false
+lt_false m n h = grind (arith, nat_tests)
+
+true_lt : (m n : ℕ) → nat_lt m n ≡ true → m < n
+true_lt m n h = grind (arith, nat_tests)
+
+false_lt : (m n : ℕ) → nat_lt m n ≡ false → n ≤ m
+false_lt m n h = grind (arith, nat_tests)
+
+-- one of a lower link stands before the place
+pub before_place : (l : ℕ) (d : LinkEntry) (xs : List LinkEntry) (k : ℕ) → AreRising xs → k < length xs → (get_or xs k d).link < l → k < place_on l xs
+before_place l d [] k r n b = absurd (omega (arith, n))
+before_place l d (x ∷ xs) zero r n b = let t = lt_true x.link l b in rw t (omega arith)
+before_place l d (x ∷ xs) (suc k) r n b =
+    let above = later x d xs k r.0 (omega (arith, n)) in
+    let t = lt_true x.link l (omega (arith, above, b)) in
+    let ih = before_place l d xs k r.1 (omega (arith, n)) b in
+    rw t (omega (arith, ih))
+
+-- another stands after it
+pub after_place : (l : ℕ) (d : LinkEntry) (xs : List LinkEntry) (k : ℕ) → k < length xs → l ≤ (get_or xs k d).link → place_on l xs ≤ k
+after_place l d [] k n b = absurd (omega (arith, n))
+after_place l d (x ∷ xs) zero n b = let t = lt_false x.link l b in rw t (omega arith)
+after_place l d (x ∷ xs) (suc k) n b =
+    elim (cases_Bool (nat_lt x.link l)) [
+      | inl here ↦ (let ih = after_place l d xs k (omega (arith, n)) b in rw here (omega (arith, ih)))
+      | inr other ↦ rw other (omega arith)
+    ]
+
+-- ---- what is found
+
+pub none_above : (l : ℕ) (xs : List LinkEntry) → AllByRecursion (λ (y : LinkEntry). l < y.link) xs → entry_on l xs ≡ None
+none_above l [] a = refl
+none_above l (x ∷ xs) a = let e = above_not x.link l a.0 in rw e (none_above l xs a.1)
+
+all_above : (a x : ℕ) (xs : List LinkEntry) → a < x → AllByRecursion (λ (y : LinkEntry). x < y.link) xs → AllByRecursion (λ (y : LinkEntry). a < y.link) xs
 all_above a x [] h all = tt
 all_above a x (y ∷ ys) h all = (let less = all.0 in omega (arith, less, h), all_above a x ys h all.1)
 
--- ---- one more
+-- where the one in its place is of another link, or there is none, the link has no entry
+pub none_in_place : (l : ℕ) (d : LinkEntry) (xs : List LinkEntry) → AreRising xs → (place_on l xs < length xs → ((get_or xs (place_on l xs) d).link == l) ≡ false) → entry_on l xs ≡ None
+none_in_place l d [] r f = refl
+none_in_place l d (x ∷ xs) r f =
+    elim (cases_Bool (nat_lt x.link l)) [
+      | inl here ↦ (
+          let less = true_lt x.link l here in
+          let e : (x.link == l) ≡ false = numbers_apart x.link l (λ same. absurd (omega (arith, less, same))) in
+          let g : suc (place_on l xs) < length (x ∷ xs) → ((get_or xs (place_on l xs) d).link == l) ≡ false = rw here at f in
+          rw e (none_in_place l d xs r.1 (λ n. g (omega (arith, n)))))
+      | inr other ↦ (
+          let g : 0 < length (x ∷ xs) → (x.link == l) ≡ false = rw other at f in
+          let e = g (omega arith) in
+          let more = false_lt x.link l other in
+          let above : l < x.link = grind (arith, nat_tests) in
+          rw e (none_above l xs (all_above l x.link xs above r.0)))
+    ]
 
-all_from : (x : ℕ) (xs : List ℕ) → ((k : ℕ) → k < length xs → x < get_or xs k 0) → AllByRecursion (λ y. x < y) xs
-all_from x [] f = tt
-all_from x (y ∷ ys) f = (f 0 (omega arith), all_from x ys (λ k n. f (suc k) (omega (arith, n))))
+pub get_at : (xs : List LinkEntry) (i : ℕ) (d : LinkEntry) → i < length xs → slice_get xs i ≡ Some (get_or xs i d)
+get_at [] i d h = absurd (omega (arith, h))
+get_at (x ∷ xs) zero d h = refl
+get_at (x ∷ xs) (suc i) d h = get_at xs i d (omega (arith, h))
 
-all_insert : (x : ℕ) (xs : List ℕ) (i y : ℕ) → x < y → AllByRecursion (λ z. x < z) xs → AllByRecursion (λ z. x < z) (insert xs i y)
-all_insert x [] zero y h a = (h, tt)
-all_insert x [] (suc i) y h a = (h, tt)
-all_insert x (z ∷ zs) zero y h a = (h, a)
-all_insert x (z ∷ zs) (suc i) y h a = (a.0, all_insert x zs i y h a.1)
+later_get : (x y : LinkEntry) (xs : List LinkEntry) (i : ℕ) → AllByRecursion (λ (z : LinkEntry). x.link < z.link) xs → slice_get xs i ≡ Some y → x.link < y.link
+later_get x y [] i a h = absurd (cc)
+later_get x y (z ∷ zs) zero a h = (let e : z ≡ y = cc in subst (λ (w : LinkEntry). x.link < w.link) e a.0)
+later_get x y (z ∷ zs) (suc i) a h = later_get x y zs i a.1 h
 
--- a number that is put between the lower and the higher ones
-pub rising_insert : (xs : List ℕ) (i y : ℕ) → AreRising xs → i ≤ length xs → ((k : ℕ) → k < i → get_or xs k 0 < y) → ((k : ℕ) → i ≤ k → k < length xs → y < get_or xs k 0) → AreRising (insert xs i y)
-rising_insert [] zero y r n low high = (tt, tt)
-rising_insert [] (suc i) y r n low high = absurd (omega (arith, n))
-rising_insert (x ∷ xs) zero y r n low high = (all_from y (x ∷ xs) (λ k m. high k (omega arith) m), r)
-rising_insert (x ∷ xs) (suc i) y r n low high = (
-  all_insert x xs i y (low 0 (omega arith)) r.0,
-  rising_insert xs i y r.1 (omega (arith, n)) (λ k m. low (suc k) (omega (arith, m))) (λ k m p. high (suc k) (omega (arith, m)) (omega (arith, p))),
-)
+-- the entry at a place is that of its link
+pub found_at : (y : LinkEntry) (xs : List LinkEntry) (i : ℕ) → AreRising xs → slice_get xs i ≡ Some y → entry_on y.link xs ≡ Some y.entry
+found_at y [] i r h = absurd (cc)
+found_at y (x ∷ xs) zero r h =
+    let e : x ≡ y = cc in
+    let same = number_self x.link y.link (ap (λ (w : LinkEntry). w.link) e) in
+    rw same (ap (λ (w : LinkEntry). Some w.entry) e)
+found_at y (x ∷ xs) (suc i) r h =
+    let above = later_get x y xs i r.0 h in
+    let e : (x.link == y.link) ≡ false = numbers_apart x.link y.link (λ same. absurd (omega (arith, above, same))) in
+    rw e (found_at y xs i r.1 h)
 
-or_swap : (a b c : Bool) → (a || (b || c)) ≡ (b || (a || c))
-or_swap true true c = refl
-or_swap true false c = refl
-or_swap false true c = refl
-or_swap false false c = refl
+-- ---- one is written
 
-pub has_insert : (l : ℕ) (xs : List ℕ) (i y : ℕ) → has_link l (insert xs i y) ≡ (y == l || has_link l xs)
-has_insert l [] zero y = refl
-has_insert l [] (suc i) y = refl
-has_insert l (x ∷ xs) zero y = refl
-has_insert l (x ∷ xs) (suc i) y = ap (λ b. x == l || b) (has_insert l xs i y) ∙ or_swap (x == l) (y == l) (has_link l xs)
+pub entry_set : (l : ℕ) (y : LinkEntry) (e : Holdings) (xs : List LinkEntry) (i : ℕ) → AreRising xs → slice_get xs i ≡ Some y
+    → entry_on l (slice_set xs i (record { link = y.link; entry = e })) ≡ (if y.link == l then Some e else entry_on l xs)
+entry_set l y e [] i r h = absurd (cc)
+entry_set l y e (x ∷ xs) zero r h =
+    let same : x ≡ y = cc in
+    elim (cases_Bool (y.link == l)) [
+      | inl here ↦ rw here refl
+      | inr other ↦ (let apart : (x.link == l) ≡ false = ap (λ (w : LinkEntry). w.link == l) same ∙ other in rw (other, apart) refl)
+    ]
+entry_set l y e (x ∷ xs) (suc i) r h =
+    let above = later_get x y xs i r.0 h in
+    let ih = entry_set l y e xs i r.1 h in
+    elim (cases_Bool (x.link == l)) [
+      | inl here ↦ (
+          let is : x.link ≡ l = eqb-true x.link l here in
+          let apart : (y.link == l) ≡ false = numbers_apart y.link l (λ same. absurd (omega (arith, above, is, same))) in
+          rw (here, apart) refl)
+      | inr other ↦ rw other ih
+    ]
 
-pub insert_some : (xs : List ℕ) (i y : ℕ) → insert xs i y ≡ [] → ⊥
-insert_some [] zero y e = absurd (cc)
-insert_some [] (suc i) y e = absurd (cc)
-insert_some (x ∷ xs) zero y e = absurd (cc)
-insert_some (x ∷ xs) (suc i) y e = absurd (cc)
+all_set : (x y : LinkEntry) (e : Holdings) (xs : List LinkEntry) (i : ℕ) → slice_get xs i ≡ Some y → AllByRecursion (λ (z : LinkEntry). x.link < z.link) xs → AllByRecursion (λ (z : LinkEntry). x.link < z.link) (slice_set xs i (record { link = y.link; entry = e }))
+all_set x y e [] i h a = absurd (cc)
+all_set x y e (z ∷ zs) zero h a = (let same : z ≡ y = cc in subst (λ (w : LinkEntry). x.link < w.link) same a.0, a.1)
+all_set x y e (z ∷ zs) (suc i) h a = (a.0, all_set x y e zs i h a.1)
 
--- ---- one less
+all_from_first : (x y : LinkEntry) (xs : List LinkEntry) → x.link ≡ y.link → AllByRecursion (λ (z : LinkEntry). x.link < z.link) xs → AllByRecursion (λ (z : LinkEntry). y.link < z.link) xs
+all_from_first x y [] s a = tt
+all_from_first x y (z ∷ zs) s a = (let less = a.0 in omega (arith, less, s), all_from_first x y zs s a.1)
 
-all_remove : (x : ℕ) (xs : List ℕ) (i : ℕ) → AllByRecursion (λ z. x < z) xs → AllByRecursion (λ z. x < z) (remove xs i)
+pub rising_set : (y : LinkEntry) (e : Holdings) (xs : List LinkEntry) (i : ℕ) → AreRising xs → slice_get xs i ≡ Some y → AreRising (slice_set xs i (record { link = y.link; entry = e }))
+rising_set y e [] i r h = absurd (cc)
+rising_set y e (x ∷ xs) zero r h = (let same : x ≡ y = cc in all_from_first x y xs (ap (λ (w : LinkEntry). w.link) same) r.0, r.1)
+rising_set y e (x ∷ xs) (suc i) r h = (all_set x y e xs i h r.0, rising_set y e xs i r.1 h)
+
+-- ---- one is put
+
+pub entry_insert : (l : ℕ) (y : LinkEntry) (xs : List LinkEntry) → entry_on y.link xs ≡ None → entry_on l (insert xs (place_on y.link xs) y) ≡ (if y.link == l then Some y.entry else entry_on l xs)
+entry_insert l y [] none = refl
+entry_insert l y (x ∷ xs) none =
+    elim (cases_Bool (x.link == y.link)) [
+      | inl same ↦ absurd (let no : Some x.entry ≡ None = rw same at none in cc)
+      | inr apart ↦ (
+          let rest : entry_on y.link xs ≡ None = rw apart at none in
+          elim (cases_Bool (nat_lt x.link y.link)) [
+            | inl here ↦ (
+                let ih = entry_insert l y xs rest in
+                let less = true_lt x.link y.link here in
+                elim (cases_Bool (x.link == l)) [
+                  | inl is ↦ (
+                      let e : x.link ≡ l = eqb-true x.link l is in
+                      let not : (y.link == l) ≡ false = numbers_apart y.link l (λ s. absurd (omega (arith, less, e, s))) in
+                      rw (here, is, not) refl)
+                  | inr other ↦ rw (here, other) ih
+                ])
+            | inr other ↦ rw other refl
+          ])
+    ]
+
+all_insert : (x y : LinkEntry) (xs : List LinkEntry) (i : ℕ) → x.link < y.link → AllByRecursion (λ (z : LinkEntry). x.link < z.link) xs → AllByRecursion (λ (z : LinkEntry). x.link < z.link) (insert xs i y)
+all_insert x y [] zero h a = (h, tt)
+all_insert x y [] (suc i) h a = (h, tt)
+all_insert x y (z ∷ zs) zero h a = (h, a)
+all_insert x y (z ∷ zs) (suc i) h a = (a.0, all_insert x y zs i h a.1)
+
+pub rising_insert : (y : LinkEntry) (xs : List LinkEntry) → AreRising xs → entry_on y.link xs ≡ None → AreRising (insert xs (place_on y.link xs) y)
+rising_insert y [] r none = (tt, tt)
+rising_insert y (x ∷ xs) r none =
+    elim (cases_Bool (x.link == y.link)) [
+      | inl same ↦ absurd (let no : Some x.entry ≡ None = rw same at none in cc)
+      | inr apart ↦ (
+          let rest : entry_on y.link xs ≡ None = rw apart at none in
+          elim (cases_Bool (nat_lt x.link y.link)) [
+            | inl here ↦ rw here (all_insert x y xs (place_on y.link xs) (true_lt x.link y.link here) r.0, rising_insert y xs r.1 rest)
+            | inr other ↦ (
+                let more = false_lt x.link y.link other in
+                let above : y.link < x.link = grind (arith, nat_tests) in
+                rw other ((above, all_above y.link x.link xs above r.0), r))
+          ])
+    ]
+
+pub length_insert : {A : Type 0} (xs : List A) (i : ℕ) (y : A) → length (insert xs i y) ≡ length xs + 1
+length_insert [] zero y = refl
+length_insert [] (suc i) y = refl
+length_insert (x ∷ xs) zero y = omega arith
+length_insert (x ∷ xs) (suc i) y = let ih = length_insert xs i y in omega (arith, ih)
+
+-- ---- one is taken out
+
+pub entry_remove : (l : ℕ) (y : LinkEntry) (xs : List LinkEntry) (i : ℕ) → AreRising xs → slice_get xs i ≡ Some y → entry_on l (remove xs i) ≡ (if y.link == l then None else entry_on l xs)
+entry_remove l y [] i r h = absurd (cc)
+entry_remove l y (x ∷ xs) zero r h =
+    let same : x ≡ y = cc in
+    elim (cases_Bool (y.link == l)) [
+      | inl here ↦ (
+          let is : x.link ≡ l = ap (λ (w : LinkEntry). w.link) same ∙ eqb-true y.link l here in
+          let all : AllByRecursion (λ (z : LinkEntry). l < z.link) xs = subst (λ (n : ℕ). AllByRecursion (λ (z : LinkEntry). n < z.link) xs) is r.0 in
+          rw here (none_above l xs all))
+      | inr other ↦ (let apart : (x.link == l) ≡ false = ap (λ (w : LinkEntry). w.link == l) same ∙ other in rw (other, apart) refl)
+    ]
+entry_remove l y (x ∷ xs) (suc i) r h =
+    let above = later_get x y xs i r.0 h in
+    let ih = entry_remove l y xs i r.1 h in
+    elim (cases_Bool (x.link == l)) [
+      | inl here ↦ (
+          let is : x.link ≡ l = eqb-true x.link l here in
+          let apart : (y.link == l) ≡ false = numbers_apart y.link l (λ s. absurd (omega (arith, above, is, s))) in
+          rw (here, apart) refl)
+      | inr other ↦ rw other ih
+    ]
+
+all_remove : (x : LinkEntry) (xs : List LinkEntry) (i : ℕ) → AllByRecursion (λ (z : LinkEntry). x.link < z.link) xs → AllByRecursion (λ (z : LinkEntry). x.link < z.link) (remove xs i)
 all_remove x [] zero a = tt
 all_remove x [] (suc i) a = tt
 all_remove x (z ∷ zs) zero a = a.1
 all_remove x (z ∷ zs) (suc i) a = (a.0, all_remove x zs i a.1)
 
-pub rising_remove : (xs : List ℕ) (i : ℕ) → AreRising xs → AreRising (remove xs i)
+pub rising_remove : (xs : List LinkEntry) (i : ℕ) → AreRising xs → AreRising (remove xs i)
 rising_remove [] zero r = tt
 rising_remove [] (suc i) r = tt
 rising_remove (x ∷ xs) zero r = r.1
 rising_remove (x ∷ xs) (suc i) r = (all_remove x xs i r.0, rising_remove xs i r.1)
-
--- a number below all of them isn't there
-pub none_below : (x : ℕ) (xs : List ℕ) → AllByRecursion (λ y. x < y) xs → has_link x xs ≡ false
-none_below x [] a = refl
-none_below x (y ∷ ys) a =
-    let less = a.0 in
-    let other : (y == x) ≡ false = numbers_apart y x (λ e. absurd (omega (arith, less, e))) in
-    rw other (none_below x ys a.1)
-
-other_removed : (l : ℕ) (xs : List ℕ) (i : ℕ) → (get_or xs i 0 == l) ≡ false → has_link l (remove xs i) ≡ has_link l xs
-other_removed l [] zero e = refl
-other_removed l [] (suc i) e = refl
-other_removed l (x ∷ xs) zero e = rw e refl
-other_removed l (x ∷ xs) (suc i) e = ap (λ b. x == l || b) (other_removed l xs i e)
-
-same_removed : (xs : List ℕ) (i : ℕ) → AreRising xs → i < length xs → has_link (get_or xs i 0) (remove xs i) ≡ false
-same_removed [] i r n = absurd (omega (arith, n))
-same_removed (x ∷ xs) zero r n = none_below x xs r.0
-same_removed (x ∷ xs) (suc i) r n =
-    let less = later x xs i r.0 (omega (arith, n)) in
-    let other : (x == get_or xs i 0) ≡ false = numbers_apart x (get_or xs i 0) (λ e. absurd (omega (arith, less, e))) in
-    rw other (same_removed xs i r.1 (omega (arith, n)))
-
-pub has_remove : (l : ℕ) (xs : List ℕ) (i y : ℕ) → AreRising xs → i < length xs → get_or xs i 0 ≡ y → has_link l (remove xs i) ≡ (not (y == l) && has_link l xs)
-has_remove l xs i y r n e =
-    elim (cases_eq y l) [
-      | inl same ↦ (
-          let is : (y == l) ≡ true = number_self y l same in
-          rw is (subst (λ (m : ℕ). has_link m (remove xs i) ≡ false) (e ∙ same) (same_removed xs i r n)))
-      | inr other ↦ (
-          let is : (y == l) ≡ false = numbers_apart y l other in
-          rw is (other_removed l xs i (ap (λ (m : ℕ). m == l) e ∙ is)))
-    ]
-
--- ---- what a search finds
-
-pub has_at : (xs : List ℕ) (i x : ℕ) → i < length xs → get_or xs i 0 ≡ x → has_link x xs ≡ true
-has_at [] i x n e = absurd (omega (arith, n))
-has_at (y ∷ ys) zero x n e = let is : (y == x) ≡ true = number_self y x e in rw is refl
-has_at (y ∷ ys) (suc i) x n e = let rest = has_at ys i x (omega (arith, n)) e in by (y == x) rest
-  where
-    by : (b : Bool) → has_link x ys ≡ true → (b || has_link x ys) ≡ true
-    by true e = refl
-    by false e = e
-
-pub absent : (xs : List ℕ) (x : ℕ) → ((k : ℕ) → k < length xs → get_or xs k 0 ≡ x → ⊥) → has_link x xs ≡ false
-absent [] x f = refl
-absent (y ∷ ys) x f =
-    let other : (y == x) ≡ false = numbers_apart y x (f 0 (omega arith)) in
-    rw other (absent ys x (λ k n e. f (suc k) (omega (arith, n)) e))
-
--- where a search finds no place
-pub put_rising : (xs : List ℕ) (place x : ℕ) (b : Bool) → IsBinarySearchResult (λ y. nat_cmp y x) xs (Err place) → AreRising xs → AreRising (if b then insert xs place x else xs)
-put_rising xs place x false found r = r
-put_rising xs place x true found r =
-    let known = searched xs x (Err place) found (rising_index xs r) in
-    rising_insert xs place x r known.0 known.1 known.2
-
--- where a search finds the place
-pub found_there : (xs : List ℕ) (place x l : ℕ) → IsBinarySearchResult (λ y. nat_cmp y x) xs (Ok place) → AreRising xs → has_link l xs ≡ (x == l || has_link l xs)
-found_there xs place x l found r =
-    let known = searched xs x (Ok place) found (rising_index xs r) in
-    let there = has_at xs place x known.0 known.1 in
-    elim (cases_eq x l) [
-      | inl same ↦ (let is = number_self x l same in rw is (ap (λ (m : ℕ). has_link m xs) (sym same) ∙ there))
-      | inr other ↦ (let is = numbers_apart x l other in rw is refl)
-    ]
-
-pub taken_out : (xs : List ℕ) (place x l : ℕ) → IsBinarySearchResult (λ y. nat_cmp y x) xs (Ok place) → AreRising xs → has_link l (remove xs place) ≡ (not (x == l) && has_link l xs)
-taken_out xs place x l found r =
-    let known = searched xs x (Ok place) found (rising_index xs r) in
-    has_remove l xs place x r known.0 known.1
-
-pub not_there : (xs : List ℕ) (place x l : ℕ) → IsBinarySearchResult (λ y. nat_cmp y x) xs (Err place) → AreRising xs → has_link l xs ≡ (not (x == l) && has_link l xs)
-not_there xs place x l found r =
-    let known = searched xs x (Err place) found (rising_index xs r) in
-    let gone : has_link x xs ≡ false = absent xs x (λ k n e. elim (there_or_past k place) [
-      | inl low ↦ (let less = known.1 k low in omega (arith, less, e))
-      | inr high ↦ (let more = known.2 k high n in omega (arith, more, e))
-    ]) in
-    elim (cases_eq x l) [
-      | inl same ↦ (let is = number_self x l same in rw is (ap (λ (m : ℕ). has_link m xs) (sym same) ∙ gone))
-      | inr other ↦ (let is = numbers_apart x l other in rw is refl)
-    ]

@@ -7,7 +7,7 @@ use Rattle.lsp_base.specs.declared.path.Path.{Path}
 use Rattle.lsp_base.specs.declared.tunnel.Tunnel.{Tunnel}
 use Rattle.bandwidth_book.specs.declared.held.Held.{Held}
 use Rattle.bandwidth_book.specs.Held.{held_of, most}
-use Rattle.bandwidth_book.specs.Ledgers.{held_by_path}
+use Rattle.bandwidth_book.specs.Tunnels.{held_by_path}
 use Rattle.bandwidth_book.specs.Paths.{held_by, tunnel_eq}
 use Rattle.bandwidth_book.proofs.Counts.{most_append}
 use Rattle.bandwidth_book.proofs.Same.{tunnel_eq_is}

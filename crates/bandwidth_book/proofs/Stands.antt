@@ -9,7 +9,7 @@ use Rattle.lsp_base.specs.declared.tunnel.Tunnel.{Tunnel}
 use Rattle.lsp_base.proofs.Removal.{without-permutes}
 use Rattle.bandwidth_book.specs.declared.held.Held.{Held}
 use Rattle.bandwidth_book.specs.Held.{held_of, times, with_all, without_all}
-use Rattle.bandwidth_book.specs.Ledgers.{held_by_path}
+use Rattle.bandwidth_book.specs.Tunnels.{held_by_path}
 use Rattle.bandwidth_book.specs.Paths.{IsHeldBy, held_by, tunnel_eq}
 use Rattle.bandwidth_book.proofs.Counts.{times_append, times_with_all, times_without_all}
 

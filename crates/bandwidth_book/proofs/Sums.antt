@@ -1,27 +1,30 @@
 -- The running sums and maxima.
-use Rattle.std.proofs.Common.{◌≡◌, ◌≤◌, ◌<◌, ℕ, ◌+◌, Bool, true, false, List, [], ◌∷◌, Some, None, refl, sym, ap, ◌∙◌, arith, inl, inr, ◌⊎◌, max, length, nat_le, nat_lt, if◌then◌else◌, true≢false}
+use Rattle.std.proofs.Common.{◌≡◌, ◌≤◌, ◌<◌, ℕ, ◌+◌, Bool, true, false, List, [], ◌∷◌, Option, Some, None, refl, sym, ap, ◌∙◌, arith, inl, inr, ◌⊎◌, max, length, nat_le, nat_lt, if◌then◌else◌, true≢false}
 use Rattle.std.proofs.lemmas.Bool.{cases_Bool}
 use Rattle.std.proofs.lemmas.Bool.Decides.{nat_tests}
-use Rattle.std.proofs.lemmas.Option.{same_Some}
 use Rattle.std.specs.Map.{lookup, set_value}
 use Rattle.indexmap.specs.IndexMap.{insert_entry}
 use Rattle.bandwidth_book.specs.declared.held.Held.{Held}
-use Rattle.bandwidth_book.specs.Holdings.{Holdings}
 use Rattle.bandwidth_book.specs.Held.{most, is_before, same_held, with_one, without_one}
-use Rattle.bandwidth_book.specs.Entries.{total}
+use Rattle.bandwidth_book.specs.Tunnels.{total}
 
--- an entry that is written moves the total by its change
-pub total-set_value : {K : Type 0} (p : ℕ) (test : K → Bool) (es : List (K × Holdings)) (old new : Holdings) → lookup test es ≡ Some old → total p (set_value test es new) + most old.held p ≡ total p es + most new.held p
-total-set_value p test [] old new h = cc
-total-set_value p test (e ∷ es) old new h =
+-- a value that is written moves the total by its change
+pub total-set_value : {K V : Type 0} (f : Option V → ℕ) (test : K → Bool) (es : List (K × V)) (old new : V) → lookup test es ≡ Some old → total f (set_value test es new) + f (Some old) ≡ total f es + f (Some new)
+total-set_value f test [] old new h = cc
+total-set_value f test (e ∷ es) old new h =
     elim (cases_Bool (test e.0)) [
-      | inl here ↦ (let at : Some e.1 ≡ Some old = rw here at h in let same : e.1 ≡ old = same_Some _ _ at in let m : most e.1.held p ≡ most old.held p = ap (λ (k : Holdings). most k.held p) same in rw here (omega (arith, m)))
-      | inr other ↦ (let there : lookup test es ≡ Some old = rw other at h in rw other (omega (arith, total-set_value p test es old new there)))
+      | inl here ↦ (let at : Some e.1 ≡ Some old = rw here at h in let m : f (Some e.1) ≡ f (Some old) = ap f at in rw here (omega (arith, m)))
+      | inr other ↦ (let there : lookup test es ≡ Some old = rw other at h in rw other (omega (arith, total-set_value f test es old new there)))
     ]
 
--- no entry has more than the total
-pub most-le-total : {K : Type 0} (p : ℕ) (test : K → Bool) (es : List (K × Holdings)) (old : Holdings) → lookup test es ≡ Some old → most old.held p ≤ total p es
-most-le-total p test es old h = let nothing : Holdings = record { held = []; promised = 0 } in let moved : total p (set_value test es nothing) + most old.held p ≡ total p es + 0 = total-set_value p test es old nothing h in omega (arith, moved)
+-- no value counts more than the total
+pub one-le-total : {K V : Type 0} (f : Option V → ℕ) (test : K → Bool) (es : List (K × V)) (old : V) → lookup test es ≡ Some old → f (Some old) ≤ total f es
+one-le-total f test [] old h = cc
+one-le-total f test (e ∷ es) old h =
+    elim (cases_Bool (test e.0)) [
+      | inl here ↦ (let at : Some e.1 ≡ Some old = rw here at h in let m : f (Some e.1) ≡ f (Some old) = ap f at in omega (arith, m))
+      | inr other ↦ (let there : lookup test es ≡ Some old = rw other at h in let ih = one-le-total f test es old there in omega (arith, ih))
+    ]
 
 pub most_with_one : (h : Held) (hs : List Held) (p : ℕ) → most (with_one h hs) p ≡ max (if nat_le h.hold p then h.bandwidth else 0) (most hs p)
 most_with_one h [] p = refl
@@ -51,13 +54,13 @@ length_without_one h (x ∷ hs) =
       | inr other ↦ (let ih = length_without_one h hs in rw other (omega (arith, ih)))
     ]
 
--- an empty entry counts as nothing
-pub total_insert : {K : Type 0} (p : ℕ) (eq : K → K → Bool) (es : List (K × Holdings)) (k : K) (v : Holdings) → v.held ≡ [] → lookup (eq k) es ≡ None → total p (insert_entry eq es k v) ≡ total p es
-total_insert p eq [] k v empty none = rw empty refl
-total_insert p eq (e ∷ es) k v empty none =
+-- a value that counts as nothing leaves the total
+pub total_insert : {K V : Type 0} (f : Option V → ℕ) (eq : K → K → Bool) (es : List (K × V)) (k : K) (v : V) → f (Some v) ≡ 0 → lookup (eq k) es ≡ None → total f (insert_entry eq es k v) ≡ total f es
+total_insert f eq [] k v nothing none = omega (arith, nothing)
+total_insert f eq (e ∷ es) k v nothing none =
     elim (cases_Bool (eq k e.0)) [
       | inl here ↦ (let at : Some e.1 ≡ None = rw here at none in cc)
-      | inr other ↦ (let there : lookup (eq k) es ≡ None = rw other at none in let ih = total_insert p eq es k v empty there in rw other (omega (arith, ih)))
+      | inr other ↦ (let there : lookup (eq k) es ≡ None = rw other at none in let ih = total_insert f eq es k v nothing there in rw other (omega (arith, ih)))
     ]
 
 -- a value that is written leaves the number of entries

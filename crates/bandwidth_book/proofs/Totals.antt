@@ -1,12 +1,11 @@
 -- The total over the entries is the sum over their keys, and small.
-use Rattle.std.proofs.Common.{◌≡◌, ◌≤◌, ◌<◌, ℕ, ◌+◌, ◌-◌, ◌*◌, ◌^◌, Bool, true, false, List, [], ◌∷◌, refl, ◌∙◌, arith, length, nat_le, if◌then◌else◌}
+use Rattle.std.proofs.Common.{◌≡◌, ◌≤◌, ◌<◌, ℕ, ◌+◌, ◌-◌, ◌*◌, ◌^◌, Bool, true, false, List, [], ◌∷◌, Option, Some, refl, ◌∙◌, arith, length, nat_le, if◌then◌else◌}
 use Rattle.std.specs.List.{AllByRecursion, IsDistinct}
 use Rattle.std.specs.Cmp.{IsEquivalence}
-use Rattle.std.specs.Map.{keys_of}
+use Rattle.std.specs.Map.{keys_of, lookup}
 use Rattle.bandwidth_book.specs.declared.held.Held.{Held}
-use Rattle.bandwidth_book.specs.Holdings.{Holdings}
 use Rattle.bandwidth_book.specs.Held.{most, with_one, without_one}
-use Rattle.bandwidth_book.specs.Entries.{total, kept}
+use Rattle.bandwidth_book.specs.Tunnels.{total}
 use Rattle.bandwidth_book.proofs.Sums.{most_with_one, most-without_one, at_most}
 
 module _ {K : Type 0} where
@@ -22,31 +21,31 @@ module _ {K : Type 0} where
   sum_small f [] b = omega arith
   sum_small f (k ∷ ks) b = let ih = sum_small f ks b in let here = b k in omega (arith, here, ih)
 
-  count_keys : (es : List (K × Holdings)) → length (keys_of es) ≡ length es
+  count_keys : {V : Type 0} (es : List (K × V)) → length (keys_of es) ≡ length es
   count_keys [] = refl
   count_keys (e ∷ es) = let ih = count_keys es in omega (arith, ih)
 
-module _ {K : Type 0} (eq : K → K → Bool) (laws : IsEquivalence eq) where
-  -- another key's entry is looked for behind the first
-  behind : (p : ℕ) (e : K × Holdings) (es : List (K × Holdings)) (ks : List K) → AllByRecursion (λ k. eq e.0 k ≡ false) ks → AllByRecursion (λ k. most (kept eq es k) p ≡ most (kept eq (e ∷ es) k) p) ks
-  behind p e es [] a = tt
-  behind p e es (k ∷ ks) a =
+module _ {K V : Type 0} (eq : K → K → Bool) (laws : IsEquivalence eq) (f : Option V → ℕ) where
+  -- another key's value is looked for behind the first
+  behind : (e : K × V) (es : List (K × V)) (ks : List K) → AllByRecursion (λ k. eq e.0 k ≡ false) ks → AllByRecursion (λ k. f (lookup (eq k) es) ≡ f (lookup (eq k) (e ∷ es))) ks
+  behind e es [] a = tt
+  behind e es (k ∷ ks) a =
       let other : eq k e.0 ≡ false = laws.symm k e.0 ∙ a.0 in
-      (rw other refl, behind p e es ks a.1)
+      (rw other refl, behind e es ks a.1)
 
-  pub total_over_keys : (p : ℕ) (es : List (K × Holdings)) → IsDistinct eq (keys_of es) → total p es ≡ sum_over (λ k. most (kept eq es k) p) (keys_of es)
+  pub total_over_keys : (es : List (K × V)) → IsDistinct eq (keys_of es) → total f es ≡ sum_over (λ k. f (lookup (eq k) es)) (keys_of es)
   unfolding IsDistinct
-  total_over_keys p [] d = refl
-  total_over_keys p (e ∷ es) d =
-      let ih = total_over_keys p es d.1 in
-      let first : most (kept eq (e ∷ es) e.0) p ≡ most e.1.held p = rw (laws.refl e.0) refl in
-      let rest = sum_same (λ k. most (kept eq es k) p) (λ k. most (kept eq (e ∷ es) k) p) (keys_of es) (behind p e es (keys_of es) d.0) in
+  total_over_keys [] d = refl
+  total_over_keys (e ∷ es) d =
+      let ih = total_over_keys es d.1 in
+      let first : f (lookup (eq e.0) (e ∷ es)) ≡ f (Some e.1) = rw (laws.refl e.0) refl in
+      let rest = sum_same (λ k. f (lookup (eq k) es)) (λ k. f (lookup (eq k) (e ∷ es))) (keys_of es) (behind e es (keys_of es) d.0) in
       omega (arith, ih, first, rest)
 
-  pub total_small : (p : ℕ) (es : List (K × Holdings)) → IsDistinct eq (keys_of es) → length es ≤ 30000 → ((k : K) → most (kept eq es k) p < 2 ^ 48) → total p es < 2 ^ 63 - 2 ^ 48
-  total_small p es d n b =
-      let t = total_over_keys p es d in
-      let s = sum_small (λ k. most (kept eq es k) p) (keys_of es) b in
+  pub total_small : (es : List (K × V)) → IsDistinct eq (keys_of es) → length es ≤ 30000 → ((k : K) → f (lookup (eq k) es) < 2 ^ 48) → total f es < 2 ^ 63 - 2 ^ 48
+  total_small es d n b =
+      let t = total_over_keys es d in
+      let s = sum_small (λ k. f (lookup (eq k) es)) (keys_of es) b in
       let c = count_keys es in
       omega (arith, t, s, c, n)
 

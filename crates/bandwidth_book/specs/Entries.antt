@@ -1,9 +1,9 @@
--- The entries of a link, by key.
-use Rattle.std.specs.Prelude.{⊤, ◌≡◌, ◌<◌, ℕ, ◌+◌, Bool, List, [], ◌∷◌, Option, Some, None, is_some, slice_index}
-use Rattle.std.specs.Map.{lookup}
+-- The entries of a tunnel, by link.
+use Rattle.std.specs.Prelude.{⊤, ◌≡◌, ◌<◌, ◌==◌, ℕ, suc, Bool, List, [], ◌∷◌, Option, Some, None, is_some, map, nat_lt, slice_get, if◌then◌else◌}
+use Rattle.std.specs.List.{AllByRecursion}
 use Rattle.bandwidth_book.specs.declared.held.Held.{Held}
+use Rattle.bandwidth_book.specs.declared.link_entries.LinkEntry.{LinkEntry}
 use Rattle.bandwidth_book.specs.Holdings.{Holdings}
-use Rattle.bandwidth_book.specs.Held.{most}
 
 -- what an entry that may be missing holds
 abbrev pub held_in : Option Holdings → List Held
@@ -15,33 +15,37 @@ abbrev pub promised_in : Option Holdings → ℕ
 promised_in None = 0
 promised_in (Some e) = e.promised
 
-module _ {K : Type 0} where
-  -- the greatest bandwidths of the entries at a priority, added up
-  abbrev pub total : ℕ → List (K × Holdings) → ℕ
-  total p [] = 0
-  total p (e ∷ es) = most e.1.held p + total p es
+-- the entry of a link
+abbrev pub entry_on : ℕ → List LinkEntry → Option Holdings
+entry_on l [] = None
+entry_on l (x ∷ xs) = if x.link == l then Some x.entry else entry_on l xs
 
-  abbrev pub AreSums : List ℕ → List (K × Holdings) → Type 0
-  AreSums sums es = (p : ℕ) → p < 8 → slice_index sums p ≡ total p es
+-- whether the link has an entry, which may hold nothing
+abbrev pub has_entry : ℕ → List LinkEntry → Bool
+has_entry l xs = is_some (entry_on l xs)
 
-  -- whether the key has an entry, which may hold nothing
-  abbrev pub has_entry : (K → K → Bool) → List (K × Holdings) → K → Bool
-  has_entry eq es k = is_some (lookup (eq k) es)
+-- what the link's entry holds
+abbrev pub kept : ℕ → List LinkEntry → List Held
+kept l xs = held_in (entry_on l xs)
 
-  -- what the key's entry holds
-  abbrev pub kept : (K → K → Bool) → List (K × Holdings) → K → List Held
-  kept eq es k = held_in (lookup (eq k) es)
+-- for how many more the link's entry has promised room
+abbrev pub promised_to : ℕ → List LinkEntry → ℕ
+promised_to l xs = promised_in (entry_on l xs)
 
-  -- for how many more the key's entry has promised room
-  abbrev pub promised_to : (K → K → Bool) → List (K × Holdings) → K → ℕ
-  promised_to eq es k = promised_in (lookup (eq k) es)
+-- each link is below the later ones
+abbrev pub AreRising : List LinkEntry → Type 0
+AreRising [] = ⊤
+AreRising (x ∷ xs) = AllByRecursion (λ y. x.link < y.link) xs × AreRising xs
 
--- no entry, or one that holds nothing
-abbrev pub IsUnused : Option Holdings → Type 0
-IsUnused None = ⊤
-IsUnused (Some e) = e.held ≡ []
+-- where the entry of a link belongs in the order
+abbrev pub place_on : ℕ → List LinkEntry → ℕ
+place_on l [] = 0
+place_on l (x ∷ xs) = if nat_lt x.link l then suc (place_on l xs) else 0
 
--- an entry that holds something
-abbrev pub IsUsed : Option Holdings → Type 0
-IsUsed None = ⊥
-IsUsed (Some e) = e.held ≡ [] → ⊥
+-- the entry at a place is the link's
+abbrev pub IsAt : ℕ → List LinkEntry → ℕ → Type 0
+IsAt l xs i = (x : LinkEntry) × (slice_get xs i ≡ Some x) × (x.link ≡ l)
+
+-- the links that have entries
+abbrev pub links_with : List LinkEntry → List ℕ
+links_with xs = map (λ (x : LinkEntry). x.link) xs

@@ -1,10 +1,10 @@
 pub mod Held
 pub mod Holdings
 pub mod Entries
+pub mod Tunnels
 pub mod Ledgers
 pub mod Paths
 pub mod Pending
 pub mod Tables
 pub mod Links
-pub mod Marks
 pub mod Books

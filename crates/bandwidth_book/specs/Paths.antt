@@ -5,7 +5,7 @@ use Rattle.lsp_base.specs.declared.path.Path.{Path}
 use Rattle.lsp_base.specs.declared.tunnel.Tunnel.{Tunnel}
 use Rattle.bandwidth_book.specs.declared.held.Held.{Held}
 use Rattle.bandwidth_book.specs.Held.{held_of, times}
-use Rattle.bandwidth_book.specs.Ledgers.{held_by_path}
+use Rattle.bandwidth_book.specs.Tunnels.{held_by_path}
 
 -- what `==` of tunnels says
 abbrev pub tunnel_eq : Tunnel → Tunnel → Bool

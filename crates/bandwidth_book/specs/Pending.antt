@@ -1,4 +1,4 @@
--- Where entries without paths may stand, and marks without paths.
+-- Where entries without paths may stand.
 use Rattle.std.specs.Prelude.{◌≡◌, ◌<◌, ℕ, ◌+◌, ◌==◌, ◌&&◌, Bool, true, List, [], ◌∷◌, if◌then◌else◌}
 use Rattle.lsp_base.specs.declared.tunnel.Tunnel.{Tunnel}
 use Rattle.bandwidth_book.specs.declared.held.Held.{Held}
@@ -13,7 +13,3 @@ noted (x ∷ xs) l t = (if x.link == l && tunnel_eq x.tunnel t then 1 else 0) + 
 -- on each of n links, a tunnel whose entry has no paths is noted
 abbrev pub AreNoted : ℕ → (ℕ → Tunnel → Bool) → (ℕ → Tunnel → List Held) → List Place → Type 0
 AreNoted n has_entry held places = (l : ℕ) (t : Tunnel) → l < n → has_entry l t ≡ true → held l t ≡ [] → 0 < noted places l t
-
--- a tunnel that is marked on a link where it holds nothing is noted there
-pub record AreInUse (marked : ℕ → Tunnel → Bool) (held : ℕ → Tunnel → List Held) (places : List Place) : Type 0 where
-  pub each : (l : ℕ) (t : Tunnel) → marked l t ≡ true → held l t ≡ [] → 0 < noted places l t

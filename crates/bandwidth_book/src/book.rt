@@ -2,14 +2,12 @@
 ghost use Rattle.std.specs.Prelude.{◌≡◌, ◌<◌, ◌^◌, ℕ, length};
 ghost use Rattle.std.specs.Arc.{arc_value};
 ghost use Rattle.lsp_base.specs.Shares.{reservable};
-ghost use Rattle.bandwidth_book.specs.Ledgers.{has_entry_at, held_at};
-ghost use Rattle.bandwidth_book.specs.Marks.{AreMarked, is_marked};
+ghost use Rattle.bandwidth_book.specs.Ledgers.{count, has_entry_at, held_at};
 ghost use Rattle.bandwidth_book.specs.Paths.{tunnel_eq};
-ghost use Rattle.bandwidth_book.specs.Pending.{AreInUse, AreNoted};
+ghost use Rattle.bandwidth_book.specs.Pending.{AreNoted};
 ghost use Rattle.bandwidth_book.specs.Tables.{IsKept};
 
-use crate::ledger::Ledger;
-use crate::marks::Marks;
+use crate::ledgers::Ledgers;
 use crate::paths::Place;
 use lsp_base::Tunnel;
 use std::alloc::Global;
@@ -22,17 +20,13 @@ use te_snapshot::{Snapshot, Topology};
 pub struct Book {
     pub(crate) alloc: Global,
     pub(crate) topology: Arc<Topology, Global>,
-    pub(crate) ledgers: Vec<Ledger<Tunnel>>,
-    /// On which links tunnels may have entries.
-    pub(crate) marks: Marks<Tunnel>,
-    /// Where room was promised since the last change. An entry without paths stands nowhere else, nor a mark.
+    pub(crate) ledgers: Ledgers<Tunnel>,
+    /// Where room was promised since the last change. An entry without paths stands nowhere else.
     pub(crate) pending: Vec<Place>,
     /// The snapshot that was given last, where no path changed since.
     pub(crate) kept: Option<Snapshot>,
-    ghost count: { length ledgers.items ≡ length (arc_value topology).links },
+    ghost sized: { count ledgers ≡ length (arc_value topology).links },
     ghost small: { (l : ℕ) → reservable (arc_value topology).links l < 2 ^ 48 },
-    ghost current: { IsKept (arc_value topology) (length ledgers.items) (held_at tunnel_eq ledgers.items) kept },
-    ghost noted: { AreNoted (length ledgers.items) (has_entry_at tunnel_eq ledgers.items) (held_at tunnel_eq ledgers.items) pending.items },
-    ghost marked: { AreMarked (has_entry_at tunnel_eq ledgers.items) (is_marked tunnel_eq marks.lists.entries) },
-    ghost in_use: { AreInUse (is_marked tunnel_eq marks.lists.entries) (held_at tunnel_eq ledgers.items) pending.items },
+    ghost current: { IsKept (arc_value topology) (count ledgers) (held_at tunnel_eq ledgers) kept },
+    ghost noted: { AreNoted (count ledgers) (has_entry_at tunnel_eq ledgers) (held_at tunnel_eq ledgers) pending.items },
 }

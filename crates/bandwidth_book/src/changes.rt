@@ -1,35 +1,20 @@
 //! How a book comes to stand for lists of paths.
-ghost use Rattle.std.specs.Prelude.{◌≡◌, ◌<◌, ◌≤◌, ◌++◌, false, ℕ, List, [], length, IfOk, OnOk};
+ghost use Rattle.std.specs.Prelude.{◌≡◌, ◌<◌, ◌≤◌, ◌++◌, ℕ, List, [], length, IfOk, OnOk};
 ghost use Rattle.std.specs.Arc.{arc_value};
 ghost use Rattle.lsp_base.specs.Base.{HasAll, without};
 ghost use Rattle.lsp_base.specs.declared.path.Path.{Path};
 ghost use Rattle.lsp_base.specs.declared.tunnel.Tunnel.{Tunnel};
 ghost use Rattle.bandwidth_book.specs.Books.{HasEmptyEntry, HasNoEmptyEntry, IsReady, StandsFor, held_on, kept_by, links_of, network_of, pending_on};
 ghost use Rattle.bandwidth_book.specs.Held.{with_all, without_all};
-ghost use Rattle.bandwidth_book.specs.Ledgers.{has_entry_at, held_at};
-ghost use Rattle.bandwidth_book.specs.Paths.{held_by, tunnel_eq};
+ghost use Rattle.bandwidth_book.specs.Paths.{held_by};
 
 use crate::book::Book;
-use crate::ledger::Ledger;
-use crate::marks::Marks;
+use crate::ledgers::Ledgers;
 use crate::paths::{change_paths, give_up_room, promise_paths};
-use lsp_base::{Change, Tunnel};
+use lsp_base::Change;
 use std::alloc::{AllocError, Global};
 use std::sync::Arc;
 use te_snapshot::Topology;
-
-/// So many ledgers, on which nothing is held.
-fn empty_ledgers(alloc: Global, count: usize) -> Result<Vec<Ledger<Tunnel>>, AllocError>
-    ensures length { IfOk result (λ ledgers. length ledgers.items ≡ count) }
-    ensures entries { IfOk result (λ ledgers. (l : ℕ) (t : Tunnel) → has_entry_at tunnel_eq ledgers.items l t ≡ false) }
-    ensures empty { IfOk result (λ ledgers. (l : ℕ) (t : Tunnel) → held_at tunnel_eq ledgers.items l t ≡ []) }
-{
-    let mut ledgers = Vec::with_capacity(alloc, count)?;
-    for number in 0..count {
-        ledgers.push(Ledger::new(alloc))?;
-    }
-    Ok(ledgers)
-}
 
 impl Book {
     /// A book of the network's links, on which nothing is reserved.
@@ -39,12 +24,11 @@ impl Book {
         ensures tidy { IfOk result HasNoEmptyEntry }
     {
         let count = topology.links().len();
-        let ledgers = empty_ledgers(alloc, count)?;
+        let ledgers = Ledgers::new(alloc, count)?;
         Ok(Book {
             alloc,
             topology,
             ledgers,
-            marks: Marks::new(alloc),
             pending: Vec::new(alloc),
             kept: None,
         })
@@ -62,11 +46,10 @@ impl Book {
         ensures pending { (l : ℕ) (t : Tunnel) → pending_on self.new l t ≤ length (held_by l t change.now.added) }
         ensures tidy { (l : ℕ) (t : Tunnel) → l < length (links_of self.old) → HasEmptyEntry self.new l t → 0 < length (held_by l t change.now.added) }
     {
-        give_up_room(&mut self.ledgers, &mut self.marks, &mut self.pending);
+        give_up_room(&mut self.ledgers, &mut self.pending);
         promise_paths(
             self.alloc,
             &mut self.ledgers,
-            &mut self.marks,
             &mut self.pending,
             change.added.as_slice(),
         )
@@ -90,8 +73,8 @@ impl Book {
         let added = change.added.as_slice();
         if !dropped.is_empty() || !added.is_empty() {
             self.kept = None;
-            change_paths(&mut self.ledgers, &mut self.marks, dropped, added);
+            change_paths(&mut self.ledgers, dropped, added);
         }
-        give_up_room(&mut self.ledgers, &mut self.marks, &mut self.pending);
+        give_up_room(&mut self.ledgers, &mut self.pending);
     }
 }

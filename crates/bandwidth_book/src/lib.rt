@@ -1,13 +1,15 @@
 //! The book of what paths reserve: on each link of a network, for each tunnel the holding priorities and
 //! bandwidths of its paths there, the greatest bandwidth at each priority (the paths of one tunnel share
 //! what they reserve on a common link: shared explicit reservation, RFC 3209 section 2.4.3), and over all
-//! tunnels the sums of these. So what a link can still carry is read from stored numbers.
+//! tunnels the sums of these. So what a link can still carry is read from stored numbers. What a tunnel holds is
+//! kept together, in the order of its links, so that an event reads few places of memory, and what it holds
+//! already is listed without looking for it.
 //!
 //! A layer above may rely on it that a book stands for a list of paths (`StandsFor` in `specs/Books.antt`):
 //! a new one for none, and after `change` one that stood for paths stands for them without the dropped and
 //! with the added ones, for each list that had the dropped ones. What it says of a list for which it stands
 //! are the definitions of `lsp_base`. `reserve` makes all the room, and `change` takes no memory and leaves
-//! no entry and no mark without paths, so that a book keeps memory for standing paths alone
+//! no entry without paths, so that a book keeps memory for standing paths alone
 //! (`specs/Pending.antt`).
 //! `snapshot` gives a table of what is left of every link, of which a search can be made while the book goes
 //! on; while no path changes it gives the same one again (`specs/Tables.antt`).
@@ -26,17 +28,16 @@
 
 mod book;
 mod changes;
-mod entries;
 mod entry;
 mod held;
-mod ledger;
+mod ledger_calls;
 mod ledgers;
-mod link_list;
+mod link_entries;
 mod looks;
-mod marks;
 mod own;
 mod paths;
 mod snapshots;
+mod tunnels;
 
 pub use book::Book;
 pub use te_snapshot::{OwnShare, OwnShares, Snapshot, Topology};

@@ -5,52 +5,44 @@ ghost use Rattle.lsp_base.specs.Shares.{fits, fits_at, has_link, priorities, res
 ghost use Rattle.lsp_base.specs.declared.path.Path.{Path};
 ghost use Rattle.bandwidth_book.specs.Books.{StandsFor, links_of};
 ghost use Rattle.bandwidth_book.specs.Held.{most};
-ghost use Rattle.bandwidth_book.specs.Ledgers.{held_at};
+ghost use Rattle.bandwidth_book.specs.Ledgers.{count, held_at};
 ghost use Rattle.bandwidth_book.specs.Paths.{IsHeldBy, tunnel_eq};
 
 use crate::book::Book;
-use crate::ledger::Ledger;
+use crate::ledgers::Ledgers;
 use lsp_base::{Path, Tunnel};
 use pcep_word::Priority;
 use te_base::{Link, LinkNumber};
 
 /// The stored maximum of a tunnel on a link.
 fn maximum_at(
-    ledgers: &[Ledger<Tunnel>],
+    ledgers: &Ledgers<Tunnel>,
     tunnel: &Tunnel,
     link: LinkNumber,
     priority: Priority,
 ) -> u64
-    requires { link < length ledgers.now }
     ensures { result ≡ most (held_at tunnel_eq ledgers.now link tunnel.now) priority }
 {
-    let ledger = &ledgers[link];
-    ledger.share(*tunnel, priority.number())
+    ledgers.share(*tunnel, link, priority.number())
 }
 
 /// What a tunnel reserves on a link.
-fn share_at(
-    ledgers: &[Ledger<Tunnel>],
-    tunnel: &Tunnel,
-    link: LinkNumber,
-    priority: Priority,
-) -> u64
-    requires { link < length ledgers.now }
-    ensures { (paths : List Path) → IsHeldBy (length ledgers.now) (held_at tunnel_eq ledgers.now) paths
+fn share_at(ledgers: &Ledgers<Tunnel>, tunnel: &Tunnel, link: LinkNumber, priority: Priority) -> u64
+    requires { link < count ledgers.now }
+    ensures { (paths : List Path) → IsHeldBy (count ledgers.now) (held_at tunnel_eq ledgers.now) paths
         → result ≡ share paths tunnel.now link priority }
 {
     maximum_at(ledgers, tunnel, link, priority)
 }
 
 /// The stored sums of a link.
-pub(crate) fn sums_at(ledgers: &[Ledger<Tunnel>], link: LinkNumber) -> &[u64; 8]
-    requires { link < length ledgers.now }
-    ensures reserved { (paths : List Path) → IsHeldBy (length ledgers.now) (held_at tunnel_eq ledgers.now) paths
+pub(crate) fn sums_at(ledgers: &Ledgers<Tunnel>, link: LinkNumber) -> &[u64; 8]
+    requires { link < count ledgers.now }
+    ensures reserved { (paths : List Path) → IsHeldBy (count ledgers.now) (held_at tunnel_eq ledgers.now) paths
         → (p : ℕ) → p < 8 → slice_index result.now p ≡ reserved paths link p }
     ensures small { (p : ℕ) → p < 8 → slice_index result.now p < 2 ^ 63 - 2 ^ 48 }
 {
-    let ledger = &ledgers[link];
-    ledger.sums()
+    ledgers.sums(link)
 }
 
 /// What is left of an amount; it may be negative.
@@ -66,14 +58,14 @@ pub(crate) fn left_of(reservable: u64, sum: u64) -> i64
 #[tactic(auto, unfolding(lsp_base::specs::Shares::unreserved))]
 fn unreserved_at(
     links: &[Link],
-    ledgers: &[Ledger<Tunnel>],
+    ledgers: &Ledgers<Tunnel>,
     link: LinkNumber,
     priority: Priority,
 ) -> i64
     requires link { link < length links.now }
-    requires ledger { link < length ledgers.now }
+    requires ledger { link < count ledgers.now }
     requires small { reservable links.now link < 2 ^ 48 }
-    ensures { (paths : List Path) → IsHeldBy (length ledgers.now) (held_at tunnel_eq ledgers.now) paths
+    ensures { (paths : List Path) → IsHeldBy (count ledgers.now) (held_at tunnel_eq ledgers.now) paths
         → result ≡ unreserved links.now paths link priority }
 {
     let sums = sums_at(ledgers, link);
@@ -105,17 +97,17 @@ pub(crate) fn reservable_of(links: &[Link], link: LinkNumber) -> u64
 /// there, or what it rises by is left.
 fn bears_at(
     links: &[Link],
-    ledgers: &[Ledger<Tunnel>],
+    ledgers: &Ledgers<Tunnel>,
     path: &Path,
     link: LinkNumber,
     priority: Priority,
 ) -> bool
     requires link { link < length links.now }
-    requires ledger { link < length ledgers.now }
+    requires ledger { link < count ledgers.now }
     requires small { reservable links.now link < 2 ^ 48 }
     requires held { path.now.hold ≤ priority }
     requires has { has_link link path.now ≡ true }
-    ensures { (paths : List Path) → IsHeldBy (length ledgers.now) (held_at tunnel_eq ledgers.now) paths
+    ensures { (paths : List Path) → IsHeldBy (count ledgers.now) (held_at tunnel_eq ledgers.now) paths
         → result ≡ fits_at links.now paths path.now link priority }
 {
     let share = share_at(ledgers, &path.tunnel, link, priority);
@@ -129,16 +121,16 @@ fn bears_at(
 #[tactic(auto, using(crate::proofs::Fits::first_priority, crate::proofs::Fits::no_priority))]
 fn bears(
     links: &[Link],
-    ledgers: &[Ledger<Tunnel>],
+    ledgers: &Ledgers<Tunnel>,
     path: &Path,
     link: LinkNumber,
     setup: Priority,
 ) -> bool
     requires link { link < length links.now }
-    requires ledger { link < length ledgers.now }
+    requires ledger { link < count ledgers.now }
     requires small { reservable links.now link < 2 ^ 48 }
     requires has { has_link link path.now ≡ true }
-    ensures { (paths : List Path) → IsHeldBy (length ledgers.now) (held_at tunnel_eq ledgers.now) paths
+    ensures { (paths : List Path) → IsHeldBy (count ledgers.now) (held_at tunnel_eq ledgers.now) paths
         → result ≡ list_all (fits_at links.now paths path.now link) (priorities path.now.hold setup) }
 {
     for number in path.hold.number()..setup.number() + 1 {
@@ -153,15 +145,15 @@ fn bears(
 #[tactic(auto, using(crate::proofs::Fits::has_at), unfolding(lsp_base::specs::Shares::fits))]
 fn fits_on(
     links: &[Link],
-    ledgers: &[Ledger<Tunnel>],
+    ledgers: &Ledgers<Tunnel>,
     path: &Path,
     numbers: &[LinkNumber],
     setup: Priority,
 ) -> bool
-    requires same { length ledgers.now ≡ length links.now }
+    requires same { count ledgers.now ≡ length links.now }
     requires small { (l : ℕ) → reservable links.now l < 2 ^ 48 }
     requires numbers { numbers.now ≡ path.now.links }
-    ensures { (paths : List Path) → IsHeldBy (length ledgers.now) (held_at tunnel_eq ledgers.now) paths
+    ensures { (paths : List Path) → IsHeldBy (count ledgers.now) (held_at tunnel_eq ledgers.now) paths
         → result ≡ fits links.now paths path.now setup }
 {
     for link in numbers {

@@ -5,38 +5,37 @@ ghost use Rattle.lsp_base.specs.declared.path.Path.{Path};
 ghost use Rattle.te_snapshot.specs.Own.{is_something, own_share_on, own_shares};
 ghost use Rattle.te_snapshot.specs.Room.{own_share};
 ghost use Rattle.bandwidth_book.specs.Books.{StandsFor, links_of};
-ghost use Rattle.bandwidth_book.specs.Held.{AreMaxima};
-ghost use Rattle.bandwidth_book.specs.Ledgers.{has_entry_at, held_at};
+ghost use Rattle.bandwidth_book.specs.declared.held.Held.{Held};
+ghost use Rattle.bandwidth_book.specs.Held.{AreMaxima, times};
+ghost use Rattle.bandwidth_book.specs.Ledgers.{count, held_at};
+ghost use Rattle.lsp_base.specs.declared.tunnel.Tunnel.{Tunnel};
 ghost use Rattle.bandwidth_book.specs.Links.{own_among};
-ghost use Rattle.bandwidth_book.specs.Marks.{AreMarked, is_marked};
-ghost use Rattle.bandwidth_book.specs.Paths.{IsHeldBy, tunnel_eq};
+ghost use Rattle.bandwidth_book.specs.Paths.{IsHeldBy, held_by, tunnel_eq};
 
 use crate::book::Book;
-use crate::ledger::Ledger;
-use crate::marks::Marks;
+use crate::ledgers::Ledgers;
+use crate::link_entries::LinkEntry;
 use lsp_base::Tunnel;
 use sequence::Sequence;
 use std::alloc::{AllocError, Global};
-use te_base::LinkNumber;
 use te_snapshot::{OwnShare, OwnShares};
 
-/// The stored maxima of a tunnel on a link.
-fn maxima_at(ledgers: &[Ledger<Tunnel>], tunnel: &Tunnel, link: LinkNumber) -> [u64; 8]
-    requires { link < length ledgers.now }
-    ensures { AreMaxima result (held_at tunnel_eq ledgers.now link tunnel.now) }
+/// The stored maxima of an entry.
+fn maxima_in(entry: &LinkEntry) -> [u64; 8]
+    ensures { AreMaxima result entry.now.entry.held }
 {
-    let ledger = &ledgers[link];
-    ledger.maxima(*tunnel)
+    *entry.entry.maxima()
 }
 
-/// What a tunnel reserves on a link at each priority.
-fn own_at(ledgers: &[Ledger<Tunnel>], tunnel: &Tunnel, link: LinkNumber) -> OwnShare
-    requires { link < length ledgers.now }
-    ensures { (paths : List Path) → IsHeldBy (length ledgers.now) (held_at tunnel_eq ledgers.now) paths
-        → result ≡ own_share_on paths tunnel.now link }
+/// What a tunnel reserves on the link of one of its entries at each priority.
+fn own_of(entry: &LinkEntry) -> OwnShare
+    ensures { (paths : List Path) (t : Tunnel) → ((h : Held) → times h entry.now.entry.held ≡ times h (held_by entry.now.link t paths))
+        → result ≡ own_share_on paths t entry.now.link }
 {
-    let shares = maxima_at(ledgers, tunnel, link);
-    OwnShare { link, shares }
+    OwnShare {
+        link: entry.link,
+        shares: maxima_in(entry),
+    }
 }
 
 /// Lists it if something is reserved.
@@ -49,37 +48,29 @@ fn list_if_some(own: &mut Vec<OwnShare>, held: OwnShare) -> Result<(), AllocErro
     Ok(())
 }
 
-/// Lists what a tunnel reserves on a link that may be there, if that is something.
-fn list_at(
-    own: &mut Vec<OwnShare>,
-    ledgers: &[Ledger<Tunnel>],
-    tunnel: &Tunnel,
-    link: LinkNumber,
-) -> Result<(), AllocError>
-    ensures { OnOk result ((paths : List Path) → IsHeldBy (length ledgers.now) (held_at tunnel_eq ledgers.now) paths
-        → own.new.items ≡ own.old.items ++ own_among paths tunnel.now (length ledgers.now) (link ∷ [])) }
+/// Lists what a tunnel reserves on the link of one of its entries, if that is one of so many and it is something.
+fn list_entry(own: &mut Vec<OwnShare>, count: usize, entry: &LinkEntry) -> Result<(), AllocError>
+    ensures { OnOk result ((paths : List Path) (t : Tunnel) → ((h : Held) → entry.now.link < count → times h entry.now.entry.held ≡ times h (held_by entry.now.link t paths))
+        → own.new.items ≡ own.old.items ++ own_among paths t count (entry.now.link ∷ [])) }
 {
-    if link < ledgers.len() {
-        list_if_some(own, own_at(ledgers, tunnel, link))?;
+    if entry.link < count {
+        list_if_some(own, own_of(entry))?;
     }
     Ok(())
 }
 
-/// What a tunnel reserves on each link on which it reserves something. It looks the tunnel up where it is marked.
+/// What a tunnel reserves on each link on which it reserves something.
 fn own_on(
     alloc: Global,
-    ledgers: &[Ledger<Tunnel>],
-    marks: &Marks<Tunnel>,
+    ledgers: &Ledgers<Tunnel>,
     tunnel: &Tunnel,
 ) -> Result<Vec<OwnShare>, AllocError>
-    requires { AreMarked (has_entry_at tunnel_eq ledgers.now) (is_marked tunnel_eq marks.now.lists.entries) }
-    ensures { IfOk result (λ own. (paths : List Path) → IsHeldBy (length ledgers.now) (held_at tunnel_eq ledgers.now) paths
-        → own.items ≡ own_shares paths tunnel.now (length ledgers.now)) }
+    ensures { IfOk result (λ own. (paths : List Path) → IsHeldBy (count ledgers.now) (held_at tunnel_eq ledgers.now) paths
+        → own.items ≡ own_shares paths tunnel.now (count ledgers.now)) }
 {
-    let links = marks.list_of(*tunnel);
     let mut own = Vec::new(alloc);
-    for link in links {
-        list_at(&mut own, ledgers, tunnel, *link)?;
+    for entry in ledgers.entries(*tunnel) {
+        list_entry(&mut own, ledgers.count(), entry)?;
     }
     Ok(own)
 }
@@ -94,7 +85,7 @@ impl Book {
         ensures shares { IfOk result (λ own. (paths : List Path) → StandsFor self.now paths → (l p : ℕ) → l < length (links_of self.now) → p < 8
             → own_share own l p ≡ share paths tunnel.now l p) }
     {
-        let own = own_on(self.alloc, &self.ledgers, &self.marks, tunnel)?;
+        let own = own_on(self.alloc, &self.ledgers, tunnel)?;
         Ok(Sequence::from_vec(own))
     }
 }

@@ -7,12 +7,12 @@ ghost use Rattle.lsp_base.specs.declared.tunnel.Tunnel.{Tunnel};
 ghost use Rattle.te_snapshot.specs.Left.{all_left, left_on, state_beside};
 ghost use Rattle.te_snapshot.specs.Network.{NetworkState};
 ghost use Rattle.bandwidth_book.specs.Books.{HasNoEmptyEntry, IsReady, StandsFor, held_on, kept_by, links_of, network_of};
-ghost use Rattle.bandwidth_book.specs.Ledgers.{held_at};
+ghost use Rattle.bandwidth_book.specs.Ledgers.{count, held_at};
 ghost use Rattle.bandwidth_book.specs.Paths.{IsHeldBy, tunnel_eq};
 ghost use Rattle.bandwidth_book.specs.Tables.{AreLeft};
 
 use crate::book::Book;
-use crate::ledger::Ledger;
+use crate::ledgers::Ledgers;
 use crate::looks::{left_of, reservable_of, sums_at};
 use lsp_base::Tunnel;
 use sequence::PlainData;
@@ -35,11 +35,11 @@ fn left_of_each(reservable: u64, sums: &[u64; 8]) -> [i64; 8]
 }
 
 /// What is left of a link at each priority.
-fn left_at(links: &[Link], ledgers: &[Ledger<Tunnel>], link: LinkNumber) -> [i64; 8]
+fn left_at(links: &[Link], ledgers: &Ledgers<Tunnel>, link: LinkNumber) -> [i64; 8]
     requires link { link < length links.now }
-    requires ledger { link < length ledgers.now }
+    requires ledger { link < count ledgers.now }
     requires small { reservable links.now link < 2 ^ 48 }
-    ensures { (paths : List Path) → IsHeldBy (length ledgers.now) (held_at tunnel_eq ledgers.now) paths
+    ensures { (paths : List Path) → IsHeldBy (count ledgers.now) (held_at tunnel_eq ledgers.now) paths
         → result ≡ left_on links.now paths link }
 {
     left_of_each(reservable_of(links, link), sums_at(ledgers, link))
@@ -50,12 +50,12 @@ fn left_at(links: &[Link], ledgers: &[Ledger<Tunnel>], link: LinkNumber) -> [i64
 fn table_of(
     alloc: Global,
     links: &[Link],
-    ledgers: &[Ledger<Tunnel>],
+    ledgers: &Ledgers<Tunnel>,
 ) -> Result<Vec<[i64; 8]>, AllocError>
-    requires same { length ledgers.now ≡ length links.now }
+    requires same { count ledgers.now ≡ length links.now }
     requires small { (l : ℕ) → reservable links.now l < 2 ^ 48 }
     ensures whole { IfOk result (λ table. length table.items ≡ length links.now) }
-    ensures left { IfOk result (λ table. (paths : List Path) → IsHeldBy (length ledgers.now) (held_at tunnel_eq ledgers.now) paths → table.items ≡ all_left links.now paths) }
+    ensures left { IfOk result (λ table. (paths : List Path) → IsHeldBy (count ledgers.now) (held_at tunnel_eq ledgers.now) paths → table.items ≡ all_left links.now paths) }
 {
     let mut table = Vec::with_capacity(alloc, links.len())?;
     for link in 0..links.len() {

@@ -1,13 +1,12 @@
 -- A network stays booked under the changes of its LSPs.
-use Rattle.std.proofs.Common.{◌≡◌, ℕ, List, ◌++◌, length, ◌∙◌}
+use Rattle.std.proofs.Common.{◌≡◌, ℕ, List, ◌++◌, ◌∙◌}
 use Rattle.te_base.specs.Base.{Base}
 use Rattle.lsp_base.specs.Base.{Lsps, HasAll, changed, with_stale, without}
 use Rattle.lsp_base.specs.declared.path.Path.{Path}
 use Rattle.lsp_base.specs.declared.effect.Effect.{Effect}
 use Rattle.bandwidth_book.specs.Books as books
 use Rattle.bandwidth_book.specs.Books.{StandsFor}
-use Rattle.bandwidth_book.specs.Ledgers.{held_at}
-use Rattle.bandwidth_book.specs.Paths.{tunnel_eq}
+use Rattle.bandwidth_book.specs.Ledgers.{count}
 use Rattle.bandwidth_book.specs.declared.book.Book.{Book}
 use Rattle.bandwidth_book.proofs.Stands.{stands_stale}
 use Rattle.step_core.specs.Networks.{IsBooked}
@@ -24,4 +23,4 @@ IsBooked-changed te base old new n e same change has is = record { network = sam
 
 pub IsBooked-stale : (te : Base) (base : Lsps) (book : Book) (n : ℕ) → IsBooked te base book → IsBooked te (with_stale base n) book
 unfolding with_stale
-IsBooked-stale te base book n is = record { network = is.network; stands = stands_stale (length book.ledgers.items) n (held_at tunnel_eq book.ledgers.items) base.paths is.stands }
+IsBooked-stale te base book n is = record { network = is.network; stands = stands_stale (count book.ledgers) n (books.held_on book) base.paths is.stands }

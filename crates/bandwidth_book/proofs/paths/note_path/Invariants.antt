@@ -2,7 +2,7 @@ use Rattle.std.proofs.Common.{◌≡◌, ◌≤◌, ◌+◌, ℕ, length, drop}
 use Rattle.lsp_base.specs.declared.tunnel.Tunnel.{Tunnel}
 use Rattle.bandwidth_book.specs.Held.{held_of}
 use Rattle.bandwidth_book.specs.Paths.{tunnel_eq}
-use Rattle.bandwidth_book.specs.Ledgers.{held_by_path}
+use Rattle.bandwidth_book.specs.Tunnels.{held_by_path}
 use Rattle.bandwidth_book.specs.Pending.{noted}
 use Rattle.bandwidth_book.proofs.paths.note_path.Given as goal
 

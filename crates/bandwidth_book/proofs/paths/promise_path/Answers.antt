@@ -1,20 +1,18 @@
-use Rattle.std.proofs.Common.{◌&&◌, ◌||◌, Bool, ap, sym, ◌∙◌, inl, inr}
-use Rattle.std.proofs.lemmas.Bool.{cases_Bool}
+use Rattle.std.proofs.Common.{◌≡◌, length, refl, sym, ◌∙◌, arith, inl, inr}
+use Rattle.std.proofs.lemmas.Bool.{cases_eq}
 use Rattle.bandwidth_book.specs.Held.{held_of}
-use Rattle.bandwidth_book.specs.Links.{has_link}
-use Rattle.bandwidth_book.specs.Marks.{is_marked}
+use Rattle.bandwidth_book.specs.Tunnels.{held_by_path}
 use Rattle.bandwidth_book.specs.Paths.{tunnel_eq}
-use Rattle.bandwidth_book.proofs.Pending.{off_path}
 use Rattle.bandwidth_book.proofs.paths.promise_path.Goals as goal
 
-pub returns-clause-marked : goal.returns-clause-marked
-returns-clause-marked c = λ h. record {
-  each = λ l t there.
-      elim (cases_Bool (has_link l c.as_slice-links.result.now && tunnel_eq c.args.path.now.tunnel t)) [
-        | inl on ↦ c.in_ok-mark_path.ensures.ok l t ∙ ap (λ (b : Bool). b || is_marked tunnel_eq c.args.marks.now.lists.entries l t) on
-        | inr off ↦ (
-            let none = off_path tunnel_eq c.args.path.now.tunnel (held_of c.args.path.now) l t c.as_slice-links.result.now off in
-            let same = c.promise_links.ensures.others l t (held_of c.args.path.now) none in
-            c.in_ok-mark_path.ensures.more l t (h.each l t (sym same ∙ there)))
-      ];
-}
+pub returns-clause-noted : goal.returns-clause-noted
+returns-clause-noted c = λ l t less there empty.
+    let held = held_of c.args.path.now in
+    let one : length (held_by_path tunnel_eq c.args.path.now.tunnel held l t c.as_slice.result.now) ≡ length (held_by_path tunnel_eq c.args.path.now.tunnel held l t c.args.path.now.links) = rw c.as_slice.ensures refl in
+    let noted = c.in_ok-note_path.ensures.ok l t in
+    elim (cases_eq (length (held_by_path tunnel_eq c.args.path.now.tunnel held l t c.args.path.now.links)) 0) [
+      | inl none ↦ (
+          let before = c.requires.noted l t less (sym (c.promise_path.ensures.others l t held (one ∙ none)) ∙ there) (sym (c.promise_path.ensures.kept l t) ∙ empty) in
+          omega (arith, noted, before))
+      | inr some ↦ omega (arith, noted, some)
+    ]

@@ -1,0 +1,165 @@
+-- What one change of a list of entries does to the entries by link, and what a path's links take one by one.
+use Rattle.std.proofs.Common.{◌≡◌, ◌<◌, ◌≤◌, ◌+◌, ◌^◌, ℕ, zero, suc, ◌==◌, Bool, true, false, true≢false, List, [], ◌∷◌, ◌++◌, Option, Some, None, length, get_or, slice_get, slice_set, slice_index, insert, remove, drop, refl, sym, ap, subst, ◌∙◌, arith, inl, inr, ◌⊎◌, if◌then◌else◌, nat_lt, add-one, drop-cons, length-append}
+use Rattle.std.proofs.lemmas.Bool.{cases_Bool, eqb-true}
+use Rattle.std.proofs.lemmas.Bool.Decides.{nat_tests}
+use Rattle.bandwidth_book.specs.declared.held.Held.{Held}
+use Rattle.bandwidth_book.specs.declared.link_entries.LinkEntry.{LinkEntry}
+use Rattle.bandwidth_book.specs.Holdings.{Holdings}
+use Rattle.bandwidth_book.specs.Held.{most, with_all, without_all}
+use Rattle.bandwidth_book.specs.Entries.{AreRising, IsAt, entry_on, place_on}
+use Rattle.bandwidth_book.specs.Tunnels.{held_by_links, sum_at, sum_in}
+use Rattle.bandwidth_book.proofs.Counts.{with_all_append, without_all_append}
+use Rattle.bandwidth_book.proofs.Places.{less_one, more_one, set_related}
+use Rattle.bandwidth_book.proofs.Rising.{entry_insert, entry_remove, entry_set, found_at, none_in_place, number_self, numbers_apart, rising_set}
+use Rattle.bandwidth_book.proofs.Totals.{small_with, small_without}
+
+-- ---- one at a place
+
+-- the element at a place that is there
+pub one_at : {A : Type 0} (xs : List A) (i : ℕ) (d : A) → i < length xs → slice_get xs i ≡ Some (get_or xs i d)
+one_at [] i d h = absurd (omega (arith, h))
+one_at (x ∷ xs) zero d h = refl
+one_at (x ∷ xs) (suc i) d h = one_at xs i d (omega (arith, h))
+
+-- the one that is got at a place that is there stands there
+pub got_at : (x : LinkEntry) (xs : List LinkEntry) (i : ℕ) → i < length xs → x ≡ get_or xs i x → slice_get xs i ≡ Some x
+got_at x xs i h e = one_at xs i x h ∙ ap (λ (y : LinkEntry). Some y) (sym e)
+
+got : (xs : List LinkEntry) (i : ℕ) (d y : LinkEntry) → slice_get xs i ≡ Some y → get_or xs i d ≡ y
+got [] i d y h = absurd (cc)
+got (x ∷ xs) zero d y h = cc
+got (x ∷ xs) (suc i) d y h = got xs i d y h
+
+-- the one that is got at a link's place is the one there
+pub is_got : (m : ℕ) (x : LinkEntry) (xs : List LinkEntry) (i : ℕ) → IsAt m xs i → x ≡ get_or xs i x → slice_get xs i ≡ Some x
+is_got m x xs i at e = let same : x ≡ at.0 = e ∙ got xs i x at.0 at.1 in at.1 ∙ ap (λ (y : LinkEntry). Some y) (sym same)
+
+-- and it is of that link
+pub link_got : (m : ℕ) (x : LinkEntry) (xs : List LinkEntry) (i : ℕ) → IsAt m xs i → x ≡ get_or xs i x → x.link ≡ m
+link_got m x xs i at e = let same : x ≡ at.0 = e ∙ got xs i x at.0 at.1 in ap (λ (y : LinkEntry). y.link) same ∙ at.2
+
+-- so it is the link's entry
+pub entry_got : (m : ℕ) (x : LinkEntry) (xs : List LinkEntry) (i : ℕ) → AreRising xs → IsAt m xs i → x ≡ get_or xs i x → entry_on m xs ≡ Some x.entry
+entry_got m x xs i r at e = subst (λ (l : ℕ). entry_on l xs ≡ Some x.entry) (link_got m x xs i at e) (found_at x xs i r (is_got m x xs i at e))
+
+nothing : LinkEntry
+nothing = record { link = 0; entry = record { held = []; promised = 0 } }
+
+-- where the one in its place is of another link, the link has no entry
+pub none_at_place : (l : ℕ) (d : LinkEntry) (xs : List LinkEntry) (n : ℕ) → n ≡ place_on l xs → AreRising xs → ((get_or xs n d).link ≡ l → ⊥) → entry_on l xs ≡ None
+none_at_place l d xs n e r f = none_in_place l d xs r (λ h. numbers_apart (get_or xs (place_on l xs) d).link l (λ s. f (ap (λ (k : ℕ). (get_or xs k d).link) e ∙ s)))
+
+-- where its place is at the end, too
+pub none_at_end : (l : ℕ) (xs : List LinkEntry) (n : ℕ) → n ≡ place_on l xs → AreRising xs → length xs ≤ n → entry_on l xs ≡ None
+none_at_end l xs n e r h = none_in_place l nothing xs r (λ less. absurd (omega (arith, e, h, less)))
+
+-- ---- one is written, put or taken out: what relates the old and the new entry of its link, and each entry to
+-- itself, relates the entries of each link
+
+pub set_entry : (R : Bool → Option Holdings → Option Holdings → Type 0) (x : LinkEntry) (e : Holdings) (xs : List LinkEntry) (i : ℕ) → AreRising xs → slice_get xs i ≡ Some x → R true (Some x.entry) (Some e) → ((o : Option Holdings) → R false o o) → (l : ℕ) → R (x.link == l) (entry_on l xs) (entry_on l (slice_set xs i (record { link = x.link; entry = e })))
+set_entry R x e xs i r at there others l =
+    let written = entry_set l x e xs i r at in
+    elim (cases_Bool (x.link == l)) [
+      | inl here ↦ (
+          let found : entry_on l xs ≡ Some x.entry = subst (λ (k : ℕ). entry_on k xs ≡ Some x.entry) (eqb-true x.link l here) (found_at x xs i r at) in
+          rw (written, here, found) there)
+      | inr other ↦ rw (written, other) (others (entry_on l xs))
+    ]
+
+-- the same where the place is known to be a link's
+pub set_entry_of : (R : Bool → Option Holdings → Option Holdings → Type 0) (m : ℕ) (x : LinkEntry) (e : Holdings) (xs : List LinkEntry) (i : ℕ) → AreRising xs → IsAt m xs i → x ≡ get_or xs i x → R true (Some x.entry) (Some e) → ((o : Option Holdings) → R false o o) → (l : ℕ) → R (m == l) (entry_on l xs) (entry_on l (slice_set xs i (record { link = x.link; entry = e })))
+set_entry_of R m x e xs i r at got there others l =
+    subst (λ (k : ℕ). R (k == l) (entry_on l xs) (entry_on l (slice_set xs i (record { link = x.link; entry = e })))) (link_got m x xs i at got)
+    (set_entry R x e xs i r (is_got m x xs i at got) there others l)
+
+pub rising_got : (m : ℕ) (x : LinkEntry) (e : Holdings) (xs : List LinkEntry) (i : ℕ) → AreRising xs → IsAt m xs i → x ≡ get_or xs i x → AreRising (slice_set xs i (record { link = x.link; entry = e }))
+rising_got m x e xs i r at got = rising_set x e xs i r (is_got m x xs i at got)
+
+pub insert_entry_of : (R : Bool → Option Holdings → Option Holdings → Type 0) (y : LinkEntry) (xs : List LinkEntry) → entry_on y.link xs ≡ None → R true None (Some y.entry) → ((o : Option Holdings) → R false o o) → (l : ℕ) → R (y.link == l) (entry_on l xs) (entry_on l (insert xs (place_on y.link xs) y))
+insert_entry_of R y xs none there others l =
+    let put = entry_insert l y xs none in
+    elim (cases_Bool (y.link == l)) [
+      | inl here ↦ (
+          let found : entry_on l xs ≡ None = subst (λ (k : ℕ). entry_on k xs ≡ None) (eqb-true y.link l here) none in
+          rw (put, here, found) there)
+      | inr other ↦ rw (put, other) (others (entry_on l xs))
+    ]
+
+pub remove_entry : (R : Bool → Option Holdings → Option Holdings → Type 0) (x : LinkEntry) (xs : List LinkEntry) (i : ℕ) → AreRising xs → slice_get xs i ≡ Some x → R true (Some x.entry) None → ((o : Option Holdings) → R false o o) → (l : ℕ) → R (x.link == l) (entry_on l xs) (entry_on l (remove xs i))
+remove_entry R x xs i r at there others l =
+    let out = entry_remove l x xs i r at in
+    elim (cases_Bool (x.link == l)) [
+      | inl here ↦ (
+          let found : entry_on l xs ≡ Some x.entry = subst (λ (k : ℕ). entry_on k xs ≡ Some x.entry) (eqb-true x.link l here) (found_at x xs i r at) in
+          rw (out, here, found) there)
+      | inr other ↦ rw (out, other) (others (entry_on l xs))
+    ]
+
+-- what is written there goes with it
+pub remove_set : (xs : List LinkEntry) (i : ℕ) (y : LinkEntry) → remove (slice_set xs i y) i ≡ remove xs i
+remove_set [] zero y = refl
+remove_set [] (suc i) y = refl
+remove_set (x ∷ xs) zero y = refl
+remove_set (x ∷ xs) (suc i) y = ap (λ (zs : List LinkEntry). x ∷ zs) (remove_set xs i y)
+
+-- ---- a row of sums is written
+
+pub sum_here : (sums : List (List ℕ)) (l p : ℕ) → l < length sums → sum_at sums l p ≡ slice_index (get_or sums l []) p
+sum_here sums l p h = ap (λ (o : Option (List ℕ)). sum_in o p) (one_at sums l [] h)
+
+sum_set : (sums : List (List ℕ)) (m : ℕ) (row : List ℕ) (l p : ℕ) → m < length sums → (m == l) ≡ true → sum_at (slice_set sums m row) l p ≡ slice_index row p
+sum_set sums m row l p h = set_related (λ b o u. b ≡ true → sum_in u p ≡ slice_index row p) sums m [] row h (λ same. refl) (λ o t. absurd (true≢false (sym t))) l
+
+sum_other : (sums : List (List ℕ)) (m : ℕ) (row : List ℕ) (l p : ℕ) → m < length sums → (m == l) ≡ false → sum_at (slice_set sums m row) l p ≡ sum_at sums l p
+sum_other sums m row l p h = set_related (λ b o u. b ≡ false → sum_in u p ≡ sum_in o p) sums m [] row h (λ t. absurd (true≢false t)) (λ o t. refl) l
+
+-- what moves one row as one link moves, and leaves the other links, moves each row as its link moves
+pub moved_row : (sums : List (List ℕ)) (m : ℕ) (row : List ℕ) (p : ℕ) (f g : ℕ → ℕ) → m < length sums → slice_index row p + f m ≡ slice_index (get_or sums m []) p + g m → ((l : ℕ) → (m == l) ≡ false → g l ≡ f l) → (l : ℕ) → sum_at (slice_set sums m row) l p + f l ≡ sum_at sums l p + g l
+moved_row sums m row p f g h moved others l =
+    elim (cases_Bool (m == l)) [
+      | inl here ↦ (
+          let new = sum_set sums m row m p h (number_self m m refl) in
+          let old = sum_here sums m p h in
+          subst (λ (k : ℕ). sum_at (slice_set sums m row) k p + f k ≡ sum_at sums k p + g k) (eqb-true m l here) (omega (arith, new, old, moved)))
+      | inr other ↦ (let same = sum_other sums m row l p h other in let e = others l other in omega (arith, same, e))
+    ]
+
+-- ---- a path's links, one by one
+
+pub next_held : (held : Held) (l : ℕ) (xs : List ℕ) (i : ℕ) → i < length xs → held_by_links held l (drop i xs) ≡ (if get_or xs i 0 == l then held ∷ [] else []) ++ held_by_links held l (drop (i + 1) xs)
+next_held held l xs i h = rw (add-one, drop-cons xs i 0) refl
+
+pub next_length : (held : Held) (l : ℕ) (xs : List ℕ) (i : ℕ) → i < length xs → length (held_by_links held l (drop i xs)) ≡ length (if get_or xs i 0 == l then held ∷ [] else []) + length (held_by_links held l (drop (i + 1) xs))
+next_length held l xs i h = ap (λ (hs : List Held). length hs) (next_held held l xs i h) ∙ length-append (if get_or xs i 0 == l then held ∷ [] else []) (held_by_links held l (drop (i + 1) xs))
+
+pub with_next : (hs us one rest all end : List Held) → us ≡ with_all hs one → all ≡ one ++ rest → with_all hs all ≡ end → with_all us rest ≡ end
+with_next hs us one rest all end e a f = ap (λ (xs : List Held). with_all xs rest) e ∙ sym (with_all_append hs one rest) ∙ ap (λ (xs : List Held). with_all hs xs) (sym a) ∙ f
+
+pub without_next : (hs us one rest all end : List Held) → us ≡ without_all hs one → all ≡ one ++ rest → without_all hs all ≡ end → without_all us rest ≡ end
+without_next hs us one rest all end e a f = ap (λ (xs : List Held). without_all xs rest) e ∙ sym (without_all_append hs one rest) ∙ ap (λ (xs : List Held). without_all hs xs) (sym a) ∙ f
+
+split : (m n : ℕ) → (m < n) ⊎ (n ≤ m)
+split m n =
+    elim (cases_Bool (nat_lt m n)) [
+      | inl e ↦ inl (let l : m < n = grind (arith, nat_tests) in l)
+      | inr e ↦ inr (let l : n ≤ m = grind (arith, nat_tests) in l)
+    ]
+
+-- one more below a bound leaves the greatest below it, below the count and past it
+pub least_with : (n count : ℕ) (b : Bool) (h : Held) (hs us : List Held) (p : ℕ) → h.bandwidth < 2 ^ 48 → (n < count → us ≡ with_all hs (if b then h ∷ [] else [])) → (count ≤ n → us ≡ hs) → most hs p < 2 ^ 48 → most us p < 2 ^ 48
+least_with n count b h hs us p one below past old =
+    elim (split n count) [
+      | inl less ↦ (let e : us ≡ (if b then _ else hs) = below less ∙ sym (more_one b hs h) in rw e (small_with b h hs p one old))
+      | inr end ↦ rw (past end) old
+    ]
+
+pub least_without : (n count : ℕ) (b : Bool) (h : Held) (hs us : List Held) (p : ℕ) → (n < count → us ≡ without_all hs (if b then h ∷ [] else [])) → (count ≤ n → us ≡ hs) → most hs p < 2 ^ 48 → most us p < 2 ^ 48
+least_without n count b h hs us p below past old =
+    elim (split n count) [
+      | inl less ↦ (let e : us ≡ (if b then _ else hs) = below less ∙ sym (less_one b hs h) in rw e (small_without b h hs p old))
+      | inr end ↦ rw (past end) old
+    ]
+
+pub none_long : (hs : List Held) → length hs ≡ 0 → hs ≡ []
+none_long [] n = refl
+none_long (h ∷ hs) n = absurd (omega (arith, n))

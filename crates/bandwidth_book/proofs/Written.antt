@@ -1,0 +1,83 @@
+-- The entries of one tunnel are written.
+use Rattle.std.proofs.Common.{◌≡◌, ◌<◌, ◌≤◌, ℕ, ◌+◌, ◌==◌, ◌&&◌, Bool, true, false, cond, List, [], ◌∷◌, ◌++◌, Option, None, length, slice_index, zero, suc, refl, sym, ap, subst, ◌∙◌, arith, inl, inr, if◌then◌else◌}
+use Rattle.std.specs.Cmp.{IsEquivalence}
+use Rattle.std.specs.Map.{lookup}
+use Rattle.std.proofs.lemmas.Bool.{cases_Bool}
+use Rattle.bandwidth_book.specs.declared.held.Held.{Held}
+use Rattle.bandwidth_book.specs.Held.{without_all}
+use Rattle.bandwidth_book.specs.Tunnels.{held_by_links, held_by_path}
+
+module _ {K V : Type 0} {eq : K → K → Bool} (laws : IsEquivalence eq) where
+  -- equal keys find the same
+  pub lookup_same : (key k : K) → eq key k ≡ true → (es : List (K × V)) → lookup (eq k) es ≡ lookup (eq key) es
+  lookup_same key k same [] = refl
+  lookup_same key k same (e ∷ es) =
+      let t : eq key e.0 ≡ eq k e.0 = laws.congr key k e.0 same in
+      elim (cases_Bool (eq k e.0)) [
+        | inl here ↦ (let there : eq key e.0 ≡ true = t ∙ here in rw (here, there) refl)
+        | inr other ↦ (let apart : eq key e.0 ≡ false = t ∙ other in rw (other, apart) (lookup_same key k same es))
+      ]
+
+  -- what relates the key's value before and after, and what is found to itself, relates all that is found
+  pub written : (R : Bool → Option V → Option V → Type 0) (es new : List (K × V)) (key : K) (o w : Option V) → lookup (eq key) es ≡ o → ((q : K) → lookup (eq q) new ≡ cond (eq key q) w (lookup (eq q) es))
+      → R true o w → ((v : Option V) → R false v v) → (k : K) → R (eq key k) (lookup (eq k) es) (lookup (eq k) new)
+  written R es new key o w found update there others k = by (eq key k) refl
+    where
+      by : (b : Bool) → eq key k ≡ b → R b (lookup (eq k) es) (lookup (eq k) new)
+      by true same =
+          let before = lookup_same key k same es ∙ found in
+          let after : lookup (eq k) new ≡ w = update k ∙ ap (λ b. cond b w (lookup (eq k) es)) same in
+          subst (λ (v : Option V). R true v (lookup (eq k) new)) (sym before) (subst (λ (v : Option V). R true o v) (sym after) there)
+      by false other =
+          let after : lookup (eq k) new ≡ lookup (eq k) es = update k ∙ ap (λ b. cond b w (lookup (eq k) es)) other in
+          subst (λ (v : Option V). R false (lookup (eq k) es) v) (sym after) (others (lookup (eq k) es))
+
+  -- what holds where the key finds nothing and for each other that is found holds for all
+  pub unwritten : (R : Bool → Option V → Type 0) (es : List (K × V)) (key : K) → lookup (eq key) es ≡ None → R true None → ((v : Option V) → R false v) → (k : K) → R (eq key k) (lookup (eq k) es)
+  unwritten R es key none there others k = by (eq key k) refl
+    where
+      by : (b : Bool) → eq key k ≡ b → R b (lookup (eq k) es)
+      by true same = subst (λ (v : Option V). R true v) (sym (lookup_same key k same es ∙ none)) there
+      by false other = others (lookup (eq k) es)
+
+-- what a path holds for a key
+pub by_key : {K : Type 0} (eq : K → K → Bool) (key : K) (held : Held) (l : ℕ) (k : K) (links : List ℕ) → held_by_path eq key held l k links ≡ (if eq key k then held_by_links held l links else [])
+by_key eq key held l k [] = by (eq key k)
+  where
+    by : (b : Bool) → (let none : List Held = [] in none ≡ (if b then none else none))
+    by true = refl
+    by false = refl
+by_key eq key held l k (x ∷ xs) = by (x == l) (eq key k) (held_by_path eq key held l k xs) (held_by_links held l xs) (by_key eq key held l k xs)
+  where
+    by : (a b : Bool) (rest more : List Held) → rest ≡ (if b then more else []) → ((if a && b then held ∷ [] else []) ++ rest) ≡ (if b then ((if a then held ∷ [] else []) ++ more) else [])
+    by true true rest more e = ap (λ hs. held ∷ hs) e
+    by true false rest more e = e
+    by false true rest more e = e
+    by false false rest more e = e
+
+-- a list of no length is empty
+pub no_length : {A : Type 0} (xs : List A) → length xs ≤ 0 → xs ≡ []
+no_length [] h = refl
+no_length (x ∷ xs) h = absurd (omega (arith, h))
+
+-- where nothing is held nothing can be dropped
+pub without_none : (hs : List Held) → [] ≡ without_all [] hs
+without_none [] = refl
+without_none (h ∷ hs) = without_none hs
+
+-- a row of eight zeros
+pub row_of_nothing : (p : ℕ) → p < 8 → slice_index (0 ∷ 0 ∷ 0 ∷ 0 ∷ 0 ∷ 0 ∷ 0 ∷ 0 ∷ []) p ≡ 0
+row_of_nothing zero h = refl
+row_of_nothing (suc zero) h = refl
+row_of_nothing (suc (suc zero)) h = refl
+row_of_nothing (suc (suc (suc zero))) h = refl
+row_of_nothing (suc (suc (suc (suc zero)))) h = refl
+row_of_nothing (suc (suc (suc (suc (suc zero))))) h = refl
+row_of_nothing (suc (suc (suc (suc (suc (suc zero)))))) h = refl
+row_of_nothing (suc (suc (suc (suc (suc (suc (suc zero))))))) h = refl
+row_of_nothing (suc (suc (suc (suc (suc (suc (suc (suc p)))))))) h = absurd (omega (arith, h))
+
+-- one more at the end
+pub length_push : {A : Type 0} (xs : List A) (x : A) → length (xs ++ x ∷ []) ≡ length xs + 1
+length_push [] x = refl
+length_push (y ∷ xs) x = let ih = length_push xs x in omega (arith, ih)

@@ -1,0 +1,31 @@
+use Rattle.std.proofs.Common.{◌≡◌, length, sym, ap, ◌∙◌, arith}
+use Rattle.std.proofs.lemmas.List.{with_items_is}
+use Rattle.bandwidth_book.specs.Tunnels.{most_on}
+use Rattle.bandwidth_book.proofs.Totals.{total_small}
+use Rattle.bandwidth_book.proofs.Written.{by_key}
+use Rattle.bandwidth_book.proofs.ledgers.Ledgers.add_path.Goals as goal
+
+pub add_to_tunnel-requires-clause-small : goal.add_to_tunnel-requires-clause-small
+add_to_tunnel-requires-clause-small g c = rw c.deref_mut.ensures.value (λ l p h q.
+    let s = c.args.self.now.summed l p h q in
+    let t = total_small g.K.PartialEq.eq g.met.K.Eq.laws (most_on l p) c.args.self.now.tunnels.entries c.args.self.now.unique c.args.self.now.few (λ k. c.args.self.now.small l k p) in
+    omega (arith, s, t))
+
+pub add_to_tunnel-requires-clause-room : goal.add_to_tunnel-requires-clause-room
+add_to_tunnel-requires-clause-room g c = rw c.deref_mut.ensures.value (λ l h.
+    let own = c.requires.room l c.args.key h in
+    let same = by_key g.K.PartialEq.eq c.args.key c.args.held l c.args.key c.args.path.now in
+    let itself = g.met.K.Eq.laws.refl c.args.key in
+    rw (same, itself) at own)
+
+pub invariant_of-self : goal.invariant_of-self
+invariant_of-self g c =
+    let long : length c.add_to_tunnel.new.sums ≡ c.args.self.now.sums.len = c.add_to_tunnel.ensures.rows ∙ (ap length c.deref_mut.ensures.value ∙ sym c.args.self.now.sums.ok.0) in
+    let items = with_items_is c.args.self.now.sums c.add_to_tunnel.new.sums long in
+    record {
+      summed = rw items c.add_to_tunnel.ensures.sums;
+      few = (let n = c.add_to_tunnel.ensures.count in let f = c.args.self.now.few in omega (arith, n, f));
+      small = c.add_to_tunnel.ensures.least;
+      full = c.add_to_tunnel.ensures.full c.args.self.now.full;
+      unique = c.add_to_tunnel.ensures.unique;
+    }

@@ -1,0 +1,48 @@
+use Rattle.std.proofs.Common.{◌≡◌, ◌==◌, Bool, true, false, true≢false, List, [], Option, Some, None, length, remove, refl, sym, ap, ◌∙◌}
+use Rattle.std.specs.Option.{is_some}
+use Rattle.bandwidth_book.specs.declared.held.Held.{Held}
+use Rattle.bandwidth_book.specs.Holdings.{Holdings}
+use Rattle.bandwidth_book.specs.Entries.{entry_on, held_in}
+use Rattle.bandwidth_book.proofs.LinkLists.{got_at, link_got, none_long, remove_entry, remove_set, set_entry}
+use Rattle.bandwidth_book.proofs.Rising.{number_self, rising_remove, rising_set}
+use Rattle.bandwidth_book.proofs.link_entries.take_back.Goals as goal
+
+out : (c : goal.After-drop-remove) → c.remove.new.self.items ≡ remove c.args.entries.now.items c.args.place
+out c = c.remove.ensures.items ∙ remove_set c.args.entries.now.items c.args.place (record { link = c.index_mut.result.now.link; entry = c.withdraw.new.self })
+
+taken : (R : Bool → Option Holdings → Option Holdings → Type 0) (c : goal.After-drop-remove) → R true (Some c.index_mut.result.now.entry) None → ((o : Option Holdings) → R false o o) → (l : _) → R (c.index_mut.result.now.link == l) (entry_on l c.args.entries.now.items) (entry_on l c.remove.new.self.items)
+taken R c there others l = rw (out c) (remove_entry R c.index_mut.result.now c.args.entries.now.items c.args.place c.requires.rising (got_at c.index_mut.result.now c.args.entries.now.items c.args.place c.requires.within c.index_mut.ensures.value) there others l)
+
+pub returns-then-is_empty-clause-rising : goal.returns-then-is_empty-clause-rising
+returns-then-is_empty-clause-rising c = rw (out c) (rising_remove c.args.entries.now.items c.args.place c.requires.rising)
+
+pub returns-then-is_empty-clause-entries : goal.returns-then-is_empty-clause-entries
+returns-then-is_empty-clause-entries c = λ l. taken (λ b o u. is_some u ≡ true → is_some o ≡ true) c (λ t. refl) (λ o t. t) l
+
+pub returns-then-is_empty-clause-swept : goal.returns-then-is_empty-clause-swept
+returns-then-is_empty-clause-swept c = λ l at there empty.
+    taken (λ b o u. b ≡ true → is_some u ≡ true → ⊥) c (λ same t. true≢false (sym t)) (λ o other t. true≢false (sym other)) l
+    (number_self c.index_mut.result.now.link l (link_got l c.index_mut.result.now c.args.entries.now.items c.args.place at c.index_mut.ensures.value)) there
+
+pub returns-then-is_empty-clause-kept : goal.returns-then-is_empty-clause-kept
+returns-then-is_empty-clause-kept c = λ l.
+    taken (λ b o u. held_in u ≡ held_in o) c (sym (sym c.withdraw.ensures.held ∙ none_long c.withdraw.new.self.held (c.if-is_empty.ensures.0 refl))) (λ o. refl) l
+
+pub returns-else-is_empty-clause-rising : goal.returns-else-is_empty-clause-rising
+returns-else-is_empty-clause-rising c = rising_set c.index_mut.result.now c.withdraw.new.self c.args.entries.now.items c.args.place c.requires.rising (got_at c.index_mut.result.now c.args.entries.now.items c.args.place c.requires.within c.index_mut.ensures.value)
+
+pub returns-else-is_empty-clause-entries : goal.returns-else-is_empty-clause-entries
+returns-else-is_empty-clause-entries c = λ l.
+    set_entry (λ b o u. is_some u ≡ true → is_some o ≡ true) c.index_mut.result.now c.withdraw.new.self c.args.entries.now.items c.args.place c.requires.rising (got_at c.index_mut.result.now c.args.entries.now.items c.args.place c.requires.within c.index_mut.ensures.value)
+    (λ t. refl) (λ o t. t) l
+
+pub returns-else-is_empty-clause-swept : goal.returns-else-is_empty-clause-swept
+returns-else-is_empty-clause-swept c = λ l at there empty.
+    set_entry (λ b o u. b ≡ true → held_in u ≡ [] → ⊥) c.index_mut.result.now c.withdraw.new.self c.args.entries.now.items c.args.place c.requires.rising (got_at c.index_mut.result.now c.args.entries.now.items c.args.place c.requires.within c.index_mut.ensures.value)
+    (λ same none. true≢false (sym (c.if-is_empty.ensures.1 (ap (λ (hs : List Held). length hs) none)))) (λ o other none. true≢false (sym other)) l
+    (number_self c.index_mut.result.now.link l (link_got l c.index_mut.result.now c.args.entries.now.items c.args.place at c.index_mut.ensures.value)) empty
+
+pub returns-else-is_empty-clause-kept : goal.returns-else-is_empty-clause-kept
+returns-else-is_empty-clause-kept c = λ l.
+    set_entry (λ b o u. held_in u ≡ held_in o) c.index_mut.result.now c.withdraw.new.self c.args.entries.now.items c.args.place c.requires.rising (got_at c.index_mut.result.now c.args.entries.now.items c.args.place c.requires.within c.index_mut.ensures.value)
+    c.withdraw.ensures.held (λ o. refl) l
