@@ -25,14 +25,20 @@ impl Load {
         self.peers.saturating_mul(self.lsps)
     }
 
-    /// How many LSPs go, and come again.
+    /// How many events are made and then applied in a round: few, as many whatever stands, so that their own memory
+    /// is near, as where a server has just read them.
     pub(crate) fn batch(&self) -> u32 {
-        self.paths() / 2
+        (self.paths() / 2).min(50)
+    }
+
+    /// How many rounds of reports are measured.
+    pub(crate) fn rounds(&self) -> u32 {
+        self.events / self.batch().max(1)
     }
 
     /// How many LSPs are asked for in a round. As many leave before, so that their grants find room.
     pub(crate) fn asked(&self) -> u32 {
-        (self.paths() / 2).min(50)
+        self.batch()
     }
 
     /// An LSP that is asked for in a round: none of those that left.
@@ -177,22 +183,24 @@ pub(crate) fn filled(alloc: Global, routes: &Routes, load: Load) -> Result<Vec<E
     Ok(events)
 }
 
-/// So many reports, of LSPs in the drawn order.
+/// The reports of a round, of LSPs in the drawn order.
 fn drawn(
     alloc: Global,
     routes: &Routes,
     load: Load,
-    count: u32,
+    round: u32,
     told: Told,
 ) -> Result<Vec<Event>, AllocError> {
     let mut events = Vec::new(alloc);
-    for event in 0..count {
-        events.push(report(alloc, routes, load.drawn(event), told)?)?;
+    let first = round.wrapping_mul(load.batch());
+    for event in 0..load.batch() {
+        let lsp = load.drawn(first.wrapping_add(event));
+        events.push(report(alloc, routes, lsp, told)?)?;
     }
     Ok(events)
 }
 
-/// Reports that replace the path of an LSP.
+/// The reports of a round that replace the paths of LSPs.
 pub(crate) fn replaced(
     alloc: Global,
     routes: &Routes,
@@ -200,15 +208,15 @@ pub(crate) fn replaced(
     round: u32,
 ) -> Result<Vec<Event>, AllocError> {
     let told = Told {
-        round,
+        round: round.wrapping_add(1),
         remove: false,
         sync: false,
         srp: None,
     };
-    drawn(alloc, routes, load, load.events, told)
+    drawn(alloc, routes, load, round, told)
 }
 
-/// Half of the LSPs go.
+/// The LSPs of a round go.
 pub(crate) fn removed(
     alloc: Global,
     routes: &Routes,
@@ -221,7 +229,7 @@ pub(crate) fn removed(
         sync: false,
         srp: None,
     };
-    drawn(alloc, routes, load, load.batch(), told)
+    drawn(alloc, routes, load, round, told)
 }
 
 /// The LSPs that went come again.
@@ -237,7 +245,7 @@ pub(crate) fn back(
         sync: false,
         srp: None,
     };
-    drawn(alloc, routes, load, load.batch(), told)
+    drawn(alloc, routes, load, round, told)
 }
 
 /// The LSPs go that make room for grants.
@@ -248,7 +256,7 @@ pub(crate) fn left(alloc: Global, routes: &Routes, load: Load) -> Result<Vec<Eve
         sync: false,
         srp: None,
     };
-    drawn(alloc, routes, load, load.asked(), told)
+    drawn(alloc, routes, load, 0, told)
 }
 
 /// The LSPs that made room come again.
@@ -263,5 +271,5 @@ pub(crate) fn returned(
         sync: false,
         srp: None,
     };
-    drawn(alloc, routes, load, load.asked(), told)
+    drawn(alloc, routes, load, 0, told)
 }

@@ -30,6 +30,36 @@ use std::rt::Runtime;
 use std::time::Duration;
 use te_base::TeBase;
 
+/// How long reports take that replace a path, of all rounds.
+fn timed_reports<R: Runtime<A = Global>>(
+    rt: &R,
+    database: &mut Database,
+    routes: &Routes,
+    load: Load,
+) -> Result<Duration> {
+    let mut took = Duration::ZERO;
+    for round in 0..load.rounds() {
+        took = timed(rt, database, replaced(rt.alloc(), routes, load, round)?)?.saturating_add(
+            took,
+        );
+    }
+    Ok(took)
+}
+
+/// How long the slowest of the reports takes.
+fn slowest_report<R: Runtime<A = Global>>(
+    rt: &R,
+    database: &mut Database,
+    routes: &Routes,
+    load: Load,
+) -> Result<Duration> {
+    let mut most = Duration::ZERO;
+    for round in 0..load.rounds() {
+        most = slowest(rt, database, replaced(rt.alloc(), routes, load, round)?)?.max(most);
+    }
+    Ok(most)
+}
+
 /// Measures reports that replace a path.
 fn measure_reports<R: Runtime<A = Global>>(
     rt: &R,
@@ -37,12 +67,15 @@ fn measure_reports<R: Runtime<A = Global>>(
     routes: &Routes,
     load: Load,
 ) -> Result<()> {
-    let alloc = rt.alloc();
-    let took = timed(rt, database, replaced(alloc, routes, load, 1)?)?;
-    say(rt, load, "replaced", took, load.events)?;
-    let most = slowest(rt, database, replaced(alloc, routes, load, 2)?)?;
+    let took = timed_reports(rt, database, routes, load)?;
+    let count = load.rounds().saturating_mul(load.batch());
+    say(rt, load, "replaced", took, count)?;
+    let most = slowest_report(rt, database, routes, load)?;
     say(rt, load, "slowest", most, 1)
 }
+
+/// How many rounds of LSPs that go and come are measured.
+const LSP_ROUNDS: u32 = 200;
 
 /// Measures LSPs that go, and that come.
 fn measure_lsps<R: Runtime<A = Global>>(
@@ -54,11 +87,11 @@ fn measure_lsps<R: Runtime<A = Global>>(
     let alloc = rt.alloc();
     let mut going = Duration::ZERO;
     let mut coming = Duration::ZERO;
-    for round in 0..20u32 {
+    for round in 0..LSP_ROUNDS {
         going = timed(rt, database, removed(alloc, routes, load, round)?)?.saturating_add(going);
         coming = timed(rt, database, back(alloc, routes, load, round)?)?.saturating_add(coming);
     }
-    let count = load.batch().saturating_mul(20);
+    let count = load.batch().saturating_mul(LSP_ROUNDS);
     say(rt, load, "removal", going, count)?;
     say(rt, load, "new_lsp", coming, count)
 }
