@@ -20,6 +20,14 @@ front_of bytes =
     else (if nat_lt (length bytes) (message_length bytes) then Waiting
     else Whole (message_length bytes)))
 
+-- how many bytes there must be until there is something to handle: those of a header, and behind one that a message has
+-- the message's
+unfoldable pub bytes_needed : List ℕ → ℕ
+bytes_needed bytes =
+    if nat_lt (length bytes) 4 then 4
+    else (if is_bad bytes then 4
+    else message_length bytes)
+
 -- there is nothing to handle yet
 abbrev pub is_waiting : Front → Bool
 is_waiting Waiting = true

@@ -2,8 +2,10 @@
 
 ghost use Rattle.std.specs.Prelude.{◌≡◌, ◌≤◌, ◌*◌, [], ◌++◌, ◌∷◌, length, drop, vec_capacity, OnOk, OnErr, IfErr, true, false};
 ghost use Rattle.pcep_messages.specs.Spelling.{is_written, fits, written};
+ghost use Rattle.pcep_session.specs.Framing.{is_waiting, front_of};
 ghost use Rattle.pcep_objects.specs.declared.fault.WriteFault.TheVariants.{TooLong};
 
+use crate::framing::{HEADER, needed_in};
 use pcep_messages::{Message, write_message};
 use pcep_objects::WriteFault;
 use std::alloc::{AllocError, Global};
@@ -20,16 +22,21 @@ pub struct Pending {
     items: Vec<u8>,
     /// How many of the items are handled.
     start: usize,
+    /// How many bytes must wait until there is something to handle. So a byte that comes alone is told with one
+    /// comparison to leave nothing to handle.
+    needed: usize,
 }
 
 impl Model for Pending {
     ghost use Rattle.std.specs.Prelude.{List, ℕ, drop, length, vec_capacity, ◌-◌, ◌≡◌, ◌≤◌};
+    ghost use Rattle.pcep_session.specs.Framing.{bytes_needed};
 
     ghost Value = { List ℕ };
 
     ghost view = { λ p. drop p.start p.items.items };
 
-    ghost invariant = { λ p. (p.start ≤ length p.items.items - p.start) × (length p.items.items ≡ 0 → vec_capacity p.items ≤ 65536) };
+    ghost invariant = { λ p. (p.start ≤ length p.items.items - p.start) × (length p.items.items ≡ 0 → vec_capacity p.items ≤ 65536)
+        × (p.needed ≡ bytes_needed (drop p.start p.items.items)) };
 }
 
 fn remove_front(items: &mut Vec<u8>, count: usize)
@@ -52,12 +59,14 @@ fn release(items: &mut Vec<u8>)
 }
 
 impl Pending {
+    #[tactic(auto, using(crate::proofs::Needed::none_needs))]
     pub fn new(alloc: Global) -> Pending
         ensures { result ≡ [] }
     {
         Pending {
             items: Vec::new(alloc),
             start: 0,
+            needed: HEADER,
         }
     }
 
@@ -65,6 +74,14 @@ impl Pending {
         ensures { result.now ≡ self.now }
     {
         &self.items[self.start..]
+    }
+
+    /// Whether there is nothing to handle yet.
+    #[tactic(auto, using(crate::proofs::Needed::waits_behind))]
+    pub fn is_waiting(&self) -> bool
+        ensures { result ≡ is_waiting (front_of self.now) }
+    {
+        self.items.len() - self.start < self.needed
     }
 
     /// How many bytes are kept: those that wait, and handled ones in front of them.
@@ -83,15 +100,19 @@ impl Pending {
     }
 
     /// Appends one byte, as a peer's bytes may come one by one. Then some wait, and no room is let go.
+    #[tactic(auto, using(crate::proofs::Needed::one_more_needs))]
     fn push(&mut self, byte: u8) -> Result<(), AllocError>
         ensures ok { OnOk result (self.new ≡ self.old ++ byte ∷ []) }
         ensures err { OnErr result (self.new ≡ self.old) }
     {
-        if self.items.push(byte).is_ok() {
-            return Ok(());
+        if self.items.push(byte).is_err() {
+            release(&mut self.items);
+            return Err(AllocError);
         }
-        release(&mut self.items);
-        Err(AllocError)
+        if self.items.len() - self.start >= self.needed {
+            self.needed = needed_in(&self.items[self.start..]);
+        }
+        Ok(())
     }
 
     pub fn append(&mut self, piece: &[u8]) -> Result<(), AllocError>
@@ -103,6 +124,7 @@ impl Pending {
         }
         let appended = self.items.extend_from_slice(piece);
         release(&mut self.items);
+        self.needed = needed_in(&self.items[self.start..]);
         appended
     }
 
@@ -118,13 +140,16 @@ impl Pending {
             self.start = 0;
             release(&mut self.items);
         }
+        self.needed = needed_in(&self.items[self.start..]);
     }
 
+    #[tactic(auto, using(crate::proofs::Needed::none_needs))]
     pub fn clear(&mut self)
         ensures { self.new ≡ [] }
     {
         self.items.clear();
         self.start = 0;
+        self.needed = HEADER;
         release(&mut self.items);
     }
 }

@@ -1,7 +1,7 @@
 //! What stands at the front of the received bytes.
 
 ghost use Rattle.std.specs.Prelude.{◌≡◌, ◌≤◌, length};
-ghost use Rattle.pcep_session.specs.Framing.{is_bad, front_of, is_waiting, FitsIn};
+ghost use Rattle.pcep_session.specs.Framing.{is_bad, front_of, message_length, bytes_needed, FitsIn};
 
 use byteorder::{BigEndian, ByteOrder};
 
@@ -16,12 +16,22 @@ pub enum Front {
     Whole(usize),
 }
 
+/// The size of a message's header, in bytes.
+pub const HEADER: usize = 4;
+
+fn message_length(bytes: &[u8]) -> usize
+    requires { 4 ≤ length bytes.now }
+    ensures { result ≡ message_length bytes.now }
+{
+    BigEndian::read_u16(&bytes[2..]) as usize
+}
+
 fn is_bad(bytes: &[u8]) -> bool
     requires { 4 ≤ length bytes.now }
     ensures { result ≡ is_bad bytes.now }
 {
-    let size = BigEndian::read_u16(&bytes[2..]) as usize;
-    bytes[0] >> 5 != 1 || size < 4 || size % 4 != 0
+    let size = message_length(bytes);
+    bytes[0] >> 5 != 1 || size < HEADER || size % 4 != 0
 }
 
 /// Looks at the four bytes of the header alone.
@@ -30,24 +40,27 @@ pub fn front_in(bytes: &[u8]) -> Front
     ensures front { result ≡ front_of bytes.now }
     ensures size { FitsIn (length bytes.now) result }
 {
-    if bytes.len() < 4 {
+    if bytes.len() < HEADER {
         return Front::Waiting;
     }
     if is_bad(bytes) {
         return Front::Bad;
     }
-    let size = BigEndian::read_u16(&bytes[2..]) as usize;
+    let size = message_length(bytes);
     if bytes.len() < size {
         return Front::Waiting;
     }
     Front::Whole(size)
 }
 
-pub fn is_waiting(front: Front) -> bool
-    ensures { result ≡ is_waiting front }
+/// How many bytes there must be until there is something to handle. Looks at the four bytes of the header alone.
+#[tactic(auto, unfolding(crate::specs::Framing::bytes_needed))]
+pub fn needed_in(bytes: &[u8]) -> usize
+    ensures { result ≡ bytes_needed bytes.now }
 {
-    match front {
-        Front::Waiting => true,
-        _ => false,
+    if bytes.len() < HEADER || is_bad(bytes) {
+        HEADER
+    } else {
+        message_length(bytes)
     }
 }

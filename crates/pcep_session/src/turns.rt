@@ -11,7 +11,7 @@ ghost use Rattle.pcep_session.specs.declared.framing.Front.TheVariants as fronts
 use crate::arrivals::{arrival, capabilities_of, is_fifth, peer_after, unrecognized_after};
 use crate::contents::Contents;
 use crate::fault::SessionFault;
-use crate::framing::{Front, front_in, is_waiting};
+use crate::framing::{Front, front_in};
 use crate::reactions::{due, on_timer, reaction};
 use crate::table::{Arrival, Input, Notices, Reaction, State, Timer};
 use pcep_messages::put_notice;
@@ -223,7 +223,7 @@ pub fn has_input(contents: &Contents) -> bool
     if contents.state.is_closed() {
         return contents.down_pending;
     }
-    !is_waiting(front_in(contents.bytes.as_slice())) || is_any_due(contents)
+    !contents.bytes.is_waiting() || is_any_due(contents)
 }
 
 #[inline(never)]
