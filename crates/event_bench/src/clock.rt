@@ -35,6 +35,18 @@ pub(crate) fn timed<R: Runtime<A = Global>>(
     Ok(start.elapsed(rt)?)
 }
 
+/// The reply to an event, and how long it took.
+pub(crate) fn timed_reply<R: Runtime<A = Global>>(
+    rt: &R,
+    database: &mut Database,
+    event: Event,
+) -> Result<(Reply, Duration)> {
+    let start = Instant::now(rt)?;
+    let reply = database.apply(event)?;
+    let took = start.elapsed(rt)?;
+    Ok((reply, took))
+}
+
 /// How long the slowest of the events takes.
 pub(crate) fn slowest<R: Runtime<A = Global>>(
     rt: &R,

@@ -1,6 +1,6 @@
 //! Measures events each of which finds caches that hold something else: before it 64 MB are read.
 use crate::asks::{all_settled, asks, offers, reports};
-use crate::clock::{accepted, apply_all, say};
+use crate::clock::{accepted, apply_all, say, timed_reply};
 use crate::grants::{srp_of, ticket_of};
 use crate::load::{Load, left, returned};
 use crate::routes::Routes;
@@ -8,7 +8,7 @@ use anyhow::{Result, bail};
 use history_core::{Database, Event, Reply};
 use std::alloc::{AllocError, Global};
 use std::rt::Runtime;
-use std::time::{Duration, Instant};
+use std::time::Duration;
 
 /// How many words are read before an event.
 const WORDS: usize = 8_388_608;
@@ -49,9 +49,7 @@ fn apply_cold<R: Runtime<A = Global>>(
     event: Event,
 ) -> Result<(Reply, Duration)> {
     sweep.read()?;
-    let start = Instant::now(rt)?;
-    let reply = database.apply(event)?;
-    let took = start.elapsed(rt)?;
+    let (reply, took) = timed_reply(rt, database, event)?;
     accepted(&reply)?;
     Ok((reply, took))
 }

@@ -3,6 +3,7 @@ use crate::asks::{all_settled, ask, asks, drains, initiations, offers, reports, 
 use crate::clock::{apply_all, say, timed};
 use crate::load::{Load, Lsp, left, returned};
 use crate::routes::Routes;
+use crate::turns::measure_turns;
 use anyhow::{Result, bail};
 use history_core::{Database, Event, Reply};
 use path_finder::find;
@@ -159,7 +160,7 @@ fn measure_grants<R: Runtime<A = Global>>(
 }
 
 /// The ticket ends, since its search found nothing and no path changed.
-fn end_in_vain(database: &mut Database, ticket: u64) -> Result<()> {
+pub(crate) fn end_in_vain(database: &mut Database, ticket: u64) -> Result<()> {
     let offer = None;
     match database.apply(Event::Commit { ticket, offer })? {
         Reply::NoPath => Ok(()),
@@ -252,7 +253,7 @@ fn measure_changed<R: Runtime<A = Global>>(
 }
 
 /// The search for a taken ticket, and its answer.
-fn search(alloc: Global, reply: &Reply) -> Result<Event> {
+pub(crate) fn search(alloc: Global, reply: &Reply) -> Result<Event> {
     let Reply::Job(job) = reply else {
         bail!("no ticket was taken");
     };
@@ -347,6 +348,7 @@ pub(crate) fn measure_asks<R: Runtime<A = Global>>(
     apply_all(database, left(alloc, routes, load)?)?;
     measure_grants(rt, database, routes, load)?;
     measure_beside_many(rt, database, routes, load)?;
+    measure_turns(rt, database, load)?;
     measure_changed(rt, database, routes, load)?;
     measure_searches(rt, database, routes, load)?;
     measure_returns(rt, database, routes, load)?;

@@ -3,10 +3,11 @@
 //! peers, and says on standard error how many nanoseconds each kind of event took: a report that replaces a
 //! path (the mean of EVENTS, and the slowest), a removal, a new LSP; a path that is asked for to update an LSP,
 //! where few tickets wait and where 950 to 1,000 do, a ticket that is taken where no path changed since the last and
-//! where one did, the commit of an offer that is the LSP's own route, an ask with its search and commit, an LSP that
-//! is given back; the first report of a known LSP in a new session; and what a whole session took that goes down,
-//! comes up again and synchronizes, and the expiry of a peer. SWEEPS rounds (0 where it isn't said) of events are measured
-//! with other memory read before each, so that no cache holds what the event needs: these rows begin with `cold_`.
+//! where one did, asks and takes between which a search lies (rows that end with `in_turn`), the commit of an offer that
+//! is the LSP's own route, an ask with its search and commit, an LSP that is given back; the first report of a known
+//! LSP in a new session; and what a whole session took that goes down, comes up again and synchronizes, and the expiry
+//! of a peer. SWEEPS rounds (0 where it isn't said) of events are measured with other memory read before each, so that
+//! no cache holds what the event needs: these rows begin with `cold_`.
 //! Standard output has the number of steps of each history.
 #![tactic(auto)]
 
@@ -16,6 +17,7 @@ mod cold;
 mod grants;
 mod load;
 mod routes;
+mod turns;
 
 use crate::clock::{apply_all, say, slowest, timed};
 use crate::cold::measure_cold;
