@@ -94,7 +94,8 @@ impl Pending {
 
     /// For how many bytes there is memory.
     pub fn room(&self) -> usize
-        ensures { self.now ≡ [] → result ≤ 65536 }
+        ensures at_least { length self.now ≤ result }
+        ensures at_most { self.now ≡ [] → result ≤ 65536 }
     {
         self.items.capacity()
     }

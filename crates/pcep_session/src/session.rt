@@ -131,9 +131,11 @@ impl Session {
         self.contents.bytes.kept()
     }
 
-    /// For how many received bytes the session holds memory: for no more than 65,536 where none wait.
+    /// For how many received bytes the session holds memory: for those that wait, and for no more than 65,536
+    /// where none do.
     pub fn room_for_bytes(&self) -> usize
-        ensures { self.now.bytes ≡ [] → result ≤ 65536 }
+        ensures at_least { length self.now.bytes ≤ result }
+        ensures at_most { self.now.bytes ≡ [] → result ≤ 65536 }
     {
         self.contents.bytes.room()
     }
