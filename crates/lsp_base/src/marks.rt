@@ -23,7 +23,9 @@ pub struct Marks {
 
 impl Marks {
     /// No bit yet: each place counts as marked. Takes no memory.
-    pub fn new(alloc: Global) -> Marks {
+    pub fn new(alloc: Global) -> Marks
+        ensures { result.words.items ≡ [] }
+    {
         Marks {
             words: Vec::new(alloc),
         }

@@ -4,14 +4,11 @@ use Rattle.std.specs.Prelude.{nat_lt}
 use Rattle.std.proofs.lemmas.Bool.Decides.{nat_tests}
 use Rattle.std.proofs.lemmas.List.{drop-append-le}
 use Rattle.pcep_session.specs.Framing.{bytes_needed, front_of, is_waiting, is_bad, message_length}
-use Rattle.pcep_session.specs.declared.framing.Front.{Front}
-use Rattle.pcep_session.specs.declared.framing.Front.TheVariants.{Waiting, Bad, Whole}
+use Rattle.pcep_session.specs.declared.framing.Front.TheVariants.{Waiting, Whole}
+use Rattle.pcep_session.proofs.Pieces.{front_if}
 
 abbrev needed_if : (short bad : Bool) → ℕ → ℕ
 needed_if short bad n = cond short 4 (cond bad 4 n)
-
-abbrev front_if : (short bad cut : Bool) → ℕ → Front
-front_if short bad cut n = cond short Waiting (cond bad Bad (cond cut Waiting (Whole n)))
 
 cut_waits : (cut : Bool) (n : ℕ) → cut ≡ is_waiting (cond cut Waiting (Whole n))
 cut_waits true n = refl

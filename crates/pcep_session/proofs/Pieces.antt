@@ -40,7 +40,7 @@ abbrev pub then_more : List ℕ → Turn → Turn
 then_more q t = turn_of t.input (more_again q t.after)
 
 -- what stands at the front stays there
-abbrev front_if : (short bad cut : Bool) → ℕ → Front
+abbrev pub front_if : (short bad cut : Bool) → ℕ → Front
 front_if short bad cut n = cond short Waiting (cond bad Bad (cond cut Waiting (Whole n)))
 
 stays : (short short' bad cut cut' : Bool) (n : ℕ) → front_if short bad cut n ≢ Waiting → (short ≡ false → short' ≡ false) → (cut ≡ false → cut' ≡ false) → front_if short' bad cut' n ≡ front_if short bad cut n

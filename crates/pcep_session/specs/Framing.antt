@@ -20,8 +20,8 @@ front_of bytes =
     else (if nat_lt (length bytes) (message_length bytes) then Waiting
     else Whole (message_length bytes)))
 
--- how many bytes there must be until there is something to handle: those of a header, and behind one that a message has
--- the message's
+-- How many bytes there must be until there is something to handle: the four of a header, and where it is good, those of
+-- its message.
 unfoldable pub bytes_needed : List ℕ → ℕ
 bytes_needed bytes =
     if nat_lt (length bytes) 4 then 4
