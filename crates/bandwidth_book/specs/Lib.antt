@@ -1,5 +1,6 @@
 pub mod Held
 pub mod Holdings
+pub mod Contents
 pub mod Entries
 pub mod Tunnels
 pub mod Ledgers

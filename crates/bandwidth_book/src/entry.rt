@@ -1,157 +1,124 @@
 //! What one tunnel holds on one link.
-ghost use Rattle.std.specs.Prelude.{◌≡◌, ◌<◌, ◌≤◌, ◌+◌, ◌^◌, ◌++◌, ◌∷◌, [], ℕ, length, max, vec_len, vec_capacity, slice_index, IsTrue, ◌↔◌, OnOk, if◌then◌else◌, nat_le};
-ghost use Rattle.bandwidth_book.specs.Held.{most, most_below, AreMaxima, AreInOrder, place_in, with_one, without_one};
+ghost use Rattle.std.specs.Prelude.{◌≡◌, ◌<◌, ◌≤◌, ◌+◌, ℕ, [], ◌∷◌, false, length, max, nat_le, slice_index, if◌then◌else◌, IsTrue, ◌↔◌, OnOk, IfSome};
+ghost use Rattle.bandwidth_book.specs.Contents.{holdings_in, IsSound};
+ghost use Rattle.bandwidth_book.specs.Held.{AreMaxima, is_before, with_one, without_one};
 
 use crate::held::{Held, is_before, is_same_held};
+use crate::held_list::{HeldList, raise};
 use std::alloc::{AllocError, Global};
 use std::marker::Model;
 
-/// What the paths of a tunnel hold on a link, the greatest bandwidth at each priority, and for how many
-/// more there is room for sure.
+/// What an entry keeps. Up to two bandwidths stand in place: most tunnels hold one on a link, and a second while the
+/// first is replaced. Priorities stand apart from bandwidths, so that an entry is 24 bytes long.
+#[derive(Drop)]
+pub enum Content {
+    /// Nothing, and for how many there is room.
+    Free {
+        promised: u8,
+    },
+    /// One, and for how many more there is room.
+    One {
+        promised: u8,
+        hold: u8,
+        bandwidth: u64,
+    },
+    /// Two in their order.
+    Two {
+        hold: u8,
+        later_hold: u8,
+        bandwidth: u64,
+        later_bandwidth: u64,
+    },
+    Many(Box<HeldList>),
+}
+
+/// What the paths of a tunnel hold on a link, and for how many more there is room for sure.
 #[derive(Drop)]
 pub struct Entry {
-    held: Vec<Held>,
-    maxima: [u64; 8],
-    promised: usize,
+    content: Content,
 }
 
 impl Model for Entry {
-    ghost use Rattle.std.specs.Prelude.{◌+◌, ◌≤◌, length, vec_capacity};
     ghost use Rattle.bandwidth_book.specs.Holdings.{Holdings};
 
     ghost Value = { Holdings };
 
-    ghost use Rattle.bandwidth_book.specs.Held.{AreMaxima, AreInOrder};
+    ghost use Rattle.bandwidth_book.specs.Contents.{holdings_in, IsSound};
 
-    ghost view = { λ e. record { held = e.held.items; promised = e.promised } };
+    ghost view = { λ e. holdings_in e.content };
 
-    ghost invariant = { λ e. record {
-      maxima : AreMaxima e.maxima e.held.items;
-      order : AreInOrder e.held.items;
-      room : length e.held.items + e.promised ≤ vec_capacity e.held;
-    } };
+    ghost invariant = { λ e. IsSound e.content };
 }
 
-/// Where one belongs in the order.
-#[tactic(auto, using(crate::proofs::Order::place_within))]
-fn place_of(held: &[Held], one: &Held) -> usize
-    requires { AreInOrder held.now }
-    ensures place { result ≡ place_in one.now held.now }
-    ensures within { result ≤ length held.now }
+/// One alone, and no room promised.
+fn one_of(held: Held) -> Content
+    ensures holdings { holdings_in result ≡ record { held = held ∷ []; promised = 0 } }
+    ensures sound { IsSound result }
 {
-    let mut low = 0;
-    let mut high = held.len();
-    while low < high {
-        let middle = low + (high - low) / 2;
-        if is_before(&held[middle], one) {
-            low = middle + 1;
-        } else {
-            high = middle;
-        }
+    Content::One {
+        promised: 0,
+        hold: held.hold,
+        bandwidth: held.bandwidth,
     }
-    low
 }
 
-/// The greatest bandwidth that is held at the priority and no better one: the last of them has it.
-fn last_of(held: &[Held], priority: u8) -> u64
-    requires order { AreInOrder held.now }
-    requires priority { priority < 8 }
-    ensures { max (most_below held.now priority) result ≡ most held.now priority }
+/// Two that are in order.
+fn two_of(first: Held, second: Held) -> Content
+    requires { is_before second first ≡ false }
+    ensures holdings { holdings_in result ≡ record { held = first ∷ second ∷ []; promised = 0 } }
+    ensures sound { IsSound result }
 {
-    let end = place_of(
-        held,
-        &Held {
-            hold: priority + 1,
-            bandwidth: 0,
-        },
-    );
-    if end == 0 {
-        return 0;
+    Content::Two {
+        hold: first.hold,
+        later_hold: second.hold,
+        bandwidth: first.bandwidth,
+        later_bandwidth: second.bandwidth,
     }
-    let last = held[end - 1];
-    if last.hold == priority {
-        last.bandwidth
+}
+
+/// One more beside one.
+fn two_with(one: Held, held: Held) -> Content
+    ensures holdings { holdings_in result ≡ record { held = with_one held (one ∷ []); promised = 0 } }
+    ensures sound { IsSound result }
+{
+    if is_before(&one, &held) {
+        two_of(one, held)
     } else {
-        0
+        two_of(held, one)
     }
 }
 
-/// The greatest bandwidth that is held at the priority or a better one, from that at better ones.
-#[tactic(auto, using(crate::proofs::Runs::below_next))]
-fn most_from(held: &[Held], priority: u8, better: u64) -> u64
-    requires order { AreInOrder held.now }
-    requires priority { priority < 8 }
-    requires better { better ≡ most_below held.now priority }
-    ensures most { result ≡ most held.now priority }
-    ensures next { result ≡ most_below held.now (priority + 1) }
+/// What a list of at most one keeps in place.
+fn few_of(held: &[Held]) -> Option<Content>
+    ensures holdings { IfSome result (λ content. holdings_in content ≡ record { held = held.now; promised = 0 }) }
+    ensures sound { IfSome result IsSound }
 {
-    better.max(last_of(held, priority))
-}
-
-/// The greatest bandwidth at each priority. It looks at one for each priority.
-#[tactic(auto, using(crate::proofs::Runs::below_first))]
-fn maxima_of(held: &[Held]) -> [u64; 8]
-    requires { AreInOrder held.now }
-    ensures { AreMaxima result held.now }
-{
-    let mut maxima = [0; 8];
-    let mut greatest = 0;
-    for priority in 0..8u8 {
-        greatest = most_from(held, priority, greatest);
-        maxima[priority as usize] = greatest;
-    }
-    maxima
-}
-
-/// Puts one more in its order, into room that is there.
-#[tactic(auto, using(crate::proofs::Order::insert_in_place, crate::proofs::Order::order_with_one, crate::proofs::Order::length_with_one))]
-fn put_held(list: &mut Vec<Held>, held: Held)
-    requires room { vec_len list.old < vec_capacity list.old }
-    requires order { AreInOrder list.old.items }
-    ensures items { list.new.items ≡ with_one held list.old.items }
-    ensures order { AreInOrder list.new.items }
-    ensures capacity { vec_capacity list.old ≤ vec_capacity list.new }
-{
-    let place = place_of(list, &held);
-    let put = list.insert(place, held);
-    prove!(put.is_ok());
-    let _ = put;
-}
-
-/// Takes one out that is the same, if there is one.
-fn take_held(list: &mut Vec<Held>, held: Held)
-    requires { AreInOrder list.old.items }
-    ensures items { list.new.items ≡ without_one held list.old.items }
-    ensures order { AreInOrder list.new.items }
-    ensures capacity { vec_capacity list.new ≡ vec_capacity list.old }
-{
-    let place = place_of(list, &held);
-    if place < list.len() && is_same_held(&held, &list[place]) {
-        let _ = list.remove(place);
+    if held.is_empty() {
+        Some(Content::Free { promised: 0 })
+    } else if held.len() == 1 {
+        Some(one_of(held[0]))
+    } else {
+        None
     }
 }
 
 /// The maxima with one more.
-fn raise(maxima: &mut [u64; 8], held: Held)
-    ensures { (p : ℕ) → p < 8 → slice_index maxima.new p ≡ max (if nat_le held.hold p then held.bandwidth else 0) (slice_index maxima.old p) }
+fn raised(maxima: [u64; 8], held: Held) -> [u64; 8]
+    ensures { (p : ℕ) → p < 8 → slice_index result p ≡ max (if nat_le held.hold p then held.bandwidth else 0) (slice_index maxima p) }
 {
-    for priority in 0..8usize {
-        if held.hold as usize <= priority {
-            maxima[priority] = held.bandwidth.max(maxima[priority]);
-        }
-    }
+    let mut maxima = maxima;
+    raise(&mut maxima, held);
+    maxima
 }
 
 impl Entry {
     /// Nothing is held.
-    pub fn new(alloc: Global) -> Self
+    pub fn new() -> Self
         ensures held { result.held ≡ [] }
         ensures promised { result.promised ≡ 0 }
     {
         Entry {
-            held: Vec::new(alloc),
-            maxima: [0; 8],
-            promised: 0,
+            content: Content::Free { promised: 0 },
         }
     }
 
@@ -159,62 +126,222 @@ impl Entry {
     pub fn is_empty(&self) -> bool
         ensures { IsTrue result ↔ (length self.now.held ≡ 0) }
     {
-        self.held.is_empty()
+        match &self.content {
+            Content::Free { .. } => true,
+            Content::One { .. } | Content::Two { .. } => false,
+            Content::Many(list) => list.as_slice().is_empty(),
+        }
     }
 
     /// The greatest bandwidth that is held at each priority or a better one.
-    pub fn maxima(&self) -> &[u64; 8]
-        ensures { AreMaxima result.now self.now.held }
+    pub fn maxima(&self) -> [u64; 8]
+        ensures { AreMaxima result self.now.held }
     {
-        &self.maxima
+        match &self.content {
+            Content::Free { .. } => [0; 8],
+            Content::One {
+                hold,
+                bandwidth,
+                ..
+            } => raised(
+                [0; 8],
+                Held {
+                    hold: *hold,
+                    bandwidth: *bandwidth,
+                },
+            ),
+            Content::Two {
+                hold,
+                later_hold,
+                bandwidth,
+                later_bandwidth,
+            } => {
+                let later = raised(
+                    [0; 8],
+                    Held {
+                        hold: *later_hold,
+                        bandwidth: *later_bandwidth,
+                    },
+                );
+                raised(
+                    later,
+                    Held {
+                        hold: *hold,
+                        bandwidth: *bandwidth,
+                    },
+                )
+            }
+            Content::Many(list) => *list.maxima(),
+        }
     }
 
-    /// Promises room for one more.
-    pub fn promise(&mut self) -> Result<(), AllocError>
+    /// Promises room for one more. A list is made where more than two might be held.
+    pub fn promise(&mut self, alloc: Global) -> Result<(), AllocError>
         ensures held { self.new.held ≡ self.old.held }
         ensures more { self.old.promised ≤ self.new.promised }
         ensures ok { OnOk result (self.new.promised ≡ self.old.promised + 1) }
     {
-        match self.promised.checked_add(1) {
-            Some(promised) => {
-                self.held.reserve(promised)?;
-                self.promised = promised;
-                Ok(())
+        let list = match &mut self.content {
+            Content::Free { promised } => {
+                if *promised < 2 {
+                    *promised += 1;
+                    return Ok(());
+                }
+                HeldList::of(alloc, &[], 3)?
             }
-            None => Err(AllocError),
-        }
+            Content::One {
+                promised,
+                hold,
+                bandwidth,
+            } => {
+                if *promised < 1 {
+                    *promised += 1;
+                    return Ok(());
+                }
+                HeldList::of(
+                    alloc,
+                    &[Held {
+                        hold: *hold,
+                        bandwidth: *bandwidth,
+                    }],
+                    2,
+                )?
+            }
+            Content::Two {
+                hold,
+                later_hold,
+                bandwidth,
+                later_bandwidth,
+            } => HeldList::of(
+                alloc,
+                &[
+                    Held {
+                        hold: *hold,
+                        bandwidth: *bandwidth,
+                    },
+                    Held {
+                        hold: *later_hold,
+                        bandwidth: *later_bandwidth,
+                    },
+                ],
+                1,
+            )?,
+            Content::Many(list) => return list.promise(),
+        };
+        self.content = Content::Many(Box::new(alloc, list)?);
+        Ok(())
     }
 
-    /// Takes the promises back.
+    /// Takes the promises back. A list that holds one at most is given up.
     pub fn withdraw(&mut self)
         ensures held { self.new.held ≡ self.old.held }
         ensures promised { self.new.promised ≡ 0 }
     {
-        self.promised = 0;
+        let content = match &mut self.content {
+            Content::Free { promised } => {
+                *promised = 0;
+                return;
+            }
+            Content::One { promised, .. } => {
+                *promised = 0;
+                return;
+            }
+            Content::Two { .. } => return,
+            Content::Many(list) => {
+                list.withdraw();
+                few_of(list.as_slice())
+            }
+        };
+        if let Some(content) = content {
+            self.content = content;
+        }
     }
 
     /// Adds one, where room was promised. It looks at each priority once.
-    #[tactic(auto, using(crate::proofs::Sums::most_with_one, crate::proofs::Order::length_with_one))]
     pub fn add(&mut self, held: Held)
         requires { 0 < self.old.promised }
         ensures held { self.new.held ≡ with_one held self.old.held }
         ensures promised { self.new.promised + 1 ≡ self.old.promised }
     {
-        put_held(&mut self.held, held);
-        raise(&mut self.maxima, held);
-        self.promised -= 1;
+        let content = match &mut self.content {
+            Content::Free { promised } => Content::One {
+                promised: *promised - 1,
+                hold: held.hold,
+                bandwidth: held.bandwidth,
+            },
+            Content::One {
+                hold,
+                bandwidth,
+                ..
+            } => two_with(
+                Held {
+                    hold: *hold,
+                    bandwidth: *bandwidth,
+                },
+                held,
+            ),
+            Content::Two { .. } => return,
+            Content::Many(list) => {
+                list.add(held);
+                return;
+            }
+        };
+        self.content = content;
     }
 
-    /// Drops one. It looks for the maxima where the dropped bandwidth was one.
-    #[tactic(auto, using(crate::proofs::Sums::length_without_one, crate::proofs::Sums::most_without_less))]
+    /// Drops one, if there is one that is the same.
     pub fn drop_one(&mut self, held: Held)
         requires { held.hold < 8 }
         ensures held { self.new.held ≡ without_one held self.old.held }
         ensures promised { self.new.promised ≡ self.old.promised }
     {
-        take_held(&mut self.held, held);
-        if held.bandwidth >= self.maxima[held.hold as usize] {
-            self.maxima = maxima_of(&self.held);
-        }
+        let content = match &mut self.content {
+            Content::Free { .. } => return,
+            Content::One {
+                promised,
+                hold,
+                bandwidth,
+            } => {
+                if !is_same_held(
+                    &held,
+                    &Held {
+                        hold: *hold,
+                        bandwidth: *bandwidth,
+                    },
+                ) {
+                    return;
+                }
+                Content::Free {
+                    promised: *promised,
+                }
+            }
+            Content::Two {
+                hold,
+                later_hold,
+                bandwidth,
+                later_bandwidth,
+            } => {
+                let first = Held {
+                    hold: *hold,
+                    bandwidth: *bandwidth,
+                };
+                let later = Held {
+                    hold: *later_hold,
+                    bandwidth: *later_bandwidth,
+                };
+                if is_same_held(&held, &first) {
+                    one_of(later)
+                } else if is_same_held(&held, &later) {
+                    one_of(first)
+                } else {
+                    return;
+                }
+            }
+            Content::Many(list) => {
+                list.drop_one(held);
+                return;
+            }
+        };
+        self.content = content;
     }
 }

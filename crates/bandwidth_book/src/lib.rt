@@ -30,6 +30,7 @@ mod book;
 mod changes;
 mod entry;
 mod held;
+mod held_list;
 mod ledger_calls;
 mod ledgers;
 mod link_entries;

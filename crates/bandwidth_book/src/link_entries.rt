@@ -57,9 +57,9 @@ fn add_to(entry: &mut Entry, sums: &mut [u64; 8], held: Held)
     ensures held { entry.new.held ≡ with_one held entry.old.held }
     ensures promised { entry.new.promised + 1 ≡ entry.old.promised }
 {
-    let before = *entry.maxima();
+    let before = entry.maxima();
     entry.add(held);
-    exchange(sums, &before, entry.maxima());
+    exchange(sums, &before, &entry.maxima());
 }
 
 /// Drops one from an entry, and from the sums of its link what it falls by.
@@ -71,9 +71,9 @@ fn drop_from(entry: &mut Entry, sums: &mut [u64; 8], held: Held)
     ensures held { entry.new.held ≡ without_one held entry.old.held }
     ensures promised { entry.new.promised ≡ entry.old.promised }
 {
-    let before = *entry.maxima();
+    let before = entry.maxima();
     entry.drop_one(held);
-    exchange(sums, &before, entry.maxima());
+    exchange(sums, &before, &entry.maxima());
 }
 
 /// Where the entry of a link belongs in the order.
@@ -125,8 +125,8 @@ fn put_entry(
     ensures room { (l : ℕ) → promised_to l entries.old.items ≤ promised_to l entries.new.items }
     ensures ok { OnOk result ((l : ℕ) → promised_to l entries.old.items + (if link == l then 1 else 0) ≤ promised_to l entries.new.items) }
 {
-    let mut entry = Entry::new(alloc);
-    entry.promise()?;
+    let mut entry = Entry::new();
+    entry.promise(alloc)?;
     let place = place_of(entries, link);
     entries.insert(place, LinkEntry { link, entry })?;
     Ok(())
@@ -226,7 +226,7 @@ impl LinkEntries {
         ensures ok { OnOk result ((l : ℕ) → promised_to l self.old + (if link == l then 1 else 0) ≤ promised_to l self.new) }
     {
         match find(&self.entries, link) {
-            Some(place) => self.entries[place].entry.promise(),
+            Some(place) => self.entries[place].entry.promise(alloc),
             None => put_entry(alloc, &mut self.entries, link),
         }
     }

@@ -24,7 +24,7 @@ use te_snapshot::{OwnShare, OwnShares};
 fn maxima_in(entry: &LinkEntry) -> [u64; 8]
     ensures { AreMaxima result entry.now.entry.held }
 {
-    *entry.entry.maxima()
+    entry.entry.maxima()
 }
 
 /// What a tunnel reserves on the link of one of its entries at each priority.

@@ -7,10 +7,10 @@ use Rattle.bandwidth_book.proofs.LinkLists.{got_at, link_got, none_long, remove_
 use Rattle.bandwidth_book.proofs.Rising.{number_self, rising_remove, rising_set}
 use Rattle.bandwidth_book.proofs.link_entries.take_back.Goals as goal
 
-out : (c : goal.After-drop-remove) → c.remove.new.self.items ≡ remove c.args.entries.now.items c.args.place
+out : (c : goal.Joined-remove) → c.remove.new.self.items ≡ remove c.args.entries.now.items c.args.place
 out c = c.remove.ensures.items ∙ remove_set c.args.entries.now.items c.args.place (record { link = c.index_mut.result.now.link; entry = c.withdraw.new.self })
 
-taken : (R : Bool → Option Holdings → Option Holdings → Type 0) (c : goal.After-drop-remove) → R true (Some c.index_mut.result.now.entry) None → ((o : Option Holdings) → R false o o) → (l : _) → R (c.index_mut.result.now.link == l) (entry_on l c.args.entries.now.items) (entry_on l c.remove.new.self.items)
+taken : (R : Bool → Option Holdings → Option Holdings → Type 0) (c : goal.Joined-remove) → R true (Some c.index_mut.result.now.entry) None → ((o : Option Holdings) → R false o o) → (l : _) → R (c.index_mut.result.now.link == l) (entry_on l c.args.entries.now.items) (entry_on l c.remove.new.self.items)
 taken R c there others l = rw (out c) (remove_entry R c.index_mut.result.now c.args.entries.now.items c.args.place c.requires.rising (got_at c.index_mut.result.now c.args.entries.now.items c.args.place c.requires.within c.index_mut.ensures.value) there others l)
 
 pub returns-then-is_empty-clause-rising : goal.returns-then-is_empty-clause-rising

@@ -1,5 +1,5 @@
 use Rattle.std.proofs.Common.{◌≡◌, ◌<◌, ◌≤◌, ℕ, slice_index, max, nat_le, if◌then◌else◌}
-use Rattle.bandwidth_book.proofs.entry.raise.Given as goal
+use Rattle.bandwidth_book.proofs.held_list.raise.Given as goal
 
 abbrev pub invariant-loop-priority : goal.invariant-loop-priority
 invariant-loop-priority l = record {

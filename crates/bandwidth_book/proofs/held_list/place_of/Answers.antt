@@ -1,7 +1,7 @@
 use Rattle.std.proofs.Common.{◌<◌, ◌≤◌, ◌+◌, ◌-◌, ◌/◌, length, sym, arith}
 use Rattle.bandwidth_book.specs.Held.{place_in}
 use Rattle.bandwidth_book.proofs.Order.{before_place, after_place}
-use Rattle.bandwidth_book.proofs.entry.place_of.Goals as goal
+use Rattle.bandwidth_book.proofs.held_list.place_of.Goals as goal
 
 pub loop-low-preserved-then-is_before : goal.loop-low-preserved-then-is_before
 loop-low-preserved-then-is_before c =

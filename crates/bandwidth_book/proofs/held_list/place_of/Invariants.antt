@@ -1,6 +1,6 @@
 use Rattle.std.proofs.Common.{◌≤◌, ◌-◌, length}
 use Rattle.bandwidth_book.specs.Held.{place_in}
-use Rattle.bandwidth_book.proofs.entry.place_of.Given as goal
+use Rattle.bandwidth_book.proofs.held_list.place_of.Given as goal
 
 abbrev pub invariant-loop-low : goal.invariant-loop-low
 invariant-loop-low l = record {

@@ -2,7 +2,7 @@ use Rattle.std.proofs.Common.{◌<◌, ◌-◌, ℕ, max, ap, sym, ◌∙◌, ar
 use Rattle.bandwidth_book.specs.declared.held.Held.{Held}
 use Rattle.bandwidth_book.specs.Held.{most_below}
 use Rattle.bandwidth_book.proofs.Runs.{counts_here, counts_not, last_run, no_run}
-use Rattle.bandwidth_book.proofs.entry.last_of.Goals as goal
+use Rattle.bandwidth_book.proofs.held_list.last_of.Goals as goal
 
 nothing : Held
 nothing = record { hold = 0; bandwidth = 0 }

@@ -2,8 +2,8 @@ use Rattle.std.proofs.Common.{◌≡◌, ◌<◌, true, false, length, sym, subs
 use Rattle.bandwidth_book.specs.declared.held.Held.{Held}
 use Rattle.bandwidth_book.specs.Held.{place_in, same_held, without_one}
 use Rattle.bandwidth_book.proofs.Order.{none_at_place, order_without_one, remove_at_place}
-use Rattle.bandwidth_book.proofs.entry.take_held.Goals as goal
-use Rattle.bandwidth_book.proofs.entry.take_held.Goals.{else-place-len-via-then-place-len+else-is_same_held, else-place-len-via-else-place-len}
+use Rattle.bandwidth_book.proofs.held_list.take_held.Goals as goal
+use Rattle.bandwidth_book.proofs.held_list.take_held.Goals.{else-place-len-via-then-place-len+else-is_same_held, else-place-len-via-else-place-len}
 
 removed : (c : goal.After-remove) → c.remove.new.self.items ≡ without_one c.args.held c.args.list.now.items
 removed c =

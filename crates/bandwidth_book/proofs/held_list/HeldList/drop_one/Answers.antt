@@ -1,7 +1,7 @@
 use Rattle.std.proofs.Common.{◌≤◌, ◌<◌, length, sym, ◌∙◌, arith}
 use Rattle.bandwidth_book.specs.Held.{most}
 use Rattle.bandwidth_book.proofs.Sums.{length_without_one, most_without_less}
-use Rattle.bandwidth_book.proofs.entry.Entry.drop_one.Goals as goal
+use Rattle.bandwidth_book.proofs.held_list.HeldList.drop_one.Goals as goal
 
 pub invariant_of-self-else-held-self : goal.invariant_of-self-else-held-self
 invariant_of-self-else-held-self c =

@@ -1,6 +1,6 @@
 use Rattle.std.proofs.Common.{◌≡◌, ◌<◌, ℕ, slice_index, length}
 use Rattle.bandwidth_book.specs.Held.{most, most_below}
-use Rattle.bandwidth_book.proofs.entry.maxima_of.Given as goal
+use Rattle.bandwidth_book.proofs.held_list.maxima_of.Given as goal
 
 abbrev pub invariant-loop-priority : goal.invariant-loop-priority
 invariant-loop-priority l = record {
