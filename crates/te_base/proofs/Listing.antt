@@ -1,5 +1,6 @@
 -- Where a number does not stand, no item of that bucket stands.
-use Rattle.std.proofs.Common.{◌≡◌, ◌≢◌, ℕ, ◌<◌, ◌≤◌, nat_lt, cond, Bool, true, false, List, [], ◌∷◌, Some, None, slice_get, find, length, map, position, get_or, refl, sym, ◌∙◌, arith}
+use Rattle.std.proofs.Common.{◌≡◌, ◌≢◌, ℕ, zero, suc, ◌<◌, ◌≤◌, nat_lt, cond, Bool, true, false, List, [], ◌∷◌, Some, None, slice_get, find, length, map, position, get_or, refl, sym, subst, ◌∙◌, inl, inr, arith}
+use Rattle.std.proofs.lemmas.Bool.{cases_Bool}
 use Rattle.std.proofs.lemmas.Bool.Decides.{nat_tests}
 use Rattle.std.proofs.lemmas.Grind.{common_steps}
 use Rattle.std.proofs.lemmas.List.{get_or-map}
@@ -29,24 +30,37 @@ first_passing test [] end found none within fails passes = omega arith
 first_passing test (x ∷ xs) end found none within fails passes =
     position_or_len_is test (x ∷ xs) found x within (λ k lt. fails.fails k x (omega arith) lt) (passes x)
 
+-- where none passes from a later place on
+pub fails_all : {A : Type 0} (test : A → Bool) (items : List A) (end place : ℕ) → end ≤ place → FailsFrom test items 0 place → FailsFrom test items end (length items) → FailsFrom test items 0 (length items)
+fails_all test items end place within before behind = record {
+  fails = λ p d from to.
+      elim (cases_Bool (nat_lt p place)) [
+        | inl lower ↦ before.fails p d from (let l : p < place = grind (arith, nat_tests) in l)
+        | inr not ↦ behind.fails p d (let l : end ≤ p = (let m : place ≤ p = grind (arith, nat_tests) in omega (arith, m, within)) in l) to
+      ];
+}
+
 chosen_some : (n m : ℕ) → n < m → cond (nat_lt n m) (Some n) None ≡ Some n
 chosen_some n m lt = grind (arith, nat_tests, common_steps)
 
 chosen_none : (n m : ℕ) → m ≤ n → cond (nat_lt n m) (Some n) None ≡ None
 chosen_none n m le = grind (arith, nat_tests, common_steps)
 
--- the last place that was found, where a chain has ended
-pub position-found : {A : Type 0} (test : A → Bool) (items : List A) (end found : ℕ) → end ≤ 0 → found ≤ length items → FailsFrom test items end found
-    → ((d : A) → found < length items → test (get_or items found d) ≡ true) → found < length items → Some found ≡ position test items
-position-found test items end found none within fails passes lt =
-    let at : position_or_len test items ≡ found = first_passing test items end found none within fails passes in
-    rw at (sym (chosen_some found (length items) lt))
+got_any : {A : Type 0} (xs : List A) (i : ℕ) (d e : A) → i < length xs → get_or xs i d ≡ get_or xs i e
+got_any [] i d e lt = absurd (omega (arith, lt))
+got_any (x ∷ xs) zero d e lt = refl
+got_any (x ∷ xs) (suc i) d e lt = got_any xs i d e (omega (arith, lt))
 
-pub position-absent : {A : Type 0} (test : A → Bool) (items : List A) (end found : ℕ) → end ≤ 0 → found ≤ length items → FailsFrom test items end found
-    → ((d : A) → found < length items → test (get_or items found d) ≡ true) → length items ≤ found → None ≡ position test items
-position-absent test items end found none within fails passes le =
-    let at : position_or_len test items ≡ found = first_passing test items end found none within fails passes in
-    rw at (sym (chosen_none found (length items) le))
+-- the first place that passes
+pub position-found : {A : Type 0} (test : A → Bool) (items : List A) (found : ℕ) (x : A) → found < length items → FailsFrom test items 0 found → x ≡ get_or items found x → test x ≡ true → Some found ≡ position test items
+position-found test items found x lt fails at passes =
+    let place : position_or_len test items ≡ found = first_passing test items 0 found (omega arith) (omega (arith, lt)) fails (λ d n. subst (λ (y : _). test y ≡ true) (at ∙ got_any items found x d lt) passes) in
+    rw place (sym (chosen_some found (length items) lt))
+
+pub position-absent : {A : Type 0} (test : A → Bool) (items : List A) → FailsFrom test items 0 (length items) → None ≡ position test items
+position-absent test items fails =
+    let at : position_or_len test items ≡ length items = first_passing test items 0 (length items) (omega arith) (omega arith) fails (λ d n. absurd (omega (arith, n))) in
+    rw at (sym (chosen_none (length items) (length items) (omega arith)))
 
 placed : (n m i : ℕ) (b : Bool) → nat_lt n m ≡ b → cond b (Some n) None ≡ Some i → n ≡ i
 placed n m i true lt is = cc

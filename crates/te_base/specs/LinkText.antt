@@ -49,6 +49,10 @@ abbrev pub with_links : List Members → Base → Result Base TeFault
 with_links [] base = Ok base
 with_links (t ∷ more) base = with_link base t >>= with_links more
 
+-- all nodes, and then all links
+abbrev pub base_of_tables : List Members → List Members → Result Base TeFault
+base_of_tables nodes links = with_nodes nodes empty_base >>= with_links links
+
 -- 1,024 nodes and 4,096 links at most
 abbrev pub few_enough : ℕ → ℕ → Result (Unit {0}) TeFault
 few_enough nodes links = if nat_le nodes 1024 && nat_le links 4096 then Ok tt else Err TooMany
@@ -58,8 +62,7 @@ base_of_tree t = do
   nodes ← tables_at (codes "node") t
   links ← tables_at (codes "link") t
   few ← few_enough (length nodes) (length links)
-  base ← with_nodes nodes empty_base
-  with_links links base
+  base_of_tables nodes links
 
 -- what the text says, or its first fault
 abbrev pub base_of : List ℕ → Result Base TeFault

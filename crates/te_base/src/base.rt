@@ -1,8 +1,8 @@
 //! What a link text says, and look-ups in it.
-ghost use Rattle.std.specs.Prelude.{◌≡◌, ◌≢◌, ◌<◌, ◌≤◌, ◌↔◌, ℕ, IsTrue, IfOk, IfSome, All, AllPairs, slice_get, length};
+ghost use Rattle.std.specs.Prelude.{◌≡◌, ◌≢◌, ◌<◌, ◌≤◌, ◌↔◌, ℕ, IsTrue, IfOk, IfSome, All, AllPairs, map, slice_get, length};
 ghost use Rattle.te_base.specs.Base.{IsLinkAmong};
 ghost use Rattle.te_base.specs.Faults.{Gives};
-ghost use Rattle.te_base.specs.LinkText.{base_of, base_of_tree};
+ghost use Rattle.te_base.specs.LinkText.{base_of, base_of_tables, base_of_tree};
 ghost use Rattle.te_base.specs.Owners.{owner_of, owns};
 ghost use Rattle.te_base.specs.Walk.{walk};
 ghost use Rattle.te_base.specs.Views.{base_in};
@@ -37,6 +37,20 @@ impl Model for TeBase {
     ghost invariant = { λ b. IsSound (base_in b.parts) };
 }
 
+/// The nodes and links of these tables.
+fn parts_of(alloc: Global, nodes: &[&Table], links: &[&Table]) -> Result<Parts, TeFault>
+    ensures { Gives base_in result (base_of_tables (map (λ t. table_view t.now) nodes.now) (map (λ t. table_view t.now) links.now)) }
+{
+    let mut parts = Parts {
+        nodes: Listed::new(alloc)?,
+        links: Listed::new(alloc)?,
+        owners: Listed::new(alloc)?,
+    };
+    add_nodes(alloc, &mut parts, nodes)?;
+    add_links(&mut parts, links)?;
+    Ok(parts)
+}
+
 #[tactic(auto, unfolding(crate::specs::LinkText::base_of_tree))]
 fn read_tree(alloc: Global, document: &Table) -> Result<Parts, TeFault>
     ensures { Gives base_in result (base_of_tree (table_view document.now)) }
@@ -46,14 +60,7 @@ fn read_tree(alloc: Global, document: &Table) -> Result<Parts, TeFault>
     if nodes.len() > 1024 || links.len() > 4096 {
         return Err(TeFault::TooMany);
     }
-    let mut parts = Parts {
-        nodes: Listed::new(alloc)?,
-        links: Listed::new(alloc)?,
-        owners: Listed::new(alloc)?,
-    };
-    add_nodes(alloc, &mut parts, &nodes)?;
-    add_links(&mut parts, &links)?;
-    Ok(parts)
+    parts_of(alloc, &nodes, &links)
 }
 
 fn read_parts(alloc: Global, text: &str) -> Result<Parts, TeFault>

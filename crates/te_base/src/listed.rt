@@ -1,5 +1,5 @@
 //! Items in a list, of which those that pass a test are found without a pass over all.
-ghost use Rattle.std.specs.Prelude.{◌≡◌, ◌≤◌, ◌<◌, ◌++◌, ◌∷◌, [], ℕ, true, false, length, map, position, slice_get, IfOk, OnOk};
+ghost use Rattle.std.specs.Prelude.{◌≡◌, ◌≤◌, ◌<◌, ◌+◌, ◌++◌, ◌∷◌, [], ℕ, true, false, length, map, position, slice_get, IfOk, OnOk};
 ghost use Rattle.te_base.specs.Listed.{FailsFrom};
 
 use crate::chains::Chains;
@@ -29,8 +29,8 @@ pub(crate) trait Sought<T> {
         ensures { result ≡ passes self.now item.now };
 }
 
-/// A list of items, which a contract sees. Inside, a chain leads from each item to the next earlier one of
-/// its bucket.
+/// A list of items, which a contract sees. Inside, a chain leads from the first item of each bucket to its later
+/// ones.
 #[derive(Debug, Drop)]
 pub(crate) struct Listed<T: Keyed> {
     items: Vec<T>,
@@ -47,8 +47,40 @@ impl<T: Keyed> Model for Listed<T> {
     ghost invariant = { λ l. l.chains ≡ map T.bucket_of l.items.items };
 }
 
-/// A place from which on, up to the given one, no item passes the test.
-fn before<T: Keyed, S: Keyed + Sought<T>>(
+/// A place before which no item passes the test.
+fn oldest<T: Keyed, S: Keyed + Sought<T>>(
+    items: &[T],
+    chains: &Chains,
+    sought: &S,
+    bucket: usize,
+) -> usize
+    requires chained { chains.now ≡ map T.bucket_of items.now }
+    requires bucket { bucket ≡ S.bucket_of sought.now }
+    requires within { (x : T) → S.passes sought.now x ≡ true → T.bucket_of x ≡ S.bucket_of sought.now }
+    ensures within { result ≤ length items.now }
+    ensures fails { FailsFrom (S.passes sought.now) items.now 0 result }
+{
+    chains.oldest_start(bucket)
+}
+
+/// A place from which on no item passes the test.
+fn newest<T: Keyed, S: Keyed + Sought<T>>(
+    items: &[T],
+    chains: &Chains,
+    sought: &S,
+    bucket: usize,
+) -> usize
+    requires chained { chains.now ≡ map T.bucket_of items.now }
+    requires bucket { bucket ≡ S.bucket_of sought.now }
+    requires within { (x : T) → S.passes sought.now x ≡ true → T.bucket_of x ≡ S.bucket_of sought.now }
+    ensures within { result ≤ length items.now }
+    ensures fails { FailsFrom (S.passes sought.now) items.now result (length items.now) }
+{
+    chains.newest_end(bucket)
+}
+
+/// A place up to which no item passes the test, from the one behind the given place on.
+fn later<T: Keyed, S: Keyed + Sought<T>>(
     items: &[T],
     chains: &Chains,
     sought: &S,
@@ -59,49 +91,51 @@ fn before<T: Keyed, S: Keyed + Sought<T>>(
     requires bucket { bucket ≡ S.bucket_of sought.now }
     requires within { (x : T) → S.passes sought.now x ≡ true → T.bucket_of x ≡ S.bucket_of sought.now }
     requires place { place < length items.now }
-    ensures below { result ≤ place }
-    ensures fails { FailsFrom (S.passes sought.now) items.now result place }
+    ensures after { place < result }
+    ensures within { result ≤ length items.now }
+    ensures fails { FailsFrom (S.passes sought.now) items.now (place + 1) result }
 {
-    chains.earlier_end(bucket, place)
+    chains.later_start(bucket, place)
 }
 
-/// A place from which on no item passes the test.
-fn last<T: Keyed, S: Keyed + Sought<T>>(
+/// The first item that passes the test, where none before the given place does.
+fn first_from<T: Keyed, S: Keyed + Sought<T>>(
     items: &[T],
     chains: &Chains,
     sought: &S,
     bucket: usize,
-) -> usize
+    start: usize,
+) -> Option<usize>
     requires chained { chains.now ≡ map T.bucket_of items.now }
     requires bucket { bucket ≡ S.bucket_of sought.now }
     requires within { (x : T) → S.passes sought.now x ≡ true → T.bucket_of x ≡ S.bucket_of sought.now }
-    ensures below { result ≤ length items.now }
-    ensures fails { FailsFrom (S.passes sought.now) items.now result (length items.now) }
+    requires start { start ≤ length items.now }
+    requires fails { FailsFrom (S.passes sought.now) items.now 0 start }
+    ensures { result ≡ position (S.passes sought.now) items.now }
 {
-    chains.newest_end(bucket)
+    let end = newest(items, chains, sought, bucket);
+    let mut place = start;
+    while place < end {
+        if sought.passes(&items[place]) {
+            return Some(place);
+        }
+        place = later(items, chains, sought, bucket, place);
+    }
+    None
 }
 
-/// The first item that passes the test. All that pass it are in its bucket.
+/// The first item that passes the test. All that pass it are in its bucket, and most often it is the first there.
 fn first<T: Keyed, S: Keyed + Sought<T>>(items: &[T], chains: &Chains, sought: &S) -> Option<usize>
     requires chained { chains.now ≡ map T.bucket_of items.now }
     requires within { (x : T) → S.passes sought.now x ≡ true → T.bucket_of x ≡ S.bucket_of sought.now }
     ensures { result ≡ position (S.passes sought.now) items.now }
 {
     let bucket = sought.bucket();
-    let mut found = items.len();
-    let mut end = last(items, chains, sought, bucket);
-    while end > 0 {
-        let place = end - 1;
-        if sought.passes(&items[place]) {
-            found = place;
-        }
-        end = before(items, chains, sought, bucket, place);
+    let start = oldest(items, chains, sought, bucket);
+    if start < items.len() && sought.passes(&items[start]) {
+        return Some(start);
     }
-    if found < items.len() {
-        Some(found)
-    } else {
-        None
-    }
+    first_from(items, chains, sought, bucket, start)
 }
 
 impl<T: Keyed> Listed<T> {

@@ -1,13 +1,7 @@
-use Rattle.std.proofs.Common.{arith}
-use Rattle.te_base.proofs.Listing.{position-found, position-absent}
+use Rattle.std.proofs.Common.{◌∙◌, sym, arith}
+use Rattle.te_base.proofs.Listing.{position-found}
 use Rattle.te_base.proofs.listed.first.Goals as goal
 
-pub returns-then-found-items : goal.returns-then-found-items
-returns-then-found-items g c =
-    let kept = c.loop-end.invariant in
-    position-found (g.S.Sought.passes c.args.sought.now) c.args.items.now c.loop-end.end c.loop-end.found (omega arith) kept.within kept.fails kept.passes (omega arith)
-
-pub returns-else-found-items : goal.returns-else-found-items
-returns-else-found-items g c =
-    let kept = c.loop-end.invariant in
-    position-absent (g.S.Sought.passes c.args.sought.now) c.args.items.now c.loop-end.end c.loop-end.found (omega arith) kept.within kept.fails kept.passes (omega arith)
+pub returns-then-passes : goal.returns-then-passes
+returns-then-passes g c =
+    position-found (g.S.Sought.passes c.args.sought.now) c.args.items.now c.oldest-start.result c.index-items-start.result (omega arith) c.oldest-start.ensures.fails c.index-items-start.is (sym c.passes.ensures ∙ c.if-passes.true)

@@ -2,7 +2,7 @@ use Rattle.std.proofs.Common.{length, map, sym, subst, ◌∙◌, arith}
 use Rattle.std.proofs.lemmas.List.{length-map}
 use Rattle.te_base.specs.Chains.{IsFree}
 use Rattle.te_base.proofs.Listing.{fails_where_free}
-use Rattle.te_base.proofs.listed.last.Goals as goal
+use Rattle.te_base.proofs.listed.newest.Goals as goal
 
 pub returns-clause-fails : goal.returns-clause-fails
 returns-clause-fails g c =
