@@ -6,18 +6,20 @@ use Rattle.bandwidth_book.specs.declared.held.Held.{Held}
 use Rattle.bandwidth_book.specs.Held.{is_before}
 use Rattle.bandwidth_book.specs.Holdings.{Holdings}
 
-abbrev pub held_at : ℕ → ℕ → Held
-held_at hold bandwidth = record { hold = hold; bandwidth = bandwidth }
+-- what is held, of which the parts stand apart
+abbrev pub held_with : ℕ → ℕ → Held
+held_with hold bandwidth = record { hold = hold; bandwidth = bandwidth }
 
+-- what is held and promised; two leave no room
 abbrev pub holdings_in : Content → Holdings
 holdings_in (Free promised) = record { held = []; promised = promised }
-holdings_in (One promised hold bandwidth) = record { held = held_at hold bandwidth ∷ []; promised = promised }
-holdings_in (Two hold later_hold bandwidth later_bandwidth) = record { held = held_at hold bandwidth ∷ held_at later_hold later_bandwidth ∷ []; promised = 0 }
+holdings_in (One promised hold bandwidth) = record { held = held_with hold bandwidth ∷ []; promised = promised }
+holdings_in (Two hold later_hold bandwidth later_bandwidth) = record { held = held_with hold bandwidth ∷ held_with later_hold later_bandwidth ∷ []; promised = 0 }
 holdings_in (Many list) = list.value
 
--- two have room, and stand in order
+-- there is room for two; they stand in order
 abbrev pub IsSound : Content → Type 0
 IsSound (Free promised) = promised ≤ 2
 IsSound (One promised hold bandwidth) = promised ≤ 1
-IsSound (Two hold later_hold bandwidth later_bandwidth) = is_before (held_at later_hold later_bandwidth) (held_at hold bandwidth) ≡ false
+IsSound (Two hold later_hold bandwidth later_bandwidth) = is_before (held_with later_hold later_bandwidth) (held_with hold bandwidth) ≡ false
 IsSound (Many list) = ⊤

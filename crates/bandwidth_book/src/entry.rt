@@ -1,6 +1,6 @@
 //! What one tunnel holds on one link.
 ghost use Rattle.std.specs.Prelude.{◌≡◌, ◌<◌, ◌≤◌, ◌+◌, ℕ, [], ◌∷◌, false, length, max, nat_le, slice_index, if◌then◌else◌, IsTrue, ◌↔◌, OnOk, IfSome};
-ghost use Rattle.bandwidth_book.specs.Contents.{holdings_in, IsSound};
+ghost use Rattle.bandwidth_book.specs.Contents.{held_with, holdings_in, IsSound};
 ghost use Rattle.bandwidth_book.specs.Held.{AreMaxima, is_before, with_one, without_one};
 
 use crate::held::{Held, is_before, is_same_held};
@@ -48,6 +48,13 @@ impl Model for Entry {
     ghost view = { λ e. holdings_in e.content };
 
     ghost invariant = { λ e. IsSound e.content };
+}
+
+/// What is held at a priority, of which the parts stand apart.
+fn held_with(hold: u8, bandwidth: u64) -> Held
+    ensures { result ≡ held_with hold bandwidth }
+{
+    Held { hold, bandwidth }
 }
 
 /// One alone, and no room promised.
@@ -143,33 +150,15 @@ impl Entry {
                 hold,
                 bandwidth,
                 ..
-            } => raised(
-                [0; 8],
-                Held {
-                    hold: *hold,
-                    bandwidth: *bandwidth,
-                },
-            ),
+            } => raised([0; 8], held_with(*hold, *bandwidth)),
             Content::Two {
                 hold,
                 later_hold,
                 bandwidth,
                 later_bandwidth,
             } => {
-                let later = raised(
-                    [0; 8],
-                    Held {
-                        hold: *later_hold,
-                        bandwidth: *later_bandwidth,
-                    },
-                );
-                raised(
-                    later,
-                    Held {
-                        hold: *hold,
-                        bandwidth: *bandwidth,
-                    },
-                )
+                let later = raised([0; 8], held_with(*later_hold, *later_bandwidth));
+                raised(later, held_with(*hold, *bandwidth))
             }
             Content::Many(list) => *list.maxima(),
         }
@@ -198,14 +187,7 @@ impl Entry {
                     *promised += 1;
                     return Ok(());
                 }
-                HeldList::of(
-                    alloc,
-                    &[Held {
-                        hold: *hold,
-                        bandwidth: *bandwidth,
-                    }],
-                    2,
-                )?
+                HeldList::of(alloc, &[held_with(*hold, *bandwidth)], 2)?
             }
             Content::Two {
                 hold,
@@ -215,14 +197,8 @@ impl Entry {
             } => HeldList::of(
                 alloc,
                 &[
-                    Held {
-                        hold: *hold,
-                        bandwidth: *bandwidth,
-                    },
-                    Held {
-                        hold: *later_hold,
-                        bandwidth: *later_bandwidth,
-                    },
+                    held_with(*hold, *bandwidth),
+                    held_with(*later_hold, *later_bandwidth),
                 ],
                 1,
             )?,
@@ -273,13 +249,7 @@ impl Entry {
                 hold,
                 bandwidth,
                 ..
-            } => two_with(
-                Held {
-                    hold: *hold,
-                    bandwidth: *bandwidth,
-                },
-                held,
-            ),
+            } => two_with(held_with(*hold, *bandwidth), held),
             Content::Two { .. } => return,
             Content::Many(list) => {
                 list.add(held);
@@ -302,13 +272,7 @@ impl Entry {
                 hold,
                 bandwidth,
             } => {
-                if !is_same_held(
-                    &held,
-                    &Held {
-                        hold: *hold,
-                        bandwidth: *bandwidth,
-                    },
-                ) {
+                if !is_same_held(&held, &held_with(*hold, *bandwidth)) {
                     return;
                 }
                 Content::Free {
@@ -321,14 +285,8 @@ impl Entry {
                 bandwidth,
                 later_bandwidth,
             } => {
-                let first = Held {
-                    hold: *hold,
-                    bandwidth: *bandwidth,
-                };
-                let later = Held {
-                    hold: *later_hold,
-                    bandwidth: *later_bandwidth,
-                };
+                let first = held_with(*hold, *bandwidth);
+                let later = held_with(*later_hold, *later_bandwidth);
                 if is_same_held(&held, &first) {
                     one_of(later)
                 } else if is_same_held(&held, &later) {
