@@ -1,7 +1,8 @@
 -- What one change of a list of entries does to the entries by link, and what a path's links take one by one.
-use Rattle.std.proofs.Common.{◌≡◌, ◌<◌, ◌≤◌, ◌+◌, ◌^◌, ℕ, zero, suc, ◌==◌, Bool, true, false, true≢false, List, [], ◌∷◌, ◌++◌, Option, Some, None, length, get_or, slice_get, slice_set, slice_index, insert, remove, drop, refl, sym, ap, subst, ◌∙◌, arith, inl, inr, ◌⊎◌, if◌then◌else◌, nat_lt, add-one, drop-cons, length-append}
+use Rattle.std.proofs.Common.{◌≡◌, ◌<◌, ◌≤◌, ◌+◌, ◌^◌, ℕ, zero, suc, ◌==◌, Bool, true, false, true≢false, List, [], ◌∷◌, ◌++◌, Option, Some, None, length, get_or, slice_get, slice_set, slice_index, insert, remove, drop, refl, sym, ap, subst, ◌∙◌, arith, inl, inr, ◌⊎◌, if◌then◌else◌, nat_lt, add-one, drop-cons, length-append, length-set}
 use Rattle.std.proofs.lemmas.Bool.{cases_Bool, eqb-true}
 use Rattle.std.proofs.lemmas.Bool.Decides.{nat_tests}
+use Rattle.std.specs.List.{refill}
 use Rattle.bandwidth_book.specs.declared.held.Held.{Held}
 use Rattle.bandwidth_book.specs.declared.link_entries.LinkEntry.{LinkEntry}
 use Rattle.bandwidth_book.specs.Holdings.{Holdings}
@@ -74,6 +75,33 @@ set_entry_of R m x e xs i r at got there others l =
 
 pub rising_got : (m : ℕ) (x : LinkEntry) (e : Holdings) (xs : List LinkEntry) (i : ℕ) → AreRising xs → IsAt m xs i → x ≡ get_or xs i x → AreRising (slice_set xs i (record { link = x.link; entry = e }))
 rising_got m x e xs i r at got = rising_set x e xs i r (is_got m x xs i at got)
+
+-- ---- the same through a slice of the list that was lent, and is put back
+
+pub entry_lent : (m : ℕ) (x : LinkEntry) (xs lent : List LinkEntry) (i : ℕ) → AreRising xs → IsAt m xs i → lent ≡ xs → x ≡ get_or lent i x → entry_on m xs ≡ Some (get_or lent i x).entry
+entry_lent m x xs lent i r at same got =
+    subst (λ (y : LinkEntry). entry_on m xs ≡ Some y.entry) got (entry_got m x xs i r at (subst (λ (ys : List LinkEntry). x ≡ get_or ys i x) same got))
+
+refilled : (xs ys : List LinkEntry) → length ys ≡ length xs → refill (length xs) xs ys ≡ ys
+refilled [] [] e = refl
+refilled [] (y ∷ ys) e = absurd (omega (arith, e))
+refilled (x ∷ xs) [] e = absurd (omega (arith, e))
+refilled (x ∷ xs) (y ∷ ys) e = ap (λ (t : List LinkEntry). y ∷ t) (refilled xs ys (omega (arith, e)))
+
+pub put_back : (x : LinkEntry) (e : Holdings) (xs lent : List LinkEntry) (i : ℕ) → lent ≡ xs → x ≡ get_or lent i x → refill (length xs) xs (slice_set lent i (record { link = (get_or lent i x).link; entry = e })) ≡ slice_set xs i (record { link = x.link; entry = e })
+put_back x e xs lent i same got =
+    let written : slice_set lent i (record { link = (get_or lent i x).link; entry = e }) ≡ slice_set xs i (record { link = x.link; entry = e }) =
+    ap (λ (ys : List LinkEntry). slice_set ys i (record { link = (get_or lent i x).link; entry = e })) same ∙ ap (λ (y : LinkEntry). slice_set xs i (record { link = y.link; entry = e })) (sym got) in
+    ap (λ (ys : List LinkEntry). refill (length xs) xs ys) written ∙ refilled xs (slice_set xs i (record { link = x.link; entry = e })) (length-set xs i (record { link = x.link; entry = e }))
+
+pub set_entry_lent : (R : Bool → Option Holdings → Option Holdings → Type 0) (m : ℕ) (x : LinkEntry) (e : Holdings) (xs lent : List LinkEntry) (i : ℕ) → AreRising xs → IsAt m xs i → lent ≡ xs → x ≡ get_or lent i x → R true (Some (get_or lent i x).entry) (Some e) → ((o : Option Holdings) → R false o o) → (l : ℕ) → R (m == l) (entry_on l xs) (entry_on l (refill (length xs) xs (slice_set lent i (record { link = (get_or lent i x).link; entry = e }))))
+set_entry_lent R m x e xs lent i r at same got there others l =
+    subst (λ (ys : List LinkEntry). R (m == l) (entry_on l xs) (entry_on l ys)) (sym (put_back x e xs lent i same got))
+    (set_entry_of R m x e xs i r at (subst (λ (ys : List LinkEntry). x ≡ get_or ys i x) same got) (subst (λ (y : LinkEntry). R true (Some y.entry) (Some e)) (sym got) there) others l)
+
+pub rising_lent : (m : ℕ) (x : LinkEntry) (e : Holdings) (xs lent : List LinkEntry) (i : ℕ) → AreRising xs → IsAt m xs i → lent ≡ xs → x ≡ get_or lent i x → AreRising (refill (length xs) xs (slice_set lent i (record { link = (get_or lent i x).link; entry = e })))
+rising_lent m x e xs lent i r at same got =
+    subst AreRising (sym (put_back x e xs lent i same got)) (rising_got m x e xs i r at (subst (λ (ys : List LinkEntry). x ≡ get_or ys i x) same got))
 
 pub insert_entry_of : (R : Bool → Option Holdings → Option Holdings → Type 0) (y : LinkEntry) (xs : List LinkEntry) → entry_on y.link xs ≡ None → R true None (Some y.entry) → ((o : Option Holdings) → R false o o) → (l : ℕ) → R (y.link == l) (entry_on l xs) (entry_on l (insert xs (place_on y.link xs) y))
 insert_entry_of R y xs none there others l =

@@ -50,6 +50,12 @@ impl Model for Entry {
     ghost invariant = { λ e. IsSound e.content };
 }
 
+impl Default for Entry {
+    fn default() -> Entry {
+        Entry::new()
+    }
+}
+
 /// What is held at a priority, of which the parts stand apart.
 fn held_with(hold: u8, bandwidth: u64) -> Held
     ensures { result ≡ held_with hold bandwidth }

@@ -6,21 +6,23 @@ ghost use Rattle.bandwidth_book.specs.Tunnels.{held_by_links, sum_at};
 
 use crate::entry::Entry;
 use crate::held::Held;
+use smallvec::SmallVec;
 use std::alloc::{AllocError, Global};
 use std::marker::Model;
 use te_base::LinkNumber;
 
 /// What a tunnel holds on one of its links.
-#[derive(Drop)]
+#[derive(Default, Drop)]
 pub struct LinkEntry {
     pub link: LinkNumber,
     pub entry: Entry,
 }
 
-/// The entries of a tunnel, at most one for each link, in the order of the links' numbers.
+/// The entries of a tunnel, at most one for each link, in the order of the links' numbers. Up to four stand in place:
+/// most paths have no more links, and where the tunnel is found they are at hand.
 #[derive(Drop)]
 pub struct LinkEntries {
-    entries: Vec<LinkEntry>,
+    entries: SmallVec<LinkEntry, 4>,
 }
 
 impl Model for LinkEntries {
@@ -113,7 +115,7 @@ fn find(entries: &[LinkEntry], link: LinkNumber) -> Option<usize>
 /// Puts an entry with room for one in, for a link that has none.
 fn put_entry(
     alloc: Global,
-    entries: &mut Vec<LinkEntry>,
+    entries: &mut SmallVec<LinkEntry, 4>,
     link: LinkNumber,
 ) -> Result<(), AllocError>
     requires rising { AreRising entries.old.items }
@@ -127,13 +129,13 @@ fn put_entry(
 {
     let mut entry = Entry::new();
     entry.promise(alloc)?;
-    let place = place_of(entries, link);
+    let place = place_of(entries.as_slice(), link);
     entries.insert(place, LinkEntry { link, entry })?;
     Ok(())
 }
 
 /// Takes the promises of the entry at a place back, and the entry out if it holds nothing.
-fn take_back(entries: &mut Vec<LinkEntry>, place: usize)
+fn take_back(entries: &mut SmallVec<LinkEntry, 4>, place: usize)
     requires rising { AreRising entries.old.items }
     requires within { place < length entries.old.items }
     ensures rising { AreRising entries.new.items }
@@ -154,7 +156,7 @@ impl LinkEntries {
         ensures { IfOk result (λ entries. entries ≡ []) }
     {
         Ok(LinkEntries {
-            entries: Vec::with_capacity(alloc, count)?,
+            entries: SmallVec::with_capacity(alloc, count)?,
         })
     }
 
@@ -170,7 +172,7 @@ impl LinkEntries {
         ensures entries { result.now ≡ self.now }
         ensures rising { AreRising self.now }
     {
-        &self.entries
+        self.entries.as_slice()
     }
 
     /// The greatest bandwidth that is held on a link at the priority or a better one, or 0.
@@ -178,7 +180,7 @@ impl LinkEntries {
         requires { priority < 8 }
         ensures { result ≡ most (kept link self.now) priority }
     {
-        match find(&self.entries, link) {
+        match find(self.entries.as_slice(), link) {
             Some(place) => self.entries[place].entry.maxima()[priority as usize],
             None => 0,
         }
@@ -196,7 +198,7 @@ impl LinkEntries {
         ensures kept { (l : ℕ) → kept l self.new ≡ with_all (kept l self.old) (if link == l then held ∷ [] else []) }
         ensures room { (l : ℕ) → promised_to l self.old ≤ promised_to l self.new + length (if link == l then held ∷ [] else []) }
     {
-        if let Some(place) = find(&self.entries, link) {
+        if let Some(place) = find(self.entries.as_slice(), link) {
             add_to(&mut self.entries[place].entry, sums, held);
         }
     }
@@ -212,7 +214,7 @@ impl LinkEntries {
         ensures kept { (l : ℕ) → kept l self.new ≡ without_all (kept l self.old) (if link == l then held ∷ [] else []) }
         ensures room { (l : ℕ) → promised_to l self.old ≤ promised_to l self.new }
     {
-        if let Some(place) = find(&self.entries, link) {
+        if let Some(place) = find(self.entries.as_slice(), link) {
             drop_from(&mut self.entries[place].entry, sums, held);
         }
     }
@@ -225,7 +227,7 @@ impl LinkEntries {
         ensures room { (l : ℕ) → promised_to l self.old ≤ promised_to l self.new }
         ensures ok { OnOk result ((l : ℕ) → promised_to l self.old + (if link == l then 1 else 0) ≤ promised_to l self.new) }
     {
-        match find(&self.entries, link) {
+        match find(self.entries.as_slice(), link) {
             Some(place) => self.entries[place].entry.promise(alloc),
             None => put_entry(alloc, &mut self.entries, link),
         }
@@ -237,7 +239,7 @@ impl LinkEntries {
         ensures swept { (l : ℕ) → has_entry l self.new ≡ true → kept l self.new ≡ [] → (link == l) ≡ false }
         ensures kept { (l : ℕ) → kept l self.new ≡ kept l self.old }
     {
-        if let Some(place) = find(&self.entries, link) {
+        if let Some(place) = find(self.entries.as_slice(), link) {
             take_back(&mut self.entries, place);
         }
     }

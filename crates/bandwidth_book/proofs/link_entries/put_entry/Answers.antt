@@ -7,8 +7,8 @@ use Rattle.bandwidth_book.proofs.link_entries.put_entry.Goals as goal
 
 put : (c : goal.In_ok-insert) → c.insert.new.self.items ≡ insert c.args.entries.now.items (place_on c.args.link c.args.entries.now.items) (record { link = c.args.link; entry = c.promise.new.self })
 put c =
-    let place : c.place_of-place.result ≡ place_on c.args.link c.args.entries.now.items = rw c.deref.ensures.value at c.place_of-place.ensures.place in
-    c.in_ok-insert.ensures.items ∙ ap (λ (n : ℕ). insert c.args.entries.now.items n (record { link = c.args.link; entry = c.promise.new.self })) place
+    let place : c.place_of-place.result ≡ place_on c.args.link c.args.entries.now.items = rw c.as_slice.ensures at c.place_of-place.ensures.place in
+    c.in_ok-insert.ensures.ok ∙ ap (λ (n : ℕ). insert c.args.entries.now.items n (record { link = c.args.link; entry = c.promise.new.self })) place
 
 entries : (R : Bool → Option Holdings → Option Holdings → Type 0) (c : goal.In_ok-insert) → R true None (Some c.promise.new.self) → ((o : Option Holdings) → R false o o) → (l : ℕ) → R (c.args.link == l) (entry_on l c.args.entries.now.items) (entry_on l c.insert.new.self.items)
 entries R c there others l = rw (put c) (insert_entry_of R (record { link = c.args.link; entry = c.promise.new.self }) c.args.entries.now.items c.requires.none there others l)

@@ -2,39 +2,39 @@ use Rattle.std.proofs.Common.{◌≡◌, ◌≤◌, ◌+◌, true, true≢false,
 use Rattle.bandwidth_book.specs.Entries.{held_in, kept, promised_in}
 use Rattle.bandwidth_book.specs.Held.{most, without_all}
 use Rattle.std.specs.Option.{is_some}
-use Rattle.bandwidth_book.proofs.LinkLists.{entry_got, rising_got, set_entry_of}
+use Rattle.bandwidth_book.proofs.LinkLists.{entry_lent, rising_lent, set_entry_lent}
 use Rattle.bandwidth_book.proofs.Rising.{number_self}
 use Rattle.bandwidth_book.proofs.link_entries.LinkEntries.drop_on.Goals as goal
 
 pub drop_from-requires-clause-within : goal.drop_from-requires-clause-within
 drop_from-requires-clause-within c = λ p h.
-    let found = entry_got c.args.link c.index_mut.result.now c.self.inside.entries.items c.in-Some.place c.self.invariant (rw c.deref.ensures.value at c.in-Some.ensures.found) c.index_mut.ensures.value in
+    let found = entry_lent c.args.link c.index-deref_mut-place.result c.self.inside.entries.items c.deref_mut.result.now c.in-Some.place c.self.invariant (rw c.as_slice.ensures at c.in-Some.ensures.found) c.deref_mut.ensures.value c.index-deref_mut-place.is in
     let within : most (kept c.args.link c.self.inside.entries.items) p ≤ slice_index c.args.sums.now p = rw c.self.view_is (c.requires.within p h) in
     rw found at within
 
 pub invariant_of-self : goal.invariant_of-self
-invariant_of-self c = rising_got c.args.link c.index_mut.result.now c.drop_from.new.entry c.self.inside.entries.items c.in-Some.place c.self.invariant (rw c.deref.ensures.value at c.in-Some.ensures.found) c.index_mut.ensures.value
+invariant_of-self c = rising_lent c.args.link c.index-deref_mut-place.result c.drop_from.new.entry c.self.inside.entries.items c.deref_mut.result.now c.in-Some.place c.self.invariant (rw c.as_slice.ensures at c.in-Some.ensures.found) c.deref_mut.ensures.value c.index-deref_mut-place.is
 
 pub returns-in-Some-clause-moved : goal.returns-in-Some-clause-moved
 returns-in-Some-clause-moved c = λ p h.
     rw (← c.self.view_is)
-    (set_entry_of (λ b o u. b ≡ true → slice_index c.drop_from.new.sums p + most (held_in o) p ≡ slice_index c.args.sums.now p + most (held_in u) p) c.args.link c.index_mut.result.now c.drop_from.new.entry c.self.inside.entries.items c.in-Some.place c.self.invariant (rw c.deref.ensures.value at c.in-Some.ensures.found) c.index_mut.ensures.value
+    (set_entry_lent (λ b o u. b ≡ true → slice_index c.drop_from.new.sums p + most (held_in o) p ≡ slice_index c.args.sums.now p + most (held_in u) p) c.args.link c.index-deref_mut-place.result c.drop_from.new.entry c.self.inside.entries.items c.deref_mut.result.now c.in-Some.place c.self.invariant (rw c.as_slice.ensures at c.in-Some.ensures.found) c.deref_mut.ensures.value c.index-deref_mut-place.is
     (λ same. c.drop_from.ensures.moved p h) (λ o other. absurd (true≢false (sym other))) c.args.link (number_self c.args.link c.args.link refl))
 
 pub returns-in-Some-clause-entries : goal.returns-in-Some-clause-entries
 returns-in-Some-clause-entries c = λ l.
     rw (← c.self.view_is)
-    (set_entry_of (λ b o u. is_some u ≡ is_some o) c.args.link c.index_mut.result.now c.drop_from.new.entry c.self.inside.entries.items c.in-Some.place c.self.invariant (rw c.deref.ensures.value at c.in-Some.ensures.found) c.index_mut.ensures.value
+    (set_entry_lent (λ b o u. is_some u ≡ is_some o) c.args.link c.index-deref_mut-place.result c.drop_from.new.entry c.self.inside.entries.items c.deref_mut.result.now c.in-Some.place c.self.invariant (rw c.as_slice.ensures at c.in-Some.ensures.found) c.deref_mut.ensures.value c.index-deref_mut-place.is
     refl (λ o. refl) l)
 
 pub returns-in-Some-clause-kept : goal.returns-in-Some-clause-kept
 returns-in-Some-clause-kept c = λ l.
     rw (← c.self.view_is)
-    (set_entry_of (λ b o u. held_in u ≡ without_all (held_in o) (if b then c.args.held ∷ [] else [])) c.args.link c.index_mut.result.now c.drop_from.new.entry c.self.inside.entries.items c.in-Some.place c.self.invariant (rw c.deref.ensures.value at c.in-Some.ensures.found) c.index_mut.ensures.value
+    (set_entry_lent (λ b o u. held_in u ≡ without_all (held_in o) (if b then c.args.held ∷ [] else [])) c.args.link c.index-deref_mut-place.result c.drop_from.new.entry c.self.inside.entries.items c.deref_mut.result.now c.in-Some.place c.self.invariant (rw c.as_slice.ensures at c.in-Some.ensures.found) c.deref_mut.ensures.value c.index-deref_mut-place.is
     c.drop_from.ensures.held (λ o. refl) l)
 
 pub returns-in-Some-clause-room : goal.returns-in-Some-clause-room
 returns-in-Some-clause-room c = λ l.
     rw (← c.self.view_is)
-    (set_entry_of (λ b o u. promised_in o ≤ promised_in u) c.args.link c.index_mut.result.now c.drop_from.new.entry c.self.inside.entries.items c.in-Some.place c.self.invariant (rw c.deref.ensures.value at c.in-Some.ensures.found) c.index_mut.ensures.value
+    (set_entry_lent (λ b o u. promised_in o ≤ promised_in u) c.args.link c.index-deref_mut-place.result c.drop_from.new.entry c.self.inside.entries.items c.deref_mut.result.now c.in-Some.place c.self.invariant (rw c.as_slice.ensures at c.in-Some.ensures.found) c.deref_mut.ensures.value c.index-deref_mut-place.is
     (let p = c.drop_from.ensures.promised in omega (arith, p)) (λ o. omega arith) l)
