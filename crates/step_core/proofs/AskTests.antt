@@ -1,6 +1,6 @@
 -- An ask that is refused, by the test that fails.
 use Rattle.std.proofs.Common.{◌≡◌, refl, sym, ap}
-use Rattle.std.specs.Prelude.{ℕ, Option, Some, None}
+use Rattle.std.specs.Prelude.{ℕ, Some, None}
 use Rattle.lsp_base.specs.declared.lsp.Constraints.{Constraints}
 use Rattle.lsp_base.specs.declared.why.Why.{Why}
 use Rattle.commit_core.specs.declared.ticket.Purpose.{Purpose}

@@ -18,8 +18,7 @@ use Rattle.commit_core.specs.declared.verdict.PeerView.{PeerView}
 use Rattle.commit_core.specs.declared.verdict.Verdict.{Verdict}
 use Rattle.commit_core.specs.declared.verdict.Verdict.TheVariants.{Grant, Answer, Again, NoPath, GivenUp, Gone}
 use Rattle.step_core.specs.Grants.{path_of, verdict_on, view_of}
-use Rattle.step_core.specs.States.{State, is_known, is_peer, peer_at, unknown_peer}
-use Rattle.step_core.specs.Tickets.{ticket_at}
+use Rattle.step_core.specs.States.{State, is_known, is_peer, unknown_peer}
 use Rattle.step_core.specs.declared.peer.Peer.{Peer}
 
 -- ---- the peer is up, and so it is known

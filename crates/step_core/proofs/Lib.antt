@@ -1,4 +1,5 @@
 pub mod PeerLists
+pub mod PeerPlaces
 pub mod TicketLists
 pub mod Others
 pub mod OtherTickets

@@ -36,7 +36,7 @@ place_within : (n i : ℕ) (ps : List Peer) → position (is_peer n) ps ≡ Some
 place_within n i ps is = grind (arith, common_steps)
 
 -- the peer that is found stands at its place
-found_there : (n i : ℕ) (ps : List Peer) (d : Peer) → position (is_peer n) ps ≡ Some i → find (is_peer n) ps ≡ Some (get_or ps i d)
+pub found_there : (n i : ℕ) (ps : List Peer) (d : Peer) → position (is_peer n) ps ≡ Some i → find (is_peer n) ps ≡ Some (get_or ps i d)
 found_there n i ps d is = find_at (is_peer n) ps ∙ ap (λ k. slice_get ps k) (place_is n i ps is) ∙ slice_get-get_or ps i d (place_within n i ps is)
 
 peer_there : (n i : ℕ) (ps : List Peer) (d : Peer) → position (is_peer n) ps ≡ Some i → peer_at ps n ≡ get_or ps i d
@@ -65,7 +65,7 @@ not_found_by_test q o k m true is rest = absurd (cc (is, first_place m))
 not_found_by_test q o k m false is rest = rest (place_later k m is)
 
 -- a peer that has no place isn't known
-not_found : (n : ℕ) (ps : List Peer) → position (is_peer n) ps ≡ None → find (is_peer n) ps ≡ None
+pub not_found : (n : ℕ) (ps : List Peer) → position (is_peer n) ps ≡ None → find (is_peer n) ps ≡ None
 not_found n [] is = refl
 not_found n (q ∷ ps) is = not_found_by_test q (find (is_peer n) ps) (position_or_len (is_peer n) ps) (length ps) (is_peer n q) is (not_found n ps)
 

@@ -1,5 +1,5 @@
 -- What the answer of the rule says of a return's tests.
-use Rattle.std.proofs.Common.{◌≡◌, ◌∙◌, ℕ, Bool, true, false, List, refl, sym, subst, ap}
+use Rattle.std.proofs.Common.{◌≡◌, ◌∙◌, ℕ, refl, sym, subst, ap}
 use Rattle.std.specs.Prelude.{Option, Some, None, Ok, Err}
 use Rattle.lsp_base.specs.Base.{Lsps, HasAll, lsp_at}
 use Rattle.lsp_base.specs.Refusals.{answered_unless}
@@ -9,8 +9,7 @@ use Rattle.delegate_rules.specs.Returns.{must_be_held, given_back, return_result
 use Rattle.initiate_rules.specs.Messages.{return_message}
 use Rattle.step_core.specs.declared.event.Reply.TheVariants.{Done, Refused}
 use Rattle.pcep_messages.specs.declared.message.Message.{Message}
-use Rattle.step_core.specs.declared.peer.Peer.{Peer}
-use Rattle.step_core.specs.States.{State, peer_at, next_number}
+use Rattle.step_core.specs.States.{State, next_number}
 use Rattle.step_core.specs.Grants.{asking}
 use Rattle.step_core.specs.Outcomes.{Outcome, must_take_updates, must_have_a_number}
 use Rattle.step_core.specs.Steps.{return_step}

@@ -1,11 +1,11 @@
 -- Each grant is sound.
-use Rattle.std.proofs.Common.{◌≡◌, ◌∙◌, ◌==◌, ℕ, ◌≤◌, ◌++◌, Bool, true, false, List, [], ◌∷◌, refl, sym, subst, ap}
+use Rattle.std.proofs.Common.{◌≡◌, ◌∙◌, ◌==◌, ℕ, ◌++◌, Bool, true, false, List, [], ◌∷◌, refl, sym, subst, ap}
 use Rattle.std.specs.Prelude.{Option, Some, None, Result, Ok, Err, OnOk, IfOk, unwrap_or, pos, nat_lt, ◌≤ℤ◌, if◌then◌else◌}
 use Rattle.std.specs.declared.alloc.AllocError.{AllocError}
 use Rattle.pcep_messages.specs.declared.message.StateReport.{StateReport}
-use Rattle.lsp_base.specs.Base.{Lsps, changed, lsp_at}
+use Rattle.lsp_base.specs.Base.{Lsps, changed}
 use Rattle.lsp_base.specs.Refusals.{unless, ◌⨟◌}
-use Rattle.lsp_base.specs.Shares.{has_link, rises, unreserved}
+use Rattle.lsp_base.specs.Shares.{unreserved}
 use Rattle.lsp_base.specs.declared.effect.Effect.{Effect}
 use Rattle.lsp_base.specs.declared.lsp.Constraints.{Constraints}
 use Rattle.lsp_base.specs.declared.path.Path.{Path}
@@ -13,7 +13,6 @@ use Rattle.lsp_base.specs.declared.why.Why.{Why}
 use Rattle.lsp_base.specs.declared.why.Why.TheVariants.{NotTaken}
 use Rattle.te_base.specs.Base.{Base}
 use Rattle.commit_core.proofs.Soundness.{no_grant_goes_below}
-use Rattle.commit_core.specs.Sound.{LeavesRoom}
 use Rattle.commit_core.specs.Verdicts.{is_gone, verdict}
 use Rattle.commit_core.specs.declared.verdict.PeerView.{PeerView}
 use Rattle.commit_core.specs.declared.ticket.Purpose.{Purpose}
@@ -23,8 +22,8 @@ use Rattle.commit_core.specs.declared.verdict.Verdict.TheVariants as verdicts
 use Rattle.delegate_rules.specs.Effects.{report_result}
 use Rattle.delegate_rules.specs.Returns.{must_be_held}
 use Rattle.initiate_rules.specs.Checks.{may_be_deleted}
-use Rattle.step_core.specs.Asks.{ask_step, asked_with, may_be_asked, must_have_ends, may_have_one_more, with_ticket, new_ticket}
-use Rattle.step_core.specs.Grants.{committed, granted, granting, judged, path_of, taken, verdict_on, view_of}
+use Rattle.step_core.specs.Asks.{asked_with, may_be_asked, must_have_ends, may_have_one_more, with_ticket, new_ticket}
+use Rattle.step_core.specs.Grants.{committed, granted, judged, path_of, taken, verdict_on, view_of}
 use Rattle.step_core.specs.Outcomes.{Outcome, decided, done, must_be_up, must_be_down, must_be_known, must_take_updates, must_take_initiations, must_have_a_number}
 use Rattle.step_core.specs.Sound.{IsCovered, IsSoundGrant}
 use Rattle.step_core.specs.States.{State}
@@ -33,7 +32,7 @@ use Rattle.step_core.specs.Tickets.{constraints_for, first_waiting, is_ticket, t
 use Rattle.step_core.specs.declared.event.Event.{Event}
 use Rattle.step_core.specs.declared.event.Event.TheVariants.{Up, Report, Marker, Down, Expire, Drain, Refused as PeerRefused, Return, Delete, Ask, Take, Commit}
 use Rattle.step_core.specs.declared.event.Reply.{Reply}
-use Rattle.step_core.specs.declared.event.Reply.TheVariants.{Granted, Refused}
+use Rattle.step_core.specs.declared.event.Reply.TheVariants.{Granted}
 use Rattle.step_core.proofs.OtherTickets.{found_passes}
 use Rattle.std.proofs.lemmas.Bool.Decides.{nat_tests}
 use Rattle.std.proofs.Common.{arith}

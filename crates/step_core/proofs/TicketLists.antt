@@ -1,11 +1,11 @@
 -- Tickets in a list, at the place of the first that passes a test.
-use Rattle.std.proofs.Common.{◌≡◌, ◌==◌, ◌&&◌, ℕ, ◌+◌, ◌<◌, ◌≤◌, Bool, List, [], ◌∷◌, length, set, get_or, sym, ◌∙◌, ap, subst, true, false, suc, cond, refl, arith, nat_lt, nat_le}
+use Rattle.std.proofs.Common.{◌≡◌, ◌&&◌, ℕ, ◌+◌, ◌<◌, Bool, List, [], ◌∷◌, length, set, get_or, sym, ◌∙◌, ap, subst, true, false, suc, cond, refl, arith, nat_lt, nat_le}
 use Rattle.std.specs.Prelude.{Option, Some, None, IfSome, find, position, not, if◌then◌else◌}
-use Rattle.std.specs.List.{position_or_len, list_all, remove}
+use Rattle.std.specs.List.{position_or_len, remove}
 use Rattle.std.proofs.lemmas.Grind.{common_steps}
 use Rattle.std.proofs.lemmas.Bool.{and_parts}
 use Rattle.std.proofs.lemmas.Bool.Decides.{nat_tests}
-use Rattle.step_core.specs.Tickets.{edit_first, drop_first, has_tries_left, all_have_tries, searched_for, waiting_again, is_waiting, is_ticket, take_first, put_back, without_ticket}
+use Rattle.step_core.specs.Tickets.{edit_first, drop_first, has_tries_left, all_have_tries, searched_for, waiting_again, is_waiting, is_ticket, take_first, put_back}
 use Rattle.commit_core.specs.declared.ticket.Ticket.{Ticket}
 
 one_more : (k : ℕ) → 1 + k ≡ suc k

@@ -1,6 +1,6 @@
 -- How many tickets ask for the same, as far as their buckets tell. Of a bucket that has a count at most so many
 -- tickets stand; nothing else is known of the counts.
-use Rattle.std.specs.Prelude.{ℕ, ◌≡◌, ◌<◌, ◌≤◌, List, length, slice_index}
+use Rattle.std.specs.Prelude.{ℕ, ◌<◌, ◌≤◌, List, length, slice_index}
 use Rattle.std.specs.List.{count_by}
 use Rattle.lsp_base.specs.Chains.{is_in}
 use Rattle.commit_core.specs.declared.ticket.Purpose.{Purpose}

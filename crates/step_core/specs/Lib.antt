@@ -2,6 +2,7 @@ pub mod Tickets
 pub mod TicketPlaces
 pub mod AskCounts
 pub mod States
+pub mod PeerPlaces
 pub mod Names
 pub mod Bases
 pub mod Networks

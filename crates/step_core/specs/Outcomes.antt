@@ -1,5 +1,5 @@
 -- What an event comes to, and the tests that events share.
-use Rattle.std.specs.Prelude.{ℕ, not, List, Option, Some, None, ◌||◌}
+use Rattle.std.specs.Prelude.{ℕ, not, List, Option, Some, None}
 use Rattle.lsp_base.specs.Refusals.{unless, ◌⨟◌}
 use Rattle.lsp_base.specs.declared.why.Why.{Why}
 use Rattle.lsp_base.specs.declared.why.Why.TheVariants.{UnknownPeer, PeerUp, PeerDown, NoUpdate, NoInitiate, SrpInUse, Syncing}

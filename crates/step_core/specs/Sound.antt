@@ -1,5 +1,5 @@
 -- A grant takes nothing that isn't there.
-use Rattle.std.specs.Prelude.{ℕ, ◌≡◌, ◌≤◌, ◌++◌, true, List, [], ◌∷◌, Option, Some, pos, ◌≤ℤ◌}
+use Rattle.std.specs.Prelude.{ℕ, ◌≡◌, ◌≤◌, ◌++◌, true, List, [], ◌∷◌, Some, pos, ◌≤ℤ◌}
 use Rattle.lsp_base.specs.Shares.{has_link, rises, unreserved}
 use Rattle.lsp_base.specs.declared.path.Path.{Path}
 use Rattle.commit_core.specs.declared.ticket.Ticket.{Ticket}

@@ -16,7 +16,7 @@ use Rattle.initiate_rules.specs.Checks.{may_be_deleted}
 use Rattle.initiate_rules.specs.Messages.{return_message, delete_message}
 use Rattle.step_core.specs.declared.event.Event.{Event}
 use Rattle.step_core.specs.declared.event.Event.TheVariants.{Up, Report, Marker, Down, Expire, Drain, Refused as PeerRefused, Return, Delete, Ask, Take, Commit}
-use Rattle.step_core.specs.declared.event.Reply.TheVariants.{Done, Booked, Out, Removing, Refused}
+use Rattle.step_core.specs.declared.event.Reply.TheVariants.{Booked, Out, Removing, Refused}
 use Rattle.step_core.specs.declared.peer.Peer.{Peer}
 use Rattle.step_core.specs.Asks.{ask_step}
 use Rattle.step_core.specs.Grants.{asking, take_step, commit_step}

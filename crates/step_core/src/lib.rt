@@ -28,6 +28,7 @@ mod name_table;
 mod names;
 mod network;
 mod peer;
+mod peer_list;
 mod queue;
 mod shared_event;
 mod state;

@@ -1,7 +1,8 @@
-//! Peers, in a list.
-ghost use Rattle.std.specs.Prelude.{◌≡◌, ◌+◌, ◌≤◌, [], true, not, find, filter, position, vec_len, vec_capacity, option_copied, OnOk, OnErr};
-ghost use Rattle.step_core.specs.States.{is_known, is_peer, peer_at, put_peer, in_session, synchronized, out_of_session, emptied, told};
+//! Peers, and what befalls one of a list.
+ghost use Rattle.std.specs.Prelude.{◌≡◌, ◌<◌, [], true, false, length, OnOk, OnErr};
+ghost use Rattle.step_core.specs.States.{is_known, peer_at, put_peer, in_session, synchronized, out_of_session, emptied, told};
 
+use crate::peer_list::PeerList;
 use crate::queue::Queue;
 use pcep_messages::Message;
 use pcep_objects::Capabilities;
@@ -47,42 +48,28 @@ const NO_CAPABILITIES: Capabilities = Capabilities {
     create: false,
 };
 
-/// The peer, where it is known.
-pub(crate) fn find_peer(peers: &[Peer], number: u32) -> Option<&Peer>
-    ensures { option_copied result ≡ find (is_peer number) peers.now }
-{
-    peers.iter().find(|p| p.number == number)
-}
-
-/// The place of a peer in the list.
-pub(crate) fn place_of(peers: &[Peer], number: u32) -> Option<usize>
-    ensures { result ≡ position (is_peer number) peers.now }
-{
-    peers.iter().position(|p| p.number == number)
-}
-
 /// A session of the peer begins: in its place where it is known, else it stands as the last.
 pub(crate) fn begin_session(
     alloc: Global,
-    peers: &mut Vec<Peer>,
+    peers: &mut PeerList,
     number: u32,
     session: u64,
     sent: Option<Capabilities>,
 )
-    requires { vec_len peers.old + 1 ≤ vec_capacity peers.old }
-    ensures { peers.new.items ≡ put_peer peers.old.items (in_session (peer_at peers.old.items number) session sent) }
+    requires { is_known peers.old number ≡ false → length peers.old < 64 }
+    ensures { peers.new ≡ put_peer peers.old (in_session (peer_at peers.old number) session sent) }
 {
     let capabilities = sent.unwrap_or(NO_CAPABILITIES);
     let syncing = sent.is_some();
-    if let Some(place) = place_of(peers.as_slice(), number) {
-        let peer = &mut peers[place];
+    if let Some(place) = peers.place_of(number) {
+        let peer = &mut peers.items[place];
         peer.up = true;
         peer.session = session;
         peer.capabilities = capabilities;
         peer.syncing = syncing;
         return;
     }
-    peers.push_reserved(Peer {
+    peers.push(Peer {
         number,
         up: true,
         session,
@@ -94,22 +81,22 @@ pub(crate) fn begin_session(
 }
 
 /// The peer has reported all that it has.
-pub(crate) fn end_sync(peers: &mut Vec<Peer>, number: u32)
-    requires { is_known peers.old.items number ≡ true }
-    ensures { peers.new.items ≡ put_peer peers.old.items (synchronized (peer_at peers.old.items number)) }
+pub(crate) fn end_sync(peers: &mut PeerList, number: u32)
+    requires { is_known peers.old number ≡ true }
+    ensures { peers.new ≡ put_peer peers.old (synchronized (peer_at peers.old number)) }
 {
-    if let Some(place) = place_of(peers.as_slice(), number) {
-        peers[place].syncing = false;
+    if let Some(place) = peers.place_of(number) {
+        peers.items[place].syncing = false;
     }
 }
 
 /// The peer's session ends, and what waits for it is dropped.
-pub(crate) fn end_session(peers: &mut Vec<Peer>, number: u32)
-    requires { is_known peers.old.items number ≡ true }
-    ensures { peers.new.items ≡ put_peer peers.old.items (out_of_session (peer_at peers.old.items number)) }
+pub(crate) fn end_session(peers: &mut PeerList, number: u32)
+    requires { is_known peers.old number ≡ true }
+    ensures { peers.new ≡ put_peer peers.old (out_of_session (peer_at peers.old number)) }
 {
-    if let Some(place) = place_of(peers.as_slice(), number) {
-        let peer = &mut peers[place];
+    if let Some(place) = peers.place_of(number) {
+        let peer = &mut peers.items[place];
         peer.up = false;
         peer.syncing = false;
         let _dropped = peer.outgoing.take();
@@ -118,43 +105,30 @@ pub(crate) fn end_session(peers: &mut Vec<Peer>, number: u32)
 
 /// A message waits for the peer that takes no number.
 pub(crate) fn tell_peer(
-    peers: &mut Vec<Peer>,
+    peers: &mut PeerList,
     number: u32,
     message: Message,
 ) -> Result<(), AllocError>
-    requires { is_known peers.old.items number ≡ true }
-    ensures told { OnOk result (peers.new.items ≡ put_peer peers.old.items (told (peer_at peers.old.items number) message)) }
-    ensures unchanged { OnErr result (peers.new.items ≡ peers.old.items) }
+    requires { is_known peers.old number ≡ true }
+    ensures told { OnOk result (peers.new ≡ put_peer peers.old (told (peer_at peers.old number) message)) }
+    ensures unchanged { OnErr result (peers.new ≡ peers.old) }
 {
-    let Some(place) = place_of(peers.as_slice(), number) else {
+    let Some(place) = peers.place_of(number) else {
         return Err(AllocError);
     };
-    let peer = &mut peers[place];
+    let peer = &mut peers.items[place];
     peer.outgoing.push(message)?;
     Ok(())
 }
 
 /// What waits for the peer is handed out.
-pub(crate) fn take_outgoing(alloc: Global, peers: &mut Vec<Peer>, number: u32) -> Sequence<Message>
-    requires { is_known peers.old.items number ≡ true }
-    ensures messages { result ≡ (peer_at peers.old.items number).outgoing }
-    ensures peers { peers.new.items ≡ put_peer peers.old.items (emptied (peer_at peers.old.items number)) }
+pub(crate) fn take_outgoing(alloc: Global, peers: &mut PeerList, number: u32) -> Sequence<Message>
+    requires { is_known peers.old number ≡ true }
+    ensures messages { result ≡ (peer_at peers.old number).outgoing }
+    ensures peers { peers.new ≡ put_peer peers.old (emptied (peer_at peers.old number)) }
 {
-    match place_of(peers.as_slice(), number) {
-        Some(place) => peers[place].outgoing.take(),
+    match peers.place_of(number) {
+        Some(place) => peers.items[place].outgoing.take(),
         None => Sequence::from_vec(Vec::new(alloc)),
-    }
-}
-
-pub(crate) fn forget_peer(peers: &mut Vec<Peer>, number: u32)
-    ensures { peers.new.items ≡ filter (λ p. not (is_peer number p)) peers.old.items }
-{
-    let mut i = 0;
-    while i < peers.len() {
-        if peers[i].number == number {
-            let _ = peers.remove(i);
-        } else {
-            i += 1;
-        }
     }
 }

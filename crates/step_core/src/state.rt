@@ -10,7 +10,7 @@ ghost use Rattle.step_core.specs.Sound.{IsSoundGrant};
 use crate::base::{Base, copies};
 use crate::event::{Event, Reply};
 use crate::network::Network;
-use crate::peer::{Peer, find_peer};
+use crate::peer_list::PeerList;
 use crate::ticket_list::TicketList;
 use pcep_word::Priority;
 use std::alloc::{AllocError, Global};
@@ -28,7 +28,7 @@ mod sessions;
 pub struct State {
     alloc: Global,
     network: Network,
-    peers: Vec<Peer>,
+    peers: PeerList,
     tickets: TicketList,
     changes: u64,
     last_session: u64,
@@ -44,7 +44,7 @@ impl Model for State {
       te = s.network.te;
       base = s.network.base;
       names = s.network.names;
-      peers = s.peers.items;
+      peers = s.peers;
       tickets = s.tickets;
       changes = s.changes;
       last_session = s.last_session;
@@ -61,7 +61,7 @@ impl State {
         Ok(State {
             alloc,
             network: Network::new(alloc, te)?,
-            peers: Vec::new(alloc),
+            peers: PeerList::new(alloc)?,
             tickets: TicketList::new(alloc),
             changes: 0,
             last_session: 0,
@@ -126,7 +126,7 @@ impl State {
     pub fn is_up(&self, peer: u32) -> bool
         ensures { result ≡ is_up self.now peer }
     {
-        match find_peer(self.peers.as_slice(), peer) {
+        match self.peers.find(peer) {
             Some(known) => known.up,
             None => false,
         }
@@ -143,7 +143,7 @@ impl State {
     pub fn queued(&self, peer: u32) -> bool
         ensures { result ≡ is_queued self.now peer }
     {
-        match find_peer(self.peers.as_slice(), peer) {
+        match self.peers.find(peer) {
             Some(known) => !known.outgoing.is_empty(),
             None => false,
         }

@@ -16,7 +16,7 @@ use super::State;
 use super::requests::{why_not_initiated, why_not_updated};
 use super::sessions::why_not_up;
 use crate::event::Reply;
-use crate::peer::{Peer, find_peer};
+use crate::peer_list::PeerList;
 use crate::ticket_list::{TICKET_LIMIT, TicketList};
 use commit_core::{Purpose, Ticket};
 use initiate_rules::check_initiate;
@@ -120,10 +120,10 @@ fn why_no_ticket(tickets: &TicketList) -> Option<Why>
 }
 
 /// The number of the peer's session, 0 where it isn't known.
-fn session_of(peers: &[Peer], peer: u32) -> u64
+fn session_of(peers: &PeerList, peer: u32) -> u64
     ensures { result ≡ (peer_at peers.now peer).session }
 {
-    match find_peer(peers, peer) {
+    match peers.find(peer) {
         Some(known) => known.session,
         None => 0,
     }
@@ -134,7 +134,7 @@ impl State {
     fn why_no_update(&self, peer: u32, plsp: Plsp) -> Option<Why>
         ensures { result ≡ may_be_asked self.now peer (Purpose.Update plsp) }
     {
-        if let Some(why) = why_not_updated(self.peers.as_slice(), peer) {
+        if let Some(why) = why_not_updated(&self.peers, peer) {
             return Some(why);
         }
         if let Some(why) = why_not_held(self.network.lsps(), peer, plsp) {
@@ -157,7 +157,7 @@ impl State {
     fn why_no_initiation(&self, peer: u32, name: &[u8]) -> Option<Why>
         ensures { result ≡ (must_take_initiations self.now.peers peer ⨟ must_be_new self.now.base peer name.now (is_name_held self.now peer name.now)) }
     {
-        if let Some(why) = why_not_initiated(self.peers.as_slice(), peer) {
+        if let Some(why) = why_not_initiated(&self.peers, peer) {
             return Some(why);
         }
         let held = self.is_name_held(peer, name);
@@ -171,7 +171,7 @@ impl State {
         match purpose {
             Purpose::Update { plsp } => self.why_no_update(peer, *plsp),
             Purpose::Initiate { name, .. } => self.why_no_initiation(peer, name.as_slice()),
-            Purpose::Answer { .. } => why_not_up(self.peers.as_slice(), peer),
+            Purpose::Answer { .. } => why_not_up(&self.peers, peer),
         }
     }
 
@@ -188,7 +188,7 @@ impl State {
         Ok(Ticket {
             id: self.last_ticket + 1,
             peer,
-            session: session_of(self.peers.as_slice(), peer),
+            session: session_of(&self.peers, peer),
             purpose: purpose.copy()?,
             constraints,
             tries: 0,

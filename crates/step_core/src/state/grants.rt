@@ -12,7 +12,8 @@ use crate::event::Reply;
 use crate::job::Job;
 use crate::names::AwaitedName;
 use crate::network::Network;
-use crate::peer::{Peer, find_peer, place_of, tell_peer};
+use crate::peer::tell_peer;
+use crate::peer_list::PeerList;
 use commit_core::{PeerView, Purpose, Ticket, Verdict, cost_of, offered_path};
 use initiate_rules::{answer_message, initiate_message, next_srp, no_path_message, update_message};
 use lsp_base::{Path, Why};
@@ -65,23 +66,23 @@ fn name_of_grant(srp: u32, ticket: &Ticket) -> Result<Option<AwaitedName>, Alloc
 /// asks the peer for it waits to be sent, and the peer's next number is taken.
 fn grant_path(
     network: &mut Network,
-    peers: &mut Vec<Peer>,
+    peers: &mut PeerList,
     peer: u32,
     path: Path,
     name: Option<AwaitedName>,
     message: Message,
 ) -> Result<(), AllocError>
     requires few { length network.old.base.paths < 16384 }
-    requires known { is_known peers.old.items peer ≡ true }
+    requires known { is_known peers.old peer ≡ true }
     ensures network { OnOk result (network.new ≡ record network.old { base = changed network.old.base peer (granting path); names = with_name network.old.names name }) }
-    ensures asked { OnOk result (peers.new.items ≡ put_peer peers.old.items (asked (peer_at peers.old.items peer) message)) }
+    ensures asked { OnOk result (peers.new ≡ put_peer peers.old (asked (peer_at peers.old peer) message)) }
     ensures same_network { OnErr result (network.new ≡ network.old) }
-    ensures same_peers { OnErr result (peers.new.items ≡ peers.old.items) }
+    ensures same_peers { OnErr result (peers.new ≡ peers.old) }
 {
-    let Some(place) = place_of(peers.as_slice(), peer) else {
+    let Some(place) = peers.place_of(peer) else {
         return Err(AllocError);
     };
-    let known = &mut peers[place];
+    let known = &mut peers.items[place];
     network.grant(peer, path, name, &mut known.outgoing, message)?;
     known.last_srp = next_srp(known.last_srp);
     Ok(())
@@ -118,7 +119,7 @@ impl State {
     {
         let srp_in_use = self.is_number_used(peer);
         let changes = self.changes;
-        match find_peer(self.peers.as_slice(), peer) {
+        match self.peers.find(peer) {
             Some(known) => PeerView {
                 session: known.session,
                 up: known.up,
@@ -147,7 +148,7 @@ impl State {
         let Some(links) = offer else {
             return Ok(None);
         };
-        let srp = next_number(self.peers.as_slice(), ticket.peer);
+        let srp = next_number(&self.peers, ticket.peer);
         let links = links.copy()?;
         Ok(Some(offered_path(self.network.lsps(), srp, ticket, links)))
     }
@@ -163,7 +164,7 @@ impl State {
         ensures state { OnOk result (self.new ≡ granted self.old ticket.now path.links) }
         ensures unchanged_without_memory { OnErr result (self.new ≡ self.old) }
     {
-        let srp = next_number(self.peers.as_slice(), ticket.peer);
+        let srp = next_number(&self.peers, ticket.peer);
         let te = self.network.te_base();
         let message = message_of(self.alloc, te, srp, ticket, path.links.as_slice())?;
         let name = name_of_grant(srp, ticket)?;
@@ -188,7 +189,7 @@ impl State {
         ensures state { OnOk result (self.new ≡ answered self.old ticket.now links.now) }
         ensures unchanged_without_memory { OnErr result (self.new ≡ self.old) }
     {
-        let srp = next_number(self.peers.as_slice(), ticket.peer);
+        let srp = next_number(&self.peers, ticket.peer);
         let message = message_of(self.alloc, self.network.te_base(), srp, ticket, links)?;
         tell_peer(&mut self.peers, ticket.peer, message)?;
         self.tickets.end(ticket.id);

@@ -10,7 +10,7 @@ ghost use Rattle.step_core.specs.Tickets.{is_update_asked};
 use super::State;
 use crate::event::Reply;
 use crate::network::Network;
-use crate::peer::{Peer, find_peer};
+use crate::peer::Peer;
 use crate::ticket_list::TicketList;
 use delegate_rules::{RuleFault, on_report};
 use lsp_base::{Effect, Why};
@@ -72,7 +72,7 @@ impl State {
         ensures state { OnOk result (self.new ≡ (report_step self.old peer report.now).state) }
         ensures unchanged_without_memory { OnErr result (self.new ≡ self.old) }
     {
-        let Some(known) = find_peer(self.peers.as_slice(), peer) else {
+        let Some(known) = self.peers.find(peer) else {
             return Ok(Reply::Refused(Why::UnknownPeer));
         };
         if !known.up {

@@ -16,7 +16,8 @@ use super::reports::{change_lsps, moves_a_path};
 use super::sessions::why_not_up;
 use crate::event::Reply;
 use crate::network::Network;
-use crate::peer::{Peer, find_peer, place_of};
+use crate::peer::Peer;
+use crate::peer_list::PeerList;
 use delegate_rules::{RuleFault, on_refused, on_return};
 use initiate_rules::{check_delete, delete_message, is_srp_used, next_srp, return_message};
 use lsp_base::{Effect, Lsp, LspBase, RecordChange, Why};
@@ -39,10 +40,10 @@ fn why_not_in_sync(known: &Peer) -> Option<Why>
 }
 
 /// Why an event that updates an LSP of the peer is refused.
-pub(super) fn why_not_updated(peers: &[Peer], peer: u32) -> Option<Why>
+pub(super) fn why_not_updated(peers: &PeerList, peer: u32) -> Option<Why>
     ensures { result ≡ must_take_updates peers.now peer }
 {
-    let Some(known) = find_peer(peers, peer) else {
+    let Some(known) = peers.find(peer) else {
         return Some(Why::UnknownPeer);
     };
     match why_not_in_sync(known) {
@@ -53,10 +54,10 @@ pub(super) fn why_not_updated(peers: &[Peer], peer: u32) -> Option<Why>
 }
 
 /// Why an event that initiates or removes an LSP of the peer is refused.
-pub(super) fn why_not_initiated(peers: &[Peer], peer: u32) -> Option<Why>
+pub(super) fn why_not_initiated(peers: &PeerList, peer: u32) -> Option<Why>
     ensures { result ≡ must_take_initiations peers.now peer }
 {
-    let Some(known) = find_peer(peers, peer) else {
+    let Some(known) = peers.find(peer) else {
         return Some(Why::UnknownPeer);
     };
     match why_not_in_sync(known) {
@@ -67,10 +68,10 @@ pub(super) fn why_not_initiated(peers: &[Peer], peer: u32) -> Option<Why>
 }
 
 /// The SRP-ID of the next request to the peer.
-pub(super) fn next_number(peers: &[Peer], peer: u32) -> u32
+pub(super) fn next_number(peers: &PeerList, peer: u32) -> u32
     ensures { result ≡ next_srp (peer_at peers.now peer).last_srp }
 {
-    match find_peer(peers, peer) {
+    match peers.find(peer) {
         Some(known) => next_srp(known.last_srp),
         None => next_srp(0),
     }
@@ -81,7 +82,7 @@ pub(super) fn next_number(peers: &[Peer], peer: u32) -> u32
 pub(super) fn ask_peer(
     network: &mut Network,
     changes: &mut u64,
-    peers: &mut Vec<Peer>,
+    peers: &mut PeerList,
     peer: u32,
     effect: Effect,
     message: Message,
@@ -89,19 +90,19 @@ pub(super) fn ask_peer(
     requires few { IsWithinLimit network.old.base effect }
     requires stand { HasAll network.old.base.paths effect.change.dropped }
     requires count { changes.old < 2 ^ 62 }
-    requires known { is_known peers.old.items peer ≡ true }
+    requires known { is_known peers.old peer ≡ true }
     ensures network { OnOk result (network.new ≡ carried_out network.old peer effect) }
     ensures count { OnOk result (changes.new ≡ (if moves_paths effect then changes.old + 1 else changes.old)) }
-    ensures asked { OnOk result (peers.new.items ≡ put_peer peers.old.items (asked (peer_at peers.old.items peer) message)) }
+    ensures asked { OnOk result (peers.new ≡ put_peer peers.old (asked (peer_at peers.old peer) message)) }
     ensures same_network { OnErr result (network.new ≡ network.old) }
     ensures same_count { OnErr result (changes.new ≡ changes.old) }
-    ensures same_peers { OnErr result (peers.new.items ≡ peers.old.items) }
+    ensures same_peers { OnErr result (peers.new ≡ peers.old) }
 {
-    let Some(place) = place_of(peers.as_slice(), peer) else {
+    let Some(place) = peers.place_of(peer) else {
         return Err(AllocError);
     };
     let moves_paths = moves_a_path(&effect);
-    let known = &mut peers[place];
+    let known = &mut peers.items[place];
     network.carry_out_saying(peer, effect, &mut known.outgoing, message)?;
     known.last_srp = next_srp(known.last_srp);
     if moves_paths {
@@ -144,7 +145,7 @@ impl State {
     pub(super) fn is_number_used(&self, peer: u32) -> bool
         ensures { result ≡ is_srp_used self.now.base peer (next_number self.now peer) }
     {
-        let number = next_number(self.peers.as_slice(), peer);
+        let number = next_number(&self.peers, peer);
         is_srp_used(self.network.lsps(), peer, number)
     }
 
@@ -163,7 +164,7 @@ impl State {
     fn why_not_deleted(&self, peer: u32, plsp: Plsp) -> Option<Why>
         ensures { result ≡ (must_take_initiations self.now.peers peer ⨟ may_be_deleted self.now.base peer plsp ⨟ must_have_a_number self.now peer) }
     {
-        if let Some(why) = why_not_initiated(self.peers.as_slice(), peer) {
+        if let Some(why) = why_not_initiated(&self.peers, peer) {
             return Some(why);
         }
         match check_delete(self.network.lsps(), peer, plsp) {
@@ -180,7 +181,7 @@ impl State {
         ensures state { OnOk result (self.new ≡ (refused_step self.old peer srp).state) }
         ensures unchanged_without_memory { OnErr result (self.new ≡ self.old) }
     {
-        if let Some(why) = why_not_up(self.peers.as_slice(), peer) {
+        if let Some(why) = why_not_up(&self.peers, peer) {
             return Ok(Reply::Refused(why));
         }
         let effect = on_refused(self.alloc, self.network.lsps(), peer, srp)?;
@@ -195,7 +196,7 @@ impl State {
         ensures state { OnOk result (self.new ≡ (return_step self.old peer plsp).state) }
         ensures unchanged_without_memory { OnErr result (self.new ≡ self.old) }
     {
-        if let Some(why) = why_not_updated(self.peers.as_slice(), peer) {
+        if let Some(why) = why_not_updated(&self.peers, peer) {
             return Ok(Reply::Refused(why));
         }
         let effect = match on_return(self.alloc, self.network.lsps(), peer, plsp) {
@@ -206,7 +207,7 @@ impl State {
         if let Some(why) = self.why_no_number(peer) {
             return Ok(Reply::Refused(why));
         }
-        let number = next_number(self.peers.as_slice(), peer);
+        let number = next_number(&self.peers, peer);
         let message = return_message(self.alloc, number, plsp);
         ask_peer(
             &mut self.network,
@@ -230,7 +231,7 @@ impl State {
         if let Some(why) = self.why_not_deleted(peer, plsp) {
             return Ok(Reply::Refused(why));
         }
-        let number = next_number(self.peers.as_slice(), peer);
+        let number = next_number(&self.peers, peer);
         let effect = removal_asked(self.alloc, self.network.lsps(), peer, plsp, number)?;
         ask_peer(
             &mut self.network,

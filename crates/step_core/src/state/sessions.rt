@@ -7,29 +7,28 @@ ghost use Rattle.step_core.specs.Steps.{may_be_known, up_step, marker_step, down
 use super::State;
 use super::reports::change_lsps;
 use crate::event::Reply;
-use crate::peer::{
-    PEER_LIMIT, Peer, begin_session, end_session, end_sync, find_peer, forget_peer, take_outgoing,
-};
+use crate::peer::{PEER_LIMIT, begin_session, end_session, end_sync, take_outgoing};
+use crate::peer_list::PeerList;
 use lsp_base::Why;
 use pcep_objects::Capabilities;
 use std::alloc::AllocError;
 use sync_rules::{on_down, on_expire, on_marker, on_up};
 
 /// Why an event of a peer that is to be up is refused.
-pub(super) fn why_not_up(peers: &[Peer], peer: u32) -> Option<Why>
+pub(super) fn why_not_up(peers: &PeerList, peer: u32) -> Option<Why>
     ensures { result ≡ must_be_up peers.now peer }
 {
-    match find_peer(peers, peer) {
+    match peers.find(peer) {
         None => Some(Why::UnknownPeer),
         Some(known) => { if known.up { None } else { Some(Why::PeerDown) } }
     }
 }
 
 /// Why no session of the peer can come up.
-fn why_no_session(peers: &[Peer], peer: u32) -> Option<Why>
+fn why_no_session(peers: &PeerList, peer: u32) -> Option<Why>
     ensures { result ≡ (must_be_down peers.now peer ⨟ may_be_known peers.now peer) }
 {
-    match find_peer(peers, peer) {
+    match peers.find(peer) {
         None => {
             if peers.len() < PEER_LIMIT {
                 None
@@ -42,10 +41,10 @@ fn why_no_session(peers: &[Peer], peer: u32) -> Option<Why>
 }
 
 /// Why the peer can't be forgotten.
-fn why_not_forgotten(peers: &[Peer], peer: u32) -> Option<Why>
+fn why_not_forgotten(peers: &PeerList, peer: u32) -> Option<Why>
     ensures { result ≡ (must_be_known peers.now peer ⨟ must_be_down peers.now peer) }
 {
-    match find_peer(peers, peer) {
+    match peers.find(peer) {
         None => Some(Why::UnknownPeer),
         Some(known) => { if known.up { Some(Why::PeerUp) } else { None } }
     }
@@ -60,11 +59,10 @@ impl State {
         ensures state { OnOk result (self.new ≡ (up_step self.old peer sent).state) }
         ensures unchanged_without_memory { OnErr result (self.new ≡ self.old) }
     {
-        if let Some(why) = why_no_session(self.peers.as_slice(), peer) {
+        if let Some(why) = why_no_session(&self.peers, peer) {
             return Ok(Reply::Refused(why));
         }
         let effect = on_up(self.alloc, self.network.lsps(), peer, sent)?;
-        self.peers.reserve(1)?;
         change_lsps(&mut self.network, &mut self.changes, peer, effect)?;
         self.last_session += 1;
         begin_session(self.alloc, &mut self.peers, peer, self.last_session, sent);
@@ -78,7 +76,7 @@ impl State {
         ensures state { OnOk result (self.new ≡ (marker_step self.old peer).state) }
         ensures unchanged_without_memory { OnErr result (self.new ≡ self.old) }
     {
-        if let Some(why) = why_not_up(self.peers.as_slice(), peer) {
+        if let Some(why) = why_not_up(&self.peers, peer) {
             return Ok(Reply::Refused(why));
         }
         let effect = on_marker(self.alloc, self.network.lsps(), peer)?;
@@ -95,7 +93,7 @@ impl State {
         ensures state { OnOk result (self.new ≡ (down_step self.old peer).state) }
         ensures unchanged_without_memory { OnErr result (self.new ≡ self.old) }
     {
-        if let Some(why) = why_not_up(self.peers.as_slice(), peer) {
+        if let Some(why) = why_not_up(&self.peers, peer) {
             return Ok(Reply::Refused(why));
         }
         let effect = on_down(self.alloc, self.network.lsps(), peer)?;
@@ -112,12 +110,12 @@ impl State {
         ensures state { OnOk result (self.new ≡ (expire_step self.old peer).state) }
         ensures unchanged_without_memory { OnErr result (self.new ≡ self.old) }
     {
-        if let Some(why) = why_not_forgotten(self.peers.as_slice(), peer) {
+        if let Some(why) = why_not_forgotten(&self.peers, peer) {
             return Ok(Reply::Refused(why));
         }
         let effect = on_expire(self.alloc, self.network.lsps(), peer)?;
         change_lsps(&mut self.network, &mut self.changes, peer, effect)?;
-        forget_peer(&mut self.peers, peer);
+        self.peers.forget(peer);
         Ok(Reply::Done)
     }
 
@@ -126,7 +124,7 @@ impl State {
         ensures reply { result ≡ (drain_step self.old peer).reply }
         ensures state { self.new ≡ (drain_step self.old peer).state }
     {
-        if let Some(why) = why_not_up(self.peers.as_slice(), peer) {
+        if let Some(why) = why_not_up(&self.peers, peer) {
             return Reply::Refused(why);
         }
         Reply::Out(take_outgoing(self.alloc, &mut self.peers, peer))

@@ -1,7 +1,5 @@
-use Rattle.std.proofs.Common.{rules, List, ◌∙◌, ap}
-use Rattle.initiate_rules.specs.Numbers.{next_srp}
-use Rattle.step_core.specs.States.{State, peer_at}
-use Rattle.step_core.specs.declared.peer.Peer.{Peer}
+use Rattle.std.proofs.Common.{rules}
+use Rattle.step_core.specs.States.{State}
 use Rattle.step_core.proofs.Returned.{has_by_return, refused_reply, refused_state, no_number_reply, no_number_state, returned_reply, returned_state, asking_by}
 use Rattle.step_core.proofs.state.State.give_back.Goals as goal
 
@@ -27,7 +25,7 @@ pub returns-clause-state : goal.returns-clause-state
 returns-clause-state c =
     let s : State = c.args.self.now in
     let inside = c.self.inside in
-    let u : State = record { te = inside.network.te; base = inside.network.base; names = inside.network.names; peers = inside.peers.items; tickets = inside.tickets; changes = inside.changes; last_session = inside.last_session; last_ticket = inside.last_ticket } in
-    let number = c.next_number-number.ensures ∙ ap (λ (ps : List Peer). next_srp (peer_at ps c.args.peer).last_srp) c.as_slice-2.ensures.value in
+    let u : State = record { te = inside.network.te; base = inside.network.base; names = inside.network.names; peers = inside.peers; tickets = inside.tickets; changes = inside.changes; last_session = inside.last_session; last_ticket = inside.last_ticket } in
+    let number = c.next_number-number.ensures in
     returned_state s _ c.args.peer c.args.plsp c.in-Ok.effect (search rules) (search rules) (search rules)
     (asking_by s u _ c.args.peer c.args.plsp c.next_number-number.result c.in-Ok.effect c.return_message-message.result c.self.view_is number c.return_message-message.ensures (search rules))
