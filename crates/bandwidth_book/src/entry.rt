@@ -1,15 +1,15 @@
 //! What one tunnel holds on one link.
-ghost use Rattle.std.specs.Prelude.{◌≡◌, ◌<◌, ◌≤◌, ◌+◌, ℕ, [], ◌∷◌, false, length, max, nat_le, slice_index, if◌then◌else◌, IsTrue, ◌↔◌, OnOk, IfSome};
+ghost use Rattle.std.specs.Prelude.{◌≡◌, ◌<◌, ◌≤◌, ◌+◌, ℕ, [], ◌∷◌, length, max, nat_le, slice_index, if◌then◌else◌, IsTrue, ◌↔◌, OnOk, IfOk, IfSome};
 ghost use Rattle.bandwidth_book.specs.Contents.{held_with, holdings_in, IsSound};
-ghost use Rattle.bandwidth_book.specs.Held.{AreMaxima, is_before, with_one, without_one};
+ghost use Rattle.bandwidth_book.specs.Held.{AreInOrder, AreMaxima, with_one, without_one};
 
 use crate::held::{Held, is_before, is_same_held};
 use crate::held_list::{HeldList, raise};
 use std::alloc::{AllocError, Global};
 use std::marker::Model;
 
-/// What an entry keeps. Up to two bandwidths stand in place: most tunnels hold one on a link, and a second while the
-/// first is replaced. Priorities stand apart from bandwidths, so that an entry is 24 bytes long.
+/// What an entry keeps. Up to three bandwidths stand in place: most tunnels hold one or two on a link, and one more
+/// while one is replaced. Priorities stand apart from bandwidths, so that an entry is 32 bytes long.
 #[derive(Drop)]
 pub enum Content {
     /// Nothing, and for how many there is room.
@@ -22,12 +22,22 @@ pub enum Content {
         hold: u8,
         bandwidth: u64,
     },
-    /// Two in their order.
+    /// Two in their order, and for how many more there is room.
     Two {
+        promised: u8,
         hold: u8,
         later_hold: u8,
         bandwidth: u64,
         later_bandwidth: u64,
+    },
+    /// Three in their order.
+    Three {
+        hold: u8,
+        later_hold: u8,
+        last_hold: u8,
+        bandwidth: u64,
+        later_bandwidth: u64,
+        last_bandwidth: u64,
     },
     Many(Box<HeldList>),
 }
@@ -63,41 +73,111 @@ fn held_with(hold: u8, bandwidth: u64) -> Held
     Held { hold, bandwidth }
 }
 
-/// One alone, and no room promised.
-fn one_of(held: Held) -> Content
-    ensures holdings { holdings_in result ≡ record { held = held ∷ []; promised = 0 } }
+/// One alone, and for how many more there is room.
+fn one_of(held: Held, promised: u8) -> Content
+    requires { promised ≤ 2 }
+    ensures holdings { holdings_in result ≡ record { held = held ∷ []; promised = promised } }
     ensures sound { IsSound result }
 {
     Content::One {
-        promised: 0,
+        promised,
         hold: held.hold,
         bandwidth: held.bandwidth,
     }
 }
 
-/// Two that are in order.
-fn two_of(first: Held, second: Held) -> Content
-    requires { is_before second first ≡ false }
-    ensures holdings { holdings_in result ≡ record { held = first ∷ second ∷ []; promised = 0 } }
+/// Two that are in order, and for how many more there is room.
+fn two_of(first: Held, later: Held, promised: u8) -> Content
+    requires order { AreInOrder (first ∷ later ∷ []) }
+    requires room { promised ≤ 1 }
+    ensures holdings { holdings_in result ≡ record { held = first ∷ later ∷ []; promised = promised } }
     ensures sound { IsSound result }
 {
     Content::Two {
+        promised,
         hold: first.hold,
-        later_hold: second.hold,
+        later_hold: later.hold,
         bandwidth: first.bandwidth,
-        later_bandwidth: second.bandwidth,
+        later_bandwidth: later.bandwidth,
+    }
+}
+
+/// Three that are in order.
+fn three_of(first: Held, later: Held, last: Held) -> Content
+    requires { AreInOrder (first ∷ later ∷ last ∷ []) }
+    ensures holdings { holdings_in result ≡ record { held = first ∷ later ∷ last ∷ []; promised = 0 } }
+    ensures sound { IsSound result }
+{
+    Content::Three {
+        hold: first.hold,
+        later_hold: later.hold,
+        last_hold: last.hold,
+        bandwidth: first.bandwidth,
+        later_bandwidth: later.bandwidth,
+        last_bandwidth: last.bandwidth,
     }
 }
 
 /// One more beside one.
-fn two_with(one: Held, held: Held) -> Content
-    ensures holdings { holdings_in result ≡ record { held = with_one held (one ∷ []); promised = 0 } }
+#[tactic(auto, using(crate::proofs::Order::order_with_one))]
+fn two_with(one: Held, held: Held, promised: u8) -> Content
+    requires { promised ≤ 1 }
+    ensures holdings { holdings_in result ≡ record { held = with_one held (one ∷ []); promised = promised } }
     ensures sound { IsSound result }
 {
     if is_before(&one, &held) {
-        two_of(one, held)
+        two_of(one, held, promised)
     } else {
-        two_of(held, one)
+        two_of(held, one, promised)
+    }
+}
+
+/// One more beside two.
+#[tactic(auto, using(crate::proofs::Order::order_with_one))]
+fn three_with(first: Held, later: Held, held: Held) -> Content
+    requires { AreInOrder (first ∷ later ∷ []) }
+    ensures holdings { holdings_in result ≡ record { held = with_one held (first ∷ later ∷ []); promised = 0 } }
+    ensures sound { IsSound result }
+{
+    if !is_before(&first, &held) {
+        three_of(held, first, later)
+    } else if !is_before(&later, &held) {
+        three_of(first, held, later)
+    } else {
+        three_of(first, later, held)
+    }
+}
+
+/// One less of two, if there is one that is the same.
+fn two_without(first: Held, later: Held, held: Held, promised: u8) -> Content
+    requires order { AreInOrder (first ∷ later ∷ []) }
+    requires room { promised ≤ 1 }
+    ensures holdings { holdings_in result ≡ record { held = without_one held (first ∷ later ∷ []); promised = promised } }
+    ensures sound { IsSound result }
+{
+    if is_same_held(&held, &first) {
+        one_of(later, promised)
+    } else if is_same_held(&held, &later) {
+        one_of(first, promised)
+    } else {
+        two_of(first, later, promised)
+    }
+}
+
+/// One less of three, if there is one that is the same.
+fn three_without(first: Held, later: Held, last: Held, held: Held) -> Content
+    requires { AreInOrder (first ∷ later ∷ last ∷ []) }
+    ensures holdings { holdings_in result ≡ record { held = without_one held (first ∷ later ∷ last ∷ []); promised = 0 } }
+    ensures sound { IsSound result }
+{
+    if is_same_held(&held, &first) {
+        two_of(later, last, 0)
+    } else if is_same_held(&held, &later) {
+        two_of(first, last, 0)
+    } else if is_same_held(&held, &last) {
+        two_of(first, later, 0)
+    } else {
+        three_of(first, later, last)
     }
 }
 
@@ -109,10 +189,20 @@ fn few_of(held: &[Held]) -> Option<Content>
     if held.is_empty() {
         Some(Content::Free { promised: 0 })
     } else if held.len() == 1 {
-        Some(one_of(held[0]))
+        Some(one_of(held[0], 0))
     } else {
         None
     }
+}
+
+/// A list that holds these, with room for so many more.
+fn listed(alloc: Global, held: &[Held], promised: usize) -> Result<Content, AllocError>
+    requires { AreInOrder held.now }
+    ensures holdings { IfOk result (λ content. holdings_in content ≡ record { held = held.now; promised = promised }) }
+    ensures sound { IfOk result IsSound }
+{
+    let list = HeldList::of(alloc, held, promised)?;
+    Ok(Content::Many(Box::new(alloc, list)?))
 }
 
 /// The maxima with one more.
@@ -141,7 +231,7 @@ impl Entry {
     {
         match &self.content {
             Content::Free { .. } => true,
-            Content::One { .. } | Content::Two { .. } => false,
+            Content::One { .. } | Content::Two { .. } | Content::Three { .. } => false,
             Content::Many(list) => list.as_slice().is_empty(),
         }
     }
@@ -162,55 +252,91 @@ impl Entry {
                 later_hold,
                 bandwidth,
                 later_bandwidth,
+                ..
             } => {
                 let later = raised([0; 8], held_with(*later_hold, *later_bandwidth));
+                raised(later, held_with(*hold, *bandwidth))
+            }
+            Content::Three {
+                hold,
+                later_hold,
+                last_hold,
+                bandwidth,
+                later_bandwidth,
+                last_bandwidth,
+            } => {
+                let last = raised([0; 8], held_with(*last_hold, *last_bandwidth));
+                let later = raised(last, held_with(*later_hold, *later_bandwidth));
                 raised(later, held_with(*hold, *bandwidth))
             }
             Content::Many(list) => *list.maxima(),
         }
     }
 
-    /// Promises room for one more. A list is made where more than two might be held.
+    /// Promises room for one more. A list is made where more than three might be held.
     pub fn promise(&mut self, alloc: Global) -> Result<(), AllocError>
         ensures held { self.new.held ≡ self.old.held }
         ensures more { self.old.promised ≤ self.new.promised }
         ensures ok { OnOk result (self.new.promised ≡ self.old.promised + 1) }
     {
-        let list = match &mut self.content {
+        let content = match &mut self.content {
             Content::Free { promised } => {
-                if *promised < 2 {
+                if *promised < 3 {
                     *promised += 1;
                     return Ok(());
                 }
-                HeldList::of(alloc, &[], 3)?
+                listed(alloc, &[], 4)?
             }
             Content::One {
                 promised,
                 hold,
                 bandwidth,
             } => {
-                if *promised < 1 {
+                if *promised < 2 {
                     *promised += 1;
                     return Ok(());
                 }
-                HeldList::of(alloc, &[held_with(*hold, *bandwidth)], 2)?
+                listed(alloc, &[held_with(*hold, *bandwidth)], 3)?
             }
             Content::Two {
+                promised,
                 hold,
                 later_hold,
                 bandwidth,
                 later_bandwidth,
-            } => HeldList::of(
+            } => {
+                if *promised < 1 {
+                    *promised += 1;
+                    return Ok(());
+                }
+                listed(
+                    alloc,
+                    &[
+                        held_with(*hold, *bandwidth),
+                        held_with(*later_hold, *later_bandwidth),
+                    ],
+                    2,
+                )?
+            }
+            Content::Three {
+                hold,
+                later_hold,
+                last_hold,
+                bandwidth,
+                later_bandwidth,
+                last_bandwidth,
+            } => listed(
                 alloc,
                 &[
                     held_with(*hold, *bandwidth),
                     held_with(*later_hold, *later_bandwidth),
+                    held_with(*last_hold, *last_bandwidth),
                 ],
                 1,
             )?,
             Content::Many(list) => return list.promise(),
         };
-        self.content = Content::Many(Box::new(alloc, list)?);
+        self.content = content;
         Ok(())
     }
 
@@ -228,7 +354,11 @@ impl Entry {
                 *promised = 0;
                 return;
             }
-            Content::Two { .. } => return,
+            Content::Two { promised, .. } => {
+                *promised = 0;
+                return;
+            }
+            Content::Three { .. } => return,
             Content::Many(list) => {
                 list.withdraw();
                 few_of(list.as_slice())
@@ -246,17 +376,23 @@ impl Entry {
         ensures promised { self.new.promised + 1 ≡ self.old.promised }
     {
         let content = match &mut self.content {
-            Content::Free { promised } => Content::One {
-                promised: *promised - 1,
-                hold: held.hold,
-                bandwidth: held.bandwidth,
-            },
+            Content::Free { promised } => one_of(held, *promised - 1),
             Content::One {
+                promised,
                 hold,
                 bandwidth,
+            } => { two_with(held_with(*hold, *bandwidth), held, *promised - 1) }
+            Content::Two {
+                hold,
+                later_hold,
+                bandwidth,
+                later_bandwidth,
                 ..
-            } => two_with(held_with(*hold, *bandwidth), held),
-            Content::Two { .. } => return,
+            } => {
+                let later = held_with(*later_hold, *later_bandwidth);
+                three_with(held_with(*hold, *bandwidth), later, held)
+            }
+            Content::Three { .. } => return,
             Content::Many(list) => {
                 list.add(held);
                 return;
@@ -286,20 +422,26 @@ impl Entry {
                 }
             }
             Content::Two {
+                promised,
                 hold,
                 later_hold,
                 bandwidth,
                 later_bandwidth,
             } => {
-                let first = held_with(*hold, *bandwidth);
                 let later = held_with(*later_hold, *later_bandwidth);
-                if is_same_held(&held, &first) {
-                    one_of(later)
-                } else if is_same_held(&held, &later) {
-                    one_of(first)
-                } else {
-                    return;
-                }
+                two_without(held_with(*hold, *bandwidth), later, held, *promised)
+            }
+            Content::Three {
+                hold,
+                later_hold,
+                last_hold,
+                bandwidth,
+                later_bandwidth,
+                last_bandwidth,
+            } => {
+                let later = held_with(*later_hold, *later_bandwidth);
+                let last = held_with(*last_hold, *last_bandwidth);
+                three_without(held_with(*hold, *bandwidth), later, last, held)
             }
             Content::Many(list) => {
                 list.drop_one(held);
