@@ -38,7 +38,7 @@ chosen_none n = grind (arith, nat_tests, common_steps)
 pub found_first : (n : ℕ) (ps : List Peer) (i : ℕ) (x : Peer) → i < length ps → AreOthers n ps i → x ≡ get_or ps i x → is_peer n x ≡ true → Some i ≡ position (is_peer n) ps
 found_first n ps i x lt others got is =
     let place : position_or_len (is_peer n) ps ≡ i = position_or_len_is (is_peer n) ps i (unknown_peer 0) (omega (arith, lt)) (λ k less. others k less (omega (arith, less, lt)))
-        (λ h. subst (λ (y : Peer). is_peer n y ≡ true) (got ∙ got_any ps i x (unknown_peer 0) lt) is) in
+    (λ h. subst (λ (y : Peer). is_peer n y ≡ true) (got ∙ got_any ps i x (unknown_peer 0) lt) is) in
     rw place (sym (chosen_some i (length ps) lt))
 
 pub found_none : (n : ℕ) (ps : List Peer) → AreOthers n ps (length ps) → None ≡ position (is_peer n) ps

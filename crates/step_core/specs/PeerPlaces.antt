@@ -4,7 +4,7 @@ use Rattle.step_core.specs.States.{is_peer, unknown_peer}
 use Rattle.step_core.specs.declared.peer.Peer.{Peer}
 
 abbrev pub bucket_of : ℕ → ℕ
-bucket_of number = number % 256
+bucket_of number = number % 251
 
 abbrev pub number_at : List Peer → ℕ → ℕ
 number_at peers p = (get_or peers p (unknown_peer 0)).number

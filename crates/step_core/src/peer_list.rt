@@ -8,7 +8,7 @@ use std::alloc::{AllocError, Global};
 use std::marker::Model;
 
 /// For how many buckets of numbers it is kept where their peers begin.
-const BUCKETS: usize = 256;
+const BUCKETS: usize = 251;
 
 /// Peers in the order of their coming, with room for as many as are known at a time. A contract sees the list alone.
 /// Inside, a place is kept for each bucket of numbers before which none of its peers stands; that it is where the first
@@ -34,12 +34,12 @@ impl Model for PeerList {
     } };
 }
 
-/// The bucket of a number: near numbers are in different ones.
+/// The bucket of a number: near numbers are in different ones, and so are addresses that are a power of two apart.
 fn bucket_of(number: u32) -> usize
     ensures value { result ≡ bucket_of number }
-    ensures within { result < 256 }
+    ensures within { result < 251 }
 {
-    (number % 256) as usize
+    (number % 251) as usize
 }
 
 /// A peer stands at the place: its bucket begins there at the latest.
