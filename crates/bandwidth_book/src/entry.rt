@@ -8,8 +8,8 @@ use crate::held_list::{HeldList, raise};
 use std::alloc::{AllocError, Global};
 use std::marker::Model;
 
-/// What an entry keeps. Up to three bandwidths stand in place: most tunnels hold one or two on a link, and one more
-/// while one is replaced. Priorities stand apart from bandwidths, so that an entry is 32 bytes long.
+/// What an entry keeps. Up to three bandwidths stand in place: those of two paths, and one more while one of them is
+/// replaced. Priorities stand apart from bandwidths, so that an entry is 32 bytes long.
 #[derive(Drop)]
 pub enum Content {
     /// Nothing, and for how many there is room.

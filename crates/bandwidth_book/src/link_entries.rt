@@ -18,8 +18,8 @@ pub struct LinkEntry {
     pub entry: Entry,
 }
 
-/// The entries of a tunnel, at most one for each link, in the order of the links' numbers. Up to four stand in place:
-/// most paths have no more links, and where the tunnel is found they are at hand.
+/// The entries of a tunnel, at most one for each link, in the order of the links' numbers. Up to four stand in place, so
+/// that those of a short path are at hand where the tunnel is found.
 #[derive(Drop)]
 pub struct LinkEntries {
     entries: SmallVec<LinkEntry, 4>,
