@@ -1,10 +1,10 @@
 -- What chains skip: nothing, after an item comes or goes at the end, and after one comes into the place of
 -- another.
-use Rattle.std.proofs.Common.{◌≡◌, ◌≢◌, ◌++◌, ◌⊎◌, inl, inr, suc, zero, ℕ, ◌+◌, ◌-◌, ◌<◌, ◌≤◌, Bool, true, false, cond, List, [], ◌∷◌, length, length-set, get_or, set, take, drop, replicate, refl, sym, ◌∙◌, ap, subst, arith}
+use Rattle.std.proofs.Common.{◌≡◌, ◌≢◌, ◌++◌, ◌⊎◌, inl, inr, suc, zero, ℕ, ◌+◌, ◌-◌, ◌<◌, ◌≤◌, Bool, true, false, cond, List, [], ◌∷◌, length, length-set, get_or, min, set, take, drop, replicate, refl, sym, ◌∙◌, ap, subst, arith}
 use Rattle.std.proofs.lemmas.Bool.{both_ways, cases_eq, cases_lt, eqb-true, ne_eqb, false_from_ne_true}
 use Rattle.std.proofs.lemmas.List.{get_or-set_same, get_or-set_other, get_or-take, get_or_append_left, get_or_push, length_push, length-take-le, get_or_default, get_or-replicate, length-replicate, take-set-le, take_all, drop_all, append-nil}
 use Rattle.lsp_base.specs.Base.{last_in_front, without_first}
-use Rattle.lsp_base.specs.Chains.{stands, is_in, IsFree, IsChain, IsNext, LeadsTo, IsFirst, IsWithin}
+use Rattle.lsp_base.specs.Chains.{stands, is_in, IsFree, IsEnd, IsChain, IsNext, LeadsTo, IsFirst, IsWithin}
 use Rattle.lsp_base.proofs.Swapped.{swapped_out}
 
 -- ---- what stands where
@@ -112,25 +112,42 @@ IsFree-set_other xs t a b p x n w f = record { free = λ q l k. by q l k (cases_
     by q l k (inl e) = subst (λ (r : ℕ). stands t (set xs p x) r ≡ false) (sym e) (stands-set_same t xs p x w ∙ n)
     by q l k (inr d) = stands-set_other t xs p x q d ∙ f.free q l k
 
+-- ---- kept ends
+
+pub IsEnd-kept : {A : Type 0} (xs : List A) (t : A → Bool) (kept end p : ℕ) → kept ≡ min end 65535 → IsFree xs t end p → IsEnd xs t kept p
+IsEnd-kept xs t kept end p e f s = let same : end ≡ kept = omega (arith, e) in subst (λ (n : ℕ). IsFree xs t n p) same f
+
+-- what is read of a kept end
+pub IsFree-told : {A : Type 0} (xs : List A) (t : A → Bool) (kept end p : ℕ) → IsEnd xs t kept p → (kept < 65535 → end ≡ min kept p) → (65535 ≤ kept → end ≡ p) → IsFree xs t end p
+IsFree-told xs t kept end p h e n = by (cases_lt kept 65535)
+  where
+    by : (kept < 65535) ⊎ (65535 ≤ kept) → IsFree xs t end p
+    by (inl l) = let is = e l in by_place is (cases_lt kept p)
+      where
+        by_place : end ≡ min kept p → (kept < p) ⊎ (p ≤ kept) → IsFree xs t end p
+        by_place is (inl m) = IsFree-sub xs t kept p end p (omega (arith, is)) (omega arith) (h l)
+        by_place is (inr m) = IsFree-none xs t end p (omega (arith, is))
+    by (inr l) = let is = n l in IsFree-none xs t end p (omega (arith, is))
+
 -- ---- one end written
 
-AreNewest-set : {A : Type 0} (f : A → ℕ) (xs : List A) (newest : List ℕ) (b end n : ℕ) → b < length newest → ((c : ℕ) → c < length newest → IsFree xs (is_in f c) (get_or newest c 0) n) → IsFree xs (is_in f b) end n → (c : ℕ) → c < length (set newest b end) → IsFree xs (is_in f c) (get_or (set newest b end) c 0) n
+AreNewest-set : {A : Type 0} (f : A → ℕ) (xs : List A) (newest : List ℕ) (b end n : ℕ) → b < length newest → ((c : ℕ) → c < length newest → IsEnd xs (is_in f c) (get_or newest c 0) n) → IsEnd xs (is_in f b) end n → (c : ℕ) → c < length (set newest b end) → IsEnd xs (is_in f c) (get_or (set newest b end) c 0) n
 AreNewest-set f xs newest b end n w h k c l = by (cases_eq c b) (simp length-set at l)
   where
-    by : (c ≡ b) ⊎ (c ≡ b → ⊥) → c < length newest → IsFree xs (is_in f c) (get_or (set newest b end) c 0) n
+    by : (c ≡ b) ⊎ (c ≡ b → ⊥) → c < length newest → IsEnd xs (is_in f c) (get_or (set newest b end) c 0) n
     by (inl e) m =
-        let there : IsFree xs (is_in f b) (get_or (set newest b end) b 0) n = subst (λ (x : ℕ). IsFree xs (is_in f b) x n) (sym (get_or-set_same newest b end 0 w)) k in
-        subst (λ (d : ℕ). IsFree xs (is_in f d) (get_or (set newest b end) d 0) n) (sym e) there
-    by (inr d) m = subst (λ (x : ℕ). IsFree xs (is_in f c) x n) (sym (get_or-set_other newest b c end 0 d)) (h c m)
+        let there : IsEnd xs (is_in f b) (get_or (set newest b end) b 0) n = subst (λ (x : ℕ). IsEnd xs (is_in f b) x n) (sym (get_or-set_same newest b end 0 w)) k in
+        subst (λ (d : ℕ). IsEnd xs (is_in f d) (get_or (set newest b end) d 0) n) (sym e) there
+    by (inr d) m = subst (λ (x : ℕ). IsEnd xs (is_in f c) x n) (sym (get_or-set_other newest b c end 0 d)) (h c m)
 
-pub IsChain-set_newest : {A : Type 0} (f : A → ℕ) (xs : List A) (newest earlier : List ℕ) (b end : ℕ) → b < length newest → IsChain f xs newest earlier → IsFree xs (is_in f b) end (length xs) → IsChain f xs (set newest b end) earlier
+pub IsChain-set_newest : {A : Type 0} (f : A → ℕ) (xs : List A) (newest earlier : List ℕ) (b end : ℕ) → b < length newest → IsChain f xs newest earlier → IsEnd xs (is_in f b) end (length xs) → IsChain f xs (set newest b end) earlier
 IsChain-set_newest f xs newest earlier b end w h k = record {
   newest_free = AreNewest-set f xs newest b end (length xs) w h.newest_free k;
   earlier_free = h.earlier_free;
   lengths = h.lengths;
 }
 
-pub IsChain-set_earlier : {A : Type 0} (f : A → ℕ) (xs : List A) (newest earlier : List ℕ) (b place end : ℕ) → IsChain f xs newest earlier → stands (is_in f b) xs place ≡ true → IsFree xs (is_in f b) end place → IsChain f xs newest (set earlier place end)
+pub IsChain-set_earlier : {A : Type 0} (f : A → ℕ) (xs : List A) (newest earlier : List ℕ) (b place end : ℕ) → IsChain f xs newest earlier → stands (is_in f b) xs place ≡ true → IsEnd xs (is_in f b) end place → IsChain f xs newest (set earlier place end)
 IsChain-set_earlier f xs newest earlier b place end h here k = record {
   newest_free = h.newest_free;
   earlier_free = λ p c e. by p c e (cases_eq p place);
@@ -140,91 +157,90 @@ IsChain-set_earlier f xs newest earlier b place end h here k = record {
     within : place < length earlier
     within = let l = stands-within _ xs place here in let n = h.lengths in omega arith
 
-    by : (p c : ℕ) → stands (is_in f c) xs p ≡ true → (p ≡ place) ⊎ (p ≡ place → ⊥) → IsFree xs (is_in f c) (get_or (set earlier place end) p 0) p
+    by : (p c : ℕ) → stands (is_in f c) xs p ≡ true → (p ≡ place) ⊎ (p ≡ place → ⊥) → IsEnd xs (is_in f c) (get_or (set earlier place end) p 0) p
     by p c e (inl same) =
         let at : stands (is_in f c) xs place ≡ true = subst (λ (q : ℕ). stands (is_in f c) xs q ≡ true) same e in
         let one = stands-one_bucket f xs place b c here at in
-        let there : IsFree xs (is_in f c) (get_or (set earlier place end) place 0) place = subst (λ (x : ℕ). IsFree xs (is_in f c) x place) (sym (get_or-set_same earlier place end 0 within)) (subst (λ (d : ℕ). IsFree xs (is_in f d) end place) one k) in
-        subst (λ (q : ℕ). IsFree xs (is_in f c) (get_or (set earlier place end) q 0) q) (sym same) there
-    by p c e (inr n) = subst (λ (x : ℕ). IsFree xs (is_in f c) x p) (sym (get_or-set_other earlier place p end 0 n)) (h.earlier_free p c e)
+        let there : IsEnd xs (is_in f c) (get_or (set earlier place end) place 0) place = subst (λ (x : ℕ). IsEnd xs (is_in f c) x place) (sym (get_or-set_same earlier place end 0 within)) (subst (λ (d : ℕ). IsEnd xs (is_in f d) end place) one k) in
+        subst (λ (q : ℕ). IsEnd xs (is_in f c) (get_or (set earlier place end) q 0) q) (sym same) there
+    by p c e (inr n) = subst (λ (x : ℕ). IsEnd xs (is_in f c) x p) (sym (get_or-set_other earlier place p end 0 n)) (h.earlier_free p c e)
 
 -- ---- a chain led from above a place
 
-pub IsChain-lead_above : {A : Type 0} (f : A → ℕ) (xs : List A) (newest earlier : List ℕ) (b place end above : ℕ) → IsChain f xs newest earlier → IsNext xs (is_in f b) place above → above < length xs → IsFree xs (is_in f b) end (place + 1) → IsChain f xs newest (set earlier above end)
-IsChain-lead_above f xs newest earlier b place end above h n w k =
-    IsChain-set_earlier f xs newest earlier b above end h (n.here w) (IsFree-join xs (is_in f b) end (place + 1) above k (IsFree-sub xs (is_in f b) (suc place) above (place + 1) above (omega arith) (omega arith) n.free))
+pub IsChain-lead_above : {A : Type 0} (f : A → ℕ) (xs : List A) (newest earlier : List ℕ) (b place kept above : ℕ) → IsChain f xs newest earlier → IsNext xs (is_in f b) place above → above < length xs → IsEnd xs (is_in f b) kept (place + 1) → IsChain f xs newest (set earlier above kept)
+IsChain-lead_above f xs newest earlier b place kept above h n w k =
+    IsChain-set_earlier f xs newest earlier b above kept h (n.here w) (λ s. IsFree-join xs (is_in f b) kept (place + 1) above (k s) (IsFree-sub xs (is_in f b) (suc place) above (place + 1) above (omega arith) (omega arith) n.free))
 
-pub LeadsTo-above : {A : Type 0} (f : A → ℕ) (xs : List A) (newest earlier : List ℕ) (b place end above : ℕ) → IsChain f xs newest earlier → IsNext xs (is_in f b) place above → above < length xs → end ≤ place + 1 → LeadsTo f xs newest (set earlier above end) b place end
-LeadsTo-above f xs newest earlier b place end above h n w k = record {
-  from_newest = λ l. let past = IsFree-outside xs (is_in f b) _ (length xs) above (h.newest_free b l) (n.here w) w in let a = n.after in omega arith;
-  from_above = λ q l e. by q l e (cases_eq q above) (cases_lt q above);
+pub LeadsTo-above : {A : Type 0} (f : A → ℕ) (xs : List A) (newest earlier : List ℕ) (b place end kept above : ℕ) → IsChain f xs newest earlier → IsNext xs (is_in f b) place above → above < length xs → end ≤ place + 1 → kept ≡ min end 65535 → LeadsTo f xs newest (set earlier above kept) b place end
+LeadsTo-above f xs newest earlier b place end kept above h n w k v = record {
+  from_newest = λ l s. let past = IsFree-outside xs (is_in f b) _ (length xs) above (h.newest_free b l s) (n.here w) w in let a = n.after in omega arith;
+  from_above = λ q l e s. by q l e s (cases_eq q above) (cases_lt q above);
 }
   where
     within : above < length earlier
     within = let n = h.lengths in omega arith
 
-    by : (q : ℕ) → place < q → stands (is_in f b) xs q ≡ true → (q ≡ above) ⊎ (q ≡ above → ⊥) → (q < above) ⊎ (above ≤ q) → end ≤ get_or (set earlier above end) q 0
-    by q l e (inl same) o =
-        let there : get_or (set earlier above end) q 0 ≡ end = ap (λ (r : ℕ). get_or (set earlier above end) r 0) same ∙ get_or-set_same earlier above end 0 within in
-        omega arith
-    by q l e (inr d) (inl m) = absurd (both_ways _ (n.free.free q (omega arith) m) e)
-    by q l e (inr d) (inr m) =
-        let there = get_or-set_other earlier above q end 0 d in
-        let past = IsFree-outside xs (is_in f b) _ q above (h.earlier_free q b e) (n.here w) (omega (arith, d)) in
+    by : (q : ℕ) → place < q → stands (is_in f b) xs q ≡ true → get_or (set earlier above kept) q 0 < 65535 → (q ≡ above) ⊎ (q ≡ above → ⊥) → (q < above) ⊎ (above ≤ q) → end ≤ get_or (set earlier above kept) q 0
+    by q l e s (inl same) o =
+        let there : get_or (set earlier above kept) q 0 ≡ kept = ap (λ (r : ℕ). get_or (set earlier above kept) r 0) same ∙ get_or-set_same earlier above kept 0 within in
+        omega (arith, v)
+    by q l e s (inr d) (inl m) = absurd (both_ways _ (n.free.free q (omega arith) m) e)
+    by q l e s (inr d) (inr m) =
+        let there = get_or-set_other earlier above q kept 0 d in
+        let past = IsFree-outside xs (is_in f b) _ q above (h.earlier_free q b e (subst (λ (n : ℕ). n < 65535) there s)) (n.here w) (omega (arith, d)) in
         let a = n.after in
         omega arith
 
-pub IsChain-lead_newest : {A : Type 0} (f : A → ℕ) (xs : List A) (newest earlier : List ℕ) (b place end above : ℕ) → IsChain f xs newest earlier → IsNext xs (is_in f b) place above → length xs ≤ above → b < length newest → IsFree xs (is_in f b) end (place + 1) → IsChain f xs (set newest b end) earlier
-IsChain-lead_newest f xs newest earlier b place end above h n w l k =
+pub IsChain-lead_newest : {A : Type 0} (f : A → ℕ) (xs : List A) (newest earlier : List ℕ) (b place kept above : ℕ) → IsChain f xs newest earlier → IsNext xs (is_in f b) place above → length xs ≤ above → b < length newest → IsEnd xs (is_in f b) kept (place + 1) → IsChain f xs (set newest b kept) earlier
+IsChain-lead_newest f xs newest earlier b place kept above h n w l k =
     let m = n.within in
-    IsChain-set_newest f xs newest earlier b end l h (IsFree-join xs (is_in f b) end (place + 1) (length xs) k (IsFree-sub xs (is_in f b) (suc place) above (place + 1) (length xs) (omega arith) (omega arith) n.free))
+    IsChain-set_newest f xs newest earlier b kept l h (λ s. IsFree-join xs (is_in f b) kept (place + 1) (length xs) (k s) (IsFree-sub xs (is_in f b) (suc place) above (place + 1) (length xs) (omega arith) (omega arith) n.free))
 
 -- nothing of the bucket stands above the place
-pub LeadsTo-newest : {A : Type 0} (f : A → ℕ) (xs : List A) (newest earlier : List ℕ) (b place end above : ℕ) → IsNext xs (is_in f b) place above → length xs ≤ above → (b < length newest → end ≤ get_or newest b 0) → LeadsTo f xs newest earlier b place end
+pub LeadsTo-newest : {A : Type 0} (f : A → ℕ) (xs : List A) (newest earlier : List ℕ) (b place end above : ℕ) → IsNext xs (is_in f b) place above → length xs ≤ above → (b < length newest → get_or newest b 0 < 65535 → end ≤ get_or newest b 0) → LeadsTo f xs newest earlier b place end
 LeadsTo-newest f xs newest earlier b place end above n w k = record {
   from_newest = k;
-  from_above = λ q l e. let m = stands-within _ xs q e in absurd (both_ways _ (n.free.free q (omega arith) (omega arith)) e);
+  from_above = λ q l e s. let m = stands-within _ xs q e in absurd (both_ways _ (n.free.free q (omega arith) (omega arith)) e);
 }
 
 -- ---- an item that comes at the end
 
-pub IsChain-push : {A : Type 0} (f : A → ℕ) (xs : List A) (newest earlier : List ℕ) (x : A) (lower : ℕ) → IsChain f xs newest earlier → IsFree xs (is_in f (f x)) lower (length xs) → IsChain f (xs ++ x ∷ []) (set newest (f x) (length xs + 1)) (earlier ++ lower ∷ [])
-IsChain-push f xs newest earlier x lower h k = record {
+pub IsChain-push : {A : Type 0} (f : A → ℕ) (xs : List A) (newest earlier : List ℕ) (x : A) (lower top : ℕ) → IsChain f xs newest earlier → IsEnd xs (is_in f (f x)) lower (length xs) → top ≡ min (length xs + 1) 65535 → IsChain f (xs ++ x ∷ []) (set newest (f x) top) (earlier ++ lower ∷ [])
+IsChain-push f xs newest earlier x lower top h k v = record {
   newest_free = λ b l. newest_by b (simp length-set at l) (cases_eq b (f x));
   earlier_free = λ p c e. by p c e (cases_eq p (length xs));
   lengths = length_push earlier lower ∙ ap (λ n. n + 1) h.lengths ∙ sym (length_push xs x);
 }
   where
-    newest_by : (b : ℕ) → b < length newest → (b ≡ f x) ⊎ (b ≡ f x → ⊥) → IsFree (xs ++ x ∷ []) (is_in f b) (get_or (set newest (f x) (length xs + 1)) b 0) (length (xs ++ x ∷ []))
+    newest_by : (b : ℕ) → b < length newest → (b ≡ f x) ⊎ (b ≡ f x → ⊥) → IsEnd (xs ++ x ∷ []) (is_in f b) (get_or (set newest (f x) top) b 0) (length (xs ++ x ∷ []))
     newest_by b l (inl e) =
-        let there : get_or (set newest (f x) (length xs + 1)) b 0 ≡ length xs + 1 = subst (λ (c : ℕ). get_or (set newest (f x) (length xs + 1)) c 0 ≡ length xs + 1) (sym e) (get_or-set_same newest (f x) (length xs + 1) 0 (omega arith)) in
-        IsFree-none _ _ _ _ (omega (arith, there, length_push xs x))
+        let there : get_or (set newest (f x) top) b 0 ≡ top = subst (λ (c : ℕ). get_or (set newest (f x) top) c 0 ≡ top) (sym e) (get_or-set_same newest (f x) top 0 (omega arith)) in
+        λ s. IsFree-none _ _ _ _ (omega (arith, there, v, length_push xs x))
     newest_by b l (inr n) =
-        let there = get_or-set_other newest (f x) b (length xs + 1) 0 n in
-        let old = IsFree-push xs x (is_in f b) _ (length xs) (omega arith) (h.newest_free b l) in
+        let there = get_or-set_other newest (f x) b top 0 n in
         let here : stands (is_in f b) (xs ++ x ∷ []) (length xs) ≡ false = stands-push (is_in f b) xs x ∙ ne_eqb (f x) b (λ e. n (sym e)) in
-        let more = IsFree-more (xs ++ x ∷ []) (is_in f b) _ (length xs) old here in
-        subst (λ (v : ℕ). IsFree (xs ++ x ∷ []) (is_in f b) v (length (xs ++ x ∷ []))) (sym there) (subst (λ (n : ℕ). IsFree (xs ++ x ∷ []) (is_in f b) (get_or newest b 0) n) (sym (length_push xs x)) more)
+        let more : IsEnd (xs ++ x ∷ []) (is_in f b) (get_or newest b 0) (length xs + 1) = λ s. IsFree-more (xs ++ x ∷ []) (is_in f b) _ (length xs) (IsFree-push xs x (is_in f b) _ (length xs) (omega arith) (h.newest_free b l s)) here in
+        subst (λ (v : ℕ). IsEnd (xs ++ x ∷ []) (is_in f b) v (length (xs ++ x ∷ []))) (sym there) (subst (λ (n : ℕ). IsEnd (xs ++ x ∷ []) (is_in f b) (get_or newest b 0) n) (sym (length_push xs x)) more)
 
-    by : (p c : ℕ) → stands (is_in f c) (xs ++ x ∷ []) p ≡ true → (p ≡ length xs) ⊎ (p ≡ length xs → ⊥) → IsFree (xs ++ x ∷ []) (is_in f c) (get_or (earlier ++ lower ∷ []) p 0) p
+    by : (p c : ℕ) → stands (is_in f c) (xs ++ x ∷ []) p ≡ true → (p ≡ length xs) ⊎ (p ≡ length xs → ⊥) → IsEnd (xs ++ x ∷ []) (is_in f c) (get_or (earlier ++ lower ∷ []) p 0) p
     by p c e (inl same) =
         let at : stands (is_in f c) (xs ++ x ∷ []) (length xs) ≡ true = subst (λ (q : ℕ). stands (is_in f c) (xs ++ x ∷ []) q ≡ true) same e in
         let one : f x ≡ c = eqb-true (f x) c (sym (stands-push (is_in f c) xs x) ∙ at) in
         let n = h.lengths in
         let there : get_or (earlier ++ lower ∷ []) p 0 ≡ lower = get_or_push earlier lower 0 p (omega arith) in
-        let pushed : IsFree (xs ++ x ∷ []) (is_in f (f x)) lower p = IsFree-push xs x _ _ p (omega arith) (subst (λ (q : ℕ). IsFree xs (is_in f (f x)) lower q) (sym same) k) in
-        subst (λ (v : ℕ). IsFree (xs ++ x ∷ []) (is_in f c) v p) (sym there) (subst (λ (d : ℕ). IsFree (xs ++ x ∷ []) (is_in f d) lower p) one pushed)
+        let pushed : IsEnd (xs ++ x ∷ []) (is_in f (f x)) lower p = λ s. IsFree-push xs x _ _ p (omega arith) (subst (λ (q : ℕ). IsEnd xs (is_in f (f x)) lower q) (sym same) k s) in
+        subst (λ (v : ℕ). IsEnd (xs ++ x ∷ []) (is_in f c) v p) (sym there) (subst (λ (d : ℕ). IsEnd (xs ++ x ∷ []) (is_in f d) lower p) one pushed)
     by p c e (inr other) =
         let m = stands-within _ (xs ++ x ∷ []) p e in
         let s = length_push xs x in
         let l : p < length xs = omega (arith, other) in
         let n = h.lengths in
         let old : stands (is_in f c) xs p ≡ true = sym (stands-append_left (is_in f c) xs (x ∷ []) p l) ∙ e in
-        subst (λ (v : ℕ). IsFree (xs ++ x ∷ []) (is_in f c) v p) (sym (get_or_append_left earlier (lower ∷ []) 0 p (omega arith))) (IsFree-push xs x (is_in f c) _ p (omega arith) (h.earlier_free p c old))
+        subst (λ (v : ℕ). IsEnd (xs ++ x ∷ []) (is_in f c) v p) (sym (get_or_append_left earlier (lower ∷ []) 0 p (omega arith))) (λ s. IsFree-push xs x (is_in f c) _ p (omega arith) (h.earlier_free p c old s))
 
 -- a bucket that has no end of its own
-pub IsChain-push_past : {A : Type 0} (f : A → ℕ) (xs : List A) (newest earlier : List ℕ) (x : A) (lower : ℕ) → length newest ≤ f x → IsChain f xs newest earlier → IsFree xs (is_in f (f x)) lower (length xs) → IsChain f (xs ++ x ∷ []) newest (earlier ++ lower ∷ [])
-IsChain-push_past f xs newest earlier x lower l h k = subst (λ (ns : List ℕ). IsChain f (xs ++ x ∷ []) ns (earlier ++ lower ∷ [])) (set_past_is newest (f x) _ l) (IsChain-push f xs newest earlier x lower h k)
+pub IsChain-push_past : {A : Type 0} (f : A → ℕ) (xs : List A) (newest earlier : List ℕ) (x : A) (lower : ℕ) → length newest ≤ f x → IsChain f xs newest earlier → IsEnd xs (is_in f (f x)) lower (length xs) → IsChain f (xs ++ x ∷ []) newest (earlier ++ lower ∷ [])
+IsChain-push_past f xs newest earlier x lower l h k = subst (λ (ns : List ℕ). IsChain f (xs ++ x ∷ []) ns (earlier ++ lower ∷ [])) (set_past_is newest (f x) _ l) (IsChain-push f xs newest earlier x lower _ h k refl)
   where
     set_past_is : (ns : List ℕ) (i v : ℕ) → length ns ≤ i → set ns i v ≡ ns
     set_past_is [] i v m = refl
@@ -235,29 +251,29 @@ IsChain-push_past f xs newest earlier x lower l h k = subst (λ (ns : List ℕ).
 
 pub IsChain-pop : {A : Type 0} (f : A → ℕ) (xs : List A) (newest earlier : List ℕ) (last : ℕ) → last < length xs → IsChain f xs newest earlier → IsChain f (take last xs) newest (take last earlier)
 IsChain-pop f xs newest earlier last w h = record {
-  newest_free = λ b l. subst (λ (n : ℕ). IsFree (take last xs) (is_in f b) (get_or newest b 0) n) (sym size) (IsFree-take xs (is_in f b) last _ last (omega arith) (IsFree-sub xs (is_in f b) _ (length xs) _ last (omega arith) (omega arith) (h.newest_free b l)));
+  newest_free = λ b l. subst (λ (n : ℕ). IsEnd (take last xs) (is_in f b) (get_or newest b 0) n) (sym size) (λ s. IsFree-take xs (is_in f b) last _ last (omega arith) (IsFree-sub xs (is_in f b) _ (length xs) _ last (omega arith) (omega arith) (h.newest_free b l s)));
   earlier_free = λ p c e.
       let m = stands-within _ (take last xs) p e in
       let s = size in
       let l : p < last = omega arith in
       let old : stands (is_in f c) xs p ≡ true = sym (stands-take (is_in f c) last xs p l) ∙ e in
-      subst (λ (v : ℕ). IsFree (take last xs) (is_in f c) v p) (sym (get_or-take last earlier p 0 l)) (IsFree-take xs (is_in f c) last _ p (omega arith) (h.earlier_free p c old));
+      subst (λ (v : ℕ). IsEnd (take last xs) (is_in f c) v p) (sym (get_or-take last earlier p 0 l)) (λ s. IsFree-take xs (is_in f c) last _ p (omega arith) (h.earlier_free p c old s));
   lengths = let n = h.lengths in length-take-le last earlier (omega arith) ∙ sym size;
 }
   where
     size : length (take last xs) ≡ last
     size = length-take-le last xs (omega arith)
 
-pub IsChain-lower : {A : Type 0} (f : A → ℕ) (xs : List A) (newest earlier : List ℕ) (last b lower : ℕ) → last < length xs → b < length newest → IsChain f xs newest earlier → IsFree xs (is_in f b) lower last → IsChain f (take last xs) (set newest b lower) (take last earlier)
+pub IsChain-lower : {A : Type 0} (f : A → ℕ) (xs : List A) (newest earlier : List ℕ) (last b lower : ℕ) → last < length xs → b < length newest → IsChain f xs newest earlier → IsEnd xs (is_in f b) lower last → IsChain f (take last xs) (set newest b lower) (take last earlier)
 IsChain-lower f xs newest earlier last b lower w l h k =
     let size : length (take last xs) ≡ last = length-take-le last xs (omega arith) in
-    IsChain-set_newest f (take last xs) newest (take last earlier) b lower l (IsChain-pop f xs newest earlier last w h) (subst (λ (n : ℕ). IsFree (take last xs) (is_in f b) lower n) (sym size) (IsFree-take xs (is_in f b) last lower last (omega arith) k))
+    IsChain-set_newest f (take last xs) newest (take last earlier) b lower l (IsChain-pop f xs newest earlier last w h) (subst (λ (n : ℕ). IsEnd (take last xs) (is_in f b) lower n) (sym size) (λ s. IsFree-take xs (is_in f b) last lower last (omega arith) (k s)))
 
 -- ---- an item that comes into the place of another
 
-pub IsChain-set : {A : Type 0} (f : A → ℕ) (xs : List A) (newest earlier : List ℕ) (place below : ℕ) (x : A) → place < length xs → IsChain f xs newest earlier → LeadsTo f xs newest earlier (f x) place (place + 1) → IsFree xs (is_in f (f x)) below place → IsChain f (set xs place x) newest (set earlier place below)
+pub IsChain-set : {A : Type 0} (f : A → ℕ) (xs : List A) (newest earlier : List ℕ) (place below : ℕ) (x : A) → place < length xs → IsChain f xs newest earlier → LeadsTo f xs newest earlier (f x) place (place + 1) → IsEnd xs (is_in f (f x)) below place → IsChain f (set xs place x) newest (set earlier place below)
 IsChain-set f xs newest earlier place below x w h m k = record {
-  newest_free = λ b l. subst (λ (n : ℕ). IsFree (set xs place x) (is_in f b) (get_or newest b 0) n) (sym (length-set xs place x)) (newest_by b l (cases_eq (f x) b));
+  newest_free = λ b l. subst (λ (n : ℕ). IsEnd (set xs place x) (is_in f b) (get_or newest b 0) n) (sym (length-set xs place x)) (newest_by b l (cases_eq (f x) b));
   earlier_free = λ p c e. by p c e (cases_eq p place);
   lengths = length-set earlier place below ∙ h.lengths ∙ sym (length-set xs place x);
 }
@@ -265,30 +281,30 @@ IsChain-set f xs newest earlier place below x w h m k = record {
     within : place < length earlier
     within = let n = h.lengths in omega arith
 
-    newest_by : (b : ℕ) → b < length newest → (f x ≡ b) ⊎ (f x ≡ b → ⊥) → IsFree (set xs place x) (is_in f b) (get_or newest b 0) (length xs)
-    newest_by b l (inl e) =
-        let past : place + 1 ≤ get_or newest b 0 = subst (λ (c : ℕ). c < length newest → place + 1 ≤ get_or newest c 0) e m.from_newest l in
-        IsFree-set_outside xs (is_in f b) _ (length xs) place x (inl (omega arith)) (h.newest_free b l)
-    newest_by b l (inr d) = IsFree-set_other xs (is_in f b) _ (length xs) place x (ne_eqb (f x) b d) w (h.newest_free b l)
+    newest_by : (b : ℕ) → b < length newest → (f x ≡ b) ⊎ (f x ≡ b → ⊥) → IsEnd (set xs place x) (is_in f b) (get_or newest b 0) (length xs)
+    newest_by b l (inl e) = λ s.
+        let past : place + 1 ≤ get_or newest b 0 = subst (λ (c : ℕ). c < length newest → get_or newest c 0 < 65535 → place + 1 ≤ get_or newest c 0) e m.from_newest l s in
+        IsFree-set_outside xs (is_in f b) _ (length xs) place x (inl (omega arith)) (h.newest_free b l s)
+    newest_by b l (inr d) = λ s. IsFree-set_other xs (is_in f b) _ (length xs) place x (ne_eqb (f x) b d) w (h.newest_free b l s)
 
-    other : (p c : ℕ) → stands (is_in f c) xs p ≡ true → (f x ≡ c) ⊎ (f x ≡ c → ⊥) → (p < place) ⊎ (place ≤ p) → p ≢ place → IsFree (set xs place x) (is_in f c) (get_or earlier p 0) p
-    other p c e (inr d) o n = IsFree-set_other xs (is_in f c) _ p place x (ne_eqb (f x) c d) w (h.earlier_free p c e)
-    other p c e (inl s) (inl l) n = IsFree-set_outside xs (is_in f c) _ p place x (inr (omega arith)) (h.earlier_free p c e)
-    other p c e (inl s) (inr l) n =
+    other : (p c : ℕ) → stands (is_in f c) xs p ≡ true → (f x ≡ c) ⊎ (f x ≡ c → ⊥) → (p < place) ⊎ (place ≤ p) → p ≢ place → IsEnd (set xs place x) (is_in f c) (get_or earlier p 0) p
+    other p c e (inr d) o n = λ s. IsFree-set_other xs (is_in f c) _ p place x (ne_eqb (f x) c d) w (h.earlier_free p c e s)
+    other p c e (inl s) (inl l) n = λ r. IsFree-set_outside xs (is_in f c) _ p place x (inr (omega arith)) (h.earlier_free p c e r)
+    other p c e (inl s) (inr l) n = λ r.
         let here : stands (is_in f (f x)) xs p ≡ true = subst (λ (d : ℕ). stands (is_in f d) xs p ≡ true) (sym s) e in
-        let past : place + 1 ≤ get_or earlier p 0 = m.from_above p (omega (arith, n)) here in
-        IsFree-set_outside xs (is_in f c) _ p place x (inl (omega arith)) (h.earlier_free p c e)
+        let past : place + 1 ≤ get_or earlier p 0 = m.from_above p (omega (arith, n)) here r in
+        IsFree-set_outside xs (is_in f c) _ p place x (inl (omega arith)) (h.earlier_free p c e r)
 
-    by : (p c : ℕ) → stands (is_in f c) (set xs place x) p ≡ true → (p ≡ place) ⊎ (p ≡ place → ⊥) → IsFree (set xs place x) (is_in f c) (get_or (set earlier place below) p 0) p
+    by : (p c : ℕ) → stands (is_in f c) (set xs place x) p ≡ true → (p ≡ place) ⊎ (p ≡ place → ⊥) → IsEnd (set xs place x) (is_in f c) (get_or (set earlier place below) p 0) p
     by p c e (inl same) =
         let at : stands (is_in f c) (set xs place x) place ≡ true = subst (λ (q : ℕ). stands (is_in f c) (set xs place x) q ≡ true) same e in
         let one : f x ≡ c = eqb-true (f x) c (sym (stands-set_same (is_in f c) xs place x w) ∙ at) in
-        let free : IsFree (set xs place x) (is_in f (f x)) below place = IsFree-set_outside xs (is_in f (f x)) below place place x (inr (omega arith)) k in
-        let there : IsFree (set xs place x) (is_in f c) (get_or (set earlier place below) place 0) place = subst (λ (v : ℕ). IsFree (set xs place x) (is_in f c) v place) (sym (get_or-set_same earlier place below 0 within)) (subst (λ (d : ℕ). IsFree (set xs place x) (is_in f d) below place) one free) in
-        subst (λ (q : ℕ). IsFree (set xs place x) (is_in f c) (get_or (set earlier place below) q 0) q) (sym same) there
+        let free : IsEnd (set xs place x) (is_in f (f x)) below place = λ s. IsFree-set_outside xs (is_in f (f x)) below place place x (inr (omega arith)) (k s) in
+        let there : IsEnd (set xs place x) (is_in f c) (get_or (set earlier place below) place 0) place = subst (λ (v : ℕ). IsEnd (set xs place x) (is_in f c) v place) (sym (get_or-set_same earlier place below 0 within)) (subst (λ (d : ℕ). IsEnd (set xs place x) (is_in f d) below place) one free) in
+        subst (λ (q : ℕ). IsEnd (set xs place x) (is_in f c) (get_or (set earlier place below) q 0) q) (sym same) there
     by p c e (inr n) =
         let old : stands (is_in f c) xs p ≡ true = sym (stands-set_other (is_in f c) xs place x p n) ∙ e in
-        subst (λ (v : ℕ). IsFree (set xs place x) (is_in f c) v p) (sym (get_or-set_other earlier place p below 0 n)) (other p c old (cases_eq (f x) c) (cases_lt p place) n)
+        subst (λ (v : ℕ). IsEnd (set xs place x) (is_in f c) v p) (sym (get_or-set_other earlier place p below 0 n)) (other p c old (cases_eq (f x) c) (cases_lt p place) n)
 
 -- ---- the last item that takes the place of one that goes
 
@@ -333,15 +349,15 @@ IsChain-none f xs newest earlier e h = subst (λ ys. IsChain f ys newest earlier
   where
     none : IsChain f [] newest []
     none = record {
-      newest_free = λ b l. IsFree-none _ _ _ _ (omega arith);
+      newest_free = λ b l s. IsFree-none _ _ _ _ (omega arith);
       earlier_free = λ p b k. absurd (cc);
       lengths = refl;
     }
 
 -- each bucket's end is the length
-pub IsChain-fresh : {A : Type 0} (f : A → ℕ) (xs : List A) (newest earlier : List ℕ) (n : ℕ) → IsChain f xs newest earlier → IsChain f xs (replicate n (length xs)) earlier
-IsChain-fresh f xs newest earlier n h = record {
-  newest_free = λ b l. let s = length-replicate n (length xs) in let there = get_or-replicate n b (length xs) 0 (omega arith) in IsFree-none _ _ _ _ (omega arith);
+pub IsChain-fresh : {A : Type 0} (f : A → ℕ) (xs : List A) (newest earlier : List ℕ) (n kept : ℕ) → kept ≡ min (length xs) 65535 → IsChain f xs newest earlier → IsChain f xs (replicate n kept) earlier
+IsChain-fresh f xs newest earlier n kept e h = record {
+  newest_free = λ b l s. let size = length-replicate n kept in let there = get_or-replicate n b kept 0 (omega arith) in IsFree-none _ _ _ _ (omega (arith, e));
   earlier_free = h.earlier_free;
   lengths = h.lengths;
 }

@@ -6,7 +6,7 @@ use Rattle.std.proofs.lemmas.Bool.{and_parts, or_cases, or_left, eqb-true, eq-eq
 use Rattle.lsp_base.specs.Base.{is_record_of, is_path_of, put, made_stale}
 use Rattle.lsp_base.specs.Same.{same_path, is_reported}
 use Rattle.lsp_base.specs.Grants.{is_grant_of}
-use Rattle.lsp_base.specs.Chains.{stands, is_in, IsFree, IsChain, IsFirst, IsWithin, IsWithinTwo}
+use Rattle.lsp_base.specs.Chains.{stands, is_in, IsFree, IsEnd, IsChain, IsFirst, IsWithin, IsWithinTwo}
 use Rattle.lsp_base.specs.Tables.{bucket_number, path_bucket, record_bucket, PicksFrom}
 use Rattle.lsp_base.specs.declared.path.Path.{Path}
 use Rattle.lsp_base.specs.declared.effect.Record.{Record}
@@ -62,8 +62,8 @@ IsFree-map f h k xs b lo hi g = record { free = λ p l m. stands-map f h k xs b 
 
 pub IsChain-stale : (xs : List Path) (newest earlier : List ℕ) (peer : ℕ) → IsChain path_bucket xs newest earlier → IsChain path_bucket (map (made_stale peer) xs) newest earlier
 IsChain-stale xs newest earlier peer c = record {
-  newest_free = λ b l. subst (λ (n : ℕ). IsFree (map h xs) (is_in path_bucket b) (get_or newest b 0) n) (sym (length-map xs h)) (IsFree-map path_bucket h k xs b _ _ (c.newest_free b l));
-  earlier_free = λ p b e. IsFree-map path_bucket h k xs b _ _ (c.earlier_free p b (sym (stands-map path_bucket h k xs b p) ∙ e));
+  newest_free = λ b l. subst (λ (n : ℕ). IsEnd (map h xs) (is_in path_bucket b) (get_or newest b 0) n) (sym (length-map xs h)) (λ s. IsFree-map path_bucket h k xs b _ _ (c.newest_free b l s));
+  earlier_free = λ p b e s. IsFree-map path_bucket h k xs b _ _ (c.earlier_free p b (sym (stands-map path_bucket h k xs b p) ∙ e) s);
   lengths = c.lengths ∙ sym (length-map xs h);
 }
   where

@@ -1,6 +1,6 @@
 //! Chains through a list, that lead from an item to the next earlier one of its bucket. They are hints:
 //! no proof needs what they lead to, only that they skip nothing.
-ghost use Rattle.std.specs.Prelude.{◌≡◌, ◌<◌, ◌≤◌, ◌+◌, ◌-◌, ◌++◌, ◌∷◌, [], length, take, slice_set, vec_len, vec_capacity};
+ghost use Rattle.std.specs.Prelude.{◌≡◌, ◌<◌, ◌≤◌, ◌+◌, ◌-◌, ◌++◌, ◌∷◌, [], length, min, take, slice_set, vec_len, vec_capacity};
 ghost use Rattle.lsp_base.specs.Chains.{stands, is_in, IsFree, IsChain, IsNext, LeadsTo};
 
 /// Which bucket an item is in. Any function of the item may be one.
@@ -14,11 +14,36 @@ pub trait Bucketing<T> {
 }
 
 /// For each bucket a place from which on it has nothing, and for each item of the list a place from which
-/// on, up to the item, its bucket has nothing.
+/// on, up to the item, its bucket has nothing. They are kept in 16 bits, so that they stay in near memory.
+/// 65,535 in place of one says nothing: it may be any place.
 #[derive(Drop)]
 pub struct Chain {
-    pub newest: Vec<usize>,
-    pub earlier: Vec<usize>,
+    pub newest: Vec<u16>,
+    pub earlier: Vec<u16>,
+}
+
+/// The greatest number of 16 bits, 65,535, which is kept in place of every end that isn't below it. It says
+/// nothing, so no hint is left there, and the places below are walked one by one.
+const UNTOLD: u16 = u16::MAX;
+
+/// An end as it is kept: itself, or 65,535 where it isn't below that.
+pub(crate) fn kept(end: usize) -> u16
+    ensures { result ≡ min end 65535 }
+{
+    end.min(usize::from(UNTOLD)) as u16
+}
+
+/// What a kept end tells of the places below the given one: the end, or the place itself where the end isn't
+/// below it or says nothing.
+fn told(end: u16, place: usize) -> usize
+    ensures end { end < 65535 → result ≡ min end place }
+    ensures untold { 65535 ≤ end → result ≡ place }
+{
+    if end < UNTOLD {
+        place.min(usize::from(end))
+    } else {
+        place
+    }
 }
 
 fn is_in<T, B: Bucketing<T>>(item: &T, bucket: usize) -> bool
@@ -33,8 +58,8 @@ pub fn newest_end<T, B: Bucketing<T>>(items: &[T], chain: &Chain, bucket: usize)
     ensures within { result ≤ length items.now }
     ensures free { IsFree items.now (is_in B.bucket_of bucket) result (length items.now) }
 {
-    if bucket < chain.newest.len() && chain.newest[bucket] < items.len() {
-        chain.newest[bucket]
+    if bucket < chain.newest.len() {
+        told(chain.newest[bucket], items.len())
     } else {
         items.len()
     }
@@ -52,8 +77,8 @@ pub fn earlier_end<T, B: Bucketing<T>>(
     ensures below { result ≤ place }
     ensures free { IsFree items.now (is_in B.bucket_of bucket) result place }
 {
-    if is_in::<T, B>(&items[place], bucket) && chain.earlier[place] < place {
-        chain.earlier[place]
+    if is_in::<T, B>(&items[place], bucket) {
+        told(chain.earlier[place], place)
     } else {
         place
     }
@@ -126,9 +151,9 @@ pub fn lead<T, B: Bucketing<T>>(
 {
     let (above, below) = around::<T, B>(items, chain, bucket, place);
     if above < items.len() {
-        chain.earlier[above] = end;
+        chain.earlier[above] = kept(end);
     } else if bucket < chain.newest.len() {
-        chain.newest[bucket] = end;
+        chain.newest[bucket] = kept(end);
     }
     below
 }
@@ -142,9 +167,9 @@ pub fn hang_last<T, B: Bucketing<T>>(items: &[T], chain: &mut Chain, item: &T)
 {
     let bucket = B::bucket(item);
     let lower = newest_end::<T, B>(items, chain, bucket);
-    chain.earlier.push_reserved(lower);
+    chain.earlier.push_reserved(kept(lower));
     if bucket < chain.newest.len() {
-        chain.newest[bucket] = chain.earlier.len();
+        chain.newest[bucket] = kept(chain.earlier.len());
     }
 }
 
@@ -160,7 +185,7 @@ pub fn unhang_last<T, B: Bucketing<T>>(items: &[T], chain: &mut Chain)
     let lower = earlier_end::<T, B>(items, chain, bucket, place);
     chain.earlier.truncate(place);
     if bucket < chain.newest.len() {
-        chain.newest[bucket] = lower;
+        chain.newest[bucket] = kept(lower);
     }
 }
 
@@ -172,7 +197,7 @@ pub fn hang_at<T, B: Bucketing<T>>(items: &[T], chain: &mut Chain, place: usize,
     ensures room { vec_capacity chain.new.earlier ≡ vec_capacity chain.old.earlier }
 {
     let below = lead::<T, B>(items, chain, B::bucket(item), place, place + 1);
-    chain.earlier[place] = below;
+    chain.earlier[place] = kept(below);
 }
 
 /// Leads a bucket's chain past a place that an item of it has left, to an end from which on, up to the

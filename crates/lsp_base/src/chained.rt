@@ -3,7 +3,7 @@ ghost use Rattle.std.specs.Prelude.{◌≡◌, ◌<◌, ◌≤◌, ◌+◌, ◌-
 ghost use Rattle.lsp_base.specs.Chains.{IsFree, IsChain, IsFirst, IsWithin};
 
 use crate::chain::{
-    Bucketing, Chain, earlier_end, hang_at, hang_last, lead_past, newest_end, unhang_last,
+    Bucketing, Chain, earlier_end, hang_at, hang_last, kept, lead_past, newest_end, unhang_last,
 };
 use std::alloc::{AllocError, Global};
 
@@ -32,7 +32,7 @@ fn start_buckets<T, B: Bucketing<T>>(
     if !chain.newest.is_empty() {
         return Ok(());
     }
-    chain.newest = vec![in alloc; items.len(); BUCKETS]?;
+    chain.newest = vec![in alloc; kept(items.len()); BUCKETS]?;
     Ok(())
 }
 

@@ -1,5 +1,6 @@
 //! Calls with ample memory.
 use super::*;
+use crate::record_table::RecordTable;
 use pcep_objects::{Colours, MetricType, Plsp};
 use pcep_word::{Bandwidth, Ipv4, Priority};
 use sequence::{PlainData, Sequence};
@@ -391,5 +392,55 @@ fn paths_and_records_are_those_of_a_plain_list(rt: HostRuntime) -> Result<(), Fa
             assert!(rt; is_found(alloc, &base, plain.as_slice(), plsp)?, "an LSP's");
         }
     }
+    Ok(())
+}
+
+/// Sets a record in which the number of its PLSP-ID stands once more.
+fn numbered(alloc: Global, plsp: Plsp) -> Result<RecordChange, AllocError> {
+    let mut known = lsp(alloc, b"any")?;
+    known.removing = Some(plsp.number());
+    Ok(RecordChange {
+        plsp,
+        lsp: Some(known),
+    })
+}
+
+fn is_numbered(table: &RecordTable, plsp: Plsp) -> bool {
+    match table.lsp(1, plsp) {
+        Some(known) => known.removing == Some(plsp.number()),
+        None => false,
+    }
+}
+
+/// More records than 16 bits can count. They are found, though their chains lose hints.
+#[test]
+fn records_past_16_bits_are_found(rt: HostRuntime) -> Result<(), Fail> {
+    let alloc = rt.alloc();
+    let mut table = RecordTable::new(alloc);
+    let mut changes = Vec::new(alloc);
+    for number in 0..66_000 {
+        changes.push(numbered(alloc, Plsp::new(number))?)?;
+    }
+    table.reserve(changes.len())?;
+    table.set_all(1, changes);
+    assert_eq!(rt; table.as_slice().len(), 66_000);
+    for number in 65_000..66_000 {
+        assert!(rt; is_numbered(&table, Plsp::new(number)), "one of the last");
+    }
+    // the last record takes the place of the one that goes
+    let gone = RecordChange {
+        plsp: Plsp::new(30_000),
+        lsp: None,
+    };
+    table.reserve(1)?;
+    table.set_all(1, vec![in alloc; gone]?);
+    assert!(rt; table.lsp(1, Plsp::new(30_000)).is_none());
+    for number in 65_000..66_000 {
+        assert!(rt;
+            is_numbered(&table, Plsp::new(number)),
+            "one of the last, after the removal"
+        );
+    }
+    assert!(rt; is_numbered(&table, Plsp::new(30_001)));
     Ok(())
 }
