@@ -2,6 +2,7 @@ pub mod Rising
 pub mod LinkLists
 pub mod Sums
 pub mod Removed
+pub mod Located
 pub mod Places
 pub mod Order
 pub mod Totals

@@ -10,17 +10,18 @@ ghost use Rattle.bandwidth_book.specs.Ledgers.{count, has_entry_at, held_at, pro
 ghost use Rattle.bandwidth_book.specs.Tunnels.{entries_in, held_by_path, most_on, total};
 
 use crate::held::Held;
+use crate::hints::{Bucketed, Hints};
 use crate::ledgers::Ledgers;
 use crate::link_entries::LinkEntry;
 use crate::tunnels::{
-    add_to_tunnel, drop_from_tunnel, empty_sums, promise_to_tunnel, withdraw_from,
+    add_to_tunnel, drop_from_tunnel, empty_sums, entries_of, promise_to_tunnel, withdraw_from,
 };
 use indexmap::IndexMap;
 use std::alloc::{AllocError, Global};
 use std::hash::Hash;
 use te_base::LinkNumber;
 
-impl<K: Eq + Hash + Copy + Drop> Ledgers<K> {
+impl<K: Eq + Hash + Copy + Drop + Bucketed> Ledgers<K> {
     /// So many links, on which nothing is held.
     pub fn new(alloc: Global, links: usize) -> Result<Self, AllocError>
         ensures count { IfOk result (λ ledgers. count ledgers ≡ links) }
@@ -30,6 +31,7 @@ impl<K: Eq + Hash + Copy + Drop> Ledgers<K> {
         let sums = empty_sums(alloc, links)?;
         Ok(Ledgers {
             tunnels: IndexMap::new(alloc),
+            hints: Hints::new(alloc),
             sums,
         })
     }
@@ -50,7 +52,14 @@ impl<K: Eq + Hash + Copy + Drop> Ledgers<K> {
         ensures kept { (l : ℕ) (k : K) → l < count self.old → held_at K.eq self.new l k ≡ with_all (held_at K.eq self.old l k) (held_by_path K.eq key held l k path.now) }
         ensures room { (l : ℕ) (k : K) → l < count self.old → promised_on K.eq self.old l k ≤ promised_on K.eq self.new l k + length (held_by_path K.eq key held l k path.now) }
     {
-        add_to_tunnel(&mut self.tunnels, &mut self.sums, key, path, held);
+        add_to_tunnel(
+            &mut self.tunnels,
+            &self.hints,
+            &mut self.sums,
+            key,
+            path,
+            held,
+        );
     }
 
     /// Drops what a path holds on its links.
@@ -61,7 +70,14 @@ impl<K: Eq + Hash + Copy + Drop> Ledgers<K> {
         ensures kept { (l : ℕ) (k : K) → l < count self.old → held_at K.eq self.new l k ≡ without_all (held_at K.eq self.old l k) (held_by_path K.eq key held l k path.now) }
         ensures room { (l : ℕ) (k : K) → promised_on K.eq self.old l k ≤ promised_on K.eq self.new l k }
     {
-        drop_from_tunnel(&mut self.tunnels, &mut self.sums, key, path, held);
+        drop_from_tunnel(
+            &mut self.tunnels,
+            &self.hints,
+            &mut self.sums,
+            key,
+            path,
+            held,
+        );
     }
 
     /// Promises room for one more of the key on each of a path's links.
@@ -76,7 +92,14 @@ impl<K: Eq + Hash + Copy + Drop> Ledgers<K> {
         ensures kept { (l : ℕ) (k : K) → held_at K.eq self.new l k ≡ held_at K.eq self.old l k }
         ensures ok { OnOk result ((l : ℕ) (k : K) (held : Held) → l < count self.old → promised_on K.eq self.old l k + length (held_by_path K.eq key held l k path.now) ≤ promised_on K.eq self.new l k) }
     {
-        promise_to_tunnel(alloc, &mut self.tunnels, self.sums.len(), key, path)
+        promise_to_tunnel(
+            alloc,
+            &mut self.tunnels,
+            &mut self.hints,
+            self.sums.len(),
+            key,
+            path,
+        )
     }
 
     /// Takes the promises to the key on a path's links back, its entries there out that hold nothing, and the
@@ -87,7 +110,7 @@ impl<K: Eq + Hash + Copy + Drop> Ledgers<K> {
         ensures swept { (l : ℕ) (k : K) (held : Held) → has_entry_at K.eq self.new l k ≡ true → held_at K.eq self.new l k ≡ [] → length (held_by_path K.eq key held l k path.now) ≡ 0 }
         ensures kept { (l : ℕ) (k : K) → held_at K.eq self.new l k ≡ held_at K.eq self.old l k }
     {
-        withdraw_from(&mut self.tunnels, key, path);
+        withdraw_from(&mut self.tunnels, &mut self.hints, key, path);
     }
 
     /// The stored sums of a link.
@@ -105,7 +128,7 @@ impl<K: Eq + Hash + Copy + Drop> Ledgers<K> {
         requires { priority < 8 }
         ensures { result ≡ most (held_at K.eq self.now link key) priority }
     {
-        match self.tunnels.get(&key) {
+        match entries_of(&self.tunnels, &self.hints, key) {
             Some(entries) => entries.share(link, priority),
             None => 0,
         }
@@ -116,7 +139,7 @@ impl<K: Eq + Hash + Copy + Drop> Ledgers<K> {
         ensures entries { result.now ≡ entries_in (lookup (K.eq key) self.now.tunnels.entries) }
         ensures rising { AreRising result.now }
     {
-        match self.tunnels.get(&key) {
+        match entries_of(&self.tunnels, &self.hints, key) {
             Some(entries) => entries.as_slice(),
             None => &[],
         }

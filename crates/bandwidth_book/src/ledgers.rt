@@ -6,6 +6,7 @@ ghost use Rattle.bandwidth_book.specs.Entries.{held_in};
 ghost use Rattle.bandwidth_book.specs.Held.{most};
 ghost use Rattle.bandwidth_book.specs.Tunnels.{AreSums, HasNoEmptyList, entry_of};
 
+use crate::hints::Hints;
 use crate::link_entries::LinkEntries;
 use indexmap::IndexMap;
 use std::hash::Hash;
@@ -15,6 +16,7 @@ use std::hash::Hash;
 #[derive(Drop)]
 pub struct Ledgers<K: Eq + Hash + Drop> {
     pub(crate) tunnels: IndexMap<K, LinkEntries>,
+    pub(crate) hints: Hints,
     pub(crate) sums: Vec<[u64; 8]>,
     ghost summed: { AreSums sums.items tunnels.entries },
     ghost few: { length tunnels.entries ≤ 30000 },

@@ -31,6 +31,7 @@ mod changes;
 mod entry;
 mod held;
 mod held_list;
+mod hints;
 mod ledger_calls;
 mod ledgers;
 mod link_entries;

@@ -1,12 +1,13 @@
 //! What tunnels hold, by tunnel, and what one path does to it and to the sums of its links.
-ghost use Rattle.std.specs.Prelude.{◌≡◌, ◌<◌, ◌≤◌, ◌+◌, ◌-◌, ◌^◌, ◌&&◌, ◌==◌, ◌∷◌, [], ℕ, length, slice_index, None, Some, IsTrue, IfOk, OnOk, true, false, is_some};
-ghost use Rattle.indexmap.specs.IndexMap.{IsUnique, get};
+ghost use Rattle.std.specs.Prelude.{◌≡◌, ◌<◌, ◌≤◌, ◌+◌, ◌-◌, ◌^◌, ◌&&◌, ◌==◌, ◌∷◌, [], ℕ, length, slice_get, slice_index, None, Some, IsTrue, IfSome, IfNone, IfOk, OnOk, true, false, is_some, option_copied};
+ghost use Rattle.indexmap.specs.IndexMap.{IsUnique, UpdatesBy, get, index_of, swap_remove_entry, values};
 ghost use Rattle.bandwidth_book.specs.declared.held.Held.{Held};
 ghost use Rattle.bandwidth_book.specs.Entries.{held_in, promised_in};
 ghost use Rattle.bandwidth_book.specs.Held.{most, with_all, without_all};
 ghost use Rattle.bandwidth_book.specs.Tunnels.{AreSums, HasNoEmptyList, entry_of, held_by_links, held_by_path, most_on, sum_at, total};
 
 use crate::held::Held;
+use crate::hints::{Bucketed, Hints};
 use crate::link_entries::LinkEntries;
 use indexmap::IndexMap;
 use std::alloc::{AllocError, Global};
@@ -17,9 +18,60 @@ use te_base::LinkNumber;
 /// maxima on a link stays so far below 2^63 that one more path doesn't reach it.
 const TUNNEL_LIMIT: usize = 30_000;
 
+/// Whether the tunnel stands at a place of the map.
+fn is_at<K: Eq + Hash + Copy + Drop>(
+    tunnels: &IndexMap<K, LinkEntries>,
+    key: K,
+    place: usize,
+) -> bool
+    ensures here { IsTrue result → index_of K.eq tunnels.now key ≡ Some place }
+    ensures unique { IsUnique K.eq tunnels.now }
+{
+    if place >= tunnels.len() {
+        return false;
+    }
+    match tunnels.get_index(place) {
+        Some((found, _)) => *found == key,
+        None => false,
+    }
+}
+
+/// Where a tunnel stands in the map: where the hint leads, or else where the map finds it.
+fn place_of<K: Eq + Hash + Copy + Drop + Bucketed>(
+    tunnels: &IndexMap<K, LinkEntries>,
+    hints: &Hints,
+    key: K,
+) -> Option<usize>
+    ensures place { result ≡ index_of K.eq tunnels.now key }
+    ensures within { IfSome result (λ i. i < length tunnels.now.entries) }
+    ensures value { IfSome result (λ i. slice_get (values tunnels.now) i ≡ get K.eq tunnels.now key) }
+    ensures none { IfNone result (get K.eq tunnels.now key ≡ None) }
+    ensures unique { IsUnique K.eq tunnels.now }
+{
+    let hinted = hints.place(key.bucket());
+    if is_at(tunnels, key, hinted) {
+        Some(hinted)
+    } else {
+        tunnels.get_index_of(&key)
+    }
+}
+
+/// What a tunnel holds.
+pub fn entries_of<'a, K: Eq + Hash + Copy + Drop + Bucketed>(
+    tunnels: &'a IndexMap<K, LinkEntries>,
+    hints: &Hints,
+    key: K,
+) -> Option<&'a LinkEntries>
+    ensures { option_copied result ≡ get K.eq tunnels.now key }
+{
+    let place = place_of(tunnels, hints, key)?;
+    Some(&tunnels[place])
+}
+
 /// Adds what a path holds to the entries of its tunnel, and to the sums.
-pub fn add_to_tunnel<K: Eq + Hash + Copy + Drop>(
+pub fn add_to_tunnel<K: Eq + Hash + Copy + Drop + Bucketed>(
     tunnels: &mut IndexMap<K, LinkEntries>,
+    hints: &Hints,
     sums: &mut [[u64; 8]],
     key: K,
     links: &[LinkNumber],
@@ -40,14 +92,15 @@ pub fn add_to_tunnel<K: Eq + Hash + Copy + Drop>(
     ensures room { (l : ℕ) (k : K) → l < length sums.old → promised_in (entry_of K.eq tunnels.old.entries l k) ≤ promised_in (entry_of K.eq tunnels.new.entries l k) + length (held_by_path K.eq key held l k links.now) }
     ensures unique { IsUnique K.eq tunnels.new }
 {
-    if let Some(entries) = tunnels.get_mut(&key) {
-        entries.add_links(sums, links, held);
+    if let Some(place) = place_of(tunnels, hints, key) {
+        tunnels[place].add_links(sums, links, held);
     }
 }
 
 /// Drops what a path holds from the entries of its tunnel, and from the sums.
-pub fn drop_from_tunnel<K: Eq + Hash + Copy + Drop>(
+pub fn drop_from_tunnel<K: Eq + Hash + Copy + Drop + Bucketed>(
     tunnels: &mut IndexMap<K, LinkEntries>,
+    hints: &Hints,
     sums: &mut [[u64; 8]],
     key: K,
     links: &[LinkNumber],
@@ -67,16 +120,17 @@ pub fn drop_from_tunnel<K: Eq + Hash + Copy + Drop>(
     ensures room { (l : ℕ) (k : K) → promised_in (entry_of K.eq tunnels.old.entries l k) ≤ promised_in (entry_of K.eq tunnels.new.entries l k) }
     ensures unique { IsUnique K.eq tunnels.new }
 {
-    if let Some(entries) = tunnels.get_mut(&key) {
-        entries.drop_links(sums, links, held);
+    if let Some(place) = place_of(tunnels, hints, key) {
+        tunnels[place].drop_links(sums, links, held);
     }
 }
 
 /// Puts the first entries of a tunnel in, with room for one on each of a path's links. It is refused where
 /// `TUNNEL_LIMIT` tunnels have entries already.
-fn put_tunnel<K: Eq + Hash + Copy + Drop>(
+fn put_tunnel<K: Eq + Hash + Copy + Drop + Bucketed>(
     alloc: Global,
     tunnels: &mut IndexMap<K, LinkEntries>,
+    hints: &mut Hints,
     count: usize,
     key: K,
     links: &[LinkNumber],
@@ -96,15 +150,18 @@ fn put_tunnel<K: Eq + Hash + Copy + Drop>(
     let mut entries = LinkEntries::with_room(alloc, links.len())?;
     entries.promise_links(alloc, count, links)?;
     if !entries.is_empty() {
+        hints.start(alloc)?;
+        hints.note(key.bucket(), tunnels.len());
         tunnels.insert(key, entries)?;
     }
     Ok(())
 }
 
 /// Promises room for one more of a tunnel on each of a path's links.
-pub fn promise_to_tunnel<K: Eq + Hash + Copy + Drop>(
+pub fn promise_to_tunnel<K: Eq + Hash + Copy + Drop + Bucketed>(
     alloc: Global,
     tunnels: &mut IndexMap<K, LinkEntries>,
+    hints: &mut Hints,
     count: usize,
     key: K,
     links: &[LinkNumber],
@@ -117,16 +174,17 @@ pub fn promise_to_tunnel<K: Eq + Hash + Copy + Drop>(
     ensures ok { OnOk result ((l : ℕ) (k : K) (held : Held) → l < count → promised_in (entry_of K.eq tunnels.old.entries l k) + length (held_by_path K.eq key held l k links.now) ≤ promised_in (entry_of K.eq tunnels.new.entries l k)) }
     ensures unique { IsUnique K.eq tunnels.new }
 {
-    match tunnels.get_mut(&key) {
-        Some(entries) => entries.promise_links(alloc, count, links),
-        None => put_tunnel(alloc, tunnels, count, key, links),
+    match place_of(tunnels, hints, key) {
+        Some(place) => tunnels[place].promise_links(alloc, count, links),
+        None => put_tunnel(alloc, tunnels, hints, count, key, links),
     }
 }
 
 /// Takes the promises to a tunnel on some links back, and its entries there out that hold nothing. Says
 /// whether it is left with none.
-fn take_back<K: Eq + Hash + Copy + Drop>(
+fn take_back<K: Eq + Hash + Copy + Drop + Bucketed>(
     tunnels: &mut IndexMap<K, LinkEntries>,
+    hints: &Hints,
     key: K,
     links: &[LinkNumber],
 ) -> bool
@@ -140,8 +198,9 @@ fn take_back<K: Eq + Hash + Copy + Drop>(
     ensures kept { (l : ℕ) (k : K) → held_in (entry_of K.eq tunnels.new.entries l k) ≡ held_in (entry_of K.eq tunnels.old.entries l k) }
     ensures unique { IsUnique K.eq tunnels.new }
 {
-    match tunnels.get_mut(&key) {
-        Some(entries) => {
+    match place_of(tunnels, hints, key) {
+        Some(place) => {
+            let entries = &mut tunnels[place];
             entries.withdraw_links(links);
             entries.is_empty()
         }
@@ -149,10 +208,29 @@ fn take_back<K: Eq + Hash + Copy + Drop>(
     }
 }
 
+/// Takes a tunnel out: the last one takes its place.
+fn take_out<K: Eq + Hash + Copy + Drop + Bucketed>(
+    tunnels: &mut IndexMap<K, LinkEntries>,
+    hints: &mut Hints,
+    key: K,
+)
+    ensures entries { tunnels.new.entries ≡ swap_remove_entry (K.eq key) tunnels.old.entries }
+    ensures updates { UpdatesBy K.eq (K.eq key) tunnels.old tunnels.new None }
+    ensures count { length tunnels.new.entries ≤ length tunnels.old.entries }
+    ensures unique { IsUnique K.eq tunnels.new }
+{
+    if let Some((place, _, _)) = tunnels.swap_remove_full(&key) {
+        if let Some((moved, _)) = tunnels.get_index(place) {
+            hints.note(moved.bucket(), place);
+        }
+    }
+}
+
 /// Takes the promises to a tunnel on some links back, its entries there out that hold nothing, and the tunnel
 /// if none is left.
-pub fn withdraw_from<K: Eq + Hash + Copy + Drop>(
+pub fn withdraw_from<K: Eq + Hash + Copy + Drop + Bucketed>(
     tunnels: &mut IndexMap<K, LinkEntries>,
+    hints: &mut Hints,
     key: K,
     links: &[LinkNumber],
 )
@@ -165,8 +243,8 @@ pub fn withdraw_from<K: Eq + Hash + Copy + Drop>(
     ensures kept { (l : ℕ) (k : K) → held_in (entry_of K.eq tunnels.new.entries l k) ≡ held_in (entry_of K.eq tunnels.old.entries l k) }
     ensures unique { IsUnique K.eq tunnels.new }
 {
-    if take_back(tunnels, key, links) {
-        let _ = tunnels.swap_remove(&key);
+    if take_back(tunnels, hints, key, links) {
+        take_out(tunnels, hints, key);
     }
 }
 
