@@ -68,14 +68,15 @@ fn links_of(alloc: Global, load: Load, number: u32) -> Result<Vec<usize>, AllocE
 fn path(alloc: Global, load: Load, number: u32, round: u32) -> Result<Path, AllocError> {
     let drawn = number.wrapping_add(round).wrapping_mul(2654435761) >> 12;
     let bandwidth = Bandwidth::at_least(1_000 + drawn as u64);
+    let session = if load.crowded { 0 } else { number / 2 };
     Ok(Path {
         peer: 1,
         plsp: Plsp::new(1),
         part: Part::Granted(number),
         tunnel: Tunnel::Signalled {
             peer: 1,
-            endpoint: Ipv4(if load.crowded { 0 } else { number / 2 }),
-            tunnel: 1,
+            endpoint: Ipv4(session),
+            tunnel: (session % 65536) as u16,
             extended: 1,
         },
         hold: Priority::capped((number % 8) as u8),
