@@ -35,30 +35,34 @@ fn path(
     })
 }
 
+/// From a source to anywhere, with no bandwidth.
+fn constraints() -> Constraints {
+    Constraints {
+        source: Some(Ipv4(0x0a00_0001)),
+        destination: None,
+        bandwidth: Bandwidth::zero(),
+        priorities: Priorities::new(Priority::capped(3), Priority::capped(7)),
+        colours: Colours {
+            exclude_any: 0,
+            include_any: 0,
+            include_all: 0,
+        },
+        minimise: MetricType::Te,
+        bound: None,
+        hop_bound: None,
+        other_bounds: OtherBounds {
+            igp: None,
+            te: None,
+        },
+    }
+}
+
 fn lsp(alloc: Global, name: &[u8]) -> Result<Lsp, AllocError> {
-    let priorities = Priorities::new(Priority::capped(3), Priority::capped(7));
     Ok(Lsp {
         name: Sequence::from_vec(Vec::from_slice(alloc, name)?),
         delegated: true,
         created: false,
-        constraints: Constraints {
-            source: Some(Ipv4(0x0a00_0001)),
-            destination: None,
-            bandwidth: Bandwidth::zero(),
-            priorities,
-            colours: Colours {
-                exclude_any: 0,
-                include_any: 0,
-                include_all: 0,
-            },
-            minimise: MetricType::Te,
-            bound: None,
-            hop_bound: None,
-            other_bounds: OtherBounds {
-                igp: None,
-                te: None,
-            },
-        },
+        constraints: constraints(),
         tunnel: Tunnel::Asked { peer: 1, srp: 7 },
         removing: None,
     })
@@ -115,88 +119,179 @@ fn remove(alloc: Global, base: &mut LspBase, lsp: u16) -> Result<(), AllocError>
     Ok(())
 }
 
-#[test]
-fn paths_come_and_go(rt: HostRuntime) -> Result<(), Fail> {
-    let alloc = rt.alloc();
+/// A path that peer 1 reports, and the name of its LSP.
+#[derive(Clone, Copy)]
+struct Known {
+    lsp: u16,
+    tunnel: u16,
+    bandwidth: u64,
+    name: &'static [u8],
+}
+
+/// Adds the path, and the record of its LSP.
+fn know(
+    rt: &impl Abort,
+    alloc: Global,
+    base: &mut LspBase,
+    known: Known,
+) -> Result<(), AllocError> {
+    let reported = path(rt, alloc, known.lsp, known.tunnel, known.bandwidth)?;
+    add(rt, alloc, base, reported, lsp(alloc, known.name)?)
+}
+
+/// A base that knows these paths.
+fn base_of(rt: &impl Abort, alloc: Global, all: &[Known]) -> Result<LspBase, AllocError> {
     let mut base = LspBase::new(alloc);
-    add(
-        &rt,
-        alloc,
-        &mut base,
-        path(&rt, alloc, 1, 1, 500_000)?,
-        lsp(alloc, b"one")?,
-    )?;
-    add(
-        &rt,
-        alloc,
-        &mut base,
-        path(&rt, alloc, 2, 1, 250_000)?,
-        lsp(alloc, b"two")?,
-    )?;
-    add(
-        &rt,
-        alloc,
-        &mut base,
-        path(&rt, alloc, 3, 2, 125_000)?,
-        lsp(alloc, b"three")?,
-    )?;
-    assert_eq!(rt; base.paths().len(), 3);
-    // the last path takes the place of the one that goes
-    remove(alloc, &mut base, 1)?;
+    for known in all {
+        know(rt, alloc, &mut base, *known)?;
+    }
+    Ok(base)
+}
+
+static TWO_OF_ONE_LSP: [Known; 3] = [
+    Known {
+        lsp: 1,
+        tunnel: 1,
+        bandwidth: 500_000,
+        name: b"one",
+    },
+    Known {
+        lsp: 2,
+        tunnel: 1,
+        bandwidth: 250_000,
+        name: b"two",
+    },
+    Known {
+        lsp: 3,
+        tunnel: 2,
+        bandwidth: 125_000,
+        name: b"three",
+    },
+];
+
+/// The last path has taken the place of the first, which is gone.
+fn find_two_paths(rt: &impl Abort, base: &LspBase) {
     assert_eq!(rt; base.paths().len(), 2);
     assert_eq!(rt; base.paths()[0].bandwidth.value(), 125_000);
     assert_eq!(rt; base.paths()[1].bandwidth.value(), 250_000);
     assert_eq!(rt; base.records().len(), 2);
+}
 
-    base.mark_stale(1);
-    let stale = base.paths().first().expect(&rt, "a path");
+/// The first path is the one that was the last, and stale.
+fn find_stale(rt: &impl Abort, base: &LspBase) {
+    let stale = base.paths().first().expect(rt, "a path");
     assert!(rt; !stale.fresh);
     assert_eq!(rt; stale.bandwidth.value(), 125_000);
+}
+
+/// The first of three paths goes, and those that are left become stale.
+fn change_three(rt: &impl Abort, alloc: Global, base: &mut LspBase) -> Result<(), AllocError> {
+    assert_eq!(rt; base.paths().len(), 3);
+    remove(alloc, base, 1)?;
+    find_two_paths(rt, base);
+    base.mark_stale(1);
+    find_stale(rt, base);
     Ok(())
+}
+
+#[test]
+fn paths_come_and_go(rt: HostRuntime) -> Result<(), Fail> {
+    let alloc = rt.alloc();
+    let mut base = base_of(&rt, alloc, TWO_OF_ONE_LSP.as_slice())?;
+    change_three(&rt, alloc, &mut base)?;
+    Ok(())
+}
+
+static THREE_LSPS: [Known; 3] = [
+    Known {
+        lsp: 1,
+        tunnel: 1,
+        bandwidth: 1,
+        name: b"one",
+    },
+    Known {
+        lsp: 2,
+        tunnel: 2,
+        bandwidth: 1,
+        name: b"two",
+    },
+    Known {
+        lsp: 3,
+        tunnel: 3,
+        bandwidth: 1,
+        name: b"three",
+    },
+];
+
+/// Records are found by their LSP, and at their places.
+fn find_three_records(rt: &impl Abort, base: &LspBase) {
+    let found = base.lsp(1, Plsp::new(2)).expect(rt, "the second");
+    assert_eq!(rt; found.name.as_slice(), b"two".as_slice());
+    assert_eq!(rt; found.constraints.priorities.setup().number(), 3);
+    assert_eq!(rt; found.constraints.priorities.hold().number(), 3);
+    assert!(rt; base.lsp(1, Plsp::new(4)).is_none());
+    let first = base.record_at(0).expect(rt, "the first");
+    assert_eq!(rt; first.plsp.number(), 1);
+    assert!(rt; base.record_at(3).is_none());
+}
+
+/// The last record has taken the place of the first, which is gone.
+fn find_two_records(rt: &impl Abort, base: &LspBase) {
+    assert_eq!(rt; base.records().len(), 2);
+    let first = base.record_at(0).expect(rt, "the first");
+    assert_eq!(rt; first.plsp.number(), 3);
+    assert!(rt; base.lsp(1, Plsp::new(1)).is_none());
+    assert!(rt; base.lsp(1, Plsp::new(2)).is_some());
+    assert!(rt; !base.has_grant(1, Plsp::new(1)));
 }
 
 #[test]
 fn records_are_found(rt: HostRuntime) -> Result<(), Fail> {
     let alloc = rt.alloc();
-    let mut base = LspBase::new(alloc);
-    add(
-        &rt,
-        alloc,
-        &mut base,
-        path(&rt, alloc, 1, 1, 1)?,
-        lsp(alloc, b"one")?,
-    )?;
-    add(
-        &rt,
-        alloc,
-        &mut base,
-        path(&rt, alloc, 2, 2, 1)?,
-        lsp(alloc, b"two")?,
-    )?;
-    add(
-        &rt,
-        alloc,
-        &mut base,
-        path(&rt, alloc, 3, 3, 1)?,
-        lsp(alloc, b"three")?,
-    )?;
-    let found = base.lsp(1, Plsp::new(2)).expect(&rt, "the second");
-    assert_eq!(rt; found.name.as_slice(), b"two".as_slice());
-    assert_eq!(rt; found.constraints.priorities.setup().number(), 3);
-    assert_eq!(rt; found.constraints.priorities.hold().number(), 3);
-    assert!(rt; base.lsp(1, Plsp::new(4)).is_none());
-    let first = base.record_at(0).expect(&rt, "the first");
-    assert_eq!(rt; first.plsp.number(), 1);
-    assert!(rt; base.record_at(3).is_none());
-    // the last record takes the place of the one that goes
+    let mut base = base_of(&rt, alloc, THREE_LSPS.as_slice())?;
+    find_three_records(&rt, &base);
     remove(alloc, &mut base, 1)?;
-    assert_eq!(rt; base.records().len(), 2);
-    let first = base.record_at(0).expect(&rt, "the first");
-    assert_eq!(rt; first.plsp.number(), 3);
-    assert!(rt; base.lsp(1, Plsp::new(1)).is_none());
-    assert!(rt; base.lsp(1, Plsp::new(2)).is_some());
-    assert!(rt; !base.has_grant(1, Plsp::new(1)));
+    find_two_records(&rt, &base);
+    Ok(())
+}
+
+#[test]
+fn reasons_have_numbers(rt: HostRuntime) {
     assert_eq!(rt; Why::BadReport.number(), 19);
+}
+
+/// Adds a path that was granted for this SRP-ID.
+fn add_granted(
+    rt: &impl Abort,
+    alloc: Global,
+    base: &mut LspBase,
+    srp: u32,
+) -> Result<(), AllocError> {
+    let mut granted = path(rt, alloc, 1, 1, 1)?;
+    granted.part = Part::Granted(srp);
+    add(rt, alloc, base, granted, lsp(alloc, b"one")?)
+}
+
+/// Adds an LSP whose removal was asked for with this SRP-ID.
+fn add_removed(
+    rt: &impl Abort,
+    alloc: Global,
+    base: &mut LspBase,
+    srp: u32,
+) -> Result<(), AllocError> {
+    let mut removed = lsp(alloc, b"two")?;
+    removed.removing = Some(srp);
+    add(rt, alloc, base, path(rt, alloc, 2, 2, 1)?, removed)
+}
+
+/// A grant, and then a removal, take SRP-IDs of peer 1.
+fn take_srp_ids(rt: &impl Abort, alloc: Global, base: &mut LspBase) -> Result<(), AllocError> {
+    assert!(rt; !base.may_have_srp(1, 1));
+    add_granted(rt, alloc, base, 7)?;
+    assert!(rt; base.may_have_srp(1, 7) && !base.may_have_srp(1, 8));
+    add_removed(rt, alloc, base, 9)?;
+    assert!(rt; base.may_have_srp(1, 9) && !base.may_have_srp(1, 10));
+    assert!(rt; !base.may_have_srp(2, 1));
     Ok(())
 }
 
@@ -205,30 +300,25 @@ fn records_are_found(rt: HostRuntime) -> Result<(), Fail> {
 fn greater_srp_ids_are_free(rt: HostRuntime) -> Result<(), Fail> {
     let alloc = rt.alloc();
     let mut base = LspBase::new(alloc);
-    assert!(rt; !base.may_have_srp(1, 1));
-    let mut granted = path(&rt, alloc, 1, 1, 1)?;
-    granted.part = Part::Granted(7);
-    add(&rt, alloc, &mut base, granted, lsp(alloc, b"one")?)?;
-    assert!(rt; base.may_have_srp(1, 7) && !base.may_have_srp(1, 8));
-    let mut removed = lsp(alloc, b"two")?;
-    removed.removing = Some(9);
-    add(&rt, alloc, &mut base, path(&rt, alloc, 2, 2, 1)?, removed)?;
-    assert!(rt; base.may_have_srp(1, 9) && !base.may_have_srp(1, 10));
-    assert!(rt; !base.may_have_srp(2, 1));
+    take_srp_ids(&rt, alloc, &mut base)?;
     Ok(())
 }
 
-/// A copy prints as the value does.
-fn is_copied<T: PlainData + Debug>(rt: &HostRuntime, value: &T) -> Result<bool, Fail> {
-    let copy = value.copy()?;
-    let copied = format!(in rt.alloc(); "{copy:?}")?;
-    let printed = format!(in rt.alloc(); "{value:?}")?;
-    Ok(copied.as_str() == printed.as_str())
+/// Whether both print alike.
+fn print_alike<T: Debug>(alloc: Global, one: &T, other: &T) -> Result<bool, Fail> {
+    let printed = format!(in alloc; "{one:?}")?;
+    let again = format!(in alloc; "{other:?}")?;
+    Ok(printed.as_str() == again.as_str())
 }
 
-#[test]
-fn effects_and_records_are_copied(rt: HostRuntime) -> Result<(), Fail> {
-    let alloc = rt.alloc();
+/// A copy prints as the value does.
+fn is_copied<T: PlainData + Debug>(alloc: Global, value: &T) -> Result<bool, Fail> {
+    let copy = value.copy()?;
+    print_alike(alloc, &copy, value)
+}
+
+/// Sets the record of one LSP, and takes that of another away.
+fn record_changes(alloc: Global) -> Result<Vec<RecordChange>, AllocError> {
     let set = RecordChange {
         plsp: Plsp::new(1),
         lsp: Some(lsp(alloc, b"one")?),
@@ -237,46 +327,80 @@ fn effects_and_records_are_copied(rt: HostRuntime) -> Result<(), Fail> {
         plsp: Plsp::new(2),
         lsp: None,
     };
-    let effect = Effect::new(
-        vec![in alloc; path(&rt, alloc, 1, 1, 500_000)?]?,
-        vec![in alloc;
-            path(&rt, alloc, 2, 1, 250_000)?,
-            path(&rt, alloc, 1, 2, 1)?,
-        ]?,
-        vec![in alloc; set, taken]?,
-        true,
-    );
-    assert!(rt; is_copied(&rt, &effect)?, "an effect");
+    Ok(vec![in alloc; set, taken]?)
+}
+
+/// Paths of these LSP IDs, tunnels and bandwidths.
+fn paths(rt: &impl Abort, alloc: Global, all: &[(u16, u16, u64)]) -> Result<Vec<Path>, AllocError> {
+    let mut paths = Vec::new(alloc);
+    for (lsp, tunnel, bandwidth) in all {
+        paths.push(path(rt, alloc, *lsp, *tunnel, *bandwidth)?)?;
+    }
+    Ok(paths)
+}
+
+/// An effect that drops a path, adds two, and changes two records.
+fn effect_of_each_kind(rt: &impl Abort, alloc: Global) -> Result<Effect, AllocError> {
+    let dropped = paths(rt, alloc, &[(1, 1, 500_000)])?;
+    let added = paths(rt, alloc, &[(2, 1, 250_000), (1, 2, 1)])?;
+    Ok(Effect::new(dropped, added, record_changes(alloc)?, true))
+}
+
+/// Whether a copy of an effect prints as the effect does.
+fn is_effect_copied(rt: &impl Abort, alloc: Global) -> Result<bool, Fail> {
+    let effect = effect_of_each_kind(rt, alloc)?;
+    is_copied(alloc, &effect)
+}
+
+/// Whether a copy of a record prints as the record does.
+fn is_record_copied(alloc: Global) -> Result<bool, Fail> {
     let record = Record {
         peer: 1,
         plsp: Plsp::new(1),
         lsp: lsp(alloc, b"one")?,
     };
-    assert!(rt; is_copied(&rt, &record)?, "a record");
+    is_copied(alloc, &record)
+}
+
+#[test]
+fn effects_and_records_are_copied(rt: HostRuntime) -> Result<(), Fail> {
+    let alloc = rt.alloc();
+    assert!(rt; is_effect_copied(&rt, alloc)?, "an effect");
+    assert!(rt; is_record_copied(alloc)?, "a record");
     Ok(())
 }
+
+/// An effect that adds paths of LSP IDs 2 to 9.
+fn effect_of_eight_paths(rt: &impl Abort, alloc: Global) -> Result<Effect, AllocError> {
+    let mut added = Vec::new(alloc);
+    for lsp in 2..10 {
+        added.push(path(rt, alloc, lsp, 1, 1)?)?;
+    }
+    Ok(Effect::new(Vec::new(alloc), added, Vec::new(alloc), false))
+}
+
+/// Makes room for eight more paths if there is memory. One path and one record stand in any case.
+fn reserve_for_eight(rt: &impl Abort, alloc: Global, base: &mut LspBase) -> Result<(), AllocError> {
+    let effect = effect_of_eight_paths(rt, alloc)?;
+    let reserved = base.reserve(&effect);
+    assert_eq!(rt; base.paths().len(), 1);
+    assert_eq!(rt; base.records().len(), 1);
+    reserved
+}
+
+static ONE_LSP: [Known; 1] = [Known {
+    lsp: 1,
+    tunnel: 1,
+    bandwidth: 1,
+    name: b"one",
+}];
 
 /// A `reserve` that finds no memory leaves paths and records as they were.
 #[test]
 fn reserve_may_find_no_memory(rt: HostRuntime) -> Result<(), Fail> {
     let alloc = rt.alloc();
-    let mut base = LspBase::new(alloc);
-    add(
-        &rt,
-        alloc,
-        &mut base,
-        path(&rt, alloc, 1, 1, 1)?,
-        lsp(alloc, b"one")?,
-    )?;
-    let mut added = Vec::new(alloc);
-    for lsp in 2..10 {
-        added.push(path(&rt, alloc, lsp, 1, 1)?)?;
-    }
-    let effect = Effect::new(Vec::new(alloc), added, Vec::new(alloc), false);
-    let reserved = base.reserve(&effect);
-    assert_eq!(rt; base.paths().len(), 1);
-    assert_eq!(rt; base.records().len(), 1);
-    reserved?;
+    let mut base = base_of(&rt, alloc, ONE_LSP.as_slice())?;
+    reserve_for_eight(&rt, alloc, &mut base)?;
     Ok(())
 }
 
@@ -370,28 +494,66 @@ fn is_found(alloc: Global, base: &LspBase, plain: &[Plain], plsp: u16) -> Result
     )
 }
 
+/// A random effect, on the base and on the plain list.
+fn change_both(
+    rt: &impl Abort,
+    alloc: Global,
+    base: &mut LspBase,
+    plain: &mut Vec<Plain>,
+    seed: &mut u32,
+) -> Result<(), AllocError> {
+    let plsp = (1 + draw(seed) % 8) as u16;
+    let lsp_id = (1 + draw(seed) % 6) as u16;
+    if draw(seed) % 4 == 0 {
+        return drop_lsp_id(alloc, base, plain, lsp_id);
+    }
+    let known = Known {
+        lsp: lsp_id,
+        tunnel: plsp,
+        bandwidth: 1,
+        name: b"any",
+    };
+    know(rt, alloc, base, known)?;
+    plain.push(Plain { plsp, lsp: lsp_id })?;
+    Ok(())
+}
+
+/// The base has the paths of the plain list, and finds those of each LSP.
+fn compare(
+    rt: &impl Abort,
+    alloc: Global,
+    base: &LspBase,
+    plain: &[Plain],
+) -> Result<(), AllocError> {
+    assert!(rt; are_same(base.paths(), plain), "all paths");
+    for plsp in 1..9 {
+        assert!(rt; is_found(alloc, base, plain, plsp)?, "an LSP's");
+    }
+    Ok(())
+}
+
+/// A thousand random effects, each compared.
+fn change_at_random(
+    rt: &impl Abort,
+    alloc: Global,
+    base: &mut LspBase,
+    plain: &mut Vec<Plain>,
+) -> Result<(), AllocError> {
+    let mut seed = 1;
+    for _ in 0..1000 {
+        change_both(rt, alloc, base, plain, &mut seed)?;
+        compare(rt, alloc, base, plain.as_slice())?;
+    }
+    Ok(())
+}
+
 /// A thousand random effects, on the base and on a plain list.
 #[test]
 fn paths_and_records_are_those_of_a_plain_list(rt: HostRuntime) -> Result<(), Fail> {
     let alloc = rt.alloc();
     let mut base = LspBase::new(alloc);
     let mut plain = Vec::new(alloc);
-    let mut seed = 1;
-    for _ in 0..1000 {
-        let plsp = (1 + draw(&mut seed) % 8) as u16;
-        let lsp_id = (1 + draw(&mut seed) % 6) as u16;
-        if draw(&mut seed) % 4 == 0 {
-            drop_lsp_id(alloc, &mut base, &mut plain, lsp_id)?;
-        } else {
-            let known = path(&rt, alloc, lsp_id, plsp, 1)?;
-            add(&rt, alloc, &mut base, known, lsp(alloc, b"any")?)?;
-            plain.push(Plain { plsp, lsp: lsp_id })?;
-        }
-        assert!(rt; are_same(base.paths(), plain.as_slice()), "all paths");
-        for plsp in 1..9 {
-            assert!(rt; is_found(alloc, &base, plain.as_slice(), plsp)?, "an LSP's");
-        }
-    }
+    change_at_random(&rt, alloc, &mut base, &mut plain)?;
     Ok(())
 }
 
@@ -412,35 +574,62 @@ fn is_numbered(table: &RecordTable, plsp: Plsp) -> bool {
     }
 }
 
+/// Sets 66,000 records.
+fn numbered_records(alloc: Global) -> Result<Vec<RecordChange>, AllocError> {
+    let mut changes = Vec::new(alloc);
+    for number in 0..66_000 {
+        changes.push(numbered(alloc, Plsp::new(number))?)?;
+    }
+    Ok(changes)
+}
+
+/// Takes the record of PLSP-ID 30,000 away.
+fn one_taken(alloc: Global) -> Result<Vec<RecordChange>, AllocError> {
+    let gone = RecordChange {
+        plsp: Plsp::new(30_000),
+        lsp: None,
+    };
+    Ok(vec![in alloc; gone]?)
+}
+
+/// Makes the room and changes the records.
+fn set_all(table: &mut RecordTable, changes: Vec<RecordChange>) -> Result<(), AllocError> {
+    table.reserve(changes.len())?;
+    table.set_all(1, changes);
+    Ok(())
+}
+
+/// Whether the last thousand are found.
+fn are_last_numbered(table: &RecordTable) -> bool {
+    for number in 65_000..66_000 {
+        if !is_numbered(table, Plsp::new(number)) {
+            return false;
+        }
+    }
+    true
+}
+
+/// 66,000 records come, and one goes.
+fn change_many(rt: &impl Abort, alloc: Global, table: &mut RecordTable) -> Result<(), AllocError> {
+    set_all(table, numbered_records(alloc)?)?;
+    assert_eq!(rt; table.as_slice().len(), 66_000);
+    assert!(rt; are_last_numbered(table), "one of the last");
+    // the last record takes the place of the one that goes
+    set_all(table, one_taken(alloc)?)?;
+    assert!(rt; table.lsp(1, Plsp::new(30_000)).is_none());
+    assert!(rt;
+        are_last_numbered(table),
+        "one of the last, after the removal"
+    );
+    assert!(rt; is_numbered(table, Plsp::new(30_001)));
+    Ok(())
+}
+
 /// More records than 16 bits can count. They are found, though their chains lose hints.
 #[test]
 fn records_past_16_bits_are_found(rt: HostRuntime) -> Result<(), Fail> {
     let alloc = rt.alloc();
     let mut table = RecordTable::new(alloc);
-    let mut changes = Vec::new(alloc);
-    for number in 0..66_000 {
-        changes.push(numbered(alloc, Plsp::new(number))?)?;
-    }
-    table.reserve(changes.len())?;
-    table.set_all(1, changes);
-    assert_eq!(rt; table.as_slice().len(), 66_000);
-    for number in 65_000..66_000 {
-        assert!(rt; is_numbered(&table, Plsp::new(number)), "one of the last");
-    }
-    // the last record takes the place of the one that goes
-    let gone = RecordChange {
-        plsp: Plsp::new(30_000),
-        lsp: None,
-    };
-    table.reserve(1)?;
-    table.set_all(1, vec![in alloc; gone]?);
-    assert!(rt; table.lsp(1, Plsp::new(30_000)).is_none());
-    for number in 65_000..66_000 {
-        assert!(rt;
-            is_numbered(&table, Plsp::new(number)),
-            "one of the last, after the removal"
-        );
-    }
-    assert!(rt; is_numbered(&table, Plsp::new(30_001)));
+    change_many(&rt, alloc, &mut table)?;
     Ok(())
 }
