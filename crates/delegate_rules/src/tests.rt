@@ -30,6 +30,32 @@ fn diamond(rt: &impl Abort, alloc: Global) -> TeBase {
     }
 }
 
+/// The tunnel from A to D, with this LSP ID.
+fn identifiers(lsp: u16) -> Identifiers {
+    Identifiers {
+        sender: Ipv4(0x0a00_0001),
+        lsp,
+        tunnel: 1,
+        extended: 0x0a00_0001,
+        endpoint: Ipv4(0x0a00_0004),
+    }
+}
+
+/// The route from A by way of B to D.
+fn route(alloc: Global) -> Result<Sequence<Hop>, AllocError> {
+    let hops = vec![in alloc;
+        Hop::Host(Ipv4(0x0a01_0002), false),
+        Hop::Host(Ipv4(0x0a02_0002), false),
+    ]?;
+    Ok(Sequence::from_vec(hops))
+}
+
+const NO_COLOURS: Colours = Colours {
+    exclude_any: 0,
+    include_any: 0,
+    include_all: 0,
+};
+
 /// A report of LSP 1, from A by way of B to D.
 fn report(
     rt: &impl Abort,
@@ -38,9 +64,9 @@ fn report(
     bandwidth: u64,
 ) -> Result<StateReport, AllocError> {
     let bandwidth = Bandwidth::at_least(bandwidth).expect(rt, "a bandwidth");
-    let mut ero = Vec::new(alloc);
-    ero.push(Hop::Host(Ipv4(0x0a01_0002), false))?;
-    ero.push(Hop::Host(Ipv4(0x0a02_0002), false))?;
+    let priorities = Priorities::new(Priority::capped(7), Priority::capped(0));
+    let name = Sequence::from_vec(Vec::from_slice(alloc, b"lsp1")?);
+    let ero = route(alloc)?;
     Ok(StateReport {
         srp: None,
         plsp: Plsp::new(1),
@@ -50,23 +76,13 @@ fn report(
         admin: true,
         operational: Operational::Up,
         created: false,
-        name: Some(Sequence::from_vec(Vec::from_slice(alloc, b"lsp1")?)),
-        identifiers: Some(Identifiers {
-            sender: Ipv4(0x0a00_0001),
-            lsp,
-            tunnel: 1,
-            extended: 0x0a00_0001,
-            endpoint: Ipv4(0x0a00_0004),
-        }),
-        ero: Sequence::from_vec(ero),
+        name: Some(name),
+        identifiers: Some(identifiers(lsp)),
+        ero,
         rro: None,
         bandwidth,
-        priorities: Priorities::new(Priority::capped(7), Priority::capped(0)),
-        colours: Colours {
-            exclude_any: 0,
-            include_any: 0,
-            include_all: 0,
-        },
+        priorities,
+        colours: NO_COLOURS,
     })
 }
 
@@ -99,40 +115,96 @@ fn stand(base: &LspBase, paths: &[(u16, u64)]) -> bool {
     true
 }
 
+/// Books a path of the LSP.
+fn book_path(
+    rt: &impl Abort,
+    alloc: Global,
+    te: &TeBase,
+    base: &mut LspBase,
+    lsp: u16,
+    bandwidth: u64,
+) -> Result<(), RuleFault> {
+    book(base, te, alloc, &report(rt, alloc, lsp, bandwidth)?)
+}
+
+/// Books the removal of a path of the LSP, or of the LSP.
+fn book_removal(
+    rt: &impl Abort,
+    alloc: Global,
+    te: &TeBase,
+    base: &mut LspBase,
+    lsp: Option<u16>,
+) -> Result<(), RuleFault> {
+    let mut removal = report(rt, alloc, 1, 0)?;
+    removal.remove = true;
+    removal.identifiers = lsp.map(identifiers);
+    book(base, te, alloc, &removal)
+}
+
 /// Make-before-break, then the removal of the first path, and of all that is left.
+fn book_in_turn(
+    rt: &impl Abort,
+    alloc: Global,
+    te: &TeBase,
+    base: &mut LspBase,
+) -> Result<(), RuleFault> {
+    book_path(rt, alloc, te, base, 1, 500_000)?;
+    assert!(rt; stand(base, &[(1, 500_000)]));
+    book_path(rt, alloc, te, base, 2, 250_000)?;
+    assert!(rt; stand(base, &[(1, 500_000), (2, 250_000)]));
+    book_removal(rt, alloc, te, base, Some(1))?;
+    assert!(rt; stand(base, &[(2, 250_000)]));
+    book_removal(rt, alloc, te, base, None)?;
+    assert!(rt; stand(base, &[]));
+    assert!(rt; base.lsp(1, Plsp::new(1)).is_none());
+    Ok(())
+}
+
+/// Books on this network, of which nothing was reported before.
+fn book_on(rt: &impl Abort, alloc: Global, te: &TeBase) -> Result<(), RuleFault> {
+    let mut base = LspBase::new(alloc);
+    book_in_turn(rt, alloc, te, &mut base)
+}
+
 #[test]
 fn reports_are_booked(rt: HostRuntime) -> Result<(), Fail> {
-    let alloc = rt.alloc();
-    let te = diamond(&rt, alloc);
-    let mut base = LspBase::new(alloc);
-    book(&mut base, &te, alloc, &report(&rt, alloc, 1, 500_000)?)?;
-    assert!(rt; stand(&base, &[(1, 500_000)]));
-    book(&mut base, &te, alloc, &report(&rt, alloc, 2, 250_000)?)?;
-    assert!(rt; stand(&base, &[(1, 500_000), (2, 250_000)]));
+    let te = diamond(&rt, rt.alloc());
+    book_on(&rt, rt.alloc(), &te)?;
+    Ok(())
+}
 
-    let mut removal = report(&rt, alloc, 1, 0)?;
-    removal.remove = true;
-    book(&mut base, &te, alloc, &removal)?;
-    assert!(rt; stand(&base, &[(2, 250_000)]));
-    removal.identifiers = None;
-    book(&mut base, &te, alloc, &removal)?;
-    assert!(rt; stand(&base, &[]));
-    assert!(rt; base.lsp(1, Plsp::new(1)).is_none());
+/// Whether the report is refused as a bad one, where nothing was reported before.
+fn is_bad(alloc: Global, te: &TeBase, report: &StateReport) -> bool {
+    let base = LspBase::new(alloc);
+    match on_report(alloc, &base, te, 1, report) {
+        Err(RuleFault::Why(why)) => why == Why::BadReport,
+        _ => false,
+    }
+}
+
+/// Whether a report of this PLSP-ID is refused as a bad one.
+fn is_reserved(
+    rt: &impl Abort,
+    alloc: Global,
+    te: &TeBase,
+    plsp: Plsp,
+) -> Result<bool, AllocError> {
+    let mut bad = report(rt, alloc, 1, 500_000)?;
+    bad.plsp = plsp;
+    Ok(is_bad(alloc, te, &bad))
+}
+
+/// Reports LSPs of the numbers that no LSP has.
+fn report_reserved(rt: &impl Abort, alloc: Global, te: &TeBase) -> Result<(), AllocError> {
+    for plsp in [Plsp::new(0), Plsp::new(0xf_ffff)] {
+        assert!(rt; is_reserved(rt, alloc, te, plsp)?, "{plsp:?}");
+    }
     Ok(())
 }
 
 #[test]
 fn reserved_plsp_id_is_refused(rt: HostRuntime) -> Result<(), Fail> {
-    let alloc = rt.alloc();
-    let te = diamond(&rt, alloc);
-    let base = LspBase::new(alloc);
-    for number in [0, 0xf_ffff] {
-        let mut bad = report(&rt, alloc, 1, 500_000)?;
-        bad.plsp = Plsp::new(number);
-        match on_report(alloc, &base, &te, 1, &bad) {
-            Err(RuleFault::Why(why)) => assert_eq!(rt; why, Why::BadReport),
-            _ => panic!(rt; "PLSP-ID {number}"),
-        }
-    }
+    let te = diamond(&rt, rt.alloc());
+    report_reserved(&rt, rt.alloc(), &te)?;
     Ok(())
 }

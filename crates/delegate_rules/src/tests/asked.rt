@@ -5,30 +5,31 @@ use super::*;
 use lsp_base::{Constraints, Effect, Lsp, OtherBounds, PATH_LIMIT, Path, RecordChange, Tunnel};
 use pcep_objects::MetricType;
 
+/// Nothing is asked of a path.
+fn no_constraints() -> Constraints {
+    Constraints {
+        source: None,
+        destination: None,
+        bandwidth: Bandwidth::zero(),
+        priorities: Priorities::new(Priority::capped(7), Priority::capped(7)),
+        colours: NO_COLOURS,
+        minimise: MetricType::Te,
+        bound: None,
+        hop_bound: None,
+        other_bounds: OtherBounds {
+            igp: None,
+            te: None,
+        },
+    }
+}
+
 /// LSP 5 of peer 1.
 fn lsp(alloc: Global, delegated: bool, removing: Option<u32>) -> Lsp {
     Lsp {
         name: Sequence::from_vec(Vec::new(alloc)),
         delegated,
         created: true,
-        constraints: Constraints {
-            source: None,
-            destination: None,
-            bandwidth: Bandwidth::zero(),
-            priorities: Priorities::new(Priority::capped(7), Priority::capped(7)),
-            colours: Colours {
-                exclude_any: 0,
-                include_any: 0,
-                include_all: 0,
-            },
-            minimise: MetricType::Te,
-            bound: None,
-            hop_bound: None,
-            other_bounds: OtherBounds {
-                igp: None,
-                te: None,
-            },
-        },
+        constraints: no_constraints(),
         tunnel: Tunnel::Unsignalled {
             peer: 1,
             plsp: Plsp::new(5),
@@ -61,14 +62,14 @@ fn know(
     delegated: bool,
     removing: Option<u32>,
 ) -> Result<(), AllocError> {
-    let mut records = Vec::new(alloc);
-    records.push(RecordChange {
+    assert!(rt; base.paths().len() < PATH_LIMIT);
+    let known = RecordChange {
         plsp: Plsp::new(5),
         lsp: Some(lsp(alloc, delegated, removing)),
-    })?;
+    };
+    let records = vec![in alloc; known]?;
     let effect = Effect::new(Vec::new(alloc), Vec::new(alloc), records, false);
     base.reserve(&effect)?;
-    assert!(rt; base.paths().len() < PATH_LIMIT);
     base.change(1, effect);
     Ok(())
 }
@@ -83,11 +84,10 @@ fn add(
 ) -> Result<(), AllocError>
     requires { plsp < 2 ^ 20 }
 {
-    let mut added = Vec::new(alloc);
-    added.push(path(alloc, plsp, part))?;
+    assert!(rt; base.paths().len() < PATH_LIMIT);
+    let added = vec![in alloc; path(alloc, plsp, part)]?;
     let effect = Effect::new(Vec::new(alloc), added, Vec::new(alloc), false);
     base.reserve(&effect)?;
-    assert!(rt; base.paths().len() < PATH_LIMIT);
     base.change(1, effect);
     Ok(())
 }
@@ -124,22 +124,50 @@ fn is_refused(alloc: Global, base: &mut LspBase, peer: u32, why: Why) -> bool {
     }
 }
 
+/// The LSP is given back where it may be, and refused for the first reason where it may not.
+fn give_back_in_turn(rt: &impl Abort, alloc: Global, base: &mut LspBase) -> Result<(), RuleFault> {
+    assert!(rt; is_refused(alloc, base, 1, Why::UnknownLsp));
+    know(rt, alloc, base, false, Some(3))?;
+    assert!(rt; is_refused(alloc, base, 1, Why::NotDelegated));
+    know(rt, alloc, base, true, Some(3))?;
+    assert!(rt; is_refused(alloc, base, 1, Why::Pending), "a removal");
+    know(rt, alloc, base, true, None)?;
+    assert!(rt; is_refused(alloc, base, 2, Why::UnknownLsp));
+    give_back(alloc, base, 1)?;
+    assert!(rt; is_refused(alloc, base, 1, Why::NotDelegated), "again");
+    know(rt, alloc, base, true, None)?;
+    add(rt, alloc, base, 5, Part::Granted(7))?;
+    assert!(rt; is_refused(alloc, base, 1, Why::Pending), "a grant");
+    Ok(())
+}
+
 #[test]
 fn lsps_are_given_back(rt: HostRuntime) -> Result<(), Fail> {
     let alloc = rt.alloc();
     let mut base = LspBase::new(alloc);
-    assert!(rt; is_refused(alloc, &mut base, 1, Why::UnknownLsp));
-    know(&rt, alloc, &mut base, false, Some(3))?;
-    assert!(rt; is_refused(alloc, &mut base, 1, Why::NotDelegated));
-    know(&rt, alloc, &mut base, true, Some(3))?;
-    assert!(rt; is_refused(alloc, &mut base, 1, Why::Pending), "a removal");
-    know(&rt, alloc, &mut base, true, None)?;
-    assert!(rt; is_refused(alloc, &mut base, 2, Why::UnknownLsp));
-    give_back(alloc, &mut base, 1)?;
-    assert!(rt; is_refused(alloc, &mut base, 1, Why::NotDelegated), "again");
-    know(&rt, alloc, &mut base, true, None)?;
-    add(&rt, alloc, &mut base, 5, Part::Granted(7))?;
-    assert!(rt; is_refused(alloc, &mut base, 1, Why::Pending), "a grant");
+    give_back_in_turn(&rt, alloc, &mut base)?;
+    Ok(())
+}
+
+/// A removal with SRP-ID 3 is awaited, and there are grants with SRP-ID 7, bound, and 8, not bound.
+fn ask(rt: &impl Abort, alloc: Global, base: &mut LspBase) -> Result<(), AllocError> {
+    know(rt, alloc, base, true, Some(3))?;
+    add(rt, alloc, base, 5, Part::Granted(7))?;
+    add(rt, alloc, base, 0, Part::Granted(8))
+}
+
+/// Refuses what was asked for, after requests that weren't.
+fn refuse_in_turn(rt: &impl Abort, alloc: Global, base: &mut LspBase) -> Result<(), AllocError> {
+    refuse(alloc, base, 2, 7)?;
+    refuse(alloc, base, 2, 3)?;
+    refuse(alloc, base, 1, 9)?;
+    assert!(rt; stands(base, 2, true), "another's, and an unknown number");
+    refuse(alloc, base, 1, 3)?;
+    assert!(rt; stands(base, 2, false), "a removal");
+    refuse(alloc, base, 1, 8)?;
+    assert!(rt; stands(base, 1, false), "a grant that isn't bound");
+    refuse(alloc, base, 1, 7)?;
+    assert!(rt; base.paths().is_empty() && base.lsp(1, Plsp::new(5)).is_none());
     Ok(())
 }
 
@@ -148,18 +176,7 @@ fn lsps_are_given_back(rt: HostRuntime) -> Result<(), Fail> {
 fn refused_requests_are_over(rt: HostRuntime) -> Result<(), Fail> {
     let alloc = rt.alloc();
     let mut base = LspBase::new(alloc);
-    know(&rt, alloc, &mut base, true, Some(3))?;
-    add(&rt, alloc, &mut base, 5, Part::Granted(7))?;
-    add(&rt, alloc, &mut base, 0, Part::Granted(8))?;
-    refuse(alloc, &mut base, 2, 7)?;
-    refuse(alloc, &mut base, 2, 3)?;
-    refuse(alloc, &mut base, 1, 9)?;
-    assert!(rt; stands(&base, 2, true), "another's, and an unknown number");
-    refuse(alloc, &mut base, 1, 3)?;
-    assert!(rt; stands(&base, 2, false), "a removal");
-    refuse(alloc, &mut base, 1, 8)?;
-    assert!(rt; stands(&base, 1, false), "a grant that isn't bound");
-    refuse(alloc, &mut base, 1, 7)?;
-    assert!(rt; base.paths().is_empty() && base.lsp(1, Plsp::new(5)).is_none());
+    ask(&rt, alloc, &mut base)?;
+    refuse_in_turn(&rt, alloc, &mut base)?;
     Ok(())
 }
