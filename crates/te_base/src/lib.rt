@@ -39,6 +39,3 @@ pub use base::TeBase;
 pub use fault::TeFault;
 pub use name::Name;
 pub use network::{Link, LinkNumber, Node, NodeNumber, Owner};
-
-#[cfg(test)]
-mod tests;
