@@ -8,7 +8,7 @@ ghost use Rattle.pce_engine.specs.declared.script.Turn.TheVariants.{More};
 ghost use Rattle.pce_engine.specs.Script.{ending};
 ghost use Rattle.pce_engine.specs.Runs.{Chunk, Turns, Reaches};
 ghost use Rattle.pce_engine.specs.Ends.{EndsAs, Closes, ClosesAt};
-ghost use Rattle.pce_engine.specs.Machine.{Takes, Feeds, stage_of};
+ghost use Rattle.pce_engine.specs.Machine.{Takes, Feeds, stage_of, started};
 ghost use Rattle.pce_engine.specs.MachineOf.{machine_of};
 
 use crate::fault::ScriptFault;
@@ -179,7 +179,30 @@ fn take_piece<R: Read, W: Write>(
     }
 }
 
-/// Takes the input piece by piece, and writes what it prints.
+/// Takes the input piece by piece, and writes what it prints, from the start of a script on.
+fn take_pieces<R: Read, W: Write>(
+    alloc: Global,
+    reader: &mut R,
+    piece: &mut [u8; 4096],
+    script: &mut Script,
+    writer: &mut W,
+) -> Result<Input, ScriptFault>
+    requires started { machine_of script.old ≡ started }
+    requires number { script.old.stage.number ≡ 1 }
+    ensures { (input : List ℕ) → R.remaining reader.old ≡ Some input
+        → Reaches result (W.contents writer.old) (W.contents writer.new) (R.remaining reader.new) input }
+{
+    for _ in 0..MAX_TURNS {
+        match take_piece(alloc, reader, piece, script, writer) {
+            Err(fault) => return Err(fault),
+            Ok(Turn::Finished) => return Ok(Input::Ended),
+            Ok(Turn::More) => {}
+        }
+    }
+    Ok(Input::Endless)
+}
+
+/// Takes the whole input, and writes what it prints.
 fn take_input<R: Read, W: Write>(
     alloc: Global,
     reader: &mut R,
@@ -197,14 +220,7 @@ fn take_input<R: Read, W: Write>(
         pending: Vec::new(alloc),
     };
     let mut piece = [0u8; 4096];
-    for _ in 0..MAX_TURNS {
-        match take_piece(alloc, reader, &mut piece, &mut script, writer) {
-            Err(fault) => return Err(fault),
-            Ok(Turn::Finished) => return Ok(Input::Ended),
-            Ok(Turn::More) => {}
-        }
-    }
-    Ok(Input::Endless)
+    take_pieces(alloc, reader, &mut piece, &mut script, writer)
 }
 
 /// Reads a link text, a line `---` and lines, and writes what they print (docs/FORMAT.md has them all).

@@ -1,7 +1,7 @@
 use Rattle.std.proofs.Common.{◌≡◌, ℕ, ◌+◌, ◌*◌, ◌≤◌, List, Some}
 use Rattle.pce_engine.specs.MachineOf.{machine_of}
 use Rattle.pce_engine.specs.Runs.{Reading}
-use Rattle.pce_engine.proofs.script.take_input.Given as goal
+use Rattle.pce_engine.proofs.script.take_pieces.Given as goal
 
 abbrev pub invariant-loop : goal.invariant-loop
 invariant-loop g l = record {

@@ -3,12 +3,12 @@ use Rattle.std.proofs.lemmas.Grind.{common_steps}
 use Rattle.pce_engine.specs.MachineOf.{machine_of}
 use Rattle.pce_engine.proofs.Runs.{read_none, reads_on}
 use Rattle.pce_engine.proofs.Turning.{turns_on, turns_out, turns_bad}
-use Rattle.pce_engine.proofs.script.take_input.Goals as goal
+use Rattle.pce_engine.proofs.script.take_pieces.Goals as goal
 
 pub loop-init : goal.loop-init
 loop-init g c = record {
-  reading = λ input known. read_none input (g.R.Read.remaining c.args.reader.now) (g.W.Write.contents c.args.writer.now) _ (rw (c.new.ensures.items, c.new-2.ensures.items) refl) known;
-  number = omega arith;
+  reading = λ input known. read_none input (g.R.Read.remaining c.args.reader.now) (g.W.Write.contents c.args.writer.now) _ c.requires.started known;
+  number = rw c.requires.number (omega arith);
 }
 
 pub returns-in-Err : goal.returns-in-Err
