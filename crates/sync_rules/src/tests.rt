@@ -42,6 +42,43 @@ fn ended(rt: &impl Abort, alloc: Global) -> Result<LspBase, AllocError> {
     Ok(base)
 }
 
+/// How many paths the end of the synchronization drops.
+fn dropped_by_marker(alloc: Global, base: &LspBase, peer: u32) -> Result<usize, AllocError> {
+    Ok(
+        on_marker(alloc, base, peer)?
+            .change
+            .dropped
+            .as_slice()
+            .len(),
+    )
+}
+
+/// How many paths a new session drops.
+fn dropped_by_up(
+    alloc: Global,
+    base: &LspBase,
+    capabilities: Option<Capabilities>,
+) -> Result<usize, AllocError> {
+    Ok(
+        on_up(alloc, base, 1, capabilities)?
+            .change
+            .dropped
+            .as_slice()
+            .len(),
+    )
+}
+
+/// How many paths the end of the waiting time drops.
+fn dropped_by_expire(alloc: Global, base: &LspBase, peer: u32) -> Result<usize, AllocError> {
+    Ok(
+        on_expire(alloc, base, peer)?
+            .change
+            .dropped
+            .as_slice()
+            .len(),
+    )
+}
+
 #[test]
 fn stale_paths_go_in_their_time(rt: HostRuntime) -> Result<(), Fail> {
     let alloc = rt.alloc();
@@ -50,15 +87,10 @@ fn stale_paths_go_in_their_time(rt: HostRuntime) -> Result<(), Fail> {
         create: true,
     };
     let base = ended(&rt, alloc)?;
-    let up = on_up(alloc, &base, 1, Some(capabilities))?;
-    assert_eq!(rt; up.change.dropped.as_slice().len(), 0);
-    let marker = on_marker(alloc, &base, 1)?;
-    assert_eq!(rt; marker.change.dropped.as_slice().len(), 1);
-    let other = on_marker(alloc, &base, 2)?;
-    assert_eq!(rt; other.change.dropped.as_slice().len(), 0);
-    let without = on_up(alloc, &base, 1, None)?;
-    assert_eq!(rt; without.change.dropped.as_slice().len(), 1);
-    let expired = on_expire(alloc, &base, 2)?;
-    assert_eq!(rt; expired.change.dropped.as_slice().len(), 1);
+    assert_eq!(rt; dropped_by_up(alloc, &base, Some(capabilities))?, 0);
+    assert_eq!(rt; dropped_by_marker(alloc, &base, 1)?, 1);
+    assert_eq!(rt; dropped_by_marker(alloc, &base, 2)?, 0);
+    assert_eq!(rt; dropped_by_up(alloc, &base, None)?, 1);
+    assert_eq!(rt; dropped_by_expire(alloc, &base, 2)?, 1);
     Ok(())
 }
