@@ -51,12 +51,20 @@ fn letter(input: &Input) -> u8 {
     }
 }
 
+/// The letter of the next input.
+fn next_letter(session: &mut Session) -> Result<Option<u8>, SessionFault> {
+    let Some(input) = session.next()? else {
+        return Ok(None);
+    };
+    Ok(Some(letter(&input)))
+}
+
 /// All inputs to None, a letter each.
 fn inputs(rt: &HostRuntime, session: &mut Session) -> Result<Vec<u8>, Fail> {
     let mut letters = Vec::new(rt.alloc());
     for _ in 0..100 {
-        match session.next()? {
-            Some(input) => letters.push(letter(&input))?,
+        match next_letter(session)? {
+            Some(letter) => letters.push(letter)?,
             None => {
                 check(!session.has_input(), "no input, but more to come")?;
                 return Ok(letters);
@@ -80,25 +88,93 @@ fn expect(
     check(found.as_slice() == expected.as_slice(), "output")
 }
 
-/// Feeds bytes; the session gives these inputs, a letter each, and this output.
-fn exchange(
-    rt: &HostRuntime,
-    session: &mut Session,
-    text: &str,
-    letters: &str,
-    output: &str,
-) -> Result<(), Fail> {
+/// Feeds bytes.
+fn feed(rt: &HostRuntime, session: &mut Session, text: &str) -> Result<(), Fail> {
     let bytes = bytes_of(rt, text)?;
     session.feed(bytes.as_slice(), 0)?;
-    expect(rt, session, letters, output)
+    Ok(())
 }
+
+/// Feeds byte by byte; before each byte the session gives no input and no output.
+fn feed_by_bytes(rt: &HostRuntime, session: &mut Session, text: &str) -> Result<(), Fail> {
+    let bytes = bytes_of(rt, text)?;
+    for byte in bytes.as_slice() {
+        expect(rt, session, "", "")?;
+        session.feed(&[*byte], 0)?;
+    }
+    Ok(())
+}
+
+/// What is done with a session, or seen of it.
+#[derive(Clone, Copy)]
+enum Step {
+    /// These bytes come.
+    Feed(&'static str),
+    /// These bytes come one by one.
+    FeedByBytes(&'static str),
+    /// This moment comes.
+    Tick(u64),
+    /// The session is ended, with this error and this reason.
+    End(Option<PcError>, Option<u8>),
+    /// The session gives these inputs, a letter each, and this output.
+    Expect(&'static str, &'static str),
+    /// The session is in this state.
+    Is(State),
+}
+
+fn take_step(rt: &HostRuntime, session: &mut Session, step: Step) -> Result<(), Fail> {
+    match step {
+        Step::Feed(text) => feed(rt, session, text),
+        Step::FeedByBytes(text) => feed_by_bytes(rt, session, text),
+        Step::Tick(now_ms) => {
+            session.tick(now_ms);
+            Ok(())
+        }
+        Step::End(error, reason) => Ok(session.end(error, reason)?),
+        Step::Expect(letters, output) => expect(rt, session, letters, output),
+        Step::Is(state) => check(session.state() == state, "state"),
+    }
+}
+
+fn take_steps(rt: &HostRuntime, session: &mut Session, steps: &[Step]) -> Result<(), Fail> {
+    for step in steps {
+        take_step(rt, session, *step)?;
+    }
+    Ok(())
+}
+
+/// A session that begins at this moment.
+fn begun_at(rt: &HostRuntime, now_ms: u64) -> Result<Session, Fail> {
+    Ok(Session::new(rt.alloc(), now_ms)?)
+}
+
+/// A session that begins at this moment takes these steps.
+fn once_begun(rt: &HostRuntime, now_ms: u64, steps: &[Step]) -> Result<(), Fail> {
+    let mut session = begun_at(rt, now_ms)?;
+    take_steps(rt, &mut session, steps)
+}
+
+/// The peer's Open and Keepalive are handled.
+static COMES_UP: [Step; 8] = [
+    Step::Is(State::OpenWait),
+    Step::Expect("", OPEN),
+    Step::Feed(OPEN),
+    Step::Expect("H", KEEPALIVE),
+    Step::Is(State::KeepWait),
+    Step::Feed(KEEPALIVE),
+    Step::Expect("U", ""),
+    Step::Is(State::Up),
+];
 
 /// A session that came up at moment 0, with empty output.
 fn up(rt: &HostRuntime) -> Result<Session, Fail> {
-    let mut session = Session::new(rt.alloc(), 0)?;
-    expect(rt, &mut session, "", OPEN)?;
-    exchange(rt, &mut session, OPEN, "H", KEEPALIVE)?;
-    exchange(rt, &mut session, KEEPALIVE, "U", "")?;
-    check(session.state() == State::Up, "state")?;
+    let mut session = begun_at(rt, 0)?;
+    take_steps(rt, &mut session, &COMES_UP)?;
     Ok(session)
+}
+
+/// A session that came up at moment 0 takes these steps.
+fn once_up(rt: &HostRuntime, steps: &[Step]) -> Result<(), Fail> {
+    let mut session = up(rt)?;
+    take_steps(rt, &mut session, steps)
 }

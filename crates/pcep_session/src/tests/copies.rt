@@ -5,11 +5,19 @@ use super::*;
 const REMOVAL: &str =
     "200a0024 2010001c 00001004 00120010 0a000001 00010001 0a000001 0a000004 07100004";
 
+fn printed(rt: &HostRuntime, input: &Input) -> Result<String, Fail> {
+    Ok(format!(in rt.alloc(); "{input:?}")?)
+}
+
+fn printed_copy(rt: &HostRuntime, input: &Input) -> Result<String, Fail> {
+    let copy = input.copy()?;
+    printed(rt, &copy)
+}
+
 /// Whether a copy of the input prints as the input does.
 fn is_copied(rt: &HostRuntime, input: &Input) -> Result<bool, Fail> {
-    let copy = input.copy()?;
-    let copied = format!(in rt.alloc(); "{copy:?}")?;
-    let printed = format!(in rt.alloc(); "{input:?}")?;
+    let copied = printed_copy(rt, input)?;
+    let printed = printed(rt, input)?;
     Ok(copied.as_str() == printed.as_str())
 }
 
@@ -22,16 +30,20 @@ fn copied(rt: &HostRuntime, session: &mut Session, expected: u8) -> Result<(), F
     check(is_copied(rt, &input)?, "copy")
 }
 
-#[test]
-fn inputs_are_copied(rt: HostRuntime) -> Result<(), Fail> {
-    let mut session = Session::new(rt.alloc(), 0)?;
+/// The inputs from the begin of a session to its end, and their copies.
+fn all_copied(rt: &HostRuntime, session: &mut Session) -> Result<(), Fail> {
     for (text, expected) in [(OPEN, b'H'), (KEEPALIVE, b'U'), (REMOVAL, b'M')] {
-        let bytes = bytes_of(&rt, text)?;
-        session.feed(bytes.as_slice(), 0)?;
-        copied(&rt, &mut session, expected)?;
+        feed(rt, session, text)?;
+        copied(rt, session, expected)?;
     }
     session.end(None, None)?;
-    copied(&rt, &mut session, b'D')
+    copied(rt, session, b'D')
+}
+
+#[test]
+fn inputs_are_copied(rt: HostRuntime) -> Result<(), Fail> {
+    let mut session = begun_at(&rt, 0)?;
+    all_copied(&rt, &mut session)
 }
 
 #[test]

@@ -45,8 +45,7 @@ fn perform(rt: &impl Abort, session: &mut Session, call: Call) -> Result<(), Ses
     match call {
         Call::Feed(bytes) => session.feed(bytes, 0),
         Call::Next(expected) => {
-            let found = session.next()?.map_or(0, |input| letter(&input));
-            assert_eq!(rt; found, expected);
+            assert_eq!(rt; next_letter(session)?, Some(expected));
             Ok(())
         }
         Call::Send => session.send(&Message::Keepalive),
