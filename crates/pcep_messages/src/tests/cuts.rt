@@ -33,7 +33,7 @@ fn cut_holds(rt: &HostRuntime, cut: &[u8], cuts: &[Cuts]) -> Result<(), Fail> {
         return Ok(());
     }
     let bytes = mended(rt, cut)?;
-    let found = read_message(rt.alloc(), bytes.as_slice()).err();
+    let found = fault_in(rt, bytes.as_slice());
     check(found == expected(cuts, cut.len()), "the length mended")
 }
 

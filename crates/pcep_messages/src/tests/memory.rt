@@ -1,4 +1,6 @@
 //! Want of memory.
+use super::reports::only_facts;
+use super::requests::requests_in;
 use super::*;
 
 /// Reads the bytes until they are answered: where memory is refused, the same bytes may be read again.
@@ -14,16 +16,21 @@ fn insist(rt: &HostRuntime, text: &str) -> Result<Message, Fail> {
 }
 
 fn is_report(message: &Message, plsp: u32) -> bool {
-    let Message::Report(reports) = message else {
-        return false;
-    };
-    let [report] = reports.as_slice() else {
-        return false;
-    };
-    report.plsp.number() == plsp
-        && report.ero.as_slice().len() == 2
-        && report.bandwidth.value() == 500_000
-        && report.identifiers.is_some()
+    match only_facts(message) {
+        Some(facts) => {
+            facts.plsp == plsp
+                && facts.hops == 2
+                && facts.bandwidth == 500_000
+                && facts.identifiers.is_some()
+        }
+        None => false,
+    }
+}
+
+/// Whether the text is a report of this LSP, want of memory or not.
+fn is_read_again(rt: &HostRuntime, text: &str, plsp: u32) -> Result<bool, Fail> {
+    let message = insist(rt, text)?;
+    Ok(is_report(&message, plsp))
 }
 
 /// Run it with each of its allocations refused in turn (`rt try --test --fail-alloc N`): it passes wherever
@@ -31,20 +38,16 @@ fn is_report(message: &Message, plsp: u32) -> bool {
 #[test]
 fn reports_are_read_again_after_want_of_memory(rt: HostRuntime) -> Result<(), Fail> {
     for (text, plsp) in [(REPORT, 1), (ANSWER, 5)] {
-        let message = insist(&rt, text)?;
-        check(is_report(&message, plsp), text)?;
+        check(is_read_again(&rt, text, plsp)?, text)?;
     }
     Ok(())
 }
 
 fn is_large_request(message: &Message) -> bool {
-    let Message::Request(requests) = message else {
-        return false;
-    };
-    let [request] = requests.as_slice() else {
-        return false;
-    };
-    request.request == 8 && request.bandwidth.value() == 600_000
+    match requests_in(message) {
+        [request] => request.request == 8 && request.bandwidth.value() == 600_000,
+        _ => false,
+    }
 }
 
 /// The same of a request.

@@ -1,8 +1,9 @@
 //! What counts of the objects of a message that has one item, and what it lacks.
 
-use super::writing::{attributes, is_no_path, is_path};
+use super::said::{Said, bytes_say};
+use super::writing::attributes;
 use super::{BAD_NUMBER, Row, check, message_of, rows_hold};
-use crate::{About, Cost, Create, Initiate, Message, MessageFault, Update, read_message};
+use crate::{About, Cost, MessageFault};
 use pcep_objects::{MetricValue, ObjectFault};
 use pcep_word::Bandwidth;
 use std::test::*;
@@ -81,27 +82,18 @@ fn faults_of_session_messages(rt: HostRuntime) -> Result<(), Fail> {
     rows_hold(&rt, "2007", &[(&[UNKNOWN], None), (&[BAD], BAD_NUMBER)])
 }
 
-/// A message that begins with these digits, of these objects.
-fn message_with(rt: &HostRuntime, front: &str, objects: &[&str]) -> Result<Message, Fail> {
+/// A message that begins with these digits, of these objects, says this.
+fn objects_say(rt: &HostRuntime, front: &str, objects: &[&str], said: &Said) -> Result<(), Fail> {
     let bytes = message_of(rt, front, objects)?;
-    let message = read_message(rt.alloc(), bytes.as_slice())?;
-    Ok(message)
-}
-
-fn closes(message: &Message, reason: u8) -> bool {
-    match message {
-        Message::Close(found) => *found == reason,
-        _ => false,
-    }
+    check(bytes_say(rt, bytes.as_slice(), said)?, front)
 }
 
 /// Of two CLOSEs the first counts.
 #[test]
 fn a_close_without_object_has_reason_1(rt: HostRuntime) -> Result<(), Fail> {
-    let message = message_with(&rt, "2007", &[UNKNOWN, ERO])?;
-    check(closes(&message, 1), "no reason")?;
-    let message = message_with(&rt, "2007", &["0f100008 00000003", "0f100008 00000002"])?;
-    check(closes(&message, 3), "two reasons")
+    objects_say(&rt, "2007", &[UNKNOWN, ERO], &Said::Close(1))?;
+    let closes = ["0f100008 00000003", "0f100008 00000002"];
+    objects_say(&rt, "2007", &closes, &Said::Close(3))
 }
 
 const REPLIES: [Row; 6] = [
@@ -153,38 +145,22 @@ fn what_an_initiate_lacks(rt: HostRuntime) -> Result<(), Fail> {
     rows_hold(&rt, "200c", &INITIATES)
 }
 
-/// Whether an update has what counts: a holding priority above the setup priority isn't in force.
-fn has_what_counts(update: &Update) -> bool {
-    update.srp == 1
-        && update.ero.as_slice().len() == 1
-        && update.bandwidth == Bandwidth::at_least(500000)
-        && update.attributes == Some(attributes(2, 2))
-}
-
 /// The first of each class counts, and of the bandwidths that are asked for the greatest.
 const COUNTED: [&str; 12] = [
     BANDWIDTH, SRP, SRP_ZERO, UNKNOWN, LSP, CURRENT, ERO, EMPTY_ERO, LSPA, OTHER_LSPA, GREATER,
     BANDWIDTH,
 ];
 
-fn is_counted_update(message: &Message) -> bool {
-    match message {
-        Message::Update(update) => has_what_counts(update),
-        _ => false,
-    }
-}
-
+/// A holding priority above the setup priority isn't in force.
 #[test]
 fn what_counts_in_an_update(rt: HostRuntime) -> Result<(), Fail> {
-    let message = message_with(&rt, "200b", &COUNTED)?;
-    check(is_counted_update(&message), "update")
-}
-
-fn has_cost(message: &Message, cost: Cost) -> bool {
-    match message {
-        Message::Reply(reply) => is_path(&reply.answer, &[0x0a010002], cost),
-        _ => false,
-    }
+    let expected = Said::Update {
+        delegate: true,
+        route: &[0x0a010002],
+        attributes: Some(attributes(2, 2)),
+        bandwidth: Bandwidth::at_least(500000),
+    };
+    objects_say(&rt, "200b", &COUNTED, &expected)
 }
 
 /// The first METRIC is the cost.
@@ -194,40 +170,25 @@ fn what_counts_in_a_reply(rt: HostRuntime) -> Result<(), Fail> {
         metric_type: 1,
         value: MetricValue::new(20),
     };
-    let message = message_with(&rt, "2004", &[RP, METRIC, OTHER_METRIC, ERO])?;
-    check(has_cost(&message, cost), "path")
-}
-
-fn has_no_path(message: &Message) -> bool {
-    match message {
-        Message::Reply(reply) => is_no_path(&reply.answer, None),
-        _ => false,
-    }
+    let objects = [RP, METRIC, OTHER_METRIC, ERO];
+    objects_say(&rt, "2004", &objects, &Said::Path(7, &[0x0a010002], cost))
 }
 
 #[test]
 fn a_no_path_counts_before_an_ero(rt: HostRuntime) -> Result<(), Fail> {
-    let message = message_with(&rt, "2004", &[RP, ERO, NO_PATH, METRIC])?;
-    check(has_no_path(&message), "no path")
-}
-
-fn is_bare(create: &Create) -> bool {
-    create.name.as_slice().is_empty() && create.attributes.is_none() && create.bandwidth.is_none()
-}
-
-fn is_bare_initiate(message: &Message) -> bool {
-    match message {
-        Message::Initiate(initiate) => match initiate {
-            Initiate::Create(create) => is_bare(create),
-            _ => false,
-        },
-        _ => false,
-    }
+    let objects = [RP, ERO, NO_PATH, METRIC];
+    objects_say(&rt, "2004", &objects, &Said::NoPath(7, None))
 }
 
 /// A new LSP without a name has an empty one.
 #[test]
 fn an_initiate_without_a_name(rt: HostRuntime) -> Result<(), Fail> {
-    let message = message_with(&rt, "200c", &[SRP, LSP, END_POINTS, ERO])?;
-    check(is_bare_initiate(&message), "new LSP")
+    let expected = Said::Create {
+        name: b"",
+        route: &[0x0a010002],
+        attributes: None,
+        bandwidth: None,
+    };
+    let objects = [SRP, LSP, END_POINTS, ERO];
+    objects_say(&rt, "200c", &objects, &expected)
 }

@@ -1,6 +1,5 @@
 //! State reports: what their objects say, and their faults.
 use super::*;
-use sequence::Sequence;
 
 /// A PCRpt of these objects.
 fn report_of(rt: &HostRuntime, objects: &[&str]) -> Result<Vec<u8>, Fail> {
@@ -8,36 +7,30 @@ fn report_of(rt: &HostRuntime, objects: &[&str]) -> Result<Vec<u8>, Fail> {
 }
 
 /// The reports of a message.
-fn reports_in(rt: &HostRuntime, bytes: &[u8]) -> Result<Sequence<StateReport>, Fail> {
-    match read_message(rt.alloc(), bytes)? {
-        Message::Report(reports) => Ok(reports),
-        _ => Err(Fail::new("another message")),
+pub fn reports_in(message: &Message) -> &[StateReport] {
+    match message {
+        Message::Report(reports) => reports.as_slice(),
+        _ => &[],
     }
 }
 
-/// The one report of a message.
-fn only_report(rt: &HostRuntime, bytes: &[u8]) -> Result<StateReport, Fail> {
-    let mut reports = reports_in(rt, bytes)?.into_vec();
-    let report = reports.pop();
-    match report {
-        Some(report) if reports.is_empty() => Ok(report),
-        _ => Err(Fail::new("not one report")),
-    }
-}
-
-/// What a report without a name and without an RRO has to be.
-#[derive(Clone, Copy)]
-struct Expected {
-    srp: Option<u32>,
-    plsp: u32,
+/// What a report says.
+#[derive(Clone, Copy, PartialEq, Eq)]
+pub struct Facts {
+    pub srp: Option<u32>,
+    pub plsp: u32,
     /// delegate, sync, remove, admin, created
-    flags: [bool; 5],
-    operational: Operational,
-    identifiers: Identifiers,
-    hops: usize,
-    bandwidth: u64,
-    setup: u8,
-    hold: u8,
+    pub flags: [bool; 5],
+    pub operational: Operational,
+    pub is_named: bool,
+    pub identifiers: Option<Identifiers>,
+    /// How many hops the ERO has, and the RRO.
+    pub hops: usize,
+    pub recorded: Option<usize>,
+    pub bandwidth: u64,
+    pub setup: u8,
+    pub hold: u8,
+    pub colours: Colours,
 }
 
 fn flags_of(report: &StateReport) -> [bool; 5] {
@@ -50,31 +43,47 @@ fn flags_of(report: &StateReport) -> [bool; 5] {
     ]
 }
 
-/// Whether the report is of the LSP that is expected, in its state.
-fn is_of_lsp(report: &StateReport, expected: &Expected) -> bool {
-    report.srp == expected.srp
-        && report.plsp.number() == expected.plsp
-        && flags_of(report) == expected.flags
-        && report.operational == expected.operational
-        && report.name.is_none()
-        && report.identifiers == Some(expected.identifiers)
+fn recorded_in(report: &StateReport) -> Option<usize> {
+    match &report.rro {
+        Some(hops) => Some(hops.as_slice().len()),
+        None => None,
+    }
 }
 
-/// Whether the report has the route and the attributes that are expected.
-fn is_routed(report: &StateReport, expected: &Expected) -> bool {
-    report.ero.as_slice().len() == expected.hops
-        && report.rro.is_none()
-        && report.bandwidth.value() == expected.bandwidth
-        && report.priorities.setup().number() == expected.setup
-        && report.priorities.hold().number() == expected.hold
-        && report.colours == NO_COLOURS
+fn facts_of(report: &StateReport) -> Facts {
+    Facts {
+        srp: report.srp,
+        plsp: report.plsp.number(),
+        flags: flags_of(report),
+        operational: report.operational,
+        is_named: report.name.is_some(),
+        identifiers: report.identifiers,
+        hops: report.ero.as_slice().len(),
+        recorded: recorded_in(report),
+        bandwidth: report.bandwidth.value(),
+        setup: report.priorities.setup().number(),
+        hold: report.priorities.hold().number(),
+        colours: report.colours,
+    }
 }
 
-fn compare(rt: &HostRuntime, text: &str, expected: &Expected) -> Result<(), Fail> {
+/// What the one report of a message says.
+pub fn only_facts(message: &Message) -> Option<Facts> {
+    match reports_in(message) {
+        [report] => Some(facts_of(report)),
+        _ => None,
+    }
+}
+
+/// The message of these bytes is one report, which says this.
+fn compare(rt: &HostRuntime, bytes: &[u8], expected: &Facts) -> Result<(), Fail> {
+    let message = read_message(rt.alloc(), bytes)?;
+    check(only_facts(&message) == Some(*expected), "report")
+}
+
+fn compare_text(rt: &HostRuntime, text: &str, expected: &Facts) -> Result<(), Fail> {
     let bytes = bytes_of(rt, text)?;
-    let report = only_report(rt, bytes.as_slice())?;
-    check(is_of_lsp(&report, expected), "lsp")?;
-    check(is_routed(&report, expected), "route")
+    compare(rt, bytes.as_slice(), expected)
 }
 
 /// From 10.0.0.1 to 10.0.0.4, with LSP ID 1 and this Tunnel ID.
@@ -102,67 +111,72 @@ const ZEROS: Identifiers = Identifiers {
     endpoint: Ipv4(0),
 };
 
-const EXPECTED_REPORT: Expected = Expected {
+const EXPECTED_REPORT: Facts = Facts {
     srp: None,
     plsp: 1,
     flags: [false, false, false, true, false],
     operational: Operational::Up,
-    identifiers: TUNNEL_1,
+    is_named: false,
+    identifiers: Some(TUNNEL_1),
     hops: 2,
+    recorded: None,
     bandwidth: 500000,
     setup: 7,
     hold: 0,
+    colours: NO_COLOURS,
 };
 
-const EXPECTED_REMOVAL: Expected = Expected {
+const EXPECTED_REMOVAL: Facts = Facts {
     srp: None,
     plsp: 1,
     flags: [false, false, true, false, false],
     operational: Operational::Down,
-    identifiers: TUNNEL_1,
+    is_named: false,
+    identifiers: Some(TUNNEL_1),
     hops: 0,
+    recorded: None,
     bandwidth: 0,
     setup: 7,
     hold: 7,
+    colours: NO_COLOURS,
 };
 
-const EXPECTED_END_OF_SYNC: Expected = Expected {
+const EXPECTED_END_OF_SYNC: Facts = Facts {
     srp: None,
     plsp: 0,
     flags: [false, false, false, false, false],
     operational: Operational::Down,
-    identifiers: ZEROS,
+    is_named: false,
+    identifiers: Some(ZEROS),
     hops: 0,
+    recorded: None,
     bandwidth: 0,
     setup: 7,
     hold: 7,
+    colours: NO_COLOURS,
 };
 
-const EXPECTED_ANSWER: Expected = Expected {
+const EXPECTED_ANSWER: Facts = Facts {
     srp: Some(1),
     plsp: 5,
     flags: [true, false, false, true, true],
     operational: Operational::GoingUp,
-    identifiers: TUNNEL_7,
+    is_named: false,
+    identifiers: Some(TUNNEL_7),
     hops: 2,
+    recorded: None,
     bandwidth: 500000,
     setup: 7,
     hold: 0,
+    colours: NO_COLOURS,
 };
 
 #[test]
 fn one_report(rt: HostRuntime) -> Result<(), Fail> {
-    compare(&rt, REPORT, &EXPECTED_REPORT)?;
-    compare(&rt, REMOVAL, &EXPECTED_REMOVAL)?;
-    compare(&rt, END_OF_SYNC, &EXPECTED_END_OF_SYNC)?;
-    compare(&rt, ANSWER, &EXPECTED_ANSWER)
-}
-
-fn has_empty_rro(report: &StateReport) -> bool {
-    match &report.rro {
-        Some(hops) => hops.as_slice().is_empty(),
-        None => false,
-    }
+    compare_text(&rt, REPORT, &EXPECTED_REPORT)?;
+    compare_text(&rt, REMOVAL, &EXPECTED_REMOVAL)?;
+    compare_text(&rt, END_OF_SYNC, &EXPECTED_END_OF_SYNC)?;
+    compare_text(&rt, ANSWER, &EXPECTED_ANSWER)
 }
 
 /// The first of a class counts, of bandwidths the greatest, and an unknown object is skipped anywhere. A
@@ -172,27 +186,29 @@ const COUNTED: [&str; 13] = [
     RRO, OTHER_LSPA,
 ];
 
-const COLOURS: Colours = Colours {
-    exclude_any: 1,
-    include_any: 2,
-    include_all: 3,
+const EXPECTED_COUNTED: Facts = Facts {
+    srp: Some(1),
+    plsp: 1,
+    flags: [false, false, false, true, false],
+    operational: Operational::Up,
+    is_named: false,
+    identifiers: Some(TUNNEL_1),
+    hops: 1,
+    recorded: Some(0),
+    bandwidth: 500000,
+    setup: 2,
+    hold: 2,
+    colours: Colours {
+        exclude_any: 1,
+        include_any: 2,
+        include_all: 3,
+    },
 };
-
-fn has_what_counts(report: &StateReport) -> bool {
-    report.srp == Some(1)
-        && report.ero.as_slice().len() == 1
-        && has_empty_rro(report)
-        && report.bandwidth.value() == 500000
-        && report.priorities.setup().number() == 2
-        && report.priorities.hold().number() == 2
-        && report.colours == COLOURS
-}
 
 #[test]
 fn what_counts_in_an_item(rt: HostRuntime) -> Result<(), Fail> {
     let bytes = report_of(&rt, &COUNTED)?;
-    let report = only_report(&rt, bytes.as_slice())?;
-    check(has_what_counts(&report), "report")
+    compare(&rt, bytes.as_slice(), &EXPECTED_COUNTED)
 }
 
 /// Objects, and the SRP-ID of each report that they are.
@@ -222,8 +238,8 @@ fn have_srps(reports: &[StateReport], srps: &[Option<u32>]) -> bool {
 
 fn items_hold(rt: &HostRuntime, row: &Items) -> Result<(), Fail> {
     let bytes = report_of(rt, row.0)?;
-    let reports = reports_in(rt, bytes.as_slice())?;
-    check(have_srps(reports.as_slice(), row.1), "items")
+    let message = read_message(rt.alloc(), bytes.as_slice())?;
+    check(have_srps(reports_in(&message), row.1), "items")
 }
 
 #[test]

@@ -61,20 +61,32 @@ fn request_of(rt: &HostRuntime, objects: &[&str]) -> Result<Vec<u8>, Fail> {
     message_of(rt, "2003", objects)
 }
 
-/// The one request of a message.
-fn only_of(message: &Message) -> Option<PathRequest> {
-    let Message::Request(requests) = message else {
-        return None;
-    };
-    match requests.as_slice() {
-        [request] => Some(*request),
-        _ => None,
+/// The requests of a message.
+pub fn requests_in(message: &Message) -> &[PathRequest] {
+    match message {
+        Message::Request(requests) => requests.as_slice(),
+        _ => &[],
+    }
+}
+
+/// The request at this place of a message, where it has so many.
+fn request_at(
+    rt: &HostRuntime,
+    bytes: &[u8],
+    place: usize,
+    count: usize,
+) -> Result<Option<PathRequest>, Fail> {
+    let message = read_message(rt.alloc(), bytes)?;
+    let requests = requests_in(&message);
+    if requests.len() == count && place < count {
+        Ok(Some(requests[place]))
+    } else {
+        Ok(None)
     }
 }
 
 fn only_request(rt: &HostRuntime, bytes: &[u8]) -> Result<PathRequest, Fail> {
-    let message = read_message(rt.alloc(), bytes)?;
-    match only_of(&message) {
+    match request_at(rt, bytes, 0, 1)? {
         Some(request) => Ok(request),
         None => Err(Fail::new("not one request")),
     }
@@ -105,16 +117,12 @@ fn plain_request(request: u32, destination: u32) -> Result<PathRequest, Fail> {
     })
 }
 
-/// Whether the message has this request alone.
-fn asks(message: &Message, expected: &PathRequest) -> bool {
-    only_of(message) == Some(*expected)
-}
-
 #[test]
 fn one_request(rt: HostRuntime) -> Result<(), Fail> {
     let expected = plain_request(7, 0x0a090909)?;
-    let message = read_text(&rt, REQUEST)?;
-    check(asks(&message, &expected), "request")
+    let bytes = bytes_of(&rt, REQUEST)?;
+    let found = request_at(&rt, bytes.as_slice(), 0, 1)?;
+    check(found == Some(expected), "request")
 }
 
 #[test]
@@ -179,8 +187,8 @@ fn counted_request() -> Result<PathRequest, Fail> {
 fn what_counts_in_a_request(rt: HostRuntime) -> Result<(), Fail> {
     let expected = counted_request()?;
     let bytes = request_of(&rt, &COUNTED)?;
-    let message = read_message(rt.alloc(), bytes.as_slice())?;
-    check(asks(&message, &expected), "request")
+    let found = request_at(&rt, bytes.as_slice(), 0, 1)?;
+    check(found == Some(expected), "request")
 }
 
 /// Objects of a request, and its bounds on IGP and TE.
@@ -221,16 +229,10 @@ fn bounds(rt: HostRuntime) -> Result<(), Fail> {
     Ok(())
 }
 
-/// Whether the message has two requests: this one, and the one of the other RP.
-fn are_both(message: &Message, expected: &PathRequest) -> bool {
-    let Message::Request(requests) = message else {
-        return false;
-    };
-    match requests.as_slice() {
-        [first, second] => {
-            *first == *expected && second.request == 8 && second.bandwidth.value() == 250_000
-        }
-        _ => false,
+fn is_for(request: Option<PathRequest>, number: u32, bandwidth: u64) -> bool {
+    match request {
+        Some(request) => request.request == number && request.bandwidth.value() == bandwidth,
+        None => false,
     }
 }
 
@@ -238,8 +240,10 @@ fn are_both(message: &Message, expected: &PathRequest) -> bool {
 fn several_requests(rt: HostRuntime) -> Result<(), Fail> {
     let expected = plain_request(7, 0x0a000004)?;
     let bytes = request_of(&rt, &[SVEC, RP, ENDS, SVEC, OTHER_RP, BANDWIDTH, ENDS])?;
-    let message = read_message(rt.alloc(), bytes.as_slice())?;
-    check(are_both(&message, &expected), "requests")
+    let first = request_at(&rt, bytes.as_slice(), 0, 2)?;
+    check(first == Some(expected), "first")?;
+    let second = request_at(&rt, bytes.as_slice(), 1, 2)?;
+    check(is_for(second, 8, 250_000), "second")
 }
 
 const NO_RP: Option<MessageFault> = Some(MessageFault::Refused(6, 1, About::Nothing));
@@ -382,8 +386,7 @@ const NOTIFICATIONS: [&str; 3] = [
 #[test]
 fn notifications(rt: HostRuntime) -> Result<(), Fail> {
     for text in NOTIFICATIONS {
-        let message = read_text(&rt, text)?;
-        assert!(rt; matches!(message, Message::Notify), "at {text}");
+        said::text_says(&rt, text, &Said::Notification)?;
     }
     Ok(())
 }

@@ -1,9 +1,8 @@
 //! Messages that are read and written again.
 
+use super::said::{Said, text_says};
 use super::{are_copied, bytes_of, check, read_text};
-use crate::{
-    Answer, Attributes, Cost, Create, Errors, Initiate, Message, Reply, Update, write_message,
-};
+use crate::{Answer, Attributes, Cost, Create, Initiate, Message, Reply, write_message};
 use pcep_objects::{
     Capabilities, Colours, Hop, MetricValue, NoPathVector, Open, PcepError, WriteFault,
 };
@@ -56,18 +55,23 @@ fn stand_behind(out: &[u8], expected: &[u8]) -> bool {
     }
 }
 
-/// Whether the message is written as this text, behind a byte that stays.
-fn is_written_as(rt: &HostRuntime, message: &Message, text: &str) -> Result<bool, Fail> {
-    let out = written(rt, message)?;
-    let expected = bytes_of(rt, text)?;
+/// The message of a text as it is written behind a byte.
+fn rewritten(rt: &HostRuntime, text: &str) -> Result<Vec<u8>, Fail> {
+    let message = read_text(rt, text)?;
+    written(rt, &message)
+}
+
+/// Whether the message of a text is written as another text, behind a byte that stays.
+fn is_written_as(rt: &HostRuntime, text: &str, expected: &str) -> Result<bool, Fail> {
+    let out = rewritten(rt, text)?;
+    let expected = bytes_of(rt, expected)?;
     Ok(stand_behind(out.as_slice(), expected.as_slice()))
 }
 
 /// The message of each text is written as it again.
 fn are_written_again(rt: &HostRuntime, texts: &[&str]) -> Result<(), Fail> {
     for text in texts {
-        let message = read_text(rt, text)?;
-        check(is_written_as(rt, &message, text)?, text)?;
+        check(is_written_as(rt, text, text)?, text)?;
     }
     Ok(())
 }
@@ -108,24 +112,11 @@ const EXPECTED_ERRORS: [PcepError; 2] = [
     },
 ];
 
-fn has_all(errors: &Errors) -> bool {
-    errors.requests.as_slice() == [7, 0xffff_ffff].as_slice()
-        && errors.srps.as_slice() == [2, 0].as_slice()
-        && errors.errors.as_slice() == EXPECTED_ERRORS.as_slice()
-}
-
-fn has_all_errors(message: &Message) -> bool {
-    match message {
-        Message::Error(errors) => has_all(errors),
-        _ => false,
-    }
-}
-
 #[test]
 fn errors_are_written_in_order(rt: HostRuntime) -> Result<(), Fail> {
-    let message = read_text(&rt, ERRORS)?;
-    check(has_all_errors(&message), "errors")?;
-    check(is_written_as(&rt, &message, ERRORS_IN_ORDER)?, "order")
+    let errors = Said::Errors([7, 0xffff_ffff], [2, 0], EXPECTED_ERRORS);
+    text_says(&rt, ERRORS, &errors)?;
+    check(is_written_as(&rt, ERRORS, ERRORS_IN_ORDER)?, "order")
 }
 
 fn is_written(message: Message) -> bool {
@@ -181,7 +172,7 @@ fn zeros(rt: &HostRuntime, count: usize) -> Result<Vec<u8>, Fail> {
 /// Whether a message is answered so when it is written, and this many bytes stand then.
 fn fits(
     rt: &HostRuntime,
-    message: &Message,
+    message: Message,
     fault: Option<WriteFault>,
     len: usize,
 ) -> Result<bool, Fail> {
@@ -190,7 +181,7 @@ fn fits(
     }
     let mut out = Vec::new(rt.alloc());
     out.push(7)?;
-    let found = write_message(message, &mut out).err();
+    let found = write_message(&message, &mut out).err();
     Ok(found == fault && out.len() == len)
 }
 
@@ -207,7 +198,7 @@ const ROUTES: [(usize, Option<WriteFault>, usize); 3] = [
 fn routes_that_do_not_fit_are_refused(rt: HostRuntime) -> Result<(), Fail> {
     for (count, fault, len) in ROUTES {
         let message = reply_with(&rt, count)?;
-        check(fits(&rt, &message, fault, len)?, "hops")?;
+        check(fits(&rt, message, fault, len)?, "hops")?;
     }
     Ok(())
 }
@@ -224,7 +215,7 @@ const PARTS: [(usize, usize, Option<WriteFault>, usize); 4] = [
 fn parts_that_do_not_fit_are_refused(rt: HostRuntime) -> Result<(), Fail> {
     for (name, hop, fault, len) in PARTS {
         let message = create_with(&rt, name, hop)?;
-        check(fits(&rt, &message, fault, len)?, "name or hop")?;
+        check(fits(&rt, message, fault, len)?, "name or hop")?;
     }
     Ok(())
 }
@@ -247,29 +238,9 @@ const EXPECTED_OPEN: Open = Open {
     }),
 };
 
-fn is_open(message: &Message, expected: &Open) -> bool {
-    match message {
-        Message::Opening(opening) => *opening == *expected,
-        _ => false,
-    }
-}
-
 #[test]
 fn what_an_open_says(rt: HostRuntime) -> Result<(), Fail> {
-    let message = read_text(&rt, OPEN)?;
-    check(is_open(&message, &EXPECTED_OPEN), "open")
-}
-
-fn are_hosts(hops: &[Hop], addresses: &[u32]) -> bool {
-    if hops.len() != addresses.len() {
-        return false;
-    }
-    for (hop, address) in hops.iter().zip(addresses) {
-        if !matches!(hop, Hop::Host(found, false) if found.0 == *address) {
-            return false;
-        }
-    }
-    true
+    text_says(&rt, OPEN, &Said::Open(EXPECTED_OPEN))
 }
 
 pub(super) fn attributes(setup: u8, hold: u8) -> Attributes {
@@ -283,122 +254,42 @@ pub(super) fn attributes(setup: u8, hold: u8) -> Attributes {
     }
 }
 
-fn says_new_lsp(create: &Create) -> bool {
-    create.srp == 1
-        && create.name.as_slice() == b"t1".as_slice()
-        && create.source == Ipv4(0x0a000001)
-        && create.destination == Ipv4(0x0a000004)
-        && are_hosts(create.ero.as_slice(), &[0x0a010002, 0x0a020002])
-        && create.attributes == Some(attributes(7, 0))
-        && create.bandwidth == Bandwidth::at_least(500000)
-}
-
-fn is_new_lsp(message: &Message) -> bool {
-    match message {
-        Message::Initiate(initiate) => match initiate {
-            Initiate::Create(create) => says_new_lsp(create),
-            _ => false,
-        },
-        _ => false,
-    }
-}
-
 #[test]
 fn what_a_new_lsp_says(rt: HostRuntime) -> Result<(), Fail> {
-    let message = read_text(&rt, CREATE)?;
-    check(is_new_lsp(&message), "new LSP")
-}
-
-/// Whether the message deletes this LSP.
-fn is_deletion(message: &Message, request: u32, lsp: u32) -> bool {
-    match message {
-        Message::Initiate(initiate) => match initiate {
-            Initiate::Remove { srp, plsp } => *srp == request && plsp.number() == lsp,
-            Initiate::Create(_) => false,
-        },
-        _ => false,
-    }
+    let expected = Said::Create {
+        name: b"t1",
+        route: &[0x0a010002, 0x0a020002],
+        attributes: Some(attributes(7, 0)),
+        bandwidth: Bandwidth::at_least(500000),
+    };
+    text_says(&rt, CREATE, &expected)
 }
 
 #[test]
 fn what_a_deletion_says(rt: HostRuntime) -> Result<(), Fail> {
-    let message = read_text(&rt, DELETION)?;
-    check(is_deletion(&message, 2, 5), "deletion")
-}
-
-/// What an update of LSP 1 says.
-#[derive(Clone, Copy)]
-struct Expected {
-    delegate: bool,
-    route: &'static [u32],
-    attributes: Option<Attributes>,
-    bandwidth: Option<Bandwidth>,
-}
-
-fn says_update(update: &Update, expected: &Expected) -> bool {
-    update.srp == 1
-        && update.plsp.number() == 1
-        && update.delegate == expected.delegate
-        && update.admin
-        && are_hosts(update.ero.as_slice(), expected.route)
-        && update.attributes == expected.attributes
-        && update.bandwidth == expected.bandwidth
-}
-
-fn is_update(message: &Message, expected: &Expected) -> bool {
-    match message {
-        Message::Update(update) => says_update(update, expected),
-        _ => false,
-    }
+    text_says(&rt, DELETION, &Said::Deletion(2, 5))
 }
 
 #[test]
 fn what_an_update_says(rt: HostRuntime) -> Result<(), Fail> {
-    let expected = Expected {
+    let expected = Said::Update {
         delegate: true,
         route: &[0x0a030002, 0x0a040002],
         attributes: Some(attributes(5, 2)),
         bandwidth: Bandwidth::at_least(500000),
     };
-    let message = read_text(&rt, UPDATE)?;
-    check(is_update(&message, &expected), "update")
+    text_says(&rt, UPDATE, &expected)
 }
 
 #[test]
 fn what_a_return_says(rt: HostRuntime) -> Result<(), Fail> {
-    let expected = Expected {
+    let expected = Said::Update {
         delegate: false,
         route: &[],
         attributes: None,
         bandwidth: None,
     };
-    let message = read_text(&rt, RETURN)?;
-    check(is_update(&message, &expected), "return")
-}
-
-pub(super) fn is_path(answer: &Answer, addresses: &[u32], expected: Cost) -> bool {
-    match answer {
-        Answer::Found(hops, cost) => {
-            are_hosts(hops.as_slice(), addresses) && *cost == Some(expected)
-        }
-        Answer::NoPath(_) => false,
-    }
-}
-
-pub(super) fn is_no_path(answer: &Answer, expected: Option<NoPathVector>) -> bool {
-    match answer {
-        Answer::Found(..) => false,
-        Answer::NoPath(vector) => *vector == expected,
-    }
-}
-
-fn is_reply_with_path(message: &Message, cost: Cost) -> bool {
-    match message {
-        Message::Reply(reply) => {
-            reply.request == 8 && is_path(&reply.answer, &[0x0a010002, 0x0a020002], cost)
-        }
-        _ => false,
-    }
+    text_says(&rt, RETURN, &expected)
 }
 
 #[test]
@@ -407,8 +298,7 @@ fn what_a_reply_with_a_path_says(rt: HostRuntime) -> Result<(), Fail> {
         metric_type: 2,
         value: MetricValue::new(20),
     };
-    let message = read_text(&rt, PATH)?;
-    check(is_reply_with_path(&message, cost), "path")
+    text_says(&rt, PATH, &Said::Path(8, &[0x0a010002, 0x0a020002], cost))
 }
 
 const UNKNOWN_DESTINATION: NoPathVector = NoPathVector {
@@ -417,18 +307,7 @@ const UNKNOWN_DESTINATION: NoPathVector = NoPathVector {
     unknown_source: false,
 };
 
-fn is_reply_without_path(message: &Message, expected: NoPathVector) -> bool {
-    match message {
-        Message::Reply(reply) => { reply.request == 7 && is_no_path(&reply.answer, Some(expected)) }
-        _ => false,
-    }
-}
-
 #[test]
 fn what_a_reply_without_a_path_says(rt: HostRuntime) -> Result<(), Fail> {
-    let message = read_text(&rt, NO_PATH)?;
-    check(
-        is_reply_without_path(&message, UNKNOWN_DESTINATION),
-        "no path",
-    )
+    text_says(&rt, NO_PATH, &Said::NoPath(7, Some(UNKNOWN_DESTINATION)))
 }
