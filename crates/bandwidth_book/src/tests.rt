@@ -1,4 +1,7 @@
 //! A thousand changes against plain sums over the paths.
+ghost use Rattle.lsp_base.specs.declared.effect.Change.{Change};
+ghost use Rattle.bandwidth_book.specs.Books.{IsReady};
+
 use super::*;
 use lsp_base::{Change, Part, Path, Tunnel};
 use pcep_objects::Plsp;
@@ -153,6 +156,25 @@ fn drawn_change(
     })
 }
 
+/// Carries out a change.
+fn apply(book: &mut Book, change: &Change) -> Result<(), AllocError> {
+    book.reserve(change)?;
+    book.change(change);
+    Ok(())
+}
+
+/// Carries out a drawn change.
+fn apply_drawn(
+    rt: &impl Abort,
+    alloc: Global,
+    draws: &mut Draws,
+    paths: &mut Vec<Path>,
+    book: &mut Book,
+) -> Result<(), AllocError> {
+    let change = drawn_change(rt, alloc, draws, paths)?;
+    apply(book, &change)
+}
+
 #[test]
 fn running_equals_plain(rt: HostRuntime) -> Result<(), Fail> {
     let alloc = rt.alloc();
@@ -160,9 +182,7 @@ fn running_equals_plain(rt: HostRuntime) -> Result<(), Fail> {
     let mut draws = Draws { state: 7 };
     let mut paths = Vec::new(alloc);
     for _ in 0..1000 {
-        let change = drawn_change(&rt, alloc, &mut draws, &mut paths)?;
-        book.reserve(&change)?;
-        book.change(&change);
+        apply_drawn(&rt, alloc, &mut draws, &mut paths, &mut book)?;
         assert!(rt; says_the_same(&book, &paths));
     }
     Ok(())
@@ -187,14 +207,43 @@ fn left_in(snapshot: &Snapshot) -> [Option<i64>; 2] {
     [snapshot.unreserved(0, last), snapshot.unreserved(2, last)]
 }
 
-/// The change by which a path comes on the diamond's first link.
-fn coming(rt: &impl Abort, alloc: Global) -> Result<Change, AllocError> {
+/// The change by which this path comes.
+fn coming(rt: &impl Abort, alloc: Global, asked: Case) -> Result<Change, AllocError> {
     let mut added = Vec::new(alloc);
-    added.push(path_of(rt, alloc, asked(1, 250_000, 0, 7, 0, true))?)?;
+    added.push(path_of(rt, alloc, asked)?)?;
     Ok(Change {
         dropped: Sequence::from_vec(Vec::new(alloc)),
         added: Sequence::from_vec(added),
     })
+}
+
+/// Whether a snapshot of the book has the table of an earlier one.
+fn has_same_table(book: &mut Book, before: &Snapshot) -> Result<bool, AllocError>
+    ensures { (change : Change) → IsReady book.old change → IsReady book.new change }
+{
+    let now = book.snapshot()?;
+    Ok(before.table() == now.table())
+}
+
+/// What a snapshot of the book says is left.
+fn left_of(book: &mut Book) -> Result<[Option<i64>; 2], AllocError> {
+    let now = book.snapshot()?;
+    Ok(left_in(&now))
+}
+
+/// The snapshot stays as it was while a path comes on the diamond's first link.
+fn stays(
+    rt: &impl Abort,
+    alloc: Global,
+    book: &mut Book,
+    before: &Snapshot,
+) -> Result<(), AllocError> {
+    assert!(rt; has_same_table(book, before)?);
+    let change = coming(rt, alloc, asked(1, 250_000, 0, 7, 0, true))?;
+    book.reserve(&change)?;
+    assert!(rt; has_same_table(book, before)?);
+    book.change(&change);
+    Ok(())
 }
 
 #[test]
@@ -202,16 +251,9 @@ fn a_snapshot_stays_as_it_was(rt: HostRuntime) -> Result<(), Fail> {
     let alloc = rt.alloc();
     let mut book = diamond(alloc)?;
     let before = book.snapshot()?;
-    let again = book.snapshot()?;
-    assert!(rt; before.table() == again.table());
-    let change = coming(&rt, alloc)?;
-    book.reserve(&change)?;
-    let reserved = book.snapshot()?;
-    assert!(rt; before.table() == reserved.table());
-    book.change(&change);
-    let after = book.snapshot()?;
+    stays(&rt, alloc, &mut book, &before)?;
     assert_eq!(rt; left_in(&before), [Some(1_000_000), Some(1_000_000)]);
-    assert_eq!(rt; left_in(&after), [Some(750_000), Some(1_000_000)]);
+    assert_eq!(rt; left_of(&mut book)?, [Some(750_000), Some(1_000_000)]);
     Ok(())
 }
 
@@ -253,18 +295,24 @@ fn asked(tunnel: u8, bandwidth: u64, hold: u8, setup: u8, link: usize, fits: boo
     }
 }
 
+/// The diamond's book with this path.
+fn book_with(rt: &impl Abort, alloc: Global, asked: Case) -> Result<Book, Fail> {
+    let mut book = diamond(alloc)?;
+    let change = coming(rt, alloc, asked)?;
+    apply(&mut book, &change)?;
+    Ok(book)
+}
+
+/// Whether the path fits beside those of the book.
+fn fits(rt: &impl Abort, alloc: Global, book: &Book, asked: Case) -> Result<bool, AllocError> {
+    let path = path_of(rt, alloc, asked)?;
+    Ok(book.fits(&path, Priority::capped(asked.setup)))
+}
+
 #[test]
 fn what_fits_beside_a_path(rt: HostRuntime) -> Result<(), Fail> {
     let alloc = rt.alloc();
-    let mut book = diamond(alloc)?;
-    let mut added = Vec::new(alloc);
-    added.push(path_of(&rt, alloc, asked(1, 500_000, 5, 5, 0, true))?)?;
-    let change = Change {
-        dropped: Sequence::from_vec(Vec::new(alloc)),
-        added: Sequence::from_vec(added),
-    };
-    book.reserve(&change)?;
-    book.change(&change);
+    let book = book_with(&rt, alloc, asked(1, 500_000, 5, 5, 0, true))?;
     let cases = [
         asked(2, 500_000, 0, 7, 0, true),
         asked(2, 600_000, 0, 7, 0, false),
@@ -277,9 +325,49 @@ fn what_fits_beside_a_path(rt: HostRuntime) -> Result<(), Fail> {
         asked(2, 0, 0, 7, 4, false),
     ];
     for case in cases {
-        let path = path_of(&rt, alloc, case)?;
-        assert_eq!(rt; book.fits(&path, Priority::capped(case.setup)), case.fits);
+        assert_eq!(rt; fits(&rt, alloc, &book, case)?, case.fits);
     }
+    Ok(())
+}
+
+/// The change by which six drawn paths come.
+fn six_coming(rt: &impl Abort, alloc: Global) -> Result<Change, AllocError> {
+    let mut draws = Draws { state: 3 };
+    let mut added = Vec::new(alloc);
+    for _ in 0..6 {
+        added.push(drawn_path(rt, alloc, &mut draws)?)?;
+    }
+    Ok(Change {
+        dropped: Sequence::from_vec(Vec::new(alloc)),
+        added: Sequence::from_vec(added),
+    })
+}
+
+/// Carries out a change; where room is refused the book stands for no path, and it is tried again.
+fn insist_on(rt: &impl Abort, book: &mut Book, change: &Change) -> Result<(), AllocError> {
+    if book.reserve(change).is_err() {
+        assert!(rt; says_the_same(book, &[]));
+        book.reserve(change)?;
+    }
+    book.change(change);
+    Ok(())
+}
+
+/// Whether a snapshot says what the book says; where memory is refused it is tried again.
+fn is_in_snapshot(book: &mut Book) -> Result<bool, AllocError> {
+    let snapshot = match book.snapshot() {
+        Ok(snapshot) => snapshot,
+        Err(_) => book.snapshot()?,
+    };
+    Ok(has_what_is_left(&snapshot, book))
+}
+
+/// The change comes, and the book says what its paths say, before and behind a snapshot.
+fn comes_whole(rt: &impl Abort, book: &mut Book, change: &Change) -> Result<(), AllocError> {
+    insist_on(rt, book, change)?;
+    assert!(rt; says_the_same(book, change.added.as_slice()));
+    assert!(rt; is_in_snapshot(book)?);
+    assert!(rt; says_the_same(book, change.added.as_slice()));
     Ok(())
 }
 
@@ -287,27 +375,8 @@ fn what_fits_beside_a_path(rt: HostRuntime) -> Result<(), Fail> {
 fn where_room_is_refused_the_book_stays(rt: HostRuntime) -> Result<(), Fail> {
     let alloc = rt.alloc();
     let mut book = diamond(alloc)?;
-    let mut draws = Draws { state: 3 };
-    let mut added = Vec::new(alloc);
-    for _ in 0..6 {
-        added.push(drawn_path(&rt, alloc, &mut draws)?)?;
-    }
-    let change = Change {
-        dropped: Sequence::from_vec(Vec::new(alloc)),
-        added: Sequence::from_vec(added),
-    };
-    if book.reserve(&change).is_err() {
-        assert!(rt; says_the_same(&book, &[]));
-        book.reserve(&change)?;
-    }
-    book.change(&change);
-    assert!(rt; says_the_same(&book, change.added.as_slice()));
-    let snapshot = match book.snapshot() {
-        Ok(snapshot) => snapshot,
-        Err(_) => book.snapshot()?,
-    };
-    assert!(rt; has_what_is_left(&snapshot, &book));
-    assert!(rt; says_the_same(&book, change.added.as_slice()));
+    let change = six_coming(&rt, alloc)?;
+    comes_whole(&rt, &mut book, &change)?;
     Ok(())
 }
 
@@ -357,9 +426,7 @@ fn own_shares_equal_plain(rt: HostRuntime) -> Result<(), Fail> {
     let mut draws = Draws { state: 11 };
     let mut paths = Vec::new(alloc);
     for _ in 0..100 {
-        let change = drawn_change(&rt, alloc, &mut draws, &mut paths)?;
-        book.reserve(&change)?;
-        book.change(&change);
+        apply_drawn(&rt, alloc, &mut draws, &mut paths, &mut book)?;
         assert!(rt; lists_the_same(alloc, &book, &paths)?);
     }
     Ok(())
