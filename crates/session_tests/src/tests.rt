@@ -12,7 +12,7 @@ use sequence::{PlainData, Sequence};
 use std::alloc::{AllocError, Global};
 use std::process::Abort;
 use std::test::Fail;
-use te_base::TeBase;
+use te_base::{TeBase, TeFault};
 
 mod exchanges;
 mod faults;
@@ -43,11 +43,21 @@ const REPORT: &str =
 const BAD_REPORT: &str =
     "200a00502010001cfffff018001200100a000001000100010a0000010a0000040710001401080a010002200001080a020002200009100014000000000000000000000000070000000510000848f42400";
 
-fn network(alloc: Global) -> Result<Database, Fail> {
-    let Ok(base) = TeBase::read(alloc, DIAMOND) else {
+/// The nodes and links of a text.
+fn base_of(alloc: Global, text: &str) -> Result<TeBase, TeFault> {
+    TeBase::read(alloc, text)
+}
+
+/// A database over the links of a text.
+fn database_of(alloc: Global, text: &str) -> Result<Database, Fail> {
+    let Ok(base) = base_of(alloc, text) else {
         return Err(Fail::new("the links are not read"));
     };
     Ok(Database::new(alloc, base)?)
+}
+
+fn network(alloc: Global) -> Result<Database, Fail> {
+    database_of(alloc, DIAMOND)
 }
 
 /// The bytes of hexadecimal digits, between which there may be spaces.
@@ -102,11 +112,20 @@ fn left_by_b(database: &Database) -> Option<i64> {
     database.unreserved(0, Priority::capped(7))
 }
 
+/// Appends the bytes of hexadecimal digits.
+fn append(alloc: Global, bytes: &mut Vec<u8>, text: &str) -> Result<(), Fail> {
+    let more = bytes_of(alloc, text)?;
+    bytes.extend_from_slice(more.as_slice())?;
+    Ok(())
+}
+
+static GREETING_AND_REPORT: [&str; 3] = [GREETING, END_OF_SYNC, REPORT];
+
 /// A router's greeting, the end of synchronization and a report.
 fn greeting_and_report(alloc: Global) -> Result<Vec<u8>, Fail> {
-    let mut bytes = bytes_of(alloc, GREETING)?;
-    for text in [END_OF_SYNC, REPORT] {
-        bytes.extend_from_slice(bytes_of(alloc, text)?.as_slice())?;
+    let mut bytes = Vec::new(alloc);
+    for text in GREETING_AND_REPORT {
+        append(alloc, &mut bytes, text)?;
     }
     Ok(bytes)
 }
@@ -183,9 +202,29 @@ fn plsp_of(number: u32) -> Plsp {
 }
 
 fn search(alloc: Global, store: &mut Lent, ticket: u64) -> Result<(), Fail> {
-    store.submit(Event::Take)?;
-    store.submit(commit(alloc, ticket)?)?;
+    submit(store, Event::Take)?;
+    submit(store, commit(alloc, ticket)?)?;
     Ok(())
+}
+
+/// Submits an event.
+fn submit(store: &mut Lent, event: Event) -> Result<(), Fault> {
+    store.submit(event)
+}
+
+/// Serves peer 1's session with these bytes.
+fn receive<S: Store>(
+    client: &mut Client,
+    store: &mut S,
+    bytes: &[u8],
+    now_ms: u64,
+) -> Result<(), Fault> {
+    serve(client, 1, bytes, now_ms, store)
+}
+
+/// The transport of peer 1's session ends.
+fn leave<S: Store>(client: &mut Client, store: &mut S) -> Result<(), Fault> {
+    hang_up(client, 1, store)
 }
 
 fn send(
@@ -196,7 +235,7 @@ fn send(
     now_ms: u64,
 ) -> Result<(), Fail> {
     let bytes = bytes_of(alloc, text)?;
-    serve(client, 1, &bytes, now_ms, store)?;
+    receive(client, store, &bytes, now_ms)?;
     Ok(())
 }
 
@@ -232,7 +271,7 @@ fn perform(
             *moment = now_ms;
             send(alloc, client, store, "", now_ms)?;
         }
-        Act::Leaves => hang_up(client, 1, store)?,
+        Act::Leaves => leave(client, store)?,
         _ => order(alloc, store, act)?,
     }
     Ok(())

@@ -72,7 +72,7 @@ fn with_room(alloc: Global, room: u32) -> Small {
 /// All is served in one call.
 fn fill(alloc: Global, client: &mut Client, store: &mut Small) -> Result<(), Fail> {
     let bytes = greeting_and_report(alloc)?;
-    serve(client, 1, &bytes, 0, store)?;
+    receive(client, store, &bytes, 0)?;
     Ok(())
 }
 
@@ -85,7 +85,7 @@ fn overfill(
     taken: &str,
 ) -> Result<(), Fail> {
     let bytes = greeting_and_report(alloc)?;
-    let served = serve(client, 1, &bytes, 0, store);
+    let served = receive(client, store, &bytes, 0);
     assert_eq!(rt; served, Err(Fault::HistoryFull));
     assert_eq!(rt; client.session.state(), State::Closed);
     are_submitted(rt, alloc, store.calls(), taken)?;
@@ -100,10 +100,10 @@ fn end_later(
     joined: bool,
 ) -> Result<(), Fail> {
     assert_eq!(rt; client.joined, joined);
-    let ended = hang_up(client, 1, store);
+    let ended = leave(client, store);
     assert_eq!(rt; ended.is_err(), joined);
     store.room = 1;
-    hang_up(client, 1, store)?;
+    leave(client, store)?;
     assert_eq!(rt; store.room, u32::from(!joined));
     assert!(rt; !client.joined);
     Ok(())
@@ -136,8 +136,8 @@ fn a_store_with_room_takes_all(rt: HostRuntime) -> Result<(), Fail> {
 
 /// The transport ends, at the second try where memory was short at the first.
 fn hang_up_at_last<S: Store>(client: &mut Client, store: &mut S) -> Result<(), Fault> {
-    if hang_up(client, 1, store) == Err(Fault::OutOfMemory) {
-        return hang_up(client, 1, store);
+    if leave(client, store) == Err(Fault::OutOfMemory) {
+        return leave(client, store);
     }
     Ok(())
 }
@@ -149,7 +149,7 @@ fn serve_and_hang_up(
     store: &mut Lent,
     bytes: &[u8],
 ) -> Result<(), Fail> {
-    let served = serve(client, 1, bytes, 0, store);
+    let served = receive(client, store, bytes, 0);
     let submitted = store.calls().len();
     assert!(rt; served.is_ok() || client.session.state() == State::Closed);
     let joined = client.joined;

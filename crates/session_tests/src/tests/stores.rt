@@ -32,7 +32,7 @@ fn greet_twice(
     send(alloc, second, store, GREETING, 0)?;
     second_ends(rt, alloc, first, second)?;
     send(alloc, first, store, REPORT, 0)?;
-    hang_up(second, 1, store)?;
+    leave(second, store)?;
     assert_eq!(rt; first.session.state(), State::Up);
     are_submitted(rt, alloc, store.calls(), "UNURN")
 }
@@ -60,6 +60,23 @@ fn has_kept(rt: &impl Abort, database: &Database, steps: u64, left: i64) {
     assert_eq!(rt; left_by_b(database), Some(left));
 }
 
+/// Serves peer 1's session with these bytes, over a database alone.
+fn receive_alone(database: &mut Database, client: &mut Client, bytes: &[u8]) -> Result<(), Fault> {
+    serve_database(database, client, 1, bytes, 0)
+}
+
+/// The transport of peer 1's session ends, over a database alone.
+fn leave_alone(database: &mut Database, client: &mut Client) -> Result<(), Fault> {
+    hang_up_database(database, client, 1)
+}
+
+/// A router greets, ends its synchronization and reports.
+fn report_all(alloc: Global, database: &mut Database, client: &mut Client) -> Result<(), Fail> {
+    let bytes = greeting_and_report(alloc)?;
+    receive_alone(database, client, &bytes)?;
+    Ok(())
+}
+
 /// A router greets, ends its synchronization, reports and leaves, over a database alone.
 fn report_to(
     rt: &impl Abort,
@@ -67,10 +84,10 @@ fn report_to(
     database: &mut Database,
     client: &mut Client,
 ) -> Result<(), Fail> {
-    serve_database(database, client, 1, &greeting_and_report(alloc)?, 0)?;
+    report_all(alloc, database, client)?;
     is_sent(rt, alloc, client, GREETING)?;
     has_kept(rt, database, 4, 500_000);
-    hang_up_database(database, client, 1)?;
+    leave_alone(database, client)?;
     has_kept(rt, database, 5, 500_000);
     Ok(())
 }
