@@ -3,6 +3,7 @@ pub mod LinkLists
 pub mod Sums
 pub mod Removed
 pub mod Located
+pub mod TunnelLists
 pub mod Places
 pub mod Order
 pub mod Totals

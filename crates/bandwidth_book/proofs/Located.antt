@@ -1,5 +1,5 @@
 -- Where a key stands among the entries of a map, and what a value that is written there does.
-use Rattle.std.proofs.Common.{◌≡◌, ◌<◌, ℕ, ◌+◌, Bool, true, false, cond, nat_lt, List, [], ◌∷◌, Option, Some, None, position, length, slice_get, unwrap_or, zero, suc, refl, sym, ap, ◌∙◌, arith, inl, inr}
+use Rattle.std.proofs.Common.{◌≡◌, ◌<◌, ℕ, ◌+◌, Bool, true, false, cond, nat_lt, List, [], ◌∷◌, Option, Some, None, get_or, position, length, set, slice_get, unwrap_or, zero, suc, refl, sym, ap, ◌∙◌, arith, inl, inr}
 use Rattle.std.proofs.lemmas.Bool.{cases_Bool}
 use Rattle.std.specs.Cmp.{IsEquivalence}
 use Rattle.std.specs.List.{position_or_len, IsDistinct}
@@ -21,6 +21,18 @@ pub length_set_at : {K V : Type 0} (es : List (K × V)) (i : ℕ) (new : V) → 
 length_set_at [] i new = refl
 length_set_at (e ∷ es) zero new = refl
 length_set_at (e ∷ es) (suc i) new = ap suc (length_set_at es i new)
+
+-- the entry at a place, with another value, is that value written there
+pub written_at : {K V : Type 0} (es : List (K × V)) (i : ℕ) (e : K × V) (new : V) → i < length es → e ≡ get_or es i e → set es i (e.0, new) ≡ set_value_at es i new
+written_at [] i e new inside is = absurd (omega (arith, inside))
+written_at (x ∷ es) zero e new inside is = ap (λ (y : _). (y.0, new) ∷ es) is
+written_at (x ∷ es) (suc i) e new inside is = ap (λ ys. x ∷ ys) (written_at es i e new (omega (arith, inside)) is)
+
+-- and its value is the one that is there
+pub value_there : {K V : Type 0} (es : List (K × V)) (i : ℕ) (e : K × V) → i < length es → e ≡ get_or es i e → slice_get (values_of es) i ≡ Some e.1
+value_there [] i e inside is = absurd (omega (arith, inside))
+value_there (x ∷ es) zero e inside is = ap (λ (y : _). Some y.1) (sym is)
+value_there (x ∷ es) (suc i) e inside is = value_there es i e (omega (arith, inside)) is
 
 -- tests that agree find the same place
 position_same : {K : Type 0} (t u : K → Bool) → ((x : K) → t x ≡ u x) → (ks : List K) → position_or_len t ks ≡ position_or_len u ks

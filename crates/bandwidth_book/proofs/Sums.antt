@@ -1,9 +1,8 @@
 -- The running sums and maxima.
-use Rattle.std.proofs.Common.{◌≡◌, ◌≤◌, ◌<◌, ℕ, ◌+◌, Bool, true, false, List, [], ◌∷◌, Option, Some, None, refl, sym, ap, ◌∙◌, arith, inl, inr, ◌⊎◌, max, length, nat_le, nat_lt, if◌then◌else◌, true≢false}
+use Rattle.std.proofs.Common.{◌≡◌, ◌≤◌, ◌<◌, ℕ, ◌+◌, ◌++◌, Bool, true, false, List, [], ◌∷◌, Option, Some, refl, sym, ap, ◌∙◌, arith, inl, inr, ◌⊎◌, max, length, nat_le, nat_lt, if◌then◌else◌, true≢false}
 use Rattle.std.proofs.lemmas.Bool.{cases_Bool}
 use Rattle.std.proofs.lemmas.Bool.Decides.{nat_tests}
 use Rattle.std.specs.Map.{lookup, set_value}
-use Rattle.indexmap.specs.IndexMap.{insert_entry}
 use Rattle.bandwidth_book.specs.declared.held.Held.{Held}
 use Rattle.bandwidth_book.specs.Held.{most, is_before, same_held, with_one, without_one}
 use Rattle.bandwidth_book.specs.Tunnels.{total}
@@ -54,14 +53,10 @@ length_without_one h (x ∷ hs) =
       | inr other ↦ (let ih = length_without_one h hs in rw other (omega (arith, ih)))
     ]
 
--- a value that counts as nothing leaves the total
-pub total_insert : {K V : Type 0} (f : Option V → ℕ) (eq : K → K → Bool) (es : List (K × V)) (k : K) (v : V) → f (Some v) ≡ 0 → lookup (eq k) es ≡ None → total f (insert_entry eq es k v) ≡ total f es
-total_insert f eq [] k v nothing none = omega (arith, nothing)
-total_insert f eq (e ∷ es) k v nothing none =
-    elim (cases_Bool (eq k e.0)) [
-      | inl here ↦ (let at : Some e.1 ≡ None = rw here at none in cc)
-      | inr other ↦ (let there : lookup (eq k) es ≡ None = rw other at none in let ih = total_insert f eq es k v nothing there in rw other (omega (arith, ih)))
-    ]
+-- a value at the end that counts as nothing leaves the total
+pub total_push : {K V : Type 0} (f : Option V → ℕ) (es : List (K × V)) (k : K) (v : V) → f (Some v) ≡ 0 → total f (es ++ (k, v) ∷ []) ≡ total f es
+total_push f [] k v nothing = omega (arith, nothing)
+total_push f (e ∷ es) k v nothing = let ih = total_push f es k v nothing in omega (arith, ih)
 
 -- a value that is written leaves the number of entries
 pub length_set_value : {K X : Type 0} (test : K → Bool) (es : List (K × X)) (new : X) → length (set_value test es new) ≡ length es
@@ -70,15 +65,6 @@ length_set_value test (e ∷ es) new =
     elim (cases_Bool (test e.0)) [
       | inl here ↦ rw here refl
       | inr other ↦ (let ih = length_set_value test es new in rw other (omega (arith, ih)))
-    ]
-
--- one that is put adds at most one
-pub length_insert_entry : {K X : Type 0} (eq : K → K → Bool) (es : List (K × X)) (k : K) (v : X) → length (insert_entry eq es k v) ≤ length es + 1
-length_insert_entry eq [] k v = omega arith
-length_insert_entry eq (e ∷ es) k v =
-    elim (cases_Bool (eq k e.0)) [
-      | inl here ↦ rw here (omega arith)
-      | inr other ↦ (let ih = length_insert_entry eq es k v in rw other (omega (arith, ih)))
     ]
 
 -- the greatest at a priority is among the greatest at a worse one

@@ -1,4 +1,4 @@
--- Hints of where tunnels stand in a map.
+-- Hints of where tunnels stand in a list.
 use Rattle.std.specs.Prelude.{ℕ, List, slice_index_or}
 
 -- where the hint of a bucket leads, or 65,535 where nothing is known

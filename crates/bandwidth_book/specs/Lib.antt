@@ -1,4 +1,5 @@
 pub mod Held
+pub mod Buckets
 pub mod Hints
 pub mod Holdings
 pub mod Contents

@@ -16,6 +16,10 @@ entries_in (Some xs) = xs
 abbrev pub most_on : ℕ → ℕ → Option (List LinkEntry) → ℕ
 most_on l p o = most (held_in (entry_on l (entries_in o))) p
 
+-- the bucket of a tunnel in a list, by its key
+abbrev pub key_bucket : {K V : Type 0} → (K → ℕ) → K × V → ℕ
+key_bucket bucket_of e = bucket_of e.0
+
 -- the sum of what each value of a map counts
 abbrev pub total : {K V : Type 0} → (Option V → ℕ) → List (K × V) → ℕ
 total f [] = 0

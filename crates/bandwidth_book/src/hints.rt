@@ -1,5 +1,5 @@
-//! Where tunnels stand in the map that has them, by buckets of their keys. These are hints: where one leads to another
-//! tunnel, the map is asked, so that no proof needs what they say.
+//! Where tunnels stand in the list that has them, by the numbers that routers gave them. These are hints: where one leads
+//! to another tunnel, the list is asked, so that no proof needs what they say.
 ghost use Rattle.std.specs.Prelude.{◌≡◌, ◌<◌, [], length, min, replicate, slice_set, OnOk, OnErr};
 ghost use Rattle.bandwidth_book.specs.Hints.{hinted};
 
@@ -7,15 +7,16 @@ use lsp_base::Tunnel;
 use std::alloc::{AllocError, Global};
 use std::marker::Model;
 
-/// The number of buckets: a prime, so that tunnels of peers a power of two apart are in different ones.
+/// The number of buckets: a prime, so that tunnels of peers a power of two apart are in different ones. Those of a
+/// router's tunnels, whose numbers follow each other, lie side by side, so with more of them than tunnels most are alone.
 const BUCKETS: usize = 32749;
 
-/// Where nothing is known. No map has so many tunnels.
+/// Where nothing is known. No list has so many tunnels.
 const UNKNOWN: u16 = u16::MAX;
 
-/// In which bucket a key is. Any function of the key may say so.
-pub trait Bucketed {
-    fn bucket(&self) -> usize;
+/// In which bucket of hints a key is. Any function of the key may say so.
+pub trait Hinted {
+    fn hint(&self) -> usize;
 }
 
 /// The bucket of a number that a peer knows.
@@ -25,8 +26,8 @@ fn bucket_of(peer: u32, number: u32) -> usize
     ((u64::from(peer) * 7919 + u64::from(number)) % BUCKETS as u64) as usize
 }
 
-impl Bucketed for Tunnel {
-    fn bucket(&self) -> usize {
+impl Hinted for Tunnel {
+    fn hint(&self) -> usize {
         match self {
             Tunnel::Signalled { peer, tunnel, .. } => bucket_of(*peer, u32::from(*tunnel)),
             Tunnel::Unsignalled { peer, plsp } => bucket_of(*peer, plsp.number()),

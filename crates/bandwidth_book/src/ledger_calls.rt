@@ -1,8 +1,8 @@
 //! What is asked of the ledgers, and done to them. A link that isn't there holds nothing, and a path's part on it is
 //! passed over.
 ghost use Rattle.std.specs.Prelude.{◌≡◌, ◌<◌, ◌≤◌, ◌+◌, ◌-◌, ◌^◌, [], ℕ, length, slice_index, IfOk, OnOk, true, false};
-ghost use Rattle.indexmap.specs.IndexMap.{IsUnique};
-ghost use Rattle.std.specs.Map.{lookup};
+ghost use Rattle.std.specs.List.{IsDistinct};
+ghost use Rattle.std.specs.Map.{keys_of, lookup};
 ghost use Rattle.bandwidth_book.specs.declared.held.Held.{Held};
 ghost use Rattle.bandwidth_book.specs.Entries.{AreRising};
 ghost use Rattle.bandwidth_book.specs.Held.{most, with_all, without_all};
@@ -10,18 +10,17 @@ ghost use Rattle.bandwidth_book.specs.Ledgers.{count, has_entry_at, held_at, pro
 ghost use Rattle.bandwidth_book.specs.Tunnels.{entries_in, held_by_path, most_on, total};
 
 use crate::held::Held;
-use crate::hints::{Bucketed, Hints};
+use crate::hints::Hinted;
 use crate::ledgers::Ledgers;
 use crate::link_entries::LinkEntry;
+use crate::tunnel_list::{Bucketed, TunnelList};
 use crate::tunnels::{
     add_to_tunnel, drop_from_tunnel, empty_sums, entries_of, promise_to_tunnel, withdraw_from,
 };
-use indexmap::IndexMap;
 use std::alloc::{AllocError, Global};
-use std::hash::Hash;
 use te_base::LinkNumber;
 
-impl<K: Eq + Hash + Copy + Drop + Bucketed> Ledgers<K> {
+impl<K: Eq + Copy + Drop + Bucketed + Hinted> Ledgers<K> {
     /// So many links, on which nothing is held.
     pub fn new(alloc: Global, links: usize) -> Result<Self, AllocError>
         ensures count { IfOk result (λ ledgers. count ledgers ≡ links) }
@@ -30,8 +29,7 @@ impl<K: Eq + Hash + Copy + Drop + Bucketed> Ledgers<K> {
     {
         let sums = empty_sums(alloc, links)?;
         Ok(Ledgers {
-            tunnels: IndexMap::new(alloc),
-            hints: Hints::new(alloc),
+            tunnels: TunnelList::new(alloc),
             sums,
         })
     }
@@ -52,14 +50,7 @@ impl<K: Eq + Hash + Copy + Drop + Bucketed> Ledgers<K> {
         ensures kept { (l : ℕ) (k : K) → l < count self.old → held_at K.eq self.new l k ≡ with_all (held_at K.eq self.old l k) (held_by_path K.eq key held l k path.now) }
         ensures room { (l : ℕ) (k : K) → l < count self.old → promised_on K.eq self.old l k ≤ promised_on K.eq self.new l k + length (held_by_path K.eq key held l k path.now) }
     {
-        add_to_tunnel(
-            &mut self.tunnels,
-            &self.hints,
-            &mut self.sums,
-            key,
-            path,
-            held,
-        );
+        add_to_tunnel(&mut self.tunnels, &mut self.sums, key, path, held);
     }
 
     /// Drops what a path holds on its links.
@@ -70,14 +61,7 @@ impl<K: Eq + Hash + Copy + Drop + Bucketed> Ledgers<K> {
         ensures kept { (l : ℕ) (k : K) → l < count self.old → held_at K.eq self.new l k ≡ without_all (held_at K.eq self.old l k) (held_by_path K.eq key held l k path.now) }
         ensures room { (l : ℕ) (k : K) → promised_on K.eq self.old l k ≤ promised_on K.eq self.new l k }
     {
-        drop_from_tunnel(
-            &mut self.tunnels,
-            &self.hints,
-            &mut self.sums,
-            key,
-            path,
-            held,
-        );
+        drop_from_tunnel(&mut self.tunnels, &mut self.sums, key, path, held);
     }
 
     /// Promises room for one more of the key on each of a path's links.
@@ -92,14 +76,7 @@ impl<K: Eq + Hash + Copy + Drop + Bucketed> Ledgers<K> {
         ensures kept { (l : ℕ) (k : K) → held_at K.eq self.new l k ≡ held_at K.eq self.old l k }
         ensures ok { OnOk result ((l : ℕ) (k : K) (held : Held) → l < count self.old → promised_on K.eq self.old l k + length (held_by_path K.eq key held l k path.now) ≤ promised_on K.eq self.new l k) }
     {
-        promise_to_tunnel(
-            alloc,
-            &mut self.tunnels,
-            &mut self.hints,
-            self.sums.len(),
-            key,
-            path,
-        )
+        promise_to_tunnel(alloc, &mut self.tunnels, self.sums.len(), key, path)
     }
 
     /// Takes the promises to the key on a path's links back, its entries there out that hold nothing, and the
@@ -110,14 +87,14 @@ impl<K: Eq + Hash + Copy + Drop + Bucketed> Ledgers<K> {
         ensures swept { (l : ℕ) (k : K) (held : Held) → has_entry_at K.eq self.new l k ≡ true → held_at K.eq self.new l k ≡ [] → length (held_by_path K.eq key held l k path.now) ≡ 0 }
         ensures kept { (l : ℕ) (k : K) → held_at K.eq self.new l k ≡ held_at K.eq self.old l k }
     {
-        withdraw_from(&mut self.tunnels, &mut self.hints, key, path);
+        withdraw_from(&mut self.tunnels, key, path);
     }
 
     /// The stored sums of a link.
     pub fn sums(&self, link: LinkNumber) -> &[u64; 8]
         requires { link < count self.now }
-        ensures summed { (p : ℕ) → p < 8 → slice_index result.now p ≡ total (most_on link p) self.now.tunnels.entries }
-        ensures unique { IsUnique K.eq self.now.tunnels }
+        ensures summed { (p : ℕ) → p < 8 → slice_index result.now p ≡ total (most_on link p) self.now.tunnels.items.items }
+        ensures unique { IsDistinct K.eq (keys_of self.now.tunnels.items.items) }
         ensures small { (p : ℕ) → p < 8 → slice_index result.now p < 2 ^ 63 - 2 ^ 48 }
     {
         &self.sums[link]
@@ -128,7 +105,7 @@ impl<K: Eq + Hash + Copy + Drop + Bucketed> Ledgers<K> {
         requires { priority < 8 }
         ensures { result ≡ most (held_at K.eq self.now link key) priority }
     {
-        match entries_of(&self.tunnels, &self.hints, key) {
+        match entries_of(&self.tunnels, key) {
             Some(entries) => entries.share(link, priority),
             None => 0,
         }
@@ -136,10 +113,10 @@ impl<K: Eq + Hash + Copy + Drop + Bucketed> Ledgers<K> {
 
     /// The key's entries, in the order of their links, at most one for each.
     pub fn entries(&self, key: K) -> &[LinkEntry]
-        ensures entries { result.now ≡ entries_in (lookup (K.eq key) self.now.tunnels.entries) }
+        ensures entries { result.now ≡ entries_in (lookup (K.eq key) self.now.tunnels.items.items) }
         ensures rising { AreRising result.now }
     {
-        match entries_of(&self.tunnels, &self.hints, key) {
+        match entries_of(&self.tunnels, key) {
             Some(entries) => entries.as_slice(),
             None => &[],
         }

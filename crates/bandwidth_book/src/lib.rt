@@ -39,6 +39,7 @@ mod looks;
 mod own;
 mod paths;
 mod snapshots;
+mod tunnel_list;
 mod tunnels;
 
 pub use book::Book;

@@ -1,5 +1,6 @@
 pub mod Chains
 pub mod Distinct
+pub mod GrantCounts
 pub mod Keys
 pub mod OfPeer
 pub mod PathLists

@@ -10,3 +10,4 @@ pub mod Tables
 pub mod Refusals
 pub mod Pending
 pub mod SrpNumbers
+pub mod GrantCounts

@@ -9,7 +9,6 @@ ghost use Rattle.lsp_base.specs.Tables.{PicksFrom, PicksOfPeer, MeetsOfPeer};
 
 use crate::chained::Sought;
 use crate::effect::{Change, Effect, Record, RecordChange};
-use crate::grants::GrantOf;
 use crate::lists::Choice;
 use crate::lsp::Lsp;
 use crate::of_peer::Becoming;
@@ -184,11 +183,11 @@ impl LspBase {
         self.records.any_of_peer(peer, sought)
     }
 
-    /// Whether the LSP has a grant, with no pass over all.
+    /// Whether the LSP has a grant, with no pass over all. Where no grant of its peer is counted, no path is read.
     pub fn has_grant(&self, peer: u32, plsp: Plsp) -> bool
         ensures { result ≡ has_grant self.now.content.paths peer plsp }
     {
-        self.any_chosen_of(peer, plsp, &GrantOf { peer, plsp })
+        self.paths.has_grant(peer, plsp)
     }
 
     /// Whether a grant or an awaited removal of the peer may have the SRP-ID: where not, none has. Takes no

@@ -1,6 +1,6 @@
 //! Lists with a chain through them: items that come at the end, that go, and that are looked for.
-ghost use Rattle.std.specs.Prelude.{◌≡◌, ◌<◌, ◌≤◌, ◌+◌, ◌-◌, ◌++◌, ◌∷◌, [], length, take, slice_set, slice_index_or, OnOk, IfSome, IfNone, vec_len, vec_capacity};
-ghost use Rattle.lsp_base.specs.Chains.{IsFree, IsChain, IsFirst, IsWithin};
+ghost use Rattle.std.specs.Prelude.{◌≡◌, ◌<◌, ◌≤◌, ◌+◌, ◌-◌, ◌++◌, ◌∷◌, [], true, length, take, slice_set, slice_index_or, OnOk, IfSome, IfNone, vec_len, vec_capacity};
+ghost use Rattle.lsp_base.specs.Chains.{stands, IsFree, IsChain, IsFirst, IsWithin};
 
 use crate::chain::{
     Bucketing, Chain, earlier_end, hang_at, hang_last, kept, lead_past, newest_end, unhang_last,
@@ -129,4 +129,28 @@ pub fn first_place<T, B: Bucketing<T>, S: Sought<T>>(
     } else {
         None
     }
+}
+
+/// A place at which what is sought stands, the first that is met, which is told without a look at the places below. All
+/// of it is in the bucket.
+pub fn any_place<T, B: Bucketing<T>, S: Sought<T>>(
+    items: &[T],
+    chain: &Chain,
+    bucket: usize,
+    sought: &S,
+) -> Option<usize>
+    requires bucket { IsWithin B.bucket_of (S.seeks sought.now) bucket }
+    requires chain { IsChain B.bucket_of items.now chain.now.newest.items chain.now.earlier.items }
+    ensures here { IfSome result (λ place. stands (S.seeks sought.now) items.now place ≡ true) }
+    ensures none { IfNone result (IsFree items.now (S.seeks sought.now) 0 (length items.now)) }
+{
+    let mut end = newest_end::<T, B>(items, chain, bucket);
+    while end > 0 {
+        let place = end - 1;
+        if sought.seeks(&items[place]) {
+            return Some(place);
+        }
+        end = earlier_end::<T, B>(items, chain, bucket, place);
+    }
+    None
 }

@@ -7,7 +7,8 @@
 //! reservation, RFC 3209), the lists after a change in `specs/Base.antt`. An LSP's paths and its record are
 //! found by chains through the two lists, and those of a whole peer by bits for their places, with no pass over
 //! all: hints, of which `specs/Chains.antt` and `specs/Marks.antt` say that they skip nothing. Of the SRP-IDs of grants and removals a number is kept for each peer that none of
-//! them exceeds (`specs/SrpNumbers.antt`).
+//! them exceeds (`specs/SrpNumbers.antt`), and of its grants a count that is none too small
+//! (`specs/GrantCounts.antt`).
 //!
 //! ```text
 //! fn carry_out(base: &mut LspBase, peer: u32, effect: Effect) -> Result<(), AllocError>
@@ -29,6 +30,7 @@ mod chained;
 mod drops;
 mod effect;
 mod found;
+mod grant_counts;
 mod grants;
 mod lists;
 mod lsp;
@@ -46,7 +48,9 @@ mod why;
 pub use base::{LspBase, PATH_LIMIT};
 pub use bits::{first_in, rest_of};
 pub use chain::{Bucketing, Chain, earlier_end, hang_at, hang_last, lead_past, unhang_last};
-pub use chained::{BUCKETS, Sought, first_place, make_room};
+pub use chained::{
+    BUCKETS, Sought, any_place, first_place, make_room, push_last, put_at, take_last,
+};
 pub use drops::{dropping_of_peer, ended_record, is_path_of_lsp};
 pub use effect::{Change, Effect, Record, RecordChange};
 pub use grants::{carries_srp, is_grant_of_lsp, is_unbound};

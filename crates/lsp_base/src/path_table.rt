@@ -2,11 +2,14 @@
 ghost use Rattle.std.specs.Prelude.{◌≡◌, ◌<◌, ◌≤◌, ◌+◌, ◌++◌, ◌∷◌, [], length, filter, map, IfOk, OnOk};
 ghost use Rattle.std.specs.List.{list_any};
 ghost use Rattle.lsp_base.specs.Base.{without_path, without, made_stale};
+ghost use Rattle.lsp_base.specs.Grants.{has_grant};
 ghost use Rattle.lsp_base.specs.Tables.{bucket_number, PicksFrom, PicksOfPeer};
 
 use crate::chain::{Bucketing, Chain};
 use crate::chained::{Sought, first_place};
 use crate::found::{ByLsp, any_chosen_in, bucket_of_lsp, chosen_in};
+use crate::grant_counts::GrantCounts;
+use crate::grants::GrantOf;
 use crate::lists::{Choice, Edit};
 use crate::marked::{make_room, push_last, swap_out};
 use crate::marks::Marks;
@@ -22,11 +25,14 @@ pub struct PathTable {
     items: Vec<Path>,
     chain: Chain,
     marks: Marks,
+    /// For each place of peers no less than their grants' number.
+    grants: GrantCounts,
 }
 
 impl Model for PathTable {
     ghost use Rattle.std.specs.Prelude.{min, vec_capacity};
     ghost use Rattle.lsp_base.specs.Chains.{IsChain};
+    ghost use Rattle.lsp_base.specs.GrantCounts.{AreCounted};
     ghost use Rattle.lsp_base.specs.Marks.{AreMarked, path_column};
     ghost use Rattle.lsp_base.specs.Tables.{PathRoom, path_bucket};
 
@@ -35,7 +41,7 @@ impl Model for PathTable {
     ghost view = { λ t. record { paths = t.items.items; room = min (vec_capacity t.items) (vec_capacity t.chain.earlier) } };
 
     ghost invariant = { λ t. IsChain path_bucket t.items.items t.chain.newest.items t.chain.earlier.items
-        × AreMarked path_column t.items.items t.marks.words.items };
+        × AreMarked path_column t.items.items t.marks.words.items × AreCounted t.items.items t.grants.counts };
 }
 
 /// The paths that are this one.
@@ -106,6 +112,7 @@ impl PathTable {
                 earlier: Vec::new(alloc),
             },
             marks: Marks::new(alloc),
+            grants: GrantCounts::new(),
         }
     }
 
@@ -143,6 +150,7 @@ impl PathTable {
             &SameAs { path },
         );
         if let Some(place) = place {
+            self.grants.discount(path);
             swap_out::<Path, ByLsp, ByPeer>(
                 &mut self.items,
                 &mut self.chain,
@@ -158,6 +166,7 @@ impl PathTable {
         ensures paths { self.new.paths ≡ self.old.paths ++ path ∷ [] }
         ensures room { self.new.room ≡ self.old.room }
     {
+        self.grants.count(&path);
         push_last::<Path, ByLsp, ByPeer>(&mut self.items, &mut self.chain, &mut self.marks, path);
     }
 
@@ -240,6 +249,17 @@ impl PathTable {
             choice,
         )
     }
+
+    /// Whether the LSP has a grant. Reads no path where no grant of the peer is counted.
+    pub fn has_grant(&self, peer: u32, plsp: Plsp) -> bool
+        ensures { result ≡ has_grant self.now.paths peer plsp }
+    {
+        if self.grants.has_none(peer) {
+            return false;
+        }
+        self.any_chosen_of(peer, plsp, &GrantOf { peer, plsp })
+    }
+
     /// Copies of the paths that pass the test, in order. All of them are the peer's.
     pub fn chosen_of_peer<C: Choice>(
         &self,

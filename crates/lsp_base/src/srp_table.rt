@@ -16,7 +16,8 @@ pub struct SrpTable {
     ghost all_there: { length numbers ≡ 251 },
 }
 
-fn number_place(peer: u32) -> usize
+/// The place of a peer's number, which other peers' may be at too.
+pub fn number_place(peer: u32) -> usize
     ensures { result ≡ number_place peer }
 {
     (peer % 251) as usize

@@ -91,7 +91,7 @@ fn add(
     Ok(())
 }
 
-/// The paths of peer 1 with one LSP ID.
+/// The paths of peer 1 with one part.
 #[derive(Drop)]
 struct OfPart {
     part: Part,
@@ -108,15 +108,17 @@ impl Choice for OfPart {
     }
 }
 
-/// Drops the paths of peer 1 with this LSP ID, with the records that then have none.
-fn remove(alloc: Global, base: &mut LspBase, lsp: u16) -> Result<(), AllocError> {
-    let gone = OfPart {
-        part: Part::Reported(lsp),
-    };
-    let effect = dropping_of_peer(alloc, base, 1, &gone)?;
+/// Drops the paths of peer 1 with this part, with the records that then have none.
+fn drop_part(alloc: Global, base: &mut LspBase, part: Part) -> Result<(), AllocError> {
+    let effect = dropping_of_peer(alloc, base, 1, &OfPart { part })?;
     base.reserve(&effect)?;
     base.change(1, effect);
     Ok(())
+}
+
+/// Drops the paths of peer 1 with this LSP ID, with the records that then have none.
+fn remove(alloc: Global, base: &mut LspBase, lsp: u16) -> Result<(), AllocError> {
+    drop_part(alloc, base, Part::Reported(lsp))
 }
 
 /// A path that peer 1 reports, and the name of its LSP.
@@ -301,6 +303,37 @@ fn greater_srp_ids_are_free(rt: HostRuntime) -> Result<(), Fail> {
     let alloc = rt.alloc();
     let mut base = LspBase::new(alloc);
     take_srp_ids(&rt, alloc, &mut base)?;
+    Ok(())
+}
+
+/// The LSP has a grant, and neither has another LSP of its peer nor one of another peer, whether that peer's grants are
+/// counted with peer 1's or not.
+fn find_grant(rt: &impl Abort, base: &LspBase) {
+    assert!(rt; base.has_grant(1, Plsp::new(1)));
+    assert!(rt; !base.has_grant(1, Plsp::new(2)));
+    assert!(rt; !base.has_grant(2, Plsp::new(1)));
+    assert!(rt; !base.has_grant(252, Plsp::new(1)));
+}
+
+/// Two grants of an LSP come, and go one after the other.
+fn change_grants(rt: &impl Abort, alloc: Global, base: &mut LspBase) -> Result<(), AllocError> {
+    assert!(rt; !base.has_grant(1, Plsp::new(1)));
+    add_granted(rt, alloc, base, 7)?;
+    add_granted(rt, alloc, base, 8)?;
+    find_grant(rt, base);
+    drop_part(alloc, base, Part::Granted(7))?;
+    find_grant(rt, base);
+    drop_part(alloc, base, Part::Granted(8))?;
+    assert!(rt; !base.has_grant(1, Plsp::new(1)));
+    Ok(())
+}
+
+/// An LSP has a grant until the last of its grants goes.
+#[test]
+fn grants_come_and_go(rt: HostRuntime) -> Result<(), Fail> {
+    let alloc = rt.alloc();
+    let mut base = LspBase::new(alloc);
+    change_grants(&rt, alloc, &mut base)?;
     Ok(())
 }
 

@@ -11,9 +11,10 @@ pub record AreLater (numbers later : List ℕ) : Type 0 where
   pub within : (p : ℕ) → p < length numbers → slice_index later p ≤ length numbers
   pub free : (p : ℕ) → p < length numbers → IsFree numbers (slice_index numbers p) (p + 1) (slice_index later p)
 
--- for each small number a place before which it does not stand, and one from which on it does not
+-- For each small number a place before which it does not stand, and one from which on it does not. Places are kept in
+-- 16 bits, and of one from which on a number does not stand the greatest number of 16 bits, 65,535, says nothing.
 pub record AreEnds (numbers oldest newest : List ℕ) : Type 0 where
   pub lengths : length oldest ≡ length newest
   pub within : (n : ℕ) → n < length oldest → slice_index oldest n ≤ length numbers
   pub before : (n : ℕ) → n < length oldest → IsFree numbers n 0 (slice_index oldest n)
-  pub behind : (n : ℕ) → n < length newest → IsFree numbers n (slice_index newest n) (length numbers)
+  pub behind : (n : ℕ) → n < length newest → slice_index newest n < 65535 → IsFree numbers n (slice_index newest n) (length numbers)

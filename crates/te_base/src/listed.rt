@@ -15,7 +15,7 @@ pub(crate) trait Keyed {
 
     ghost bucket_of: { Self → ℕ };
 
-    fn bucket(&self) -> usize
+    fn bucket(&self) -> u16
         ensures { result ≡ bucket_of self.now };
 }
 
@@ -52,7 +52,7 @@ fn oldest<T: Keyed, S: Keyed + Sought<T>>(
     items: &[T],
     chains: &Chains,
     sought: &S,
-    bucket: usize,
+    bucket: u16,
 ) -> usize
     requires chained { chains.now ≡ map T.bucket_of items.now }
     requires bucket { bucket ≡ S.bucket_of sought.now }
@@ -68,7 +68,7 @@ fn newest<T: Keyed, S: Keyed + Sought<T>>(
     items: &[T],
     chains: &Chains,
     sought: &S,
-    bucket: usize,
+    bucket: u16,
 ) -> usize
     requires chained { chains.now ≡ map T.bucket_of items.now }
     requires bucket { bucket ≡ S.bucket_of sought.now }
@@ -84,7 +84,7 @@ fn later<T: Keyed, S: Keyed + Sought<T>>(
     items: &[T],
     chains: &Chains,
     sought: &S,
-    bucket: usize,
+    bucket: u16,
     place: usize,
 ) -> usize
     requires chained { chains.now ≡ map T.bucket_of items.now }
@@ -103,7 +103,7 @@ fn first_from<T: Keyed, S: Keyed + Sought<T>>(
     items: &[T],
     chains: &Chains,
     sought: &S,
-    bucket: usize,
+    bucket: u16,
     start: usize,
 ) -> Option<usize>
     requires chained { chains.now ≡ map T.bucket_of items.now }

@@ -9,7 +9,7 @@ use pcep_word::Ipv4;
 impl Keyed for Node {
     ghost bucket_of = { node_bucket };
 
-    fn bucket(&self) -> usize {
+    fn bucket(&self) -> u16 {
         bucket_of_name(self.name.as_str())
     }
 }
@@ -17,7 +17,7 @@ impl Keyed for Node {
 impl Keyed for Link {
     ghost bucket_of = { link_bucket };
 
-    fn bucket(&self) -> usize {
+    fn bucket(&self) -> u16 {
         bucket_of_ends(self.from, self.to)
     }
 }
@@ -25,7 +25,7 @@ impl Keyed for Link {
 impl Keyed for Owner {
     ghost bucket_of = { owner_bucket };
 
-    fn bucket(&self) -> usize {
+    fn bucket(&self) -> u16 {
         bucket_of_number(self.address.0)
     }
 }
@@ -39,7 +39,7 @@ pub(crate) struct Named<'a> {
 impl<'a> Keyed for Named<'a> {
     ghost bucket_of = { λ s. bucket_of_name s.name.now };
 
-    fn bucket(&self) -> usize {
+    fn bucket(&self) -> u16 {
         bucket_of_name(self.name)
     }
 }
@@ -63,7 +63,7 @@ pub(crate) struct Owning {
 impl Keyed for Owning {
     ghost bucket_of = { λ s. bucket_of_number s.address };
 
-    fn bucket(&self) -> usize {
+    fn bucket(&self) -> u16 {
         bucket_of_number(self.address.0)
     }
 }
@@ -88,7 +88,7 @@ pub(crate) struct Joining {
 impl Keyed for Joining {
     ghost bucket_of = { λ s. bucket_of_ends s.from s.to };
 
-    fn bucket(&self) -> usize {
+    fn bucket(&self) -> u16 {
         bucket_of_ends(self.from, self.to)
     }
 }
@@ -113,7 +113,7 @@ pub(crate) struct WithRemote {
 impl Keyed for WithRemote {
     ghost bucket_of = { λ s. bucket_of_ends s.joining.from s.joining.to };
 
-    fn bucket(&self) -> usize {
+    fn bucket(&self) -> u16 {
         self.joining.bucket()
     }
 }
@@ -139,7 +139,7 @@ pub(crate) struct WithLocal {
 impl Keyed for WithLocal {
     ghost bucket_of = { λ s. bucket_of_ends s.joining.from s.joining.to };
 
-    fn bucket(&self) -> usize {
+    fn bucket(&self) -> u16 {
         self.joining.bucket()
     }
 }

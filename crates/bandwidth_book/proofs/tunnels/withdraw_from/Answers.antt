@@ -6,7 +6,7 @@ use Rattle.bandwidth_book.proofs.tunnels.withdraw_from.Goals as goal
 
 pub returns-then-take_back-clause-totals : goal.returns-then-take_back-clause-totals
 returns-then-take_back-clause-totals g c = λ l p.
-    let empty : lookup (g.K.PartialEq.eq c.args.key) c.take_back.new.tunnels.entries ≡ Some [] = search rules in
-    rw c.take_out.ensures.entries (total_swap_remove_entry (most_on l p) (g.K.PartialEq.eq c.args.key) c.take_back.new.tunnels.entries
+    let empty : lookup (g.K.PartialEq.eq c.args.key) c.take_back.new.tunnels.items.items ≡ Some [] = search rules in
+    rw c.take_out.ensures.entries (total_swap_remove_entry (most_on l p) (g.K.PartialEq.eq c.args.key) c.take_back.new.tunnels.items.items
     (λ v e. let same : Some v ≡ Some [] = sym e ∙ empty in ap (most_on l p) same))
     ∙ c.take_back.ensures.totals l p

@@ -7,7 +7,7 @@ use Rattle.bandwidth_book.proofs.ledgers.Ledgers.drop_path.Goals as goal
 pub drop_from_tunnel-requires-clause-small : goal.drop_from_tunnel-requires-clause-small
 drop_from_tunnel-requires-clause-small g c = rw c.deref_mut.ensures.value (λ l p h q.
     let s = c.args.self.now.summed l p h q in
-    let t = total_small g.K.PartialEq.eq g.met.K.Eq.laws (most_on l p) c.args.self.now.tunnels.entries c.args.self.now.unique c.args.self.now.few (λ k. c.args.self.now.small l k p) in
+    let t = total_small g.K.PartialEq.eq g.met.K.Eq.laws (most_on l p) c.args.self.now.tunnels.items.items c.args.self.now.tunnels.unique c.args.self.now.few (λ k. c.args.self.now.small l k p) in
     omega (arith, s, t))
 
 pub invariant_of-self : goal.invariant_of-self
@@ -19,5 +19,4 @@ invariant_of-self g c =
       few = (let n = c.drop_from_tunnel.ensures.count in let f = c.args.self.now.few in omega (arith, n, f));
       small = c.drop_from_tunnel.ensures.least;
       full = c.drop_from_tunnel.ensures.full c.args.self.now.full;
-      unique = c.drop_from_tunnel.ensures.unique;
     }

@@ -7,5 +7,4 @@ invariant_of-self g c = record {
   few = c.promise_to_tunnel.ensures.few c.args.self.now.few;
   small = λ l k p. rw (c.promise_to_tunnel.ensures.kept l k) (c.args.self.now.small l k p);
   full = c.promise_to_tunnel.ensures.full c.args.self.now.full;
-  unique = c.promise_to_tunnel.ensures.unique;
 }

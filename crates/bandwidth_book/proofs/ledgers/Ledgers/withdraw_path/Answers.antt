@@ -7,5 +7,4 @@ invariant_of-self g c = record {
   few = (let n = c.withdraw_from.ensures.count in let f = c.args.self.now.few in omega (arith, n, f));
   small = λ l k p. rw (c.withdraw_from.ensures.kept l k) (c.args.self.now.small l k p);
   full = c.withdraw_from.ensures.full;
-  unique = c.withdraw_from.ensures.unique;
 }
