@@ -124,6 +124,10 @@ fn start<K: Bucketed>(
     Ok(())
 }
 
+/// Room for so many tunnels is made with the first of them, and for more as they come: as many as paths stand at most, and
+/// 64 that hold something before others hold nothing any more, so that no event moves all tunnels.
+const FIRST_ROOM: usize = 16_448;
+
 /// Makes room for one tunnel more.
 fn make_room<K: Bucketed>(
     items: &mut Vec<(K, LinkEntries)>,
@@ -137,8 +141,9 @@ fn make_room<K: Bucketed>(
     ensures chain_ok { OnOk result (length items.new.items < vec_capacity chain.new.earlier) }
 {
     start(items.as_slice(), chain, alloc)?;
-    items.reserve(1)?;
-    chain.earlier.reserve(1)?;
+    let wanted = FIRST_ROOM.saturating_sub(items.len()).max(1);
+    items.reserve(wanted)?;
+    chain.earlier.reserve(wanted)?;
     Ok(())
 }
 

@@ -49,6 +49,14 @@ impl Model for Database {
     ghost invariant = { λ d. IsWhole (content d.state d.history.items d.base d.rolled d.rolled_grants) d.grants };
 }
 
+/// For how many more steps room is made where so many are kept: for all that may be, with the first of them, so that no
+/// later step moves those before it. Memory that isn't written yet costs nothing but its addresses.
+fn wanted_room(kept: usize) -> usize
+    ensures { 1 ≤ result }
+{
+    STEP_LIMIT.saturating_sub(kept).max(1)
+}
+
 fn is_grant(brief: Brief) -> bool
     ensures { result ≡ is_grant brief }
 {
@@ -130,7 +138,7 @@ impl Database {
         if self.is_full() {
             return Err(Fault::HistoryFull);
         }
-        self.history.reserve(1)?;
+        self.history.reserve(wanted_room(self.history.len()))?;
         let reply = self.state.step(event.event())?;
         keep(&mut self.history, &mut self.grants, event, &reply);
         Ok(reply)

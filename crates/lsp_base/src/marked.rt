@@ -10,6 +10,18 @@ use crate::chained;
 use crate::marks::{Marks, mark_at, mark_last, start_marks, unmark};
 use std::alloc::{AllocError, Global};
 
+/// Room for so many items is made with the first of them, and for more as they come. It is what 16,384 paths take where an
+/// effect adds as many again before the old ones go, so that no event moves all items. Memory that isn't written yet
+/// costs nothing but its addresses.
+const FIRST_ROOM: usize = 32_768;
+
+/// How many more items than there are room is made for, where this many more come.
+fn wanted(count: usize, more: usize) -> usize
+    ensures { more ≤ result }
+{
+    FIRST_ROOM.saturating_sub(count).max(more)
+}
+
 /// Makes room for this many more items.
 pub fn make_room<T, B: Bucketing<T>, P: Bucketing<T>>(
     items: &mut Vec<T>,
@@ -27,7 +39,8 @@ pub fn make_room<T, B: Bucketing<T>, P: Bucketing<T>>(
     ensures chain_ok { OnOk result (length items.new.items + more ≤ vec_capacity chain.new.earlier) }
 {
     start_marks::<T, P>(items.as_slice(), marks, alloc)?;
-    chained::make_room::<T, B>(items, chain, alloc, more)
+    let wanted = wanted(items.len(), more);
+    chained::make_room::<T, B>(items, chain, alloc, wanted)
 }
 
 /// Puts the item at the end, into room that is there.
