@@ -78,9 +78,29 @@ fn drop_from(entry: &mut Entry, sums: &mut [u64; 8], held: Held)
     exchange(sums, &before, &entry.maxima());
 }
 
-/// Where the entry of a link belongs in the order.
+/// So many entries are passed over whole: their lines of memory come at once, where halving waits for each before it asks
+/// for the next.
+const FEW: usize = 8;
+
+/// Where the entry of a link belongs in the order, by a pass over all: how many are before it.
 #[tactic(auto, using(crate::proofs::Rising::place_within))]
-fn place_of(entries: &[LinkEntry], link: LinkNumber) -> usize
+fn place_by_counting(entries: &[LinkEntry], link: LinkNumber) -> usize
+    requires { AreRising entries.now }
+    ensures place { result ≡ place_on link entries.now }
+    ensures within { result ≤ length entries.now }
+{
+    let mut count = 0;
+    for entry in entries {
+        if entry.link < link {
+            count += 1;
+        }
+    }
+    count
+}
+
+/// Where the entry of a link belongs in the order, by halving.
+#[tactic(auto, using(crate::proofs::Rising::place_within))]
+fn place_by_halving(entries: &[LinkEntry], link: LinkNumber) -> usize
     requires { AreRising entries.now }
     ensures place { result ≡ place_on link entries.now }
     ensures within { result ≤ length entries.now }
@@ -96,6 +116,19 @@ fn place_of(entries: &[LinkEntry], link: LinkNumber) -> usize
         }
     }
     low
+}
+
+/// Where the entry of a link belongs in the order.
+fn place_of(entries: &[LinkEntry], link: LinkNumber) -> usize
+    requires { AreRising entries.now }
+    ensures place { result ≡ place_on link entries.now }
+    ensures within { result ≤ length entries.now }
+{
+    if entries.len() <= FEW {
+        place_by_counting(entries, link)
+    } else {
+        place_by_halving(entries, link)
+    }
 }
 
 /// Where the entry of a link is.

@@ -1,5 +1,5 @@
 //! What a tunnel holds already, for a search of a path of it.
-ghost use Rattle.std.specs.Prelude.{◌≡◌, ◌<◌, ◌++◌, ◌∷◌, [], ℕ, List, cond, length, IfOk, OnOk};
+ghost use Rattle.std.specs.Prelude.{◌≡◌, ◌<◌, ◌≤◌, ◌++◌, ◌∷◌, [], ℕ, List, cond, length, IfOk, OnOk};
 ghost use Rattle.lsp_base.specs.Shares.{share};
 ghost use Rattle.lsp_base.specs.declared.path.Path.{Path};
 ghost use Rattle.te_snapshot.specs.Own.{is_something, own_share_on, own_shares};
@@ -59,7 +59,18 @@ fn list_entry(own: &mut Vec<OwnShare>, count: usize, entry: &LinkEntry) -> Resul
     Ok(())
 }
 
-/// What a tunnel reserves on each link on which it reserves something.
+/// On how many links something is held.
+fn filled(entries: &[LinkEntry]) -> usize
+    ensures { result ≤ length entries.now }
+{
+    entries
+        .iter()
+        .filter(|entry| !entry.entry.is_empty())
+        .count()
+}
+
+/// What a tunnel reserves on each link on which it reserves something. The entries are counted before, so that their
+/// memory comes at once and the list doesn't grow.
 fn own_on(
     alloc: Global,
     ledgers: &Ledgers<Tunnel>,
@@ -68,8 +79,10 @@ fn own_on(
     ensures { IfOk result (λ own. (paths : List Path) → IsHeldBy (count ledgers.now) (held_at tunnel_eq ledgers.now) paths
         → own.items ≡ own_shares paths tunnel.now (count ledgers.now)) }
 {
+    let entries = ledgers.entries(*tunnel);
     let mut own = Vec::new(alloc);
-    for entry in ledgers.entries(*tunnel) {
+    own.reserve(filled(entries))?;
+    for entry in entries {
         list_entry(&mut own, ledgers.count(), entry)?;
     }
     Ok(own)

@@ -12,8 +12,8 @@ use Rattle.bandwidth_book.proofs.own.own_on.Goals as goal
 
 pub loop-entry-preserved : goal.loop-entry-preserved
 loop-entry-preserved c = λ paths held.
-    let entries = c.entries-entry-items.result.now in
-    let known = c.entries-entry-items.ensures in
+    let entries = c.entries-entries.result.now in
+    let known = c.entries-entries.ensures in
     let entry = c.entry-item.result in
     let t = c.args.tunnel.now in
     let n = count c.args.ledgers.now in
@@ -29,8 +29,8 @@ loop-entry-preserved c = λ paths held.
 
 pub returns : goal.returns
 returns c = λ paths held.
-    let entries = c.entries-entry-items.result.now in
-    let known = c.entries-entry-items.ensures in
+    let entries = c.entries-entries.result.now in
+    let known = c.entries-entries.ensures in
     let t = c.args.tunnel.now in
     let n = count c.args.ledgers.now in
     let long = length-map entries (λ (x : LinkEntry). x.link) in

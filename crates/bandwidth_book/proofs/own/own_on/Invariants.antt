@@ -8,4 +8,4 @@ use Rattle.bandwidth_book.proofs.own.own_on.Given as goal
 
 abbrev pub invariant-loop-entry : goal.invariant-loop-entry
 invariant-loop-entry l = (paths : List Path) → IsHeldBy (count l.ledgers) (held_at tunnel_eq l.ledgers) paths
-    → l.own.items ≡ own_among paths l.tunnel (count l.ledgers) (take l.entry-index (links_with l.entry-items))
+    → l.own.items ≡ own_among paths l.tunnel (count l.ledgers) (take l.entry-index (links_with l.entries))

@@ -1,6 +1,6 @@
 use Rattle.std.proofs.Common.{◌≤◌, ◌-◌, length}
 use Rattle.bandwidth_book.specs.Entries.{place_on}
-use Rattle.bandwidth_book.proofs.link_entries.place_of.Given as goal
+use Rattle.bandwidth_book.proofs.link_entries.place_by_halving.Given as goal
 
 abbrev pub invariant-loop-low : goal.invariant-loop-low
 invariant-loop-low l = record {

@@ -1,7 +1,7 @@
 use Rattle.std.proofs.Common.{◌<◌, ◌≤◌, ◌+◌, ◌-◌, ◌/◌, length, arith}
 use Rattle.bandwidth_book.specs.Entries.{place_on}
 use Rattle.bandwidth_book.proofs.Rising.{before_place, after_place}
-use Rattle.bandwidth_book.proofs.link_entries.place_of.Goals as goal
+use Rattle.bandwidth_book.proofs.link_entries.place_by_halving.Goals as goal
 
 pub loop-low-preserved-then-entries-middle : goal.loop-low-preserved-then-entries-middle
 loop-low-preserved-then-entries-middle c =
