@@ -1,11 +1,11 @@
 -- What the searches may answer along bytes, they may along the lines that the bytes make.
-use Rattle.std.proofs.Common.{◌≡◌, ℕ, ◌==◌, Bool, true, false, List, [], ◌∷◌, ◌++◌, Option, Some, None, Result, Ok, Err, IfOk, fold, refl, sym, ap, subst, ◌∙◌, append_assoc, arith}
+use Rattle.std.proofs.Common.{◌≡◌, ℕ, ◌==◌, Bool, true, false, List, [], ◌∷◌, ◌++◌, Some, None, Result, Ok, Err, IfOk, fold, refl, sym, ap, subst, ◌∙◌, append_assoc, arith}
 use Rattle.std.proofs.lemmas.Bool.Decides.{nat_tests}
 use Rattle.std.proofs.lemmas.List.{append-nil}
 use Rattle.pce_engine.specs.declared.fault.ScriptFault.{ScriptFault}
-use Rattle.script_lines.specs.Told.{Told, told}
+use Rattle.script_lines.specs.Told.{Told}
 use Rattle.pce_engine.specs.Script.{Searches, Cut, cut, cut_at, with_rest, lines_of, Stage, start, line_told, MayFind, Allowed}
-use Rattle.pce_engine.specs.Machine.{Machine, started, Fed, after_line, took, fed_on, fed, MayTake, AllowedBytes, Leads, Goes}
+use Rattle.pce_engine.specs.Machine.{Machine, started, Fed, after_line, fed_on, fed, MayTake, AllowedBytes, Goes}
 use Rattle.pce_engine.specs.Ends.{MayClose}
 use Rattle.pce_engine.proofs.Laws.{cut_on, cut_break, cut_other, took_break, took_other, front_of}
 

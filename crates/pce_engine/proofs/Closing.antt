@@ -1,12 +1,12 @@
 -- The end of the input, whose last line may lack its line break.
-use Rattle.std.proofs.Common.{◌≡◌, ◌≢◌, ℕ, List, [], ◌∷◌, ◌++◌, Bool, false, Option, Some, None, Result, Ok, Err, IfOk, OnOk, is_err, refl, sym, subst, ap, ◌∙◌}
+use Rattle.std.proofs.Common.{◌≡◌, ◌≢◌, ℕ, List, [], ◌∷◌, ◌++◌, false, Option, Some, None, Result, Ok, Err, IfOk, OnOk, is_err, refl, sym, subst, ap, ◌∙◌}
 use Rattle.std.proofs.lemmas.List.{append-nil}
 use Rattle.std.specs.Io.KnownBytes.{Appends}
 use Rattle.script_lines.specs.Told.{Told, told}
 use Rattle.pce_engine.specs.declared.fault.ScriptFault.{ScriptFault}
 use Rattle.pce_engine.specs.declared.fault.ScriptFault.TheVariants.{BadLine, Te, ReadFault, WriteFault, OutOfMemory, HistoryFull}
 use Rattle.pce_engine.specs.Script.{Stage, Outcome, line_told, MayFind, ending, on_told}
-use Rattle.pce_engine.specs.Ends.{Writes, WritesLast, MayClose, Closes, ClosesAt, ClosesBy}
+use Rattle.pce_engine.specs.Ends.{Writes, WritesLast, Closes, ClosesAt, ClosesBy}
 use Rattle.pce_engine.specs.Machine.{Halts}
 use Rattle.pce_engine.proofs.Laws.{appends_more}
 

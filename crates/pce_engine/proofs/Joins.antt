@@ -6,8 +6,8 @@ use Rattle.pce_engine.specs.declared.fault.ScriptFault.{ScriptFault}
 use Rattle.pce_engine.specs.declared.fault.ScriptFault.TheVariants.{BadLine, Te, ReadFault, WriteFault, OutOfMemory, HistoryFull}
 use Rattle.script_lines.specs.Told.{Told, told}
 use Rattle.pce_engine.specs.Script.{Searches, Stage, line_told}
-use Rattle.pce_engine.specs.Machine.{Machine, Fed, after_line, took, fed_on, fed, MayTake, AllowedBytes, Leads, Goes, LeadsPartly, Halts, Breaks}
-use Rattle.pce_engine.proofs.Laws.{took_break, took_other, next_told, fed_append, after, fed_front}
+use Rattle.pce_engine.specs.Machine.{Machine, Fed, after_line, took, fed_on, fed, MayTake, AllowedBytes, Leads, Goes, Halts, Breaks}
+use Rattle.pce_engine.proofs.Laws.{took_break, took_other, next_told, fed_append}
 
 -- the answers of a before the line with this number, and those of b from it on
 abbrev pub joined : Searches → Searches → ℕ → Searches

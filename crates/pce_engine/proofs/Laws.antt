@@ -1,12 +1,11 @@
 -- The machine that takes a script byte by byte writes what the script's lines print.
-use Rattle.std.proofs.Common.{◌≡◌, ℕ, ◌+◌, ◌<◌, ◌==◌, suc, Bool, true, false, List, [], ◌∷◌, ◌++◌, length, take, drop, get_or, drop-cons, take-append-drop, Option, Some, None, Result, Ok, Err, fold, refl, sym, ap, ◌∙◌, append_assoc}
-use Rattle.std.proofs.lemmas.List.{append-nil, length-append, take_more}
+use Rattle.std.proofs.Common.{◌≡◌, ℕ, ◌+◌, ◌==◌, Bool, true, false, List, [], ◌∷◌, ◌++◌, length, Option, Some, None, Result, Ok, Err, fold, refl, sym, ap, ◌∙◌, append_assoc}
+use Rattle.std.proofs.lemmas.List.{append-nil, length-append}
 use Rattle.std.specs.Io.KnownBytes.{Appends}
 use Rattle.pce_engine.specs.declared.fault.ScriptFault.{ScriptFault}
-use Rattle.pce_engine.specs.declared.fault.ScriptFault.TheVariants.{BadLine, Te, ReadFault, WriteFault, OutOfMemory, HistoryFull}
 use Rattle.script_lines.specs.Told.{Told, told, ◌>>=◌}
 use Rattle.pce_engine.specs.Script.{Searches, Cut, cut_at, with_rest, Stage, start, answered, counted, line_told, Outcome, on_told, printed, script, next_number, text_of_lines}
-use Rattle.pce_engine.specs.Machine.{Machine, started, Fed, after_line, took, fed_on, fed, Leads, Halts, Breaks, completed}
+use Rattle.pce_engine.specs.Machine.{Machine, started, Fed, after_line, took, fed_on, fed, Leads, completed}
 
 -- the lines of what was cut, and of the bytes after it
 abbrev pub cut_on : Cut → List ℕ → List (List ℕ)

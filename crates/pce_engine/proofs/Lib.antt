@@ -6,3 +6,4 @@ mod Placing
 pub mod Runs
 mod Searching
 mod Turning
+mod Unbroken

@@ -5,13 +5,13 @@ use Rattle.std.specs.Io.KnownBytes.{Appends, Consumes, Keeps, IsAtEnd}
 use Rattle.pce_engine.specs.declared.fault.ScriptFault.{ScriptFault}
 use Rattle.pce_engine.specs.declared.fault.ScriptFault.TheVariants.{BadLine, Te, ReadFault, WriteFault, OutOfMemory, HistoryFull}
 use Rattle.script_lines.specs.Told.{Told}
-use Rattle.pce_engine.specs.Script.{Searches, Stage, start, cut, lines_of, line_told, Allowed, Outcome, ending, on_told, script, text_of_lines}
+use Rattle.pce_engine.specs.Script.{Searches, Stage, line_told, Outcome, ending, on_told, script, text_of_lines}
 use Rattle.pce_engine.specs.Machine.{Machine, started, Fed, took, fed_on, fed, MayTake, AllowedBytes, Leads, Goes, LeadsPartly, closed_with, completed}
 use Rattle.pce_engine.specs.Ends.{piece_bound, EndsBy, MayClose, Writes, WritesScript, WritesLast, WritesBefore, WritesRead, ClosesBy}
 use Rattle.pce_engine.specs.Runs.{GoesOn, Stops, Reading, ReadsOn, most_turns}
 use Rattle.pce_engine.proofs.AllowedLines.{allowed_front, allowed_whole, allowed_stopped}
 use Rattle.pce_engine.proofs.Joins.{joined, joined_from, join}
-use Rattle.pce_engine.proofs.Laws.{fed_append, fed_front, after, appends_more, script_by_bytes, text_of_front, number_of_front}
+use Rattle.pce_engine.proofs.Laws.{fed_front, after, appends_more, script_by_bytes, text_of_front, number_of_front}
 
 abbrev pub after_text : List ℕ → Outcome → Outcome
 after_text text o = record { text = text ++ o.text; fault = o.fault }

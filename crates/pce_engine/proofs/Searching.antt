@@ -1,12 +1,9 @@
 -- Lines that make no search, and the line `take`.
-use Rattle.std.proofs.Common.{◌≡◌, ℕ, List, Option, Some, None, Result, Ok, Err, refl, sym, ap, ◌∙◌}
-use Rattle.step_core.specs.Steps.{step}
-use Rattle.step_core.specs.declared.event.Event.TheVariants as event
+use Rattle.std.proofs.Common.{ℕ, List, Option, Some, None, Result, Ok, Err, ap}
 use Rattle.history_core.specs.Histories.{Content}
 use Rattle.script_lines.proofs.Telling.{fails_more}
-use Rattle.job_search.specs.Answers.{MayAnswerTo}
 use Rattle.script_lines.specs.Takes.{take_line, TellsTaken}
-use Rattle.script_lines.specs.Told.{Told, told, ◌>>=◌, Fails, Tells}
+use Rattle.script_lines.specs.Told.{Told, ◌>>=◌, Tells}
 use Rattle.script_lines.specs.declared.fault.CommandFault.{CommandFault}
 use Rattle.script_lines.specs.declared.orders.Order.{Order}
 use Rattle.script_lines.specs.declared.orders.Order.TheVariants.{Take}

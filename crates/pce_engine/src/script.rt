@@ -1,9 +1,9 @@
 //! A script, from a reader to a writer.
 
-ghost use Rattle.std.specs.Prelude.{◌≡◌, ◌≢◌, ◌<◌, ◌≤◌, ◌+◌, ◌^◌, List, [], ℕ, length, Some, Ok, IfErr};
+ghost use Rattle.std.specs.Prelude.{◌≡◌, ◌≢◌, ◌<◌, ◌≤◌, ◌+◌, ◌^◌, ◌++◌, List, [], ℕ, length, Some, Ok, IfErr, OnOk};
 ghost use Rattle.std.specs.Io.{ReadsAtMost};
 ghost use Rattle.std.specs.Io.KnownBytes.{ReadConsumes};
-ghost use Rattle.pce_engine.specs.declared.fault.ScriptFault.TheVariants.{ReadFault};
+ghost use Rattle.pce_engine.specs.declared.fault.ScriptFault.TheVariants.{ReadFault, OutOfMemory};
 ghost use Rattle.pce_engine.specs.declared.script.Turn.TheVariants.{More};
 ghost use Rattle.pce_engine.specs.Script.{ending};
 ghost use Rattle.pce_engine.specs.Runs.{Chunk, Turns, Reaches};
@@ -44,22 +44,24 @@ struct Script {
     pending: Vec<u8>,
 }
 
-fn take_byte(
-    alloc: Global,
-    script: &mut Script,
-    byte: u8,
-    out: &mut Vec<u8>,
-) -> Result<(), ScriptFault>
+/// Adds bytes to the line that hasn't ended.
+fn add(script: &mut Script, bytes: &[u8]) -> Result<(), ScriptFault>
+    ensures stage { script.new.stage ≡ script.old.stage }
+    ensures ok { OnOk result (script.new.pending.items ≡ script.old.pending.items ++ bytes.now) }
+    ensures err { IfErr result (λ fault. fault ≡ OutOfMemory script.old.stage.number) }
+{
+    match script.pending.extend_from_slice(bytes) {
+        Ok(()) => Ok(()),
+        Err(_) => Err(ScriptFault::OutOfMemory(script.stage.number)),
+    }
+}
+
+/// Takes the line break that ends the line.
+fn take_break(alloc: Global, script: &mut Script, out: &mut Vec<u8>) -> Result<(), ScriptFault>
     requires { script.old.stage.number < 2 ^ 63 }
-    ensures took { Takes result byte out.old.items (machine_of script.old) out.new.items (machine_of script.new) }
+    ensures took { Takes result 10 out.old.items (machine_of script.old) out.new.items (machine_of script.new) }
     ensures number { script.new.stage.number ≤ script.old.stage.number + 1 }
 {
-    if byte != b'\n' {
-        return match script.pending.push(byte) {
-            Ok(()) => Ok(()),
-            Err(_) => Err(ScriptFault::OutOfMemory(script.stage.number)),
-        };
-    }
     tell(alloc, &mut script.stage, &script.pending, out)?;
     script.pending.clear();
     Ok(())
@@ -75,10 +77,15 @@ fn feed(
     ensures fed { Feeds result bytes.now out.old.items (machine_of script.old) out.new.items (machine_of script.new) }
     ensures number { script.new.stage.number ≤ script.old.stage.number + length bytes.now }
 {
-    for byte in bytes {
-        take_byte(alloc, script, *byte, out)?;
+    let mut start = 0;
+    for (place, byte) in bytes.iter().enumerate() {
+        if *byte == b'\n' {
+            add(script, &bytes[start..place])?;
+            take_break(alloc, script, out)?;
+            start = place + 1;
+        }
     }
-    Ok(())
+    add(script, &bytes[start..])
 }
 
 /// Takes a piece of the input, and writes what it prints, also where a fault comes after it.

@@ -1,3 +1,4 @@
 pub mod Numbers
+mod Spaces
 mod Taking
 pub mod Telling

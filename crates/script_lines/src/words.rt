@@ -2,6 +2,8 @@
 
 ghost use Rattle.std.specs.Prelude.{◌≡◌, ◌≤◌, ◌==◌, ℕ, option_map, is_some, slice_index, Some, IfOk, IfErr, IfSome, IfNone, IsSome};
 ghost use Rattle.std.specs.List.{list_all, filter_map};
+ghost use Rattle.std.specs.Result.{result_ok};
+ghost use Rattle.hex.specs.Hex.{decode_of};
 ghost use Rattle.pcep_word.specs.Word.{IsLeast, IsBandwidth};
 ghost use Rattle.script_lines.specs.Words.{cut_at_space, number_in, plsp_in, long_number_in, priority_in, peer_in, without_spaces, octets, is_printed, name_in, raised, bandwidth_in, parts, is_link, links_in, offer_in};
 
@@ -79,16 +81,25 @@ fn without_spaces(alloc: Global, text: &str) -> Result<Vec<u8>, AllocError>
         .collect(alloc)
 }
 
-/// Bytes in hexadecimal of either case, with spaces anywhere.
-pub(crate) fn octets_in(alloc: Global, text: &str) -> Result<Option<Vec<u8>>, AllocError>
-    ensures { IfOk result (λ found. option_map (λ bytes. bytes.items) found ≡ octets text.now) }
+/// Bytes in hexadecimal of either case.
+fn decoded(alloc: Global, digits: &[u8]) -> Result<Option<Vec<u8>>, AllocError>
+    ensures { IfOk result (λ found. option_map (λ bytes. bytes.items) found ≡ result_ok (decode_of digits.now)) }
 {
-    let digits = without_spaces(alloc, text)?;
-    match hex::decode(alloc, digits.as_slice()) {
+    match hex::decode(alloc, digits) {
         Ok(bytes) => Ok(Some(bytes)),
         Err(FromHexError::OutOfMemory) => Err(AllocError),
         Err(_) => Ok(None),
     }
+}
+
+/// Bytes in hexadecimal of either case, with spaces anywhere. Memory is asked for digits only where there are spaces.
+pub(crate) fn octets_in(alloc: Global, text: &str) -> Result<Option<Vec<u8>>, AllocError>
+    ensures { IfOk result (λ found. option_map (λ bytes. bytes.items) found ≡ octets text.now) }
+{
+    if !text.as_bytes().contains(&b' ') {
+        return decoded(alloc, text.as_bytes());
+    }
+    decoded(alloc, &without_spaces(alloc, text)?)
 }
 
 /// A priority: a decimal number from 0 to 7, with leading zeros or without.

@@ -1,4 +1,3 @@
-use Rattle.std.proofs.Common.{◌≡◌, ◌∙◌, ap, sym, subst}
 use Rattle.std.proofs.lemmas.Result.{err_from_is_err_and}
 use Rattle.pce_engine.specs.Machine.{stage_of}
 use Rattle.pce_engine.proofs.Closing.{closes_told, closes_halted, written}

@@ -1,6 +1,4 @@
-use Rattle.std.proofs.Common.{◌≡◌, inl, inr, refl, take, arith}
-use Rattle.std.proofs.lemmas.Grind.{common_steps}
-use Rattle.pce_engine.proofs.Turning.{nothing_read}
+use Rattle.std.proofs.Common.{inl, refl}
 use Rattle.pce_engine.proofs.script.take_piece.Goals as goal
 
 pub returns-in-Err-clause-turns : goal.returns-in-Err-clause-turns

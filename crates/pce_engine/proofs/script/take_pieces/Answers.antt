@@ -1,4 +1,4 @@
-use Rattle.std.proofs.Common.{◌≡◌, refl, rules, take, arith}
+use Rattle.std.proofs.Common.{refl, arith}
 use Rattle.std.proofs.lemmas.Grind.{common_steps}
 use Rattle.pce_engine.specs.MachineOf.{machine_of}
 use Rattle.pce_engine.proofs.Runs.{read_none, reads_on}
