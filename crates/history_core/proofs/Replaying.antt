@@ -1,5 +1,5 @@
 -- Histories one after the other: what is legal stays so, and leads on.
-use Rattle.std.proofs.Common.{◌≡◌, ◌≢◌, ℕ, ◌+◌, ◌≤◌, Bool, false, ◌==◌, ◌||◌, List, [], ◌∷◌, ◌++◌, length, refl, sym, ap, subst, ◌∙◌, arith, length-append}
+use Rattle.std.proofs.Common.{◌≡◌, ◌≢◌, ℕ, ◌+◌, ◌≤◌, Bool, false, ◌==◌, ◌||◌, List, [], ◌∷◌, ◌++◌, length, refl, sym, ap, ◌∙◌, arith, length-append}
 use Rattle.std.specs.Prelude.{Result, Ok, if◌then◌else◌}
 use Rattle.std.proofs.lemmas.Bool.Decides.{nat_tests}
 use Rattle.std.proofs.lemmas.Grind.{common_steps}
@@ -15,7 +15,7 @@ use Rattle.step_core.proofs.StepLaws.{te_stays, counts_rise, refused_stays}
 use Rattle.history_core.specs.declared.fault.Fault.{Fault}
 use Rattle.history_core.specs.declared.step.Step.{Step}
 use Rattle.history_core.specs.Briefs.{brief_of, is_grant}
-use Rattle.history_core.specs.Histories.{Content, replay, IsLegalFrom, ReplaysFrom, IsPast, Replays, IsWhole, content, kept_step, stepped, is_full, steps_of, grants_of, step_limit, last_step}
+use Rattle.history_core.specs.Histories.{Content, replay, IsLegalFrom, ReplaysFrom, Replays, IsWhole, content, kept_step, stepped, is_full, steps_of, step_limit, last_step}
 use Rattle.history_core.proofs.Sounding.{grants-snoc, grants_le}
 
 pub replay-append : (s : State) (xs ys : List Step) → replay s (xs ++ ys) ≡ replay (replay s xs) ys

@@ -1,6 +1,5 @@
 -- A roll: all steps so far are the past of the new base.
-use Rattle.std.proofs.Common.{◌≡◌, ℕ, ◌+◌, ◌≤◌, List, [], ◌∷◌, ◌++◌, length, refl, sym, ap, subst, ◌∙◌, arith, length-append}
-use Rattle.std.specs.List.{sum_by}
+use Rattle.std.proofs.Common.{◌≡◌, ℕ, ◌+◌, List, [], ◌∷◌, ◌++◌, length, refl, sym, ap, ◌∙◌, arith, length-append}
 use Rattle.std.proofs.Common.{cond}
 use Rattle.std.proofs.lemmas.List.Sums.{sum_by-append}
 use Rattle.step_core.specs.declared.base.Base as known
@@ -10,7 +9,7 @@ use Rattle.step_core.specs.Steps.{step}
 use Rattle.step_core.proofs.StepLaws.{te_stays}
 use Rattle.history_core.specs.declared.step.Step.{Step}
 use Rattle.history_core.specs.Briefs.{is_grant}
-use Rattle.history_core.specs.Histories.{Content, replay, ReplaysFrom, IsPast, IsSoundFrom, Replays, IsWhole, content, rolled_up, steps_of, grants_of, grants_in, step_limit, last_step}
+use Rattle.history_core.specs.Histories.{Content, replay, IsPast, IsSoundFrom, Replays, IsWhole, content, rolled_up, steps_of, grants_of, grants_in}
 use Rattle.history_core.proofs.Replaying.{replay-append, IsLegalFrom-append}
 use Rattle.history_core.proofs.Sounding.{legal_is_sound}
 

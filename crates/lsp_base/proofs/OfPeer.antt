@@ -1,9 +1,9 @@
 -- What a walk over a peer's places finds: what stands at them, in rising order, and nothing stands between.
-use Rattle.std.proofs.Common.{◌≡◌, ◌++◌, ◌||◌, suc, zero, ℕ, ◌+◌, ◌<◌, ◌≤◌, Bool, true, false, cond, eqb, List, [], ◌∷◌, length, get_or, take, drop, map, refl, sym, ◌∙◌, ap, subst, arith, Some}
+use Rattle.std.proofs.Common.{◌≡◌, ◌++◌, ◌||◌, suc, zero, ℕ, ◌+◌, ◌<◌, ◌≤◌, Bool, true, false, cond, eqb, List, [], ◌∷◌, length, get_or, take, drop, map, refl, sym, ◌∙◌, ap, arith, Some}
 use Rattle.std.specs.Prelude.{filter}
 use Rattle.std.specs.List.{list_any}
 use Rattle.std.proofs.lemmas.Bool.{and_parts, eqb-true, eq-eqb, both_ways}
-use Rattle.std.proofs.lemmas.List.{take_more, take_all, drop_all, append-nil, map-append, length-map}
+use Rattle.std.proofs.lemmas.List.{take_more, take_all, drop_all, append-nil, map-append}
 use Rattle.std.proofs.lemmas.List.Elements.{filter-append}
 use Rattle.lsp_base.specs.Base.{made_stale}
 use Rattle.lsp_base.specs.Chains.{stands, is_in, IsFree, IsWithin}

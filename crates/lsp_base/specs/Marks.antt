@@ -1,7 +1,7 @@
 -- Marks on the places of a list: each of 64 columns has a bit for each place below 16,384, in words of 64
 -- places, and each item of the list has the bit of its place set in its column. So where a column's bit is
 -- not set, no item of the column stands. Nothing else is known of the bits.
-use Rattle.std.specs.Prelude.{◌≡◌, ◌<◌, ℕ, ◌+◌, ◌*◌, ◌/◌, ◌%◌, Bool, true, List, length, slice_index}
+use Rattle.std.specs.Prelude.{◌≡◌, ◌<◌, ℕ, ◌+◌, ◌*◌, ◌/◌, ◌%◌, true, List, length, slice_index}
 use Rattle.std.specs.Int.{bit_at}
 use Rattle.lsp_base.specs.Chains.{stands, is_in}
 use Rattle.lsp_base.specs.declared.path.Path.{Path}

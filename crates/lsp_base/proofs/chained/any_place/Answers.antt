@@ -1,4 +1,4 @@
-use Rattle.std.proofs.Common.{◌≡◌, ◌<◌, ◌+◌, ◌-◌, ℕ, true, false, length, sym, ◌∙◌, subst, arith}
+use Rattle.std.proofs.Common.{◌≡◌, ◌<◌, ◌+◌, ◌-◌, ℕ, false, length, sym, ◌∙◌, subst, arith}
 use Rattle.lsp_base.specs.Chains.{stands, IsFree}
 use Rattle.lsp_base.proofs.Chains.{stands_read, IsFree-join, IsFree-more, IsFree-narrower}
 use Rattle.lsp_base.proofs.chained.any_place.Goals as goal

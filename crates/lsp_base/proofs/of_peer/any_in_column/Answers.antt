@@ -1,5 +1,5 @@
-use Rattle.std.proofs.Common.{◌≡◌, ◌<◌, ◌≤◌, ◌+◌, ℕ, false, true, length, sym, ◌∙◌, subst, arith}
-use Rattle.lsp_base.specs.Chains.{stands, IsFree}
+use Rattle.std.proofs.Common.{◌≡◌, ◌+◌, false, length, sym, ◌∙◌, arith}
+use Rattle.lsp_base.specs.Chains.{stands}
 use Rattle.lsp_base.proofs.Chains.{IsFree-join, IsFree-more, IsFree-sub, stands_read}
 use Rattle.lsp_base.proofs.OfPeer.{IsFree-passed, list_any-free, list_any-stands}
 use Rattle.lsp_base.proofs.of_peer.any_in_column.Goals as goal

@@ -1,6 +1,6 @@
-use Rattle.std.proofs.Common.{◌<◌, ◌≤◌, ◌+◌, ◌++◌, ◌∷◌, [], length, filter, map, ◌∙◌, ap, arith}
+use Rattle.std.proofs.Common.{◌+◌, ◌++◌, ◌∷◌, [], filter, map, ◌∙◌, ap, arith}
 use Rattle.lsp_base.specs.Marks.{record_column}
-use Rattle.lsp_base.proofs.OfPeer.{IsFree-passed, filter-begun, filter-ended, map_filter-more}
+use Rattle.lsp_base.proofs.OfPeer.{IsFree-passed, filter-begun, map_filter-more}
 use Rattle.lsp_base.proofs.of_peer.changes_in_column.Goals as goal
 
 pub loop-place-init : goal.loop-place-init

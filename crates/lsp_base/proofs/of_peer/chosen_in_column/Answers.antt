@@ -1,6 +1,6 @@
-use Rattle.std.proofs.Common.{◌<◌, ◌≤◌, ◌+◌, ◌++◌, ◌∷◌, [], length, filter, ◌∙◌, ap, arith}
+use Rattle.std.proofs.Common.{◌+◌, ◌++◌, ◌∷◌, [], filter, ◌∙◌, ap, arith}
 use Rattle.lsp_base.specs.Marks.{path_column}
-use Rattle.lsp_base.proofs.OfPeer.{IsFree-passed, filter-begun, filter-ended, filter-more}
+use Rattle.lsp_base.proofs.OfPeer.{IsFree-passed, filter-begun, filter-more}
 use Rattle.lsp_base.proofs.of_peer.chosen_in_column.Goals as goal
 
 pub loop-place-init : goal.loop-place-init

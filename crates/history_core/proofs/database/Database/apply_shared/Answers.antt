@@ -1,6 +1,5 @@
-use Rattle.std.proofs.Common.{◌≡◌, ◌+◌, false, [], ◌∷◌, ◌++◌, ap, refl, subst, sym, ◌∙◌, arith}
-use Rattle.history_core.specs.declared.step.Step.{Step}
-use Rattle.history_core.specs.Histories.{Content, IsWhole, Replays, content, is_full, kept_step, stepped}
+use Rattle.std.proofs.Common.{◌≡◌, false, [], ◌∷◌, ◌++◌, ap, refl, subst, sym, ◌∙◌, arith}
+use Rattle.history_core.specs.Histories.{Content, IsWhole, content, is_full, kept_step, stepped}
 use Rattle.history_core.proofs.Replaying.{changes_le, sessions_le, tickets_le, more_may_come, grants_le_steps, IsWhole-stepped, content-stepped, refused-applied}
 use Rattle.history_core.proofs.Sounding.{sound_by_replay}
 use Rattle.history_core.proofs.database.Database.apply_shared.Goals as goal

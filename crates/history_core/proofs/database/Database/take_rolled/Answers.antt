@@ -1,5 +1,5 @@
-use Rattle.std.proofs.Common.{◌≡◌, ◌+◌, refl, subst, sym, ap, ◌∙◌, arith}
-use Rattle.history_core.specs.Histories.{Content, IsWhole, content, rolled_up}
+use Rattle.std.proofs.Common.{◌+◌, subst, sym, ap, ◌∙◌, arith}
+use Rattle.history_core.specs.Histories.{Content, IsWhole, content}
 use Rattle.history_core.proofs.Rolling.{IsWhole-rolled_up, content-rolled_up}
 use Rattle.history_core.proofs.database.Database.take_rolled.Goals as goal
 

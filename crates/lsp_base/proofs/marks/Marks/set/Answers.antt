@@ -1,4 +1,4 @@
-use Rattle.lsp_base.proofs.PlaceBits.{IsMarked-here, IsMarked-more, IsMarked-past}
+use Rattle.lsp_base.proofs.PlaceBits.{IsMarked-here, IsMarked-more}
 use Rattle.lsp_base.proofs.marks.Marks.set.Goals as goal
 
 pub returns-in-Some-clause-kept : goal.returns-in-Some-clause-kept
