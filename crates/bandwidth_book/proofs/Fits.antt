@@ -14,7 +14,8 @@ use Rattle.bandwidth_book.specs.Tunnels.{held_by_path}
 use Rattle.bandwidth_book.specs.Paths.{held_by, tunnel_eq}
 use Rattle.bandwidth_book.proofs.Counts.{most_append}
 use Rattle.bandwidth_book.proofs.Distinct.{picked, sum_add, sum_pointwise, sums_agree}
-use Rattle.bandwidth_book.proofs.Reserved.{no_share, reserved_is, tunnel_eq_self, tunnel_eq_true, tunnel_laws, tunnels_distinct, tunnels_have}
+use Rattle.bandwidth_book.proofs.Reserved.{no_share, reserved_is, tunnels_distinct, tunnels_have}
+use Rattle.bandwidth_book.proofs.Same.{tunnel_eq_self, tunnel_eq_true, tunnel_laws}
 use Rattle.bandwidth_book.proofs.Same.{tunnel_eq_is}
 use Rattle.bandwidth_book.proofs.Shares.{most_by_path, share_is_most}
 use Rattle.bandwidth_book.proofs.Stands.{held_by_append}
@@ -23,11 +24,11 @@ use Rattle.bandwidth_book.proofs.Stands.{held_by_append}
 pub share_with : (paths : List Path) (g : Path) (t : Tunnel) (l p : ℕ)
     → share (paths ++ g ∷ []) t l p ≡ max (share paths t l p) (if tunnel_eq g.tunnel t && nat_le g.hold p && has_link l g then g.bandwidth else 0)
 share_with paths g t l p =
-    let one = held_by_path tunnel_eq g.tunnel (held_of g) l t g.links in
+    let one = held_by_path g.tunnel (held_of g) l t g.links in
     let e : most (held_by l t (paths ++ g ∷ [])) p ≡ most (held_by l t paths ++ (one ++ [])) p = ap (λ hs. most hs p) (held_by_append l t paths (g ∷ [])) in
     let a = most_append (held_by l t paths) (one ++ []) p in
     let b = most_append one [] p in
-    let m = most_by_path tunnel_eq g.tunnel (held_of g) l t p g.links in
+    let m = most_by_path g.tunnel (held_of g) l t p g.links in
     let s = share_is_most (paths ++ g ∷ []) t l p in
     let r = share_is_most paths t l p in
     omega (arith, e, a, b, m, s, r)

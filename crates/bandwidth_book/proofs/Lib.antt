@@ -1,13 +1,13 @@
 pub mod Rising
 pub mod LinkLists
 pub mod Sums
+pub mod Packed
 pub mod Removed
-pub mod Located
-pub mod TunnelLists
 pub mod Places
 pub mod Order
 pub mod Totals
 pub mod Written
+pub mod Moved
 pub mod Counts
 pub mod Same
 pub mod Stands

@@ -3,16 +3,16 @@ use Rattle.std.proofs.Common.{◌≡◌, ◌<◌, ◌≤◌, ◌+◌, ◌^◌, �
 use Rattle.std.proofs.lemmas.Bool.{cases_Bool, eqb-true}
 use Rattle.std.proofs.lemmas.Bool.Decides.{nat_tests}
 use Rattle.std.specs.List.{refill}
-use Rattle.bandwidth_book.specs.declared.held.Held.{Held}
+use Rattle.bandwidth_book.specs.Held.{Held}
 use Rattle.bandwidth_book.specs.declared.link_entries.LinkEntry.{LinkEntry}
 use Rattle.bandwidth_book.specs.Holdings.{Holdings}
-use Rattle.bandwidth_book.specs.Held.{most, with_all, without_all}
+use Rattle.bandwidth_book.specs.Held.{most, moved_all, room_for}
+use Rattle.bandwidth_book.specs.declared.held.Motion.{Motion}
 use Rattle.bandwidth_book.specs.Entries.{AreRising, IsAt, entry_on, place_on}
 use Rattle.bandwidth_book.specs.Tunnels.{held_by_links, sum_at, sum_in}
-use Rattle.bandwidth_book.proofs.Counts.{with_all_append, without_all_append}
-use Rattle.bandwidth_book.proofs.Places.{less_one, more_one, set_related}
+use Rattle.bandwidth_book.proofs.Moved.{most_moved, moved_append, room_both}
+use Rattle.bandwidth_book.proofs.Places.{set_related}
 use Rattle.bandwidth_book.proofs.Rising.{entry_insert, entry_remove, entry_set, found_at, none_in_place, number_self, numbers_apart, rising_set}
-use Rattle.bandwidth_book.proofs.Totals.{small_with, small_without}
 
 -- ---- one at a place
 
@@ -160,11 +160,12 @@ next_held held l xs i h = rw (add-one, drop-cons xs i 0) refl
 pub next_length : (held : Held) (l : ℕ) (xs : List ℕ) (i : ℕ) → i < length xs → length (held_by_links held l (drop i xs)) ≡ length (if get_or xs i 0 == l then held ∷ [] else []) + length (held_by_links held l (drop (i + 1) xs))
 next_length held l xs i h = ap (λ (hs : List Held). length hs) (next_held held l xs i h) ∙ length-append (if get_or xs i 0 == l then held ∷ [] else []) (held_by_links held l (drop (i + 1) xs))
 
-pub with_next : (hs us one rest all end : List Held) → us ≡ with_all hs one → all ≡ one ++ rest → with_all hs all ≡ end → with_all us rest ≡ end
-with_next hs us one rest all end e a f = ap (λ (xs : List Held). with_all xs rest) e ∙ sym (with_all_append hs one rest) ∙ ap (λ (xs : List Held). with_all hs xs) (sym a) ∙ f
+pub moved_next : (m : Motion) (hs us one rest all end : List Held) → us ≡ moved_all m hs one → all ≡ one ++ rest → moved_all m hs all ≡ end → moved_all m us rest ≡ end
+moved_next m hs us one rest all end e a f = ap (λ (xs : List Held). moved_all m xs rest) e ∙ sym (moved_append m hs one rest) ∙ ap (λ (xs : List Held). moved_all m hs xs) (sym a) ∙ f
 
-pub without_next : (hs us one rest all end : List Held) → us ≡ without_all hs one → all ≡ one ++ rest → without_all hs all ≡ end → without_all us rest ≡ end
-without_next hs us one rest all end e a f = ap (λ (xs : List Held). without_all xs rest) e ∙ sym (without_all_append hs one rest) ∙ ap (λ (xs : List Held). without_all hs xs) (sym a) ∙ f
+pub next_room : (m : Motion) (held : Held) (l : ℕ) (xs : List ℕ) (i : ℕ) → i < length xs
+    → room_for m (length (held_by_links held l (drop i xs))) ≡ room_for m (length (if get_or xs i 0 == l then held ∷ [] else [])) + room_for m (length (held_by_links held l (drop (i + 1) xs)))
+next_room m held l xs i h = ap (room_for m) (next_length held l xs i h) ∙ room_both m _ _
 
 split : (m n : ℕ) → (m < n) ⊎ (n ≤ m)
 split m n =
@@ -173,18 +174,16 @@ split m n =
       | inr e ↦ inr (let l : n ≤ m = grind (arith, nat_tests) in l)
     ]
 
--- one more below a bound leaves the greatest below it, below the count and past it
-pub least_with : (n count : ℕ) (b : Bool) (h : Held) (hs us : List Held) (p : ℕ) → h.bandwidth < 2 ^ 48 → (n < count → us ≡ with_all hs (if b then h ∷ [] else [])) → (count ≤ n → us ≡ hs) → most hs p < 2 ^ 48 → most us p < 2 ^ 48
-least_with n count b h hs us p one below past old =
-    elim (split n count) [
-      | inl less ↦ (let e : us ≡ (if b then _ else hs) = below less ∙ sym (more_one b hs h) in rw e (small_with b h hs p one old))
-      | inr end ↦ rw (past end) old
-    ]
+-- one that is added or dropped leaves the greatest below a bound that it is below itself
+small_moved : (m : Motion) (b : Bool) (h : Held) (hs : List Held) (p : ℕ) → h.bandwidth < 2 ^ 48 → most hs p < 2 ^ 48 → most (moved_all m hs (if b then h ∷ [] else [])) p < 2 ^ 48
+small_moved m true h hs p one old = let all = most_moved m h hs p in omega (arith, one, old, all)
+small_moved m false h hs p one old = old
 
-pub least_without : (n count : ℕ) (b : Bool) (h : Held) (hs us : List Held) (p : ℕ) → (n < count → us ≡ without_all hs (if b then h ∷ [] else [])) → (count ≤ n → us ≡ hs) → most hs p < 2 ^ 48 → most us p < 2 ^ 48
-least_without n count b h hs us p below past old =
+pub least_moved : (m : Motion) (n count : ℕ) (b : Bool) (h : Held) (hs us : List Held) (p : ℕ) → h.bandwidth < 2 ^ 48
+    → (n < count → us ≡ moved_all m hs (if b then h ∷ [] else [])) → (count ≤ n → us ≡ hs) → most hs p < 2 ^ 48 → most us p < 2 ^ 48
+least_moved m n count b h hs us p one below past old =
     elim (split n count) [
-      | inl less ↦ (let e : us ≡ (if b then _ else hs) = below less ∙ sym (less_one b hs h) in rw e (small_without b h hs p old))
+      | inl less ↦ rw (below less) (small_moved m b h hs p one old)
       | inr end ↦ rw (past end) old
     ]
 

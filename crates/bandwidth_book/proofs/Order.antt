@@ -3,7 +3,7 @@ use Rattle.std.proofs.Common.{◌≡◌, ◌≤◌, ◌<◌, ℕ, zero, suc, ◌
 use Rattle.std.specs.List.{AllByRecursion}
 use Rattle.std.proofs.lemmas.Bool.{cases_Bool}
 use Rattle.std.proofs.lemmas.Bool.Decides.{nat_tests}
-use Rattle.bandwidth_book.specs.declared.held.Held.{Held}
+use Rattle.bandwidth_book.specs.Held.{Held}
 use Rattle.bandwidth_book.specs.Held.{AreInOrder, is_before, place_in, same_held, with_one, without_one}
 
 -- ---- the order

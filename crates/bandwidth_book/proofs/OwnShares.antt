@@ -12,7 +12,7 @@ use Rattle.lsp_base.specs.declared.tunnel.Tunnel.{Tunnel}
 use Rattle.te_snapshot.specs.declared.own.OwnShare.{OwnShare}
 use Rattle.te_snapshot.specs.Own.{is_something, own_share_on, own_shares}
 use Rattle.te_snapshot.specs.Room.{own_share, share_in}
-use Rattle.bandwidth_book.specs.declared.held.Held.{Held}
+use Rattle.bandwidth_book.specs.Held.{Held}
 use Rattle.bandwidth_book.specs.declared.link_entries.LinkEntry.{LinkEntry}
 use Rattle.bandwidth_book.specs.Held.{AreMaxima, most, times}
 use Rattle.bandwidth_book.specs.Entries as entries

@@ -1,32 +1,38 @@
 -- Entries without paths, and where they are noted.
 use Rattle.std.proofs.Common.{◌≡◌, ◌<◌, ◌≤◌, ℕ, ◌+◌, ◌==◌, ◌&&◌, Bool, true, false, List, [], ◌∷◌, ◌++◌, refl, ap, arith, length, if◌then◌else◌, add-one, drop, drop-cons, get_or}
 use Rattle.lsp_base.specs.declared.tunnel.Tunnel.{Tunnel}
-use Rattle.bandwidth_book.specs.declared.held.Held.{Held}
-use Rattle.bandwidth_book.specs.declared.paths.Place.{Place}
+use Rattle.bandwidth_book.specs.Held.{Held, after_all}
+use Rattle.bandwidth_book.specs.declared.paths.Promise.{Promise}
 use Rattle.bandwidth_book.specs.Held.{with_all, with_one, without_all}
 use Rattle.bandwidth_book.specs.Tunnels.{held_by_path}
 use Rattle.bandwidth_book.specs.Paths.{tunnel_eq}
 use Rattle.bandwidth_book.specs.Pending.{noted}
 use Rattle.bandwidth_book.proofs.Order.{length_with_one}
 
--- a place more is noted once more
-pub noted_push : (xs : List Place) (x : Place) (l : ℕ) (t : Tunnel) → noted (xs ++ x ∷ []) l t ≡ noted xs l t + (if x.link == l && tunnel_eq x.tunnel t then 1 else 0)
-noted_push [] x l t = omega arith
-noted_push (y ∷ xs) x l t = let ih = noted_push xs x l t in omega (arith, ih)
+-- what is held on a path's links is as long, whatever it is
+length_by_path : (own : Tunnel) (g h : Held) (l : ℕ) (t : Tunnel) (links : List ℕ) → length (held_by_path own g l t links) ≡ length (held_by_path own h l t links)
+length_by_path own g h l t [] = refl
+length_by_path own g h l t (x ∷ xs) = by (x == l && tunnel_eq own t) (length_by_path own g h l t xs)
+  where
+    by : (b : Bool) → length (held_by_path own g l t xs) ≡ length (held_by_path own h l t xs) → length ((if b then g ∷ [] else []) ++ held_by_path own g l t xs) ≡ length ((if b then h ∷ [] else []) ++ held_by_path own h l t xs)
+    by true rest = omega (arith, rest)
+    by false rest = rest
 
--- a place that is passed was noted once itself, and for the others the rest has it
-pub noted_after : (xs : List Place) (i : ℕ) (x : Place) (held : Held) (l : ℕ) (t : Tunnel) → i < length xs → x ≡ get_or xs i x → 0 < noted (drop i xs) l t
-    → length (held_by_path tunnel_eq x.tunnel held l t (x.link ∷ [])) ≡ 0 → 0 < noted (drop (i + 1) xs) l t
+-- a promise more is noted once more on each of its links
+pub noted_push : (xs : List Promise) (x : Promise) (held : Held) (l : ℕ) (t : Tunnel) → noted (xs ++ x ∷ []) l t ≡ noted xs l t + length (held_by_path x.tunnel held l t x.links)
+noted_push [] x held l t = let same = length_by_path x.tunnel (after_all 0) held l t x.links in omega (arith, same)
+noted_push (y ∷ xs) x held l t = let ih = noted_push xs x held l t in omega (arith, ih)
+
+-- a promise that is passed was noted itself, and for the others the rest has it
+pub noted_after : (xs : List Promise) (i : ℕ) (x : Promise) (held : Held) (l : ℕ) (t : Tunnel) → i < length xs → x ≡ get_or xs i x → 0 < noted (drop i xs) l t
+    → length (held_by_path x.tunnel held l t x.links) ≡ 0 → 0 < noted (drop (i + 1) xs) l t
 noted_after xs i x held l t less is before none =
     let cons = drop-cons xs i x less in
     let next = add-one i in
     let e : drop i xs ≡ x ∷ drop (i + 1) xs = cc in
     let n : 0 < noted (x ∷ drop (i + 1) xs) l t = rw e at before in
-    rest (x.link == l && tunnel_eq x.tunnel t) (noted (drop (i + 1) xs) l t) n none
-  where
-    rest : (here : Bool) (n : ℕ) → 0 < (if here then 1 else 0) + n → length ((if here then held ∷ [] else []) ++ []) ≡ 0 → 0 < n
-    rest true n h e = absurd (omega (arith, e))
-    rest false n h e = omega (arith, h)
+    let same = length_by_path x.tunnel (after_all 0) held l t x.links in
+    omega (arith, n, same, none)
 
 length_with_all : (hs xs : List Held) → length hs ≤ length (with_all hs xs)
 length_with_all hs [] = omega arith

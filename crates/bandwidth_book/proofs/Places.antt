@@ -1,9 +1,7 @@
 -- One element of a list is written.
-use Rattle.std.proofs.Common.{◌≡◌, ◌<◌, ℕ, zero, suc, ◌==◌, Bool, true, false, List, [], ◌∷◌, ◌++◌, Option, Some, None, refl, ap, arith, length, slice_get, slice_set, get_or, if◌then◌else◌, Result, Ok, Err, OnOk}
+use Rattle.std.proofs.Common.{◌≡◌, ◌<◌, ℕ, zero, suc, ◌==◌, Bool, true, false, List, [], ◌∷◌, ◌++◌, Option, Some, None, refl, ap, arith, length, slice_get, slice_set, get_or, Result, Ok, Err, OnOk}
 use Rattle.std.proofs.lemmas.Bool.{eqb-true}
 use Rattle.std.proofs.lemmas.Bool.Decides.{nat_tests}
-use Rattle.bandwidth_book.specs.declared.held.Held.{Held}
-use Rattle.bandwidth_book.specs.Held.{with_one, with_all, without_one, without_all}
 
 -- what relates the old and the new element, and each element to itself, relates the lists at each place
 related : {A : Type 0} (R : Bool → Option A → Option A → Type 0) (xs : List A) (n : ℕ) (d new : A) → n < length xs → R true (Some (get_or xs n d)) (Some new) → ((o : Option A) → R false o o) → (l : ℕ) (b : Bool) → (b ≡ true → n ≡ l) → (b ≡ false → n ≡ l → ⊥) → R b (slice_get xs l) (slice_get (slice_set xs n new) l)
@@ -21,14 +19,6 @@ not_same a b f e = grind (arith, nat_tests)
 
 pub set_related : {A : Type 0} (R : Bool → Option A → Option A → Type 0) (xs : List A) (n : ℕ) (d new : A) → n < length xs → R true (Some (get_or xs n d)) (Some new) → ((o : Option A) → R false o o) → (l : ℕ) → R (n == l) (slice_get xs l) (slice_get (slice_set xs n new) l)
 set_related R xs n d new h there others l = related R xs n d new h there others l (n == l) (eqb-true n l) (not_same n l)
-
-pub more_one : (b : Bool) (hs : List Held) (h : Held) → (if b then with_one h hs else hs) ≡ with_all hs (if b then h ∷ [] else [])
-more_one true hs h = refl
-more_one false hs h = refl
-
-pub less_one : (b : Bool) (hs : List Held) (h : Held) → (if b then without_one h hs else hs) ≡ without_all hs (if b then h ∷ [] else [])
-less_one true hs h = refl
-less_one false hs h = refl
 
 -- what holds past the end, and of the new element, holds after a push
 pub pushed : {A : Type 0} (P : Option A → Type 0) (xs : List A) (x : A) → P (Some x) → P None → ((n : ℕ) → P (slice_get xs n)) → (n : ℕ) → P (slice_get (xs ++ x ∷ []) n)

@@ -3,13 +3,12 @@ use Rattle.std.proofs.Common.{◌≡◌, ℕ, true, false, ◌||◌, List, [], �
 use Rattle.std.proofs.lemmas.Bool.{cases_Bool}
 use Rattle.std.proofs.lemmas.List.Sums.{sum_by-cons}
 use Rattle.std.specs.List.{list_any, AllByRecursion, IsDistinct}
-use Rattle.std.specs.Cmp.{IsEquivalence}
 use Rattle.std.specs.Map.{keys_of, lookup}
 use Rattle.lsp_base.specs.Same.{same_tunnel}
 use Rattle.lsp_base.specs.Shares.{greatest, is_held, is_of_tunnel, reserved, share, tunnels_of}
 use Rattle.lsp_base.specs.declared.path.Path.{Path}
 use Rattle.lsp_base.specs.declared.tunnel.Tunnel.{Tunnel}
-use Rattle.bandwidth_book.specs.declared.held.Held.{Held}
+use Rattle.bandwidth_book.specs.Held.{Held}
 use Rattle.bandwidth_book.specs.declared.link_entries.LinkEntry.{LinkEntry}
 use Rattle.bandwidth_book.specs.Held.{times}
 use Rattle.bandwidth_book.specs.Entries.{held_in}
@@ -17,34 +16,9 @@ use Rattle.bandwidth_book.specs.Tunnels.{entry_of, most_on, total}
 use Rattle.bandwidth_book.specs.Paths.{held_by, tunnel_eq}
 use Rattle.bandwidth_book.proofs.Counts.{most_same}
 use Rattle.bandwidth_book.proofs.Distinct.{sums_agree}
-use Rattle.bandwidth_book.proofs.Same.{tunnel_eq_is, tunnel_is, tunnel_self}
+use Rattle.bandwidth_book.proofs.Same.{tunnel_eq_is, tunnel_eq_true, tunnel_is, tunnel_laws, tunnel_symm}
 use Rattle.bandwidth_book.proofs.Shares.{share_is_most}
 use Rattle.bandwidth_book.proofs.Totals.{sum_over, sum_same, total_over_keys}
-
--- ---- equality of tunnels
-
-pub tunnel_eq_true : (a b : Tunnel) → tunnel_eq a b ≡ true → a ≡ b
-tunnel_eq_true a b e = tunnel_is a b (sym (tunnel_eq_is a b) ∙ e)
-
-pub tunnel_eq_self : (a : Tunnel) → tunnel_eq a a ≡ true
-tunnel_eq_self a = tunnel_eq_is a a ∙ tunnel_self a
-
-tunnel_symm : (a b : Tunnel) → tunnel_eq a b ≡ tunnel_eq b a
-tunnel_symm a b =
-    elim (cases_Bool (tunnel_eq a b)) [
-      | inl here ↦ (let e = tunnel_eq_true a b here in here ∙ sym (subst (λ (t : Tunnel). tunnel_eq t a ≡ true) e (tunnel_eq_self a)))
-      | inr other ↦ elim (cases_Bool (tunnel_eq b a)) [
-        | inl there ↦ absurd (true≢false (let e = tunnel_eq_true b a there in sym (subst (λ (t : Tunnel). tunnel_eq a t ≡ true) (sym e) (tunnel_eq_self a)) ∙ other))
-        | inr apart ↦ other ∙ sym apart
-      ]
-    ]
-
-pub tunnel_laws : IsEquivalence tunnel_eq
-tunnel_laws = record {
-  refl = tunnel_eq_self;
-  symm = tunnel_symm;
-  congr = λ a b c e. ap (λ (t : Tunnel). tunnel_eq t c) (tunnel_eq_true a b e);
-}
 
 -- ---- the tunnels of paths
 
@@ -115,11 +89,11 @@ everywhere f g [] e = tt
 everywhere f g (t ∷ ts) e = (e t, everywhere f g ts e)
 
 pub total_is_reserved : (es : List (Tunnel × List LinkEntry)) (paths : List Path) (l p : ℕ) → IsDistinct tunnel_eq (keys_of es)
-    → ((t : Tunnel) (h : Held) → times h (held_in (entry_of tunnel_eq es l t)) ≡ times h (held_by l t paths)) → total (most_on l p) es ≡ reserved paths l p
+    → ((t : Tunnel) (h : Held) → times h (held_in (entry_of es l t)) ≡ times h (held_by l t paths)) → total (most_on l p) es ≡ reserved paths l p
 total_is_reserved es paths l p d s =
     let f : Tunnel → ℕ = λ t. share paths t l p in
     let g : Tunnel → ℕ = λ t. most_on l p (lookup (tunnel_eq t) es) in
-    let each : (t : Tunnel) → g t ≡ f t = λ t. most_same (held_in (entry_of tunnel_eq es l t)) (held_by l t paths) p (s t) ∙ sym (share_is_most paths t l p) in
+    let each : (t : Tunnel) → g t ≡ f t = λ t. most_same (held_in (entry_of es l t)) (held_by l t paths) p (s t) ∙ sym (share_is_most paths t l p) in
     total_over_keys tunnel_eq tunnel_laws (most_on l p) es d
     ∙ (sum_same g f (keys_of es) (everywhere g f (keys_of es) each)
     ∙ (sums_agree tunnel_eq tunnel_laws f (λ a b e. ap f (tunnel_eq_true a b e)) (keys_of es) (tunnels_of paths) d (tunnels_distinct paths)

@@ -1,6 +1,7 @@
 -- The test of lsp_base for tunnels is equality.
-use Rattle.std.proofs.Common.{◌≡◌, ℕ, Bool, true, false, ◌&&◌, ◌==◌, refl, sym, arith, true≢false}
-use Rattle.std.proofs.lemmas.Bool.{eqb-true}
+use Rattle.std.proofs.Common.{◌≡◌, ℕ, Bool, true, false, ◌&&◌, ◌==◌, refl, sym, ap, subst, ◌∙◌, arith, inl, inr, true≢false}
+use Rattle.std.proofs.lemmas.Bool.{cases_Bool, eqb-true}
+use Rattle.std.specs.Cmp.{IsEquivalence}
 use Rattle.std.proofs.lemmas.Bool.Decides.{nat_tests}
 use Rattle.lsp_base.specs.Same.{same_tunnel}
 use Rattle.lsp_base.specs.declared.tunnel.Tunnel.{Tunnel}
@@ -52,3 +53,28 @@ pub tunnel_self : (a : Tunnel) → same_tunnel a a ≡ true
 tunnel_self (Signalled a b c d) = rw (number_self a, number_self b, number_self c, number_self d) refl
 tunnel_self (Unsignalled a b) = rw (number_self a, number_self b) refl
 tunnel_self (Asked a b) = rw (number_self a, number_self b) refl
+
+-- ---- equality of tunnels
+
+pub tunnel_eq_true : (a b : Tunnel) → tunnel_eq a b ≡ true → a ≡ b
+tunnel_eq_true a b e = tunnel_is a b (sym (tunnel_eq_is a b) ∙ e)
+
+pub tunnel_eq_self : (a : Tunnel) → tunnel_eq a a ≡ true
+tunnel_eq_self a = tunnel_eq_is a a ∙ tunnel_self a
+
+pub tunnel_symm : (a b : Tunnel) → tunnel_eq a b ≡ tunnel_eq b a
+tunnel_symm a b =
+    elim (cases_Bool (tunnel_eq a b)) [
+      | inl here ↦ (let e = tunnel_eq_true a b here in here ∙ sym (subst (λ (t : Tunnel). tunnel_eq t a ≡ true) e (tunnel_eq_self a)))
+      | inr other ↦ elim (cases_Bool (tunnel_eq b a)) [
+        | inl there ↦ absurd (true≢false (let e = tunnel_eq_true b a there in sym (subst (λ (t : Tunnel). tunnel_eq a t ≡ true) (sym e) (tunnel_eq_self a)) ∙ other))
+        | inr apart ↦ other ∙ sym apart
+      ]
+    ]
+
+pub tunnel_laws : IsEquivalence tunnel_eq
+tunnel_laws = record {
+  refl = tunnel_eq_self;
+  symm = tunnel_symm;
+  congr = λ a b c e. ap (λ (t : Tunnel). tunnel_eq t c) (tunnel_eq_true a b e);
+}

@@ -5,7 +5,7 @@ use Rattle.std.proofs.lemmas.Bool.{cases_Bool}
 use Rattle.lsp_base.specs.Shares.{greatest, has_link, is_held, share}
 use Rattle.lsp_base.specs.declared.path.Path.{Path}
 use Rattle.lsp_base.specs.declared.tunnel.Tunnel.{Tunnel}
-use Rattle.bandwidth_book.specs.declared.held.Held.{Held}
+use Rattle.bandwidth_book.specs.Held.{Held}
 use Rattle.bandwidth_book.specs.Held.{held_of, most}
 use Rattle.bandwidth_book.specs.Tunnels.{held_by_path}
 use Rattle.bandwidth_book.specs.Paths.{held_by, tunnel_eq}
@@ -25,17 +25,17 @@ first_of_one true true h rest p = refl
 first_of_one true false h rest p = omega arith
 first_of_one false b h rest p = omega arith
 
-pub most_by_path : {K : Type 0} (eq : K → K → Bool) (key : K) (h : Held) (l : ℕ) (k : K) (p : ℕ) (links : List ℕ)
-    → most (held_by_path eq key h l k links) p ≡ (if eq key k && nat_le h.hold p && list_any (λ x. x == l) links then h.bandwidth else 0)
-most_by_path eq key h l k p [] = nothing (eq key k) (nat_le h.hold p) h.bandwidth
+pub most_by_path : (own : Tunnel) (h : Held) (l : ℕ) (t : Tunnel) (p : ℕ) (links : List ℕ)
+    → most (held_by_path own h l t links) p ≡ (if tunnel_eq own t && nat_le h.hold p && list_any (λ x. x == l) links then h.bandwidth else 0)
+most_by_path own h l t p [] = nothing (tunnel_eq own t) (nat_le h.hold p) h.bandwidth
   where
     nothing : (a b : Bool) (n : ℕ) → 0 ≡ (if a && b && false then n else 0)
     nothing true true n = refl
     nothing true false n = refl
     nothing false b n = refl
-most_by_path eq key h l k p (x ∷ xs) =
-    first_of_one (x == l) (eq key k) h (held_by_path eq key h l k xs) p
-    ∙ one_link (x == l) (eq key k) (nat_le h.hold p) h.bandwidth (most (held_by_path eq key h l k xs) p) (list_any (λ x. x == l) xs) (most_by_path eq key h l k p xs)
+most_by_path own h l t p (x ∷ xs) =
+    first_of_one (x == l) (tunnel_eq own t) h (held_by_path own h l t xs) p
+    ∙ one_link (x == l) (tunnel_eq own t) (nat_le h.hold p) h.bandwidth (most (held_by_path own h l t xs) p) (list_any (λ x. x == l) xs) (most_by_path own h l t p xs)
 
 -- the greatest that the tunnel's paths hold on a link is its share there
 pub share_is_most : (paths : List Path) (t : Tunnel) (l p : ℕ) → share paths t l p ≡ most (held_by l t paths) p
@@ -43,11 +43,11 @@ unfolding share
 share_is_most [] t l p = refl
 share_is_most (x ∷ xs) t l p =
     let ih : greatest (map (λ y. y.bandwidth) (filter (is_held t l p) xs)) ≡ most (held_by l t xs) p = share_is_most xs t l p in
-    let one = most_by_path tunnel_eq x.tunnel (held_of x) l t p x.links in
-    let all = most_append (held_by_path tunnel_eq x.tunnel (held_of x) l t x.links) (held_by l t xs) p in
+    let one = most_by_path x.tunnel (held_of x) l t p x.links in
+    let all = most_append (held_by_path x.tunnel (held_of x) l t x.links) (held_by l t xs) p in
     let e = tunnel_eq_is x.tunnel t in
-    let here : most (held_by_path tunnel_eq x.tunnel (held_of x) l t x.links) p ≡ (if is_held t l p x then x.bandwidth else 0) = one ∙ ap (λ b. if b && nat_le x.hold p && has_link l x then x.bandwidth else 0) e in
+    let here : most (held_by_path x.tunnel (held_of x) l t x.links) p ≡ (if is_held t l p x then x.bandwidth else 0) = one ∙ ap (λ b. if b && nat_le x.hold p && has_link l x then x.bandwidth else 0) e in
     elim (cases_Bool (is_held t l p x)) [
-      | inl yes_ ↦ (let h : most (held_by_path tunnel_eq x.tunnel (held_of x) l t x.links) p ≡ x.bandwidth = here ∙ ap (λ b. if b then x.bandwidth else 0) yes_ in rw yes_ (omega (arith, ih, all, h)))
-      | inr no_ ↦ (let h : most (held_by_path tunnel_eq x.tunnel (held_of x) l t x.links) p ≡ 0 = here ∙ ap (λ b. if b then x.bandwidth else 0) no_ in rw no_ (omega (arith, ih, all, h)))
+      | inl yes_ ↦ (let h : most (held_by_path x.tunnel (held_of x) l t x.links) p ≡ x.bandwidth = here ∙ ap (λ b. if b then x.bandwidth else 0) yes_ in rw yes_ (omega (arith, ih, all, h)))
+      | inr no_ ↦ (let h : most (held_by_path x.tunnel (held_of x) l t x.links) p ≡ 0 = here ∙ ap (λ b. if b then x.bandwidth else 0) no_ in rw no_ (omega (arith, ih, all, h)))
     ]

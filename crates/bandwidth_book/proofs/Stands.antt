@@ -7,30 +7,30 @@ use Rattle.lsp_base.specs.Base.{HasAll, made_stale, without}
 use Rattle.lsp_base.specs.declared.path.Path.{Path}
 use Rattle.lsp_base.specs.declared.tunnel.Tunnel.{Tunnel}
 use Rattle.lsp_base.proofs.Removal.{without-permutes}
-use Rattle.bandwidth_book.specs.declared.held.Held.{Held}
+use Rattle.bandwidth_book.specs.Held.{Held}
 use Rattle.bandwidth_book.specs.Held.{held_of, times, with_all, without_all}
 use Rattle.bandwidth_book.specs.Tunnels.{held_by_path}
-use Rattle.bandwidth_book.specs.Paths.{IsHeldBy, held_by, tunnel_eq}
+use Rattle.bandwidth_book.specs.Paths.{IsHeldBy, held_by}
 use Rattle.bandwidth_book.proofs.Counts.{times_append, times_with_all, times_without_all}
 
 pub held_by_append : (l : ℕ) (t : Tunnel) (xs ys : List Path) → held_by l t (xs ++ ys) ≡ held_by l t xs ++ held_by l t ys
 held_by_append l t [] ys = refl
 held_by_append l t (x ∷ xs) ys =
-    let one = held_by_path tunnel_eq x.tunnel (held_of x) l t x.links in
+    let one = held_by_path x.tunnel (held_of x) l t x.links in
     ap (λ hs. one ++ hs) (held_by_append l t xs ys) ∙ sym (append_assoc one (held_by l t xs) (held_by l t ys))
 
 -- ---- the order of the paths makes no difference
 
-times_held_by : (l : ℕ) (t : Tunnel) (h : Held) (xs : List Path) → times h (held_by l t xs) ≡ sum_by (λ x. times h (held_by_path tunnel_eq x.tunnel (held_of x) l t x.links)) xs
+times_held_by : (l : ℕ) (t : Tunnel) (h : Held) (xs : List Path) → times h (held_by l t xs) ≡ sum_by (λ x. times h (held_by_path x.tunnel (held_of x) l t x.links)) xs
 times_held_by l t h [] = refl
 times_held_by l t h (x ∷ xs) =
-    let one = held_by_path tunnel_eq x.tunnel (held_of x) l t x.links in
+    let one = held_by_path x.tunnel (held_of x) l t x.links in
     times_append h one (held_by l t xs) ∙ ap (λ n. times h one + n) (times_held_by l t h xs)
-    ∙ sym (sum_by-cons (λ y. times h (held_by_path tunnel_eq y.tunnel (held_of y) l t y.links)) x xs)
+    ∙ sym (sum_by-cons (λ y. times h (held_by_path y.tunnel (held_of y) l t y.links)) x xs)
 
 pub times_permuted : (l : ℕ) (t : Tunnel) (h : Held) (xs ys : List Path) → IsPermutation xs ys → times h (held_by l t ys) ≡ times h (held_by l t xs)
 times_permuted l t h xs ys same =
-    times_held_by l t h ys ∙ sum_by-IsPermutation (λ x. times h (held_by_path tunnel_eq x.tunnel (held_of x) l t x.links)) xs ys same ∙ sym (times_held_by l t h xs)
+    times_held_by l t h ys ∙ sum_by-IsPermutation (λ x. times h (held_by_path x.tunnel (held_of x) l t x.links)) xs ys same ∙ sym (times_held_by l t h xs)
 
 -- what stands for a list stands for each other list of the same paths
 pub stands_permuted : (n : ℕ) (held : ℕ → Tunnel → List Held) (xs ys : List Path) → IsPermutation xs ys → IsHeldBy n held xs → IsHeldBy n held ys
@@ -65,8 +65,8 @@ held_by_stale peer l t [] = refl
 held_by_stale peer l t (x ∷ xs) =
     let ih = held_by_stale peer l t xs in
     elim (cases_Bool (x.peer == peer)) [
-      | inl here ↦ rw here (ap (λ hs. held_by_path tunnel_eq x.tunnel (held_of x) l t x.links ++ hs) ih)
-      | inr other ↦ rw other (ap (λ hs. held_by_path tunnel_eq x.tunnel (held_of x) l t x.links ++ hs) ih)
+      | inl here ↦ rw here (ap (λ hs. held_by_path x.tunnel (held_of x) l t x.links ++ hs) ih)
+      | inr other ↦ rw other (ap (λ hs. held_by_path x.tunnel (held_of x) l t x.links ++ hs) ih)
     ]
 
 pub stands_stale : (n peer : ℕ) (held : ℕ → Tunnel → List Held) (paths : List Path) → IsHeldBy n held paths → IsHeldBy n held (map (made_stale peer) paths)

@@ -1,12 +1,9 @@
 -- The total over the entries is the sum over their keys, and small.
-use Rattle.std.proofs.Common.{◌≡◌, ◌≤◌, ◌<◌, ℕ, ◌+◌, ◌-◌, ◌*◌, ◌^◌, Bool, true, false, List, [], ◌∷◌, Option, Some, refl, ◌∙◌, arith, length, nat_le, if◌then◌else◌}
+use Rattle.std.proofs.Common.{◌≡◌, ◌≤◌, ◌<◌, ℕ, ◌+◌, ◌-◌, ◌*◌, ◌^◌, Bool, false, List, [], ◌∷◌, Option, Some, refl, ◌∙◌, arith, length}
 use Rattle.std.specs.List.{AllByRecursion, IsDistinct}
 use Rattle.std.specs.Cmp.{IsEquivalence}
 use Rattle.std.specs.Map.{keys_of, lookup}
-use Rattle.bandwidth_book.specs.declared.held.Held.{Held}
-use Rattle.bandwidth_book.specs.Held.{most, with_one, without_one}
 use Rattle.bandwidth_book.specs.Tunnels.{total}
-use Rattle.bandwidth_book.proofs.Sums.{most_with_one, most-without_one, at_most}
 
 module _ {K : Type 0} where
   abbrev pub sum_over : (K → ℕ) → List K → ℕ
@@ -48,14 +45,3 @@ module _ {K V : Type 0} (eq : K → K → Bool) (laws : IsEquivalence eq) (f : O
       let s = sum_small (λ k. f (lookup (eq k) es)) (keys_of es) b in
       let c = count_keys es in
       omega (arith, t, s, c, n)
-
-pub small_with : (b : Bool) (h : Held) (hs : List Held) (p : ℕ) → h.bandwidth < 2 ^ 48 → most hs p < 2 ^ 48 → most (if b then with_one h hs else hs) p < 2 ^ 48
-small_with false h hs p one old = old
-small_with true h hs p one old =
-    let m = most_with_one h hs p in
-    let n = at_most (nat_le h.hold p) h.bandwidth in
-    omega (arith, m, n, one, old)
-
-pub small_without : (b : Bool) (h : Held) (hs : List Held) (p : ℕ) → most hs p < 2 ^ 48 → most (if b then without_one h hs else hs) p < 2 ^ 48
-small_without false h hs p old = old
-small_without true h hs p old = let m = most-without_one h hs p in omega (arith, m, old)

@@ -1,11 +1,12 @@
 -- The entries of one tunnel are written.
-use Rattle.std.proofs.Common.{◌≡◌, ◌<◌, ◌≤◌, ℕ, ◌+◌, ◌==◌, ◌&&◌, Bool, true, false, cond, List, [], ◌∷◌, ◌++◌, Option, Some, None, length, slice_index, zero, suc, refl, sym, ap, subst, ◌∙◌, arith, inl, inr, if◌then◌else◌}
+use Rattle.std.proofs.Common.{◌≡◌, ◌<◌, ◌≤◌, ℕ, ◌+◌, ◌==◌, ◌&&◌, Bool, true, false, cond, List, [], ◌∷◌, ◌++◌, Option, None, length, slice_index, zero, suc, refl, sym, ap, subst, ◌∙◌, arith, inl, inr, if◌then◌else◌}
 use Rattle.std.specs.Cmp.{IsEquivalence}
 use Rattle.std.specs.Map.{lookup}
 use Rattle.std.proofs.lemmas.Bool.{cases_Bool}
-use Rattle.bandwidth_book.specs.declared.held.Held.{Held}
+use Rattle.bandwidth_book.specs.Held.{Held}
 use Rattle.bandwidth_book.specs.Held.{without_all}
-use Rattle.bandwidth_book.specs.Tunnels.{held_by_links, held_by_path}
+use Rattle.lsp_base.specs.declared.tunnel.Tunnel.{Tunnel}
+use Rattle.bandwidth_book.specs.Tunnels.{held_by_links, held_by_path, tunnel_eq}
 
 module _ {K V : Type 0} {eq : K → K → Bool} (laws : IsEquivalence eq) where
   -- equal keys find the same
@@ -40,30 +41,14 @@ module _ {K V : Type 0} {eq : K → K → Bool} (laws : IsEquivalence eq) where
       by true same = subst (λ (v : Option V). R true v) (sym (lookup_same key k same es ∙ none)) there
       by false other = others (lookup (eq k) es)
 
-  -- an entry at the end is found by its key, which found nothing before
-  pub lookup_push : (es : List (K × V)) (key : K) (v : V) → lookup (eq key) es ≡ None → (q : K) → lookup (eq q) (es ++ (key, v) ∷ []) ≡ cond (eq key q) (Some v) (lookup (eq q) es)
-  lookup_push [] key v none q = let same : eq q key ≡ eq key q = laws.symm q key in rw same refl
-  lookup_push (e ∷ es) key v none q =
-      elim (cases_Bool (eq key e.0)) [
-        | inl here ↦ (let at : Some e.1 ≡ None = rw here at none in cc)
-        | inr first ↦ (
-            let rest : lookup (eq key) es ≡ None = rw first at none in
-            elim (cases_Bool (eq q e.0)) [
-              | inl here ↦ (
-                  let apart : eq key q ≡ false = laws.symm key q ∙ laws.congr q e.0 key here ∙ laws.symm e.0 key ∙ first in
-                  rw (here, apart) refl)
-              | inr other ↦ rw other (lookup_push es key v rest q)
-            ])
-      ]
-
--- what a path holds for a key
-pub by_key : {K : Type 0} (eq : K → K → Bool) (key : K) (held : Held) (l : ℕ) (k : K) (links : List ℕ) → held_by_path eq key held l k links ≡ (if eq key k then held_by_links held l links else [])
-by_key eq key held l k [] = by (eq key k)
+-- what a path holds for a tunnel
+pub by_key : (own : Tunnel) (held : Held) (l : ℕ) (t : Tunnel) (links : List ℕ) → held_by_path own held l t links ≡ (if tunnel_eq own t then held_by_links held l links else [])
+by_key own held l t [] = by (tunnel_eq own t)
   where
     by : (b : Bool) → (let none : List Held = [] in none ≡ (if b then none else none))
     by true = refl
     by false = refl
-by_key eq key held l k (x ∷ xs) = by (x == l) (eq key k) (held_by_path eq key held l k xs) (held_by_links held l xs) (by_key eq key held l k xs)
+by_key own held l t (x ∷ xs) = by (x == l) (tunnel_eq own t) (held_by_path own held l t xs) (held_by_links held l xs) (by_key own held l t xs)
   where
     by : (a b : Bool) (rest more : List Held) → rest ≡ (if b then more else []) → ((if a && b then held ∷ [] else []) ++ rest) ≡ (if b then ((if a then held ∷ [] else []) ++ more) else [])
     by true true rest more e = ap (λ hs. held ∷ hs) e

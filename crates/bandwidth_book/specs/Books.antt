@@ -7,9 +7,9 @@ use Rattle.lsp_base.specs.declared.tunnel.Tunnel.{Tunnel}
 use Rattle.te_base.specs.declared.network.Link.{Link}
 use Rattle.te_snapshot.specs.Network.{Network, NetworkState}
 use Rattle.bandwidth_book.specs.declared.book.Book.{Book}
-use Rattle.bandwidth_book.specs.declared.held.Held.{Held}
+use Rattle.bandwidth_book.specs.Held.{Held}
 use Rattle.bandwidth_book.specs.Ledgers.{count, has_entry_at, held_at, promised_on}
-use Rattle.bandwidth_book.specs.Paths.{IsHeldBy, IsPromised, tunnel_eq}
+use Rattle.bandwidth_book.specs.Paths.{IsHeldBy, IsPromised}
 use Rattle.bandwidth_book.specs.Pending.{noted}
 
 -- the network
@@ -26,15 +26,15 @@ kept_by book = book.kept
 
 -- what a tunnel's paths hold on a link
 abbrev pub held_on : Book → ℕ → Tunnel → List Held
-held_on book = held_at tunnel_eq book.ledgers
+held_on book = held_at book.ledgers
 
 -- for each link, tunnel, holding priority and bandwidth, the book holds as many as there are such paths
 abbrev pub StandsFor : Book → List Path → Type 0
-StandsFor book paths = IsHeldBy (count book.ledgers) (held_at tunnel_eq book.ledgers) paths
+StandsFor book paths = IsHeldBy (count book.ledgers) (held_at book.ledgers) paths
 
 -- the book has promised room for what the change adds
 abbrev pub IsReady : Book → Change → Type 0
-IsReady book change = IsPromised (count book.ledgers) (promised_on tunnel_eq book.ledgers) change.added
+IsReady book change = IsPromised (count book.ledgers) (promised_on book.ledgers) change.added
 
 -- how often a reservation that no change has followed yet notes the tunnel on a link
 abbrev pub pending_on : Book → ℕ → Tunnel → ℕ
@@ -42,7 +42,7 @@ pending_on book = noted book.pending.items
 
 -- the tunnel has an entry on the link, and no path in it
 abbrev pub HasEmptyEntry : Book → ℕ → Tunnel → Type 0
-HasEmptyEntry book l t = (has_entry_at tunnel_eq book.ledgers l t ≡ true) × (held_on book l t ≡ [])
+HasEmptyEntry book l t = (has_entry_at book.ledgers l t ≡ true) × (held_on book l t ≡ [])
 
 -- no link has an entry without paths
 abbrev pub HasNoEmptyEntry : Book → Type 0

@@ -1,7 +1,7 @@
 -- The entries of a tunnel, by link.
 use Rattle.std.specs.Prelude.{⊤, ◌≡◌, ◌<◌, ◌==◌, ℕ, suc, Bool, List, [], ◌∷◌, Option, Some, None, is_some, map, nat_lt, slice_get, if◌then◌else◌}
 use Rattle.std.specs.List.{AllByRecursion}
-use Rattle.bandwidth_book.specs.declared.held.Held.{Held}
+use Rattle.bandwidth_book.specs.Held.{Held}
 use Rattle.bandwidth_book.specs.declared.link_entries.LinkEntry.{LinkEntry}
 use Rattle.bandwidth_book.specs.Holdings.{Holdings}
 

@@ -2,7 +2,13 @@
 use Rattle.std.specs.Prelude.{⊤, ◌≡◌, ◌<◌, ℕ, suc, ◌+◌, ◌&&◌, ◌||◌, ◌==◌, nat_le, nat_lt, max, Bool, false, List, [], ◌∷◌, if◌then◌else◌, slice_index}
 use Rattle.std.specs.List.{AllByRecursion}
 use Rattle.lsp_base.specs.declared.path.Path.{Path}
-use Rattle.bandwidth_book.specs.declared.held.Held.{Held}
+use Rattle.bandwidth_book.specs.declared.held.Motion.{Motion}
+use Rattle.bandwidth_book.specs.declared.held.Motion.TheVariants.{Add, Drop}
+
+-- a holding priority, and a bandwidth in bytes per second
+pub record Held : Type 0 where
+  pub hold : ℕ
+  pub bandwidth : ℕ
 
 abbrev pub held_of : Path → Held
 held_of x = record { hold = x.hold; bandwidth = x.bandwidth }
@@ -48,6 +54,21 @@ without_one h (x ∷ xs) = if same_held h x then xs else x ∷ without_one h xs
 abbrev pub without_all : List Held → List Held → List Held
 without_all hs [] = hs
 without_all hs (x ∷ xs) = without_all (without_one x hs) xs
+
+-- with one more, or without the first that is the same
+abbrev pub moved_one : Motion → Held → List Held → List Held
+moved_one Add h hs = with_one h hs
+moved_one Drop h hs = without_one h hs
+
+-- with one more, or without the first that is the same, for each of them, in turn
+abbrev pub moved_all : Motion → List Held → List Held → List Held
+moved_all motion hs [] = hs
+moved_all motion hs (x ∷ xs) = moved_all motion (moved_one motion x hs) xs
+
+-- the room that it takes: what is dropped takes none
+abbrev pub room_for : Motion → ℕ → ℕ
+room_for Add n = n
+room_for Drop n = 0
 
 -- at each priority, the greatest bandwidth
 abbrev pub AreMaxima : List ℕ → List Held → Type 0

@@ -1,6 +1,6 @@
 -- What an entry stands for.
 use Rattle.std.specs.Prelude.{ℕ, List}
-use Rattle.bandwidth_book.specs.declared.held.Held.{Held}
+use Rattle.bandwidth_book.specs.Held.{Held}
 
 -- what is held, and for how many more room is promised
 pub record Holdings : Type 0 where

@@ -1,8 +1,5 @@
 pub mod Held
-pub mod Buckets
-pub mod Hints
 pub mod Holdings
-pub mod Contents
 pub mod Entries
 pub mod Tunnels
 pub mod Ledgers

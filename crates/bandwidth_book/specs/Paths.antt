@@ -1,20 +1,16 @@
 -- What lists of paths hold on the links.
-use Rattle.std.specs.Prelude.{◌≡◌, ◌<◌, ◌≤◌, ℕ, Bool, List, [], ◌∷◌, ◌++◌, length}
-use Rattle.lsp_base.specs.contracts.tunnel.TunnelPartialEq.TheImpl.{eq-value}
+use Rattle.std.specs.Prelude.{◌≡◌, ◌<◌, ◌≤◌, ℕ, List, [], ◌∷◌, ◌++◌, length}
 use Rattle.lsp_base.specs.declared.path.Path.{Path}
 use Rattle.lsp_base.specs.declared.tunnel.Tunnel.{Tunnel}
-use Rattle.bandwidth_book.specs.declared.held.Held.{Held}
+use Rattle.bandwidth_book.specs.Held.{Held}
 use Rattle.bandwidth_book.specs.Held.{held_of, times}
+pub use Rattle.bandwidth_book.specs.Tunnels.{tunnel_eq}
 use Rattle.bandwidth_book.specs.Tunnels.{held_by_path}
-
--- what `==` of tunnels says
-abbrev pub tunnel_eq : Tunnel → Tunnel → Bool
-tunnel_eq = eq-value.it
 
 -- what the tunnel's paths hold on a link, once for each time that a path has it
 abbrev pub held_by : ℕ → Tunnel → List Path → List Held
 held_by l t [] = []
-held_by l t (x ∷ xs) = held_by_path tunnel_eq x.tunnel (held_of x) l t x.links ++ held_by l t xs
+held_by l t (x ∷ xs) = held_by_path x.tunnel (held_of x) l t x.links ++ held_by l t xs
 
 -- of each tunnel, holding priority and bandwidth, as much is held on each of n links as the paths hold there
 abbrev pub IsHeldBy : ℕ → (ℕ → Tunnel → List Held) → List Path → Type 0

@@ -7,7 +7,7 @@ use Rattle.te_base.specs.declared.network.Link.{Link}
 use Rattle.te_snapshot.specs.Left.{all_left}
 use Rattle.te_snapshot.specs.Network.{Network, NetworkState}
 use Rattle.te_snapshot.specs.Room.{left}
-use Rattle.bandwidth_book.specs.declared.held.Held.{Held}
+use Rattle.bandwidth_book.specs.Held.{Held}
 use Rattle.bandwidth_book.specs.Paths.{IsHeldBy}
 
 -- on each link, at each of the eight priorities, what the paths leave

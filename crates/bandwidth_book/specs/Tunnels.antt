@@ -1,7 +1,9 @@
 -- What tunnels hold on links, the sums over all tunnels, and what a path holds.
 use Rattle.std.specs.Prelude.{◌≡◌, ◌<◌, ℕ, ◌+◌, ◌&&◌, ◌==◌, Bool, List, [], ◌∷◌, ◌++◌, Option, Some, None, length, slice_index, slice_get, if◌then◌else◌}
 use Rattle.std.specs.Map.{lookup}
-use Rattle.bandwidth_book.specs.declared.held.Held.{Held}
+use Rattle.lsp_base.specs.contracts.tunnel.TunnelPartialEq.TheImpl.{eq-value}
+use Rattle.lsp_base.specs.declared.tunnel.Tunnel.{Tunnel}
+use Rattle.bandwidth_book.specs.Held.{Held}
 use Rattle.bandwidth_book.specs.declared.link_entries.LinkEntry.{LinkEntry}
 use Rattle.bandwidth_book.specs.Entries.{entry_on, held_in}
 use Rattle.bandwidth_book.specs.Held.{most}
@@ -15,10 +17,6 @@ entries_in (Some xs) = xs
 -- the greatest bandwidth that they hold on a link at a priority or a better one
 abbrev pub most_on : ℕ → ℕ → Option (List LinkEntry) → ℕ
 most_on l p o = most (held_in (entry_on l (entries_in o))) p
-
--- the bucket of a tunnel in a list, by its key
-abbrev pub key_bucket : {K V : Type 0} → (K → ℕ) → K × V → ℕ
-key_bucket bucket_of e = bucket_of e.0
 
 -- the sum of what each value of a map counts
 abbrev pub total : {K V : Type 0} → (Option V → ℕ) → List (K × V) → ℕ
@@ -34,26 +32,28 @@ sum_in (Some row) p = slice_index row p
 abbrev pub sum_at : List (List ℕ) → ℕ → ℕ → ℕ
 sum_at sums l p = sum_in (slice_get sums l) p
 
-module _ {K : Type 0} where
-  -- the key's entry on a link
-  abbrev pub entry_of : (K → K → Bool) → List (K × List LinkEntry) → ℕ → K → Option Holdings
-  entry_of eq tunnels l k = entry_on l (entries_in (lookup (eq k) tunnels))
+-- what `==` of tunnels says
+abbrev pub tunnel_eq : Tunnel → Tunnel → Bool
+tunnel_eq = eq-value.it
 
-  -- on each link, at each priority, the greatest bandwidths of the tunnels there, added up
-  abbrev pub AreSums : List (List ℕ) → List (K × List LinkEntry) → Type 0
-  AreSums sums tunnels = (l p : ℕ) → l < length sums → p < 8 → sum_at sums l p ≡ total (most_on l p) tunnels
+-- the tunnel's entry on a link
+abbrev pub entry_of : List (Tunnel × List LinkEntry) → ℕ → Tunnel → Option Holdings
+entry_of tunnels l t = entry_on l (entries_in (lookup (tunnel_eq t) tunnels))
 
-  -- no tunnel has an empty list
-  abbrev pub HasNoEmptyList : (K → K → Bool) → List (K × List LinkEntry) → Type 0
-  HasNoEmptyList eq tunnels = (k : K) → lookup (eq k) tunnels ≡ Some [] → ⊥
+-- on each link, at each priority, the greatest bandwidths of the tunnels there, added up
+abbrev pub AreSums : List (List ℕ) → List (Tunnel × List LinkEntry) → Type 0
+AreSums sums tunnels = (l p : ℕ) → l < length sums → p < 8 → sum_at sums l p ≡ total (most_on l p) tunnels
+
+-- no tunnel has an empty list
+abbrev pub HasNoEmptyList : List (Tunnel × List LinkEntry) → Type 0
+HasNoEmptyList tunnels = (t : Tunnel) → lookup (tunnel_eq t) tunnels ≡ Some [] → ⊥
 
 -- what a path holds on a link, once for each time that it has the link
 abbrev pub held_by_links : Held → ℕ → List ℕ → List Held
 held_by_links held l [] = []
 held_by_links held l (x ∷ xs) = (if x == l then held ∷ [] else []) ++ held_by_links held l xs
 
-module _ {K : Type 0} where
-  -- what a path of the first key holds on a link for the second, once for each time that it has the link
-  abbrev pub held_by_path : (K → K → Bool) → K → Held → ℕ → K → List ℕ → List Held
-  held_by_path eq key held l k [] = []
-  held_by_path eq key held l k (x ∷ xs) = (if x == l && eq key k then held ∷ [] else []) ++ held_by_path eq key held l k xs
+-- what a path of the first tunnel holds on a link for the second, once for each time that it has the link
+abbrev pub held_by_path : Tunnel → Held → ℕ → Tunnel → List ℕ → List Held
+held_by_path own held l t [] = []
+held_by_path own held l t (x ∷ xs) = (if x == l && tunnel_eq own t then held ∷ [] else []) ++ held_by_path own held l t xs

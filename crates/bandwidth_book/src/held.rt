@@ -3,12 +3,69 @@ ghost use Rattle.std.specs.Prelude.{◌≡◌, ◌<◌, ◌^◌};
 ghost use Rattle.bandwidth_book.specs.Held.{held_of, is_before, same_held};
 
 use lsp_base::Path;
+use std::marker::Model;
 
-/// A path's holding priority, from 0 to 7, and its bandwidth in bytes per second.
-#[derive(Clone, Copy, Debug, PartialEq, Eq)]
+/// Whether what a path holds is added or dropped.
+#[derive(Clone, Copy, Debug)]
+pub enum Motion {
+    Add,
+    Drop,
+}
+
+/// A path's holding priority, from 0 to 7, and its bandwidth in bytes per second, below 2^48, as one number: the
+/// numbers' order is by priority, then by bandwidth. A contract sees the two.
+#[derive(Clone, Copy, Debug)]
 pub struct Held {
-    pub hold: u8,
-    pub bandwidth: u64,
+    number: u64,
+}
+
+impl Model for Held {
+    ghost use Rattle.std.specs.Prelude.{◌+◌, ◌*◌, ◌/◌, ◌%◌, ◌<◌, ◌^◌};
+    ghost use Rattle.std.proofs.lemmas.Nat.{div-add-mod'};
+    ghost use Rattle.bandwidth_book.specs.Held.{Held as Holding};
+
+    ghost Value = { Holding };
+
+    ghost view = { λ h. record { hold = h.number / 2 ^ 48; bandwidth = h.number % 2 ^ 48 } };
+
+    ghost invariant = { λ h. h.number < 2 ^ 56 };
+
+    ghost inverse = { λ v. record { number = v.hold * 2 ^ 48 + v.bandwidth } };
+
+    ghost inverse_ok = { λ h _. λ j. record { number = div-add-mod' h.number (2 ^ 48) j } };
+}
+
+impl Default for Held {
+    fn default() -> Held {
+        Held { number: 0 }
+    }
+}
+
+impl Held {
+    /// A bandwidth that is held at a priority.
+    #[tactic(auto, using(crate::proofs::Packed::hold_of, crate::proofs::Packed::bandwidth_of))]
+    pub fn new(hold: u8, bandwidth: u64) -> Held
+        requires { bandwidth < 2 ^ 48 }
+        ensures { result ≡ record { hold = hold; bandwidth = bandwidth } }
+    {
+        Held {
+            number: u64::from(hold) * (1 << 48) + bandwidth,
+        }
+    }
+
+    /// The holding priority.
+    pub fn hold(&self) -> u64
+        ensures { result ≡ self.now.hold }
+    {
+        self.number / (1 << 48)
+    }
+
+    /// The bandwidth.
+    pub fn bandwidth(&self) -> u64
+        ensures { result ≡ self.now.bandwidth }
+    {
+        self.number % (1 << 48)
+    }
 }
 
 /// What the path holds on each of its links.
@@ -17,22 +74,21 @@ pub fn held_of(path: &Path) -> Held
     ensures hold { result.hold < 8 }
     ensures small { result.bandwidth < 2 ^ 48 }
 {
-    Held {
-        hold: path.hold.number(),
-        bandwidth: path.bandwidth.value(),
-    }
+    Held::new(path.hold.number(), path.bandwidth.value())
 }
 
 /// Whether both are of one holding priority and bandwidth.
+#[tactic(auto, using(crate::proofs::Packed::same_is))]
 pub fn is_same_held(a: &Held, b: &Held) -> bool
     ensures { result ≡ same_held a.now b.now }
 {
-    a.hold == b.hold && a.bandwidth == b.bandwidth
+    a.number == b.number
 }
 
 /// The order in a list: by holding priority, then by bandwidth.
+#[tactic(auto, using(crate::proofs::Packed::before_is))]
 pub fn is_before(a: &Held, b: &Held) -> bool
     ensures { result ≡ is_before a.now b.now }
 {
-    a.hold < b.hold || a.hold == b.hold && a.bandwidth < b.bandwidth
+    a.number < b.number
 }

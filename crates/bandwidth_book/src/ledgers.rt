@@ -1,20 +1,25 @@
 //! The ledgers of all links.
-ghost use Rattle.std.specs.Prelude.{◌≡◌, ◌<◌, ◌≤◌, ◌^◌, ℕ, length};
+ghost use Rattle.std.specs.Prelude.{◌<◌, ◌≤◌, ◌^◌, ℕ, length};
+ghost use Rattle.std.proofs.lemmas.Map.Keys.{IsDistinct-prop};
+ghost use Rattle.indexmap.specs.IndexMap.{IsUnique, keys};
+ghost use Rattle.lsp_base.specs.declared.tunnel.Tunnel.{Tunnel};
 ghost use Rattle.bandwidth_book.specs.Entries.{held_in};
 ghost use Rattle.bandwidth_book.specs.Held.{most};
-ghost use Rattle.bandwidth_book.specs.Tunnels.{AreSums, HasNoEmptyList, entry_of};
+ghost use Rattle.bandwidth_book.specs.Tunnels.{AreSums, HasNoEmptyList, entry_of, tunnel_eq};
 
-use crate::hints::Hinted;
-use crate::tunnel_list::{Bucketed, TunnelList};
+use crate::link_entries::LinkEntries;
+use indexmap::IndexMap;
+use lsp_base::Tunnel;
 
 /// What tunnels hold, by tunnel and link, and on each link, at each priority, the sum of their greatest
 /// bandwidths.
 #[derive(Drop)]
-pub struct Ledgers<K: Eq + Copy + Drop + Bucketed + Hinted> {
-    pub(crate) tunnels: TunnelList<K>,
+pub struct Ledgers {
+    pub(crate) tunnels: IndexMap<Tunnel, LinkEntries>,
     pub(crate) sums: Vec<[u64; 8]>,
-    ghost summed: { AreSums sums.items tunnels.items.items },
-    ghost few: { length tunnels.items.items ≤ 30000 },
-    ghost small: { (l : ℕ) (k : K) (p : ℕ) → most (held_in (entry_of K.eq tunnels.items.items l k)) p < 2 ^ 48 },
-    ghost full: { HasNoEmptyList K.eq tunnels.items.items },
+    ghost summed: { AreSums sums.items tunnels.entries },
+    ghost few: { length tunnels.entries ≤ 30000 },
+    ghost small: { (l : ℕ) (t : Tunnel) (p : ℕ) → most (held_in (entry_of tunnels.entries l t)) p < 2 ^ 48 },
+    ghost full: { HasNoEmptyList tunnels.entries },
+    ghost unique: { IsUnique tunnel_eq tunnels } by { IsDistinct-prop tunnel_eq (keys tunnels) },
 }

@@ -1,9 +1,8 @@
-//! The book of what paths reserve: on each link of a network, for each tunnel the holding priorities and
-//! bandwidths of its paths there, the greatest bandwidth at each priority (the paths of one tunnel share
-//! what they reserve on a common link: shared explicit reservation, RFC 3209 section 2.4.3), and over all
-//! tunnels the sums of these. So what a link can still carry is read from stored numbers. What a tunnel holds is
-//! kept together, in the order of its links, so that an event reads few places of memory, and what it holds
-//! already is listed without looking for it.
+//! The unreserved bandwidth of links (RFC 3630 section 2.5.8), kept in a book of what paths reserve: on each link, for each
+//! tunnel the holding priorities and bandwidths of its paths there, and for each priority the sum over all tunnels of the
+//! greatest bandwidth of each. The paths of one tunnel share what they reserve on a common link (shared explicit
+//! reservation, RFC 3209 section 2.4.3). So what a link can still carry is read from stored sums, and what a tunnel holds
+//! already is listed from its own entries.
 //!
 //! A layer above may rely on it that a book stands for a list of paths (`StandsFor` in `specs/Books.antt`):
 //! a new one for none, and after `change` one that stood for paths stands for them without the dropped and
@@ -30,20 +29,13 @@ mod book;
 mod changes;
 mod entry;
 mod held;
-mod held_list;
-mod hints;
-mod ledger_calls;
 mod ledgers;
 mod link_entries;
 mod looks;
 mod own;
 mod paths;
 mod snapshots;
-mod tunnel_list;
 mod tunnels;
 
 pub use book::Book;
 pub use te_snapshot::{OwnShare, OwnShares, Snapshot, Topology};
-
-#[cfg(test)]
-mod tests;

@@ -1,25 +1,37 @@
 //! What one tunnel holds on its links, and how that moves the sums of the links.
 ghost use Rattle.std.specs.Prelude.{◌≡◌, ◌<◌, ◌≤◌, ◌+◌, ◌-◌, ◌^◌, ◌==◌, ◌∷◌, [], ℕ, true, false, length, slice_index, IfSome, IfNone, IsTrue, ◌↔◌, IfOk, OnOk, if◌then◌else◌, None};
-ghost use Rattle.bandwidth_book.specs.Entries.{AreRising, IsAt, entry_on, has_entry, held_in, kept, place_on, promised_to};
-ghost use Rattle.bandwidth_book.specs.Held.{most, AreMaxima, with_all, with_one, without_all, without_one};
+ghost use Rattle.bandwidth_book.specs.Entries.{AreRising, IsAt, entry_on, has_entry, kept, place_on, promised_to};
+ghost use Rattle.bandwidth_book.specs.Held.{most, moved_all, moved_one, room_for};
 ghost use Rattle.bandwidth_book.specs.Tunnels.{held_by_links, sum_at};
 
 use crate::entry::Entry;
-use crate::held::Held;
+use crate::held::{Held, Motion};
 use smallvec::SmallVec;
 use std::alloc::{AllocError, Global};
+use std::default::MadeWith;
 use std::marker::Model;
 use te_base::LinkNumber;
 
 /// What a tunnel holds on one of its links.
-#[derive(Default, Drop)]
+#[derive(Drop)]
 pub struct LinkEntry {
     pub link: LinkNumber,
     pub entry: Entry,
 }
 
+impl MadeWith<Global> for LinkEntry {
+    ghost is_made_with = { λ e. e.entry.held ≡ [] };
+
+    fn made_with(alloc: Global) -> LinkEntry {
+        LinkEntry {
+            link: 0,
+            entry: Entry::new(alloc),
+        }
+    }
+}
+
 /// The entries of a tunnel, at most one for each link, in the order of the links' numbers. Up to four stand in place, so
-/// that those of a short path are at hand where the tunnel is found.
+/// that those of a short path lie beside the tunnel.
 #[derive(Drop)]
 pub struct LinkEntries {
     entries: SmallVec<LinkEntry, 4>,
@@ -49,58 +61,24 @@ fn exchange(sums: &mut [u64; 8], before: &[u64; 8], after: &[u64; 8])
     }
 }
 
-/// Adds one to an entry, and to the sums of its link what it rises by.
-fn add_to(entry: &mut Entry, sums: &mut [u64; 8], held: Held)
-    requires room { 0 < entry.old.promised }
+/// Adds one to an entry or drops one from it, and moves the sums of its link by what it rises or falls.
+fn move_in(entry: &mut Entry, sums: &mut [u64; 8], motion: Motion, held: Held)
+    requires room { room_for motion 1 ≤ entry.old.promised }
     requires within { (p : ℕ) → p < 8 → most entry.old.held p ≤ slice_index sums.old p }
     requires small { (p : ℕ) → p < 8 → slice_index sums.old p < 2 ^ 63 }
     requires below { held.bandwidth < 2 ^ 48 }
     ensures moved { (p : ℕ) → p < 8 → slice_index sums.new p + most entry.old.held p ≡ slice_index sums.old p + most entry.new.held p }
-    ensures held { entry.new.held ≡ with_one held entry.old.held }
-    ensures promised { entry.new.promised + 1 ≡ entry.old.promised }
+    ensures held { entry.new.held ≡ moved_one motion held entry.old.held }
+    ensures promised { entry.new.promised + room_for motion 1 ≡ entry.old.promised }
 {
     let before = entry.maxima();
-    entry.add(held);
+    entry.move_one(motion, held);
     exchange(sums, &before, &entry.maxima());
 }
 
-/// Drops one from an entry, and from the sums of its link what it falls by.
-fn drop_from(entry: &mut Entry, sums: &mut [u64; 8], held: Held)
-    requires hold { held.hold < 8 }
-    requires within { (p : ℕ) → p < 8 → most entry.old.held p ≤ slice_index sums.old p }
-    requires small { (p : ℕ) → p < 8 → slice_index sums.old p < 2 ^ 63 }
-    ensures moved { (p : ℕ) → p < 8 → slice_index sums.new p + most entry.old.held p ≡ slice_index sums.old p + most entry.new.held p }
-    ensures held { entry.new.held ≡ without_one held entry.old.held }
-    ensures promised { entry.new.promised ≡ entry.old.promised }
-{
-    let before = entry.maxima();
-    entry.drop_one(held);
-    exchange(sums, &before, &entry.maxima());
-}
-
-/// So many entries are passed over whole: their lines of memory come at once, where halving waits for each before it asks
-/// for the next.
-const FEW: usize = 8;
-
-/// Where the entry of a link belongs in the order, by a pass over all: how many are before it.
+/// Where the entry of a link belongs in the order, by a binary search.
 #[tactic(auto, using(crate::proofs::Rising::place_within))]
-fn place_by_counting(entries: &[LinkEntry], link: LinkNumber) -> usize
-    requires { AreRising entries.now }
-    ensures place { result ≡ place_on link entries.now }
-    ensures within { result ≤ length entries.now }
-{
-    let mut count = 0;
-    for entry in entries {
-        if entry.link < link {
-            count += 1;
-        }
-    }
-    count
-}
-
-/// Where the entry of a link belongs in the order, by halving.
-#[tactic(auto, using(crate::proofs::Rising::place_within))]
-fn place_by_halving(entries: &[LinkEntry], link: LinkNumber) -> usize
+fn place_of(entries: &[LinkEntry], link: LinkNumber) -> usize
     requires { AreRising entries.now }
     ensures place { result ≡ place_on link entries.now }
     ensures within { result ≤ length entries.now }
@@ -116,19 +94,6 @@ fn place_by_halving(entries: &[LinkEntry], link: LinkNumber) -> usize
         }
     }
     low
-}
-
-/// Where the entry of a link belongs in the order.
-fn place_of(entries: &[LinkEntry], link: LinkNumber) -> usize
-    requires { AreRising entries.now }
-    ensures place { result ≡ place_on link entries.now }
-    ensures within { result ≤ length entries.now }
-{
-    if entries.len() <= FEW {
-        place_by_counting(entries, link)
-    } else {
-        place_by_halving(entries, link)
-    }
 }
 
 /// Where the entry of a link is.
@@ -160,8 +125,8 @@ fn put_entry(
     ensures room { (l : ℕ) → promised_to l entries.old.items ≤ promised_to l entries.new.items }
     ensures ok { OnOk result ((l : ℕ) → promised_to l entries.old.items + (if link == l then 1 else 0) ≤ promised_to l entries.new.items) }
 {
-    let mut entry = Entry::new();
-    entry.promise(alloc)?;
+    let mut entry = Entry::new(alloc);
+    entry.promise()?;
     let place = place_of(entries.as_slice(), link);
     entries.insert(place, LinkEntry { link, entry })?;
     Ok(())
@@ -184,7 +149,7 @@ fn take_back(entries: &mut SmallVec<LinkEntry, 4>, place: usize)
 }
 
 impl LinkEntries {
-    /// No entry, with room for so many.
+    /// No entry, with room for `count`.
     pub fn with_room(alloc: Global, count: usize) -> Result<LinkEntries, AllocError>
         ensures { IfOk result (λ entries. entries ≡ []) }
     {
@@ -219,36 +184,20 @@ impl LinkEntries {
         }
     }
 
-    /// Adds what a path holds on one link, and to the link's sums what its entry rises by.
-    fn add_on(&mut self, sums: &mut [u64; 8], link: LinkNumber, held: Held)
-        requires room { 0 < promised_to link self.old }
+    /// Adds or drops what a path holds on one link, and moves the link's sums by what its entry rises or falls.
+    fn move_on(&mut self, sums: &mut [u64; 8], link: LinkNumber, motion: Motion, held: Held)
+        requires room { room_for motion 1 ≤ promised_to link self.old }
         requires within { (p : ℕ) → p < 8 → most (kept link self.old) p ≤ slice_index sums.old p }
         requires small { (p : ℕ) → p < 8 → slice_index sums.old p < 2 ^ 63 }
         requires below { held.bandwidth < 2 ^ 48 }
         ensures moved { (p : ℕ) → p < 8 → slice_index sums.new p + most (kept link self.old) p ≡ slice_index sums.old p + most (kept link self.new) p }
         ensures length { length self.new ≡ length self.old }
         ensures entries { (l : ℕ) → has_entry l self.new ≡ has_entry l self.old }
-        ensures kept { (l : ℕ) → kept l self.new ≡ with_all (kept l self.old) (if link == l then held ∷ [] else []) }
-        ensures room { (l : ℕ) → promised_to l self.old ≤ promised_to l self.new + length (if link == l then held ∷ [] else []) }
+        ensures kept { (l : ℕ) → kept l self.new ≡ moved_all motion (kept l self.old) (if link == l then held ∷ [] else []) }
+        ensures room { (l : ℕ) → promised_to l self.old ≤ promised_to l self.new + room_for motion (length (if link == l then held ∷ [] else [])) }
     {
         if let Some(place) = find(self.entries.as_slice(), link) {
-            add_to(&mut self.entries[place].entry, sums, held);
-        }
-    }
-
-    /// Drops what a path holds on one link, and from the link's sums what its entry falls by.
-    fn drop_on(&mut self, sums: &mut [u64; 8], link: LinkNumber, held: Held)
-        requires hold { held.hold < 8 }
-        requires within { (p : ℕ) → p < 8 → most (kept link self.old) p ≤ slice_index sums.old p }
-        requires small { (p : ℕ) → p < 8 → slice_index sums.old p < 2 ^ 63 }
-        ensures moved { (p : ℕ) → p < 8 → slice_index sums.new p + most (kept link self.old) p ≡ slice_index sums.old p + most (kept link self.new) p }
-        ensures length { length self.new ≡ length self.old }
-        ensures entries { (l : ℕ) → has_entry l self.new ≡ has_entry l self.old }
-        ensures kept { (l : ℕ) → kept l self.new ≡ without_all (kept l self.old) (if link == l then held ∷ [] else []) }
-        ensures room { (l : ℕ) → promised_to l self.old ≤ promised_to l self.new }
-    {
-        if let Some(place) = find(self.entries.as_slice(), link) {
-            drop_from(&mut self.entries[place].entry, sums, held);
+            move_in(&mut self.entries[place].entry, sums, motion, held);
         }
     }
 
@@ -261,7 +210,7 @@ impl LinkEntries {
         ensures ok { OnOk result ((l : ℕ) → promised_to l self.old + (if link == l then 1 else 0) ≤ promised_to l self.new) }
     {
         match find(self.entries.as_slice(), link) {
-            Some(place) => self.entries[place].entry.promise(alloc),
+            Some(place) => self.entries[place].entry.promise(),
             None => put_entry(alloc, &mut self.entries, link),
         }
     }
@@ -277,9 +226,9 @@ impl LinkEntries {
         }
     }
 
-    /// Adds what a path holds on a link that may be there.
-    fn add_if_there(&mut self, sums: &mut [[u64; 8]], link: LinkNumber, held: Held)
-        requires room { link < length sums.old → 0 < promised_to link self.old }
+    /// Adds or drops what a path holds on a link that may be there.
+    fn move_if_there(&mut self, sums: &mut [[u64; 8]], link: LinkNumber, motion: Motion, held: Held)
+        requires room { link < length sums.old → room_for motion 1 ≤ promised_to link self.old }
         requires within { (l p : ℕ) → l < length sums.old → p < 8 → most (kept l self.old) p ≤ sum_at sums.old l p }
         requires small { (l p : ℕ) → l < length sums.old → p < 8 → sum_at sums.old l p < 2 ^ 63 }
         requires below { held.bandwidth < 2 ^ 48 }
@@ -287,30 +236,12 @@ impl LinkEntries {
         ensures moved { (l p : ℕ) → l < length sums.old → p < 8 → sum_at sums.new l p + most (kept l self.old) p ≡ sum_at sums.old l p + most (kept l self.new) p }
         ensures length { length self.new ≡ length self.old }
         ensures entries { (l : ℕ) → has_entry l self.new ≡ has_entry l self.old }
-        ensures kept { (l : ℕ) → l < length sums.old → kept l self.new ≡ with_all (kept l self.old) (if link == l then held ∷ [] else []) }
+        ensures kept { (l : ℕ) → l < length sums.old → kept l self.new ≡ moved_all motion (kept l self.old) (if link == l then held ∷ [] else []) }
         ensures past { (l : ℕ) → length sums.old ≤ l → kept l self.new ≡ kept l self.old }
-        ensures room { (l : ℕ) → l < length sums.old → promised_to l self.old ≤ promised_to l self.new + length (if link == l then held ∷ [] else []) }
+        ensures room { (l : ℕ) → promised_to l self.old ≤ promised_to l self.new + room_for motion (length (if link == l then held ∷ [] else [])) }
     {
         if link < sums.len() {
-            self.add_on(&mut sums[link], link, held);
-        }
-    }
-
-    /// Drops what a path holds on a link that may be there.
-    fn drop_if_there(&mut self, sums: &mut [[u64; 8]], link: LinkNumber, held: Held)
-        requires hold { held.hold < 8 }
-        requires within { (l p : ℕ) → l < length sums.old → p < 8 → most (kept l self.old) p ≤ sum_at sums.old l p }
-        requires small { (l p : ℕ) → l < length sums.old → p < 8 → sum_at sums.old l p < 2 ^ 63 }
-        ensures count { length sums.new ≡ length sums.old }
-        ensures moved { (l p : ℕ) → l < length sums.old → p < 8 → sum_at sums.new l p + most (kept l self.old) p ≡ sum_at sums.old l p + most (kept l self.new) p }
-        ensures length { length self.new ≡ length self.old }
-        ensures entries { (l : ℕ) → has_entry l self.new ≡ has_entry l self.old }
-        ensures kept { (l : ℕ) → l < length sums.old → kept l self.new ≡ without_all (kept l self.old) (if link == l then held ∷ [] else []) }
-        ensures past { (l : ℕ) → length sums.old ≤ l → kept l self.new ≡ kept l self.old }
-        ensures room { (l : ℕ) → promised_to l self.old ≤ promised_to l self.new }
-    {
-        if link < sums.len() {
-            self.drop_on(&mut sums[link], link, held);
+            self.move_on(&mut sums[link], link, motion, held);
         }
     }
 
@@ -334,10 +265,16 @@ impl LinkEntries {
         }
     }
 
-    /// Adds what a path holds on its links, and to their sums what the entries rise by. A link that isn't
-    /// there is passed over.
-    pub fn add_links(&mut self, sums: &mut [[u64; 8]], links: &[LinkNumber], held: Held)
-        requires room { (l : ℕ) → l < length sums.old → length (held_by_links held l links.now) ≤ promised_to l self.old }
+    /// Adds or drops what a path holds on its links, and moves their sums by what the entries rise or fall. A link that
+    /// isn't there is skipped.
+    pub fn move_links(
+        &mut self,
+        sums: &mut [[u64; 8]],
+        links: &[LinkNumber],
+        motion: Motion,
+        held: Held,
+    )
+        requires room { (l : ℕ) → l < length sums.old → room_for motion (length (held_by_links held l links.now)) ≤ promised_to l self.old }
         requires within { (l p : ℕ) → l < length sums.old → p < 8 → most (kept l self.old) p ≤ sum_at sums.old l p }
         requires small { (l p : ℕ) → l < length sums.old → p < 8 → sum_at sums.old l p < most (kept l self.old) p + (2 ^ 63 - 2 ^ 48) }
         requires least { (l p : ℕ) → most (kept l self.old) p < 2 ^ 48 }
@@ -346,32 +283,12 @@ impl LinkEntries {
         ensures moved { (l p : ℕ) → l < length sums.old → p < 8 → sum_at sums.new l p + most (kept l self.old) p ≡ sum_at sums.old l p + most (kept l self.new) p }
         ensures length { length self.new ≡ length self.old }
         ensures entries { (l : ℕ) → has_entry l self.new ≡ has_entry l self.old }
-        ensures kept { (l : ℕ) → l < length sums.old → kept l self.new ≡ with_all (kept l self.old) (held_by_links held l links.now) }
+        ensures kept { (l : ℕ) → l < length sums.old → kept l self.new ≡ moved_all motion (kept l self.old) (held_by_links held l links.now) }
         ensures least { (l p : ℕ) → most (kept l self.new) p < 2 ^ 48 }
-        ensures room { (l : ℕ) → l < length sums.old → promised_to l self.old ≤ promised_to l self.new + length (held_by_links held l links.now) }
+        ensures room { (l : ℕ) → promised_to l self.old ≤ promised_to l self.new + room_for motion (length (held_by_links held l links.now)) }
     {
         for link in links {
-            self.add_if_there(sums, *link, held);
-        }
-    }
-
-    /// Drops what a path holds on its links, and from their sums what the entries fall by. A link that isn't
-    /// there is passed over.
-    pub fn drop_links(&mut self, sums: &mut [[u64; 8]], links: &[LinkNumber], held: Held)
-        requires hold { held.hold < 8 }
-        requires within { (l p : ℕ) → l < length sums.old → p < 8 → most (kept l self.old) p ≤ sum_at sums.old l p }
-        requires small { (l p : ℕ) → l < length sums.old → p < 8 → sum_at sums.old l p < most (kept l self.old) p + (2 ^ 63 - 2 ^ 48) }
-        requires least { (l p : ℕ) → most (kept l self.old) p < 2 ^ 48 }
-        ensures count { length sums.new ≡ length sums.old }
-        ensures moved { (l p : ℕ) → l < length sums.old → p < 8 → sum_at sums.new l p + most (kept l self.old) p ≡ sum_at sums.old l p + most (kept l self.new) p }
-        ensures length { length self.new ≡ length self.old }
-        ensures entries { (l : ℕ) → has_entry l self.new ≡ has_entry l self.old }
-        ensures kept { (l : ℕ) → l < length sums.old → kept l self.new ≡ without_all (kept l self.old) (held_by_links held l links.now) }
-        ensures least { (l p : ℕ) → most (kept l self.new) p < 2 ^ 48 }
-        ensures room { (l : ℕ) → promised_to l self.old ≤ promised_to l self.new }
-    {
-        for link in links {
-            self.drop_if_there(sums, *link, held);
+            self.move_if_there(sums, *link, motion, held);
         }
     }
 

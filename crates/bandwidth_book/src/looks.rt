@@ -1,12 +1,12 @@
 //! What a book says of the paths for which it stands.
-ghost use Rattle.std.specs.Prelude.{◌≡◌, ◌<◌, ◌≤◌, ◌+◌, ◌-◌, ◌^◌, ◌-ℤ◌, ◌||◌, pos, int_le, nat_le, ℕ, List, length, slice_index, true, IsTrue};
+ghost use Rattle.std.specs.Prelude.{◌≡◌, ◌<◌, ◌≤◌, ◌+◌, ◌-◌, ◌^◌, ◌-ℤ◌, ◌||◌, pos, int_le, nat_le, ℕ, List, length, slice_index, true};
 ghost use Rattle.std.specs.List.{list_all};
 ghost use Rattle.lsp_base.specs.Shares.{fits, fits_at, has_link, priorities, reservable, reserved, share, unreserved};
 ghost use Rattle.lsp_base.specs.declared.path.Path.{Path};
 ghost use Rattle.bandwidth_book.specs.Books.{StandsFor, links_of};
 ghost use Rattle.bandwidth_book.specs.Held.{most};
 ghost use Rattle.bandwidth_book.specs.Ledgers.{count, held_at};
-ghost use Rattle.bandwidth_book.specs.Paths.{IsHeldBy, tunnel_eq};
+ghost use Rattle.bandwidth_book.specs.Paths.{IsHeldBy};
 
 use crate::book::Book;
 use crate::ledgers::Ledgers;
@@ -15,30 +15,25 @@ use pcep_word::Priority;
 use te_base::{Link, LinkNumber};
 
 /// The stored maximum of a tunnel on a link.
-fn maximum_at(
-    ledgers: &Ledgers<Tunnel>,
-    tunnel: &Tunnel,
-    link: LinkNumber,
-    priority: Priority,
-) -> u64
-    ensures { result ≡ most (held_at tunnel_eq ledgers.now link tunnel.now) priority }
+fn maximum_at(ledgers: &Ledgers, tunnel: &Tunnel, link: LinkNumber, priority: Priority) -> u64
+    ensures { result ≡ most (held_at ledgers.now link tunnel.now) priority }
 {
     ledgers.share(*tunnel, link, priority.number())
 }
 
 /// What a tunnel reserves on a link.
-fn share_at(ledgers: &Ledgers<Tunnel>, tunnel: &Tunnel, link: LinkNumber, priority: Priority) -> u64
+fn share_at(ledgers: &Ledgers, tunnel: &Tunnel, link: LinkNumber, priority: Priority) -> u64
     requires { link < count ledgers.now }
-    ensures { (paths : List Path) → IsHeldBy (count ledgers.now) (held_at tunnel_eq ledgers.now) paths
+    ensures { (paths : List Path) → IsHeldBy (count ledgers.now) (held_at ledgers.now) paths
         → result ≡ share paths tunnel.now link priority }
 {
     maximum_at(ledgers, tunnel, link, priority)
 }
 
 /// The stored sums of a link.
-pub(crate) fn sums_at(ledgers: &Ledgers<Tunnel>, link: LinkNumber) -> &[u64; 8]
+pub(crate) fn sums_at(ledgers: &Ledgers, link: LinkNumber) -> &[u64; 8]
     requires { link < count ledgers.now }
-    ensures reserved { (paths : List Path) → IsHeldBy (count ledgers.now) (held_at tunnel_eq ledgers.now) paths
+    ensures reserved { (paths : List Path) → IsHeldBy (count ledgers.now) (held_at ledgers.now) paths
         → (p : ℕ) → p < 8 → slice_index result.now p ≡ reserved paths link p }
     ensures small { (p : ℕ) → p < 8 → slice_index result.now p < 2 ^ 63 - 2 ^ 48 }
 {
@@ -56,16 +51,11 @@ pub(crate) fn left_of(reservable: u64, sum: u64) -> i64
 
 /// What is left of the reservable bandwidth of a link.
 #[tactic(auto, unfolding(lsp_base::specs::Shares::unreserved))]
-fn unreserved_at(
-    links: &[Link],
-    ledgers: &Ledgers<Tunnel>,
-    link: LinkNumber,
-    priority: Priority,
-) -> i64
+fn unreserved_at(links: &[Link], ledgers: &Ledgers, link: LinkNumber, priority: Priority) -> i64
     requires link { link < length links.now }
     requires ledger { link < count ledgers.now }
     requires small { reservable links.now link < 2 ^ 48 }
-    ensures { (paths : List Path) → IsHeldBy (count ledgers.now) (held_at tunnel_eq ledgers.now) paths
+    ensures { (paths : List Path) → IsHeldBy (count ledgers.now) (held_at ledgers.now) paths
         → result ≡ unreserved links.now paths link priority }
 {
     let sums = sums_at(ledgers, link);
@@ -97,7 +87,7 @@ pub(crate) fn reservable_of(links: &[Link], link: LinkNumber) -> u64
 /// there, or what it rises by is left.
 fn bears_at(
     links: &[Link],
-    ledgers: &Ledgers<Tunnel>,
+    ledgers: &Ledgers,
     path: &Path,
     link: LinkNumber,
     priority: Priority,
@@ -107,7 +97,7 @@ fn bears_at(
     requires small { reservable links.now link < 2 ^ 48 }
     requires held { path.now.hold ≤ priority }
     requires has { has_link link path.now ≡ true }
-    ensures { (paths : List Path) → IsHeldBy (count ledgers.now) (held_at tunnel_eq ledgers.now) paths
+    ensures { (paths : List Path) → IsHeldBy (count ledgers.now) (held_at ledgers.now) paths
         → result ≡ fits_at links.now paths path.now link priority }
 {
     let share = share_at(ledgers, &path.tunnel, link, priority);
@@ -119,18 +109,12 @@ fn bears_at(
 
 /// Whether a link of the path bears it at each priority from holding to setup.
 #[tactic(auto, using(crate::proofs::Fits::first_priority, crate::proofs::Fits::no_priority))]
-fn bears(
-    links: &[Link],
-    ledgers: &Ledgers<Tunnel>,
-    path: &Path,
-    link: LinkNumber,
-    setup: Priority,
-) -> bool
+fn bears(links: &[Link], ledgers: &Ledgers, path: &Path, link: LinkNumber, setup: Priority) -> bool
     requires link { link < length links.now }
     requires ledger { link < count ledgers.now }
     requires small { reservable links.now link < 2 ^ 48 }
     requires has { has_link link path.now ≡ true }
-    ensures { (paths : List Path) → IsHeldBy (count ledgers.now) (held_at tunnel_eq ledgers.now) paths
+    ensures { (paths : List Path) → IsHeldBy (count ledgers.now) (held_at ledgers.now) paths
         → result ≡ list_all (fits_at links.now paths path.now link) (priorities path.now.hold setup) }
 {
     for number in path.hold.number()..setup.number() + 1 {
@@ -145,7 +129,7 @@ fn bears(
 #[tactic(auto, using(crate::proofs::Fits::has_at), unfolding(lsp_base::specs::Shares::fits))]
 fn fits_on(
     links: &[Link],
-    ledgers: &Ledgers<Tunnel>,
+    ledgers: &Ledgers,
     path: &Path,
     numbers: &[LinkNumber],
     setup: Priority,
@@ -153,7 +137,7 @@ fn fits_on(
     requires same { count ledgers.now ≡ length links.now }
     requires small { (l : ℕ) → reservable links.now l < 2 ^ 48 }
     requires numbers { numbers.now ≡ path.now.links }
-    ensures { (paths : List Path) → IsHeldBy (count ledgers.now) (held_at tunnel_eq ledgers.now) paths
+    ensures { (paths : List Path) → IsHeldBy (count ledgers.now) (held_at ledgers.now) paths
         → result ≡ fits links.now paths path.now setup }
 {
     for link in numbers {

@@ -5,12 +5,12 @@ ghost use Rattle.lsp_base.specs.declared.path.Path.{Path};
 ghost use Rattle.te_snapshot.specs.Own.{is_something, own_share_on, own_shares};
 ghost use Rattle.te_snapshot.specs.Room.{own_share};
 ghost use Rattle.bandwidth_book.specs.Books.{StandsFor, links_of};
-ghost use Rattle.bandwidth_book.specs.declared.held.Held.{Held};
+ghost use Rattle.bandwidth_book.specs.Held.{Held};
 ghost use Rattle.bandwidth_book.specs.Held.{AreMaxima, times};
 ghost use Rattle.bandwidth_book.specs.Ledgers.{count, held_at};
 ghost use Rattle.lsp_base.specs.declared.tunnel.Tunnel.{Tunnel};
 ghost use Rattle.bandwidth_book.specs.Links.{own_among};
-ghost use Rattle.bandwidth_book.specs.Paths.{IsHeldBy, held_by, tunnel_eq};
+ghost use Rattle.bandwidth_book.specs.Paths.{IsHeldBy, held_by};
 
 use crate::book::Book;
 use crate::ledgers::Ledgers;
@@ -20,7 +20,7 @@ use sequence::Sequence;
 use std::alloc::{AllocError, Global};
 use te_snapshot::{OwnShare, OwnShares};
 
-/// The stored maxima of an entry.
+/// The greatest bandwidths of an entry.
 fn maxima_in(entry: &LinkEntry) -> [u64; 8]
     ensures { AreMaxima result entry.now.entry.held }
 {
@@ -48,7 +48,7 @@ fn list_if_some(own: &mut Vec<OwnShare>, held: OwnShare) -> Result<(), AllocErro
     Ok(())
 }
 
-/// Lists what a tunnel reserves on the link of one of its entries, if that is one of so many and it is something.
+/// Appends what a tunnel reserves on the link of one of its entries, if the link exists and it isn't 0.
 fn list_entry(own: &mut Vec<OwnShare>, count: usize, entry: &LinkEntry) -> Result<(), AllocError>
     ensures { OnOk result ((paths : List Path) (t : Tunnel) → ((h : Held) → entry.now.link < count → times h entry.now.entry.held ≡ times h (held_by entry.now.link t paths))
         → own.new.items ≡ own.old.items ++ own_among paths t count (entry.now.link ∷ [])) }
@@ -71,12 +71,8 @@ fn filled(entries: &[LinkEntry]) -> usize
 
 /// What a tunnel reserves on each link on which it reserves something. The entries are counted before, so that their
 /// memory comes at once and the list doesn't grow.
-fn own_on(
-    alloc: Global,
-    ledgers: &Ledgers<Tunnel>,
-    tunnel: &Tunnel,
-) -> Result<Vec<OwnShare>, AllocError>
-    ensures { IfOk result (λ own. (paths : List Path) → IsHeldBy (count ledgers.now) (held_at tunnel_eq ledgers.now) paths
+fn own_on(alloc: Global, ledgers: &Ledgers, tunnel: &Tunnel) -> Result<Vec<OwnShare>, AllocError>
+    ensures { IfOk result (λ own. (paths : List Path) → IsHeldBy (count ledgers.now) (held_at ledgers.now) paths
         → own.items ≡ own_shares paths tunnel.now (count ledgers.now)) }
 {
     let entries = ledgers.entries(*tunnel);

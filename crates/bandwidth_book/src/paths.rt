@@ -1,58 +1,48 @@
 //! What lists of paths do to the ledgers of the links, by tunnel.
-ghost use Rattle.std.specs.Prelude.{◌≡◌, ◌<◌, ◌≤◌, ◌+◌, ◌++◌, ◌==◌, ◌&&◌, true, false, [], ℕ, List, length, OnOk, OnErr, if◌then◌else◌};
+ghost use Rattle.std.specs.Prelude.{◌≡◌, ◌<◌, ◌≤◌, ◌+◌, ◌++◌, true, [], ℕ, List, length, OnOk, OnErr};
 ghost use Rattle.lsp_base.specs.Base.{HasAll, without};
 ghost use Rattle.lsp_base.specs.declared.path.Path.{Path};
 ghost use Rattle.lsp_base.specs.declared.tunnel.Tunnel.{Tunnel};
-ghost use Rattle.bandwidth_book.specs.declared.paths.Place.{Place};
-ghost use Rattle.bandwidth_book.specs.Paths.{IsHeldBy, IsPromised, held_by, tunnel_eq};
+ghost use Rattle.bandwidth_book.specs.declared.paths.Promise.{Promise};
+ghost use Rattle.bandwidth_book.specs.Paths.{IsHeldBy, IsPromised, held_by};
 ghost use Rattle.bandwidth_book.specs.Pending.{AreNoted, noted};
-ghost use Rattle.bandwidth_book.specs.Held.{held_of, with_all, without_all};
+ghost use Rattle.bandwidth_book.specs.Held.{held_of, moved_all, room_for, with_all, without_all};
 ghost use Rattle.bandwidth_book.specs.Ledgers.{count, has_entry_at, held_at, promised_on};
 ghost use Rattle.bandwidth_book.specs.Tunnels.{held_by_path};
 
-use crate::held::held_of;
+use crate::held::{Motion, held_of};
 use crate::ledgers::Ledgers;
 use lsp_base::{Path, Tunnel};
+use sequence::{PlainData, Sequence};
 use std::alloc::{AllocError, Global};
 use te_base::LinkNumber;
 
-/// A tunnel on a link.
-#[derive(Clone, Copy, Debug)]
-pub struct Place {
-    pub link: LinkNumber,
+/// A tunnel, and the links on which room was promised to it.
+#[derive(Debug, Drop)]
+pub struct Promise {
     pub tunnel: Tunnel,
+    pub links: Sequence<LinkNumber>,
 }
 
-/// Drops what the paths hold, in order.
-fn drop_paths(ledgers: &mut Ledgers<Tunnel>, paths: &[Path])
+/// Adds or drops what the paths hold, in order; room is promised for what comes.
+fn move_paths(ledgers: &mut Ledgers, motion: Motion, paths: &[Path])
+    requires room { (l : ℕ) (t : Tunnel) → l < count ledgers.old → room_for motion (length (held_by l t paths.now)) ≤ promised_on ledgers.old l t }
     ensures count { count ledgers.new ≡ count ledgers.old }
-    ensures entries { (l : ℕ) (t : Tunnel) → has_entry_at tunnel_eq ledgers.new l t ≡ has_entry_at tunnel_eq ledgers.old l t }
-    ensures kept { (l : ℕ) (t : Tunnel) → l < count ledgers.old → held_at tunnel_eq ledgers.new l t ≡ without_all (held_at tunnel_eq ledgers.old l t) (held_by l t paths.now) }
-    ensures room { (l : ℕ) (t : Tunnel) → promised_on tunnel_eq ledgers.old l t ≤ promised_on tunnel_eq ledgers.new l t }
+    ensures entries { (l : ℕ) (t : Tunnel) → has_entry_at ledgers.new l t ≡ has_entry_at ledgers.old l t }
+    ensures kept { (l : ℕ) (t : Tunnel) → l < count ledgers.old → held_at ledgers.new l t ≡ moved_all motion (held_at ledgers.old l t) (held_by l t paths.now) }
+    ensures room { (l : ℕ) (t : Tunnel) → promised_on ledgers.old l t ≤ promised_on ledgers.new l t + room_for motion (length (held_by l t paths.now)) }
 {
     for path in paths {
-        ledgers.drop_path(path.tunnel, held_of(path), path.links.as_slice());
-    }
-}
-
-/// Adds what the paths hold, in order, where room is promised for it.
-fn add_paths(ledgers: &mut Ledgers<Tunnel>, paths: &[Path])
-    requires room { IsPromised (count ledgers.old) (promised_on tunnel_eq ledgers.old) paths.now }
-    ensures count { count ledgers.new ≡ count ledgers.old }
-    ensures entries { (l : ℕ) (t : Tunnel) → has_entry_at tunnel_eq ledgers.new l t ≡ has_entry_at tunnel_eq ledgers.old l t }
-    ensures kept { (l : ℕ) (t : Tunnel) → l < count ledgers.old → held_at tunnel_eq ledgers.new l t ≡ with_all (held_at tunnel_eq ledgers.old l t) (held_by l t paths.now) }
-{
-    for path in paths {
-        ledgers.add_path(path.tunnel, held_of(path), path.links.as_slice());
+        ledgers.move_path(path.tunnel, motion, held_of(path), path.links.as_slice());
     }
 }
 
 /// Takes out the entries of these paths that hold nothing.
-fn clear_paths(ledgers: &mut Ledgers<Tunnel>, paths: &[Path])
+fn clear_paths(ledgers: &mut Ledgers, paths: &[Path])
     ensures count { count ledgers.new ≡ count ledgers.old }
-    ensures entries { (l : ℕ) (t : Tunnel) → has_entry_at tunnel_eq ledgers.new l t ≡ true → has_entry_at tunnel_eq ledgers.old l t ≡ true }
-    ensures swept { (l : ℕ) (t : Tunnel) → has_entry_at tunnel_eq ledgers.new l t ≡ true → held_at tunnel_eq ledgers.new l t ≡ [] → length (held_by l t paths.now) ≡ 0 }
-    ensures kept { (l : ℕ) (t : Tunnel) → held_at tunnel_eq ledgers.new l t ≡ held_at tunnel_eq ledgers.old l t }
+    ensures entries { (l : ℕ) (t : Tunnel) → has_entry_at ledgers.new l t ≡ true → has_entry_at ledgers.old l t ≡ true }
+    ensures swept { (l : ℕ) (t : Tunnel) → has_entry_at ledgers.new l t ≡ true → held_at ledgers.new l t ≡ [] → length (held_by l t paths.now) ≡ 0 }
+    ensures kept { (l : ℕ) (t : Tunnel) → held_at ledgers.new l t ≡ held_at ledgers.old l t }
 {
     for path in paths {
         ledgers.withdraw_path(path.tunnel, path.links.as_slice());
@@ -60,103 +50,91 @@ fn clear_paths(ledgers: &mut Ledgers<Tunnel>, paths: &[Path])
 }
 
 /// Drops, then adds, and takes out the entries that are left with nothing.
-pub fn change_paths(ledgers: &mut Ledgers<Tunnel>, dropped: &[Path], added: &[Path])
-    requires room { IsPromised (count ledgers.old) (promised_on tunnel_eq ledgers.old) added.now }
+#[tactic(auto, using(crate::proofs::Moved::moved_add, crate::proofs::Moved::moved_drop))]
+pub fn change_paths(ledgers: &mut Ledgers, dropped: &[Path], added: &[Path])
+    requires room { IsPromised (count ledgers.old) (promised_on ledgers.old) added.now }
     ensures count { count ledgers.new ≡ count ledgers.old }
-    ensures noted { (places : List Place) → AreNoted (count ledgers.old) (has_entry_at tunnel_eq ledgers.old) (held_at tunnel_eq ledgers.old) places → AreNoted (count ledgers.old) (has_entry_at tunnel_eq ledgers.new) (held_at tunnel_eq ledgers.new) places }
-    ensures kept { (l : ℕ) (t : Tunnel) → l < count ledgers.old → held_at tunnel_eq ledgers.new l t ≡ with_all (without_all (held_at tunnel_eq ledgers.old l t) (held_by l t dropped.now)) (held_by l t added.now) }
-    ensures stands { (paths : List Path) → IsHeldBy (count ledgers.old) (held_at tunnel_eq ledgers.old) paths → HasAll paths dropped.now
-        → IsHeldBy (count ledgers.old) (held_at tunnel_eq ledgers.new) (without paths dropped.now ++ added.now) }
+    ensures noted { (promises : List Promise) → AreNoted (count ledgers.old) (has_entry_at ledgers.old) (held_at ledgers.old) promises → AreNoted (count ledgers.old) (has_entry_at ledgers.new) (held_at ledgers.new) promises }
+    ensures kept { (l : ℕ) (t : Tunnel) → l < count ledgers.old → held_at ledgers.new l t ≡ with_all (without_all (held_at ledgers.old l t) (held_by l t dropped.now)) (held_by l t added.now) }
+    ensures stands { (paths : List Path) → IsHeldBy (count ledgers.old) (held_at ledgers.old) paths → HasAll paths dropped.now
+        → IsHeldBy (count ledgers.old) (held_at ledgers.new) (without paths dropped.now ++ added.now) }
 {
-    drop_paths(ledgers, dropped);
-    add_paths(ledgers, added);
+    move_paths(ledgers, Motion::Drop, dropped);
+    move_paths(ledgers, Motion::Add, added);
     clear_paths(ledgers, dropped);
 }
 
-/// Takes the promises at these places back, and the entries out that hold nothing.
-fn clear_places(ledgers: &mut Ledgers<Tunnel>, places: &[Place])
-    requires noted { AreNoted (count ledgers.old) (has_entry_at tunnel_eq ledgers.old) (held_at tunnel_eq ledgers.old) places.now }
+/// Takes these promises back, and the entries out that hold nothing.
+fn clear_promises(ledgers: &mut Ledgers, promises: &[Promise])
+    requires noted { AreNoted (count ledgers.old) (has_entry_at ledgers.old) (held_at ledgers.old) promises.now }
     ensures count { count ledgers.new ≡ count ledgers.old }
-    ensures none { AreNoted (count ledgers.old) (has_entry_at tunnel_eq ledgers.new) (held_at tunnel_eq ledgers.new) [] }
-    ensures kept { (l : ℕ) (t : Tunnel) → held_at tunnel_eq ledgers.new l t ≡ held_at tunnel_eq ledgers.old l t }
+    ensures none { AreNoted (count ledgers.old) (has_entry_at ledgers.new) (held_at ledgers.new) [] }
+    ensures kept { (l : ℕ) (t : Tunnel) → held_at ledgers.new l t ≡ held_at ledgers.old l t }
 {
-    for place in places {
-        ledgers.withdraw_path(place.tunnel, &[place.link]);
+    for promise in promises {
+        ledgers.withdraw_path(promise.tunnel, promise.links.as_slice());
     }
 }
 
-/// Gives the room at these places up that wasn't used, and forgets them.
-pub fn give_up_room(ledgers: &mut Ledgers<Tunnel>, places: &mut Vec<Place>)
-    requires noted { AreNoted (count ledgers.old) (has_entry_at tunnel_eq ledgers.old) (held_at tunnel_eq ledgers.old) places.old.items }
+/// Gives up the promised room that wasn't used, and forgets the promises.
+pub fn give_up_room(ledgers: &mut Ledgers, promises: &mut Vec<Promise>)
+    requires noted { AreNoted (count ledgers.old) (has_entry_at ledgers.old) (held_at ledgers.old) promises.old.items }
     ensures count { count ledgers.new ≡ count ledgers.old }
-    ensures none { AreNoted (count ledgers.old) (has_entry_at tunnel_eq ledgers.new) (held_at tunnel_eq ledgers.new) [] }
-    ensures forgotten { places.new.items ≡ [] }
-    ensures kept { (l : ℕ) (t : Tunnel) → held_at tunnel_eq ledgers.new l t ≡ held_at tunnel_eq ledgers.old l t }
+    ensures none { AreNoted (count ledgers.old) (has_entry_at ledgers.new) (held_at ledgers.new) [] }
+    ensures forgotten { promises.new.items ≡ [] }
+    ensures kept { (l : ℕ) (t : Tunnel) → held_at ledgers.new l t ≡ held_at ledgers.old l t }
 {
-    clear_places(ledgers, places);
-    places.clear();
-}
-
-/// Notes a tunnel on a link.
-#[tactic(auto, using(crate::proofs::Pending::noted_push))]
-fn note_place(places: &mut Vec<Place>, link: LinkNumber, tunnel: &Tunnel) -> Result<(), AllocError>
-    ensures ok { OnOk result ((l : ℕ) (t : Tunnel) → noted places.new.items l t ≡ noted places.old.items l t + (if link == l && tunnel_eq tunnel.now t then 1 else 0)) }
-    ensures err { OnErr result ((l : ℕ) (t : Tunnel) → noted places.new.items l t ≡ noted places.old.items l t) }
-{
-    let place = Place {
-        link,
-        tunnel: *tunnel,
-    };
-    places.push(place)?;
-    Ok(())
+    clear_promises(ledgers, promises);
+    promises.clear();
 }
 
 /// Notes the tunnel of a path on its links.
-fn note_path(places: &mut Vec<Place>, path: &Path) -> Result<(), AllocError>
-    ensures ok { OnOk result ((l : ℕ) (t : Tunnel) → noted places.new.items l t ≡ noted places.old.items l t + length (held_by_path tunnel_eq path.now.tunnel (held_of path.now) l t path.now.links)) }
-    ensures within { (l : ℕ) (t : Tunnel) → noted places.new.items l t ≤ noted places.old.items l t + length (held_by_path tunnel_eq path.now.tunnel (held_of path.now) l t path.now.links) }
-    ensures more { (l : ℕ) (t : Tunnel) → noted places.old.items l t ≤ noted places.new.items l t }
+fn note_path(promises: &mut Vec<Promise>, path: &Path) -> Result<(), AllocError>
+    ensures ok { OnOk result ((l : ℕ) (t : Tunnel) → noted promises.new.items l t ≡ noted promises.old.items l t + length (held_by_path path.now.tunnel (held_of path.now) l t path.now.links)) }
+    ensures err { OnErr result (promises.new.items ≡ promises.old.items) }
 {
-    for link in path.links.as_slice() {
-        note_place(places, *link, &path.tunnel)?;
-    }
+    let links = path.links.copy()?;
+    promises.push(Promise {
+        tunnel: path.tunnel,
+        links,
+    })?;
     Ok(())
 }
 
 /// Promises room for what a path holds on its links, where it notes its tunnel before.
 fn promise_path(
     alloc: Global,
-    ledgers: &mut Ledgers<Tunnel>,
-    places: &mut Vec<Place>,
+    ledgers: &mut Ledgers,
+    promises: &mut Vec<Promise>,
     path: &Path,
 ) -> Result<(), AllocError>
-    requires noted { AreNoted (count ledgers.old) (has_entry_at tunnel_eq ledgers.old) (held_at tunnel_eq ledgers.old) places.old.items }
+    requires noted { AreNoted (count ledgers.old) (has_entry_at ledgers.old) (held_at ledgers.old) promises.old.items }
     ensures count { count ledgers.new ≡ count ledgers.old }
-    ensures noted { AreNoted (count ledgers.old) (has_entry_at tunnel_eq ledgers.new) (held_at tunnel_eq ledgers.new) places.new.items }
-    ensures places { (l : ℕ) (t : Tunnel) → noted places.new.items l t ≤ noted places.old.items l t + length (held_by_path tunnel_eq path.now.tunnel (held_of path.now) l t path.now.links) }
-    ensures kept { (l : ℕ) (t : Tunnel) → held_at tunnel_eq ledgers.new l t ≡ held_at tunnel_eq ledgers.old l t }
-    ensures ok { OnOk result ((l : ℕ) (t : Tunnel) → l < count ledgers.old → promised_on tunnel_eq ledgers.old l t + length (held_by_path tunnel_eq path.now.tunnel (held_of path.now) l t path.now.links) ≤ promised_on tunnel_eq ledgers.new l t) }
+    ensures noted { AreNoted (count ledgers.old) (has_entry_at ledgers.new) (held_at ledgers.new) promises.new.items }
+    ensures within { (l : ℕ) (t : Tunnel) → noted promises.new.items l t ≤ noted promises.old.items l t + length (held_by_path path.now.tunnel (held_of path.now) l t path.now.links) }
+    ensures kept { (l : ℕ) (t : Tunnel) → held_at ledgers.new l t ≡ held_at ledgers.old l t }
+    ensures ok { OnOk result ((l : ℕ) (t : Tunnel) → l < count ledgers.old → promised_on ledgers.old l t + length (held_by_path path.now.tunnel (held_of path.now) l t path.now.links) ≤ promised_on ledgers.new l t) }
 {
-    note_path(places, path)?;
+    note_path(promises, path)?;
     ledgers.promise_path(alloc, path.tunnel, path.links.as_slice())
 }
 
-/// Promises room for what the paths hold, and notes each place.
+/// Promises room for what the paths hold, and notes each promise.
 pub fn promise_paths(
     alloc: Global,
-    ledgers: &mut Ledgers<Tunnel>,
-    places: &mut Vec<Place>,
+    ledgers: &mut Ledgers,
+    promises: &mut Vec<Promise>,
     paths: &[Path],
 ) -> Result<(), AllocError>
-    requires noted { AreNoted (count ledgers.old) (has_entry_at tunnel_eq ledgers.old) (held_at tunnel_eq ledgers.old) places.old.items }
+    requires noted { AreNoted (count ledgers.old) (has_entry_at ledgers.old) (held_at ledgers.old) promises.old.items }
     ensures count { count ledgers.new ≡ count ledgers.old }
-    ensures noted { AreNoted (count ledgers.old) (has_entry_at tunnel_eq ledgers.new) (held_at tunnel_eq ledgers.new) places.new.items }
-    ensures places { (l : ℕ) (t : Tunnel) → noted places.new.items l t ≤ noted places.old.items l t + length (held_by l t paths.now) }
-    ensures kept { (l : ℕ) (t : Tunnel) → held_at tunnel_eq ledgers.new l t ≡ held_at tunnel_eq ledgers.old l t }
-    ensures ok { OnOk result (IsPromised (count ledgers.old) (promised_on tunnel_eq ledgers.new) paths.now) }
+    ensures noted { AreNoted (count ledgers.old) (has_entry_at ledgers.new) (held_at ledgers.new) promises.new.items }
+    ensures within { (l : ℕ) (t : Tunnel) → noted promises.new.items l t ≤ noted promises.old.items l t + length (held_by l t paths.now) }
+    ensures kept { (l : ℕ) (t : Tunnel) → held_at ledgers.new l t ≡ held_at ledgers.old l t }
+    ensures ok { OnOk result (IsPromised (count ledgers.old) (promised_on ledgers.new) paths.now) }
 {
     for path in paths {
-        promise_path(alloc, ledgers, places, path)?;
+        promise_path(alloc, ledgers, promises, path)?;
     }
     Ok(())
 }

@@ -8,7 +8,7 @@ ghost use Rattle.te_snapshot.specs.Left.{all_left, left_on, state_beside};
 ghost use Rattle.te_snapshot.specs.Network.{NetworkState};
 ghost use Rattle.bandwidth_book.specs.Books.{HasNoEmptyEntry, IsReady, StandsFor, held_on, kept_by, links_of, network_of};
 ghost use Rattle.bandwidth_book.specs.Ledgers.{count, held_at};
-ghost use Rattle.bandwidth_book.specs.Paths.{IsHeldBy, tunnel_eq};
+ghost use Rattle.bandwidth_book.specs.Paths.{IsHeldBy};
 ghost use Rattle.bandwidth_book.specs.Tables.{AreLeft};
 
 use crate::book::Book;
@@ -35,11 +35,11 @@ fn left_of_each(reservable: u64, sums: &[u64; 8]) -> [i64; 8]
 }
 
 /// What is left of a link at each priority.
-fn left_at(links: &[Link], ledgers: &Ledgers<Tunnel>, link: LinkNumber) -> [i64; 8]
+fn left_at(links: &[Link], ledgers: &Ledgers, link: LinkNumber) -> [i64; 8]
     requires link { link < length links.now }
     requires ledger { link < count ledgers.now }
     requires small { reservable links.now link < 2 ^ 48 }
-    ensures { (paths : List Path) → IsHeldBy (count ledgers.now) (held_at tunnel_eq ledgers.now) paths
+    ensures { (paths : List Path) → IsHeldBy (count ledgers.now) (held_at ledgers.now) paths
         → result ≡ left_on links.now paths link }
 {
     left_of_each(reservable_of(links, link), sums_at(ledgers, link))
@@ -47,15 +47,11 @@ fn left_at(links: &[Link], ledgers: &Ledgers<Tunnel>, link: LinkNumber) -> [i64;
 
 /// What is left of every link.
 #[tactic(auto, unfolding(te_snapshot::specs::Left::all_left), using(crate::proofs::Tables::one_more_left))]
-fn table_of(
-    alloc: Global,
-    links: &[Link],
-    ledgers: &Ledgers<Tunnel>,
-) -> Result<Vec<[i64; 8]>, AllocError>
+fn table_of(alloc: Global, links: &[Link], ledgers: &Ledgers) -> Result<Vec<[i64; 8]>, AllocError>
     requires same { count ledgers.now ≡ length links.now }
     requires small { (l : ℕ) → reservable links.now l < 2 ^ 48 }
     ensures whole { IfOk result (λ table. length table.items ≡ length links.now) }
-    ensures left { IfOk result (λ table. (paths : List Path) → IsHeldBy (count ledgers.now) (held_at tunnel_eq ledgers.now) paths → table.items ≡ all_left links.now paths) }
+    ensures left { IfOk result (λ table. (paths : List Path) → IsHeldBy (count ledgers.now) (held_at ledgers.now) paths → table.items ≡ all_left links.now paths) }
 {
     let mut table = Vec::with_capacity(alloc, links.len())?;
     for link in 0..links.len() {

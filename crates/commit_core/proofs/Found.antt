@@ -58,8 +58,8 @@ unfolding is_route
 route_of te table c own path h =
     let some = h.some in
     let few = h.few in
-    let from = node_of (network_of te) c.source in
-    let to = node_of (network_of te) c.destination in
+    let from = node_of te.owners c.source in
+    let to = node_of te.owners c.destination in
     both (nat_lt 0 (length path)) _ (grind (arith, nat_tests, some))
     (both (nat_le (length path) 64) _ (grind (arith, nat_tests, few))
     (both (is_within c.hop_bound (length path)) _ (within_of c.hop_bound (length path) h.hops)

@@ -4,7 +4,6 @@ use Rattle.std.specs.List.{list_all}
 use Rattle.pcep_objects.specs.declared.object.Colours.{Colours}
 use Rattle.te_base.specs.Base.{Base}
 use Rattle.te_base.specs.declared.network.Link.{Link}
-use Rattle.te_snapshot.specs.Network.{network_of}
 use Rattle.te_snapshot.specs.Admissible.{colours_pass, cost_of, is_distinct, is_within, keeps_other_bounds, node_of, nodes_of}
 use Rattle.lsp_base.specs.Shares.{fits}
 use Rattle.lsp_base.specs.declared.lsp.Constraints.{Constraints}
@@ -35,7 +34,7 @@ is_route te c path =
     nat_lt 0 (length path)
     && (nat_le (length path) 64
     && (is_within c.hop_bound (length path)
-    && (joins te.links path (node_of (network_of te) c.source) (node_of (network_of te) c.destination)
+    && (joins te.links path (node_of te.owners c.source) (node_of te.owners c.destination)
     && (all_have_colours te.links c.colours path
     && is_within c.bound (cost_of c.minimise te.links path)))))
 

@@ -11,12 +11,13 @@ ghost use Rattle.commit_core.specs.declared.verdict.Verdict.TheVariants.{Grant, 
 ghost use Rattle.commit_core.specs.Verdicts.{is_moot, is_gone, unless_tried, cannot_be_granted, accepted, judged, verdict};
 
 use crate::offers::is_request;
-use crate::route::{is_route, keeps_other_bounds};
+use crate::route::is_route;
 use crate::ticket::{Purpose, TRY_LIMIT, Ticket};
 use crate::verdict::{PeerView, Verdict};
 use bandwidth_book::Book;
 use lsp_base::{Constraints, LspBase, PATH_LIMIT, Path, is_delegated, is_pending};
 use te_base::TeBase;
+use te_snapshot::keeps_other_bounds;
 
 /// Whether there is nothing to update any more.
 fn is_moot(base: &LspBase, peer: u32, purpose: &Purpose) -> bool
@@ -81,7 +82,7 @@ fn is_acceptable(
     let links = path.links.as_slice();
     is_route(te, constraints, links)
         && book.fits(path, constraints.priorities.setup())
-        && keeps_other_bounds(te, constraints, links)
+        && keeps_other_bounds(te.links(), constraints, links)
 }
 
 #[tactic(auto, unfolding(crate::specs::Verdicts::verdict))]

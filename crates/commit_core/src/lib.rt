@@ -24,9 +24,5 @@ mod verdict;
 pub use judging::judge;
 pub use name::LspName;
 pub use offers::{is_request, offered_path, own_tunnel};
-pub use route::cost_of;
 pub use ticket::{Purpose, TRY_LIMIT, Ticket};
 pub use verdict::{PeerView, Verdict};
-
-#[cfg(test)]
-mod tests;

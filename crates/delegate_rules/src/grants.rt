@@ -5,7 +5,8 @@ ghost use Rattle.delegate_rules.specs.Grants.{is_grant_met, is_grant_settled, is
 ghost use Rattle.delegate_rules.specs.Effects.{bound_grants};
 
 use crate::identity::{are_all_zero, identifiers, means_settled, report_tunnel};
-use lsp_base::{Choice, Edit, LspBase, Path, carries_srp, edit_all, is_grant_of_lsp, is_unbound};
+use keyed_list::{Edit, Test, edit_all};
+use lsp_base::{LspBase, Path, carries_srp, is_grant_of_lsp, is_unbound};
 use pcep_messages::StateReport;
 use std::alloc::{AllocError, Global};
 
@@ -34,12 +35,12 @@ struct GrantKept<'a> {
     report: &'a StateReport,
 }
 
-impl<'a> Choice for GrantKept<'a> {
+impl<'a> Test<Path> for GrantKept<'a> {
     ghost use Rattle.delegate_rules.specs.Grants.{is_grant_kept};
 
-    ghost chooses = { λ s x. is_grant_kept s.granted s.peer s.report.now x };
+    ghost passes = { λ s x. is_grant_kept s.granted s.peer s.report.now x };
 
-    fn chooses(&self, path: &Path) -> bool {
+    fn passes(&self, path: &Path) -> bool {
         meets_grant(self.granted, self.peer, self.report, path) && !settles_grant(self.report, path)
     }
 }
@@ -52,12 +53,12 @@ struct GrantBound<'a> {
     report: &'a StateReport,
 }
 
-impl<'a> Choice for GrantBound<'a> {
+impl<'a> Test<Path> for GrantBound<'a> {
     ghost use Rattle.delegate_rules.specs.Grants.{is_grant_bound};
 
-    ghost chooses = { λ s x. is_grant_bound s.granted s.peer s.report.now x };
+    ghost passes = { λ s x. is_grant_bound s.granted s.peer s.report.now x };
 
-    fn chooses(&self, path: &Path) -> bool {
+    fn passes(&self, path: &Path) -> bool {
         meets_grant(self.granted, self.peer, self.report, path)
             && !settles_grant(self.report, path)
             && path.plsp.number() == 0
@@ -71,7 +72,7 @@ struct MovedGrant<'a> {
     report: &'a StateReport,
 }
 
-impl<'a> Edit for MovedGrant<'a> {
+impl<'a> Edit<Path> for MovedGrant<'a> {
     ghost use Rattle.delegate_rules.specs.Grants.{moved_grant};
 
     ghost edited = { λ s x. moved_grant s.peer s.report.now x };
@@ -89,7 +90,7 @@ struct BoundGrant<'a> {
     report: &'a StateReport,
 }
 
-impl<'a> Edit for BoundGrant<'a> {
+impl<'a> Edit<Path> for BoundGrant<'a> {
     ghost use Rattle.delegate_rules.specs.Grants.{bound_grant};
 
     ghost edited = { λ s x. bound_grant s.report.now x };
@@ -110,12 +111,12 @@ pub fn grants_moved(
 ) -> Result<Vec<Path>, AllocError>
     ensures { IfOk result (λ moved. moved.items ≡ moved_grants granted base.now.content.paths peer report.now) }
 {
-    let choice = GrantKept {
+    let test = GrantKept {
         granted,
         peer,
         report,
     };
-    let mut grants = base.chosen_of(alloc, peer, report.plsp, &choice)?;
+    let mut grants = base.paths_of_lsp(alloc, peer, report.plsp, &test)?;
     edit_all(&mut grants, &MovedGrant { peer, report });
     Ok(grants)
 }
@@ -133,12 +134,12 @@ pub fn grants_bound(
     if are_all_zero(identifiers(report)) {
         return Ok(Vec::new(alloc));
     }
-    let choice = GrantBound {
+    let test = GrantBound {
         granted,
         peer,
         report,
     };
-    let mut grants = base.chosen_of(alloc, peer, report.plsp, &choice)?;
+    let mut grants = base.paths_of_lsp(alloc, peer, report.plsp, &test)?;
     edit_all(&mut grants, &BoundGrant { report });
     Ok(grants)
 }

@@ -31,6 +31,3 @@ pub use fault::RuleFault;
 pub use refusals::on_refused;
 pub use returns::on_return;
 pub use rules::on_report;
-
-#[cfg(test)]
-mod tests;

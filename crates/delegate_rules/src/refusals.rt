@@ -4,8 +4,9 @@ ghost use Rattle.lsp_base.specs.Rooms.{IsWithinLimit};
 ghost use Rattle.delegate_rules.specs.Refusals.{has_no_other, record_ended, records_ended, removal_cleared, removals_cleared, refused_effect};
 
 use crate::reported::has_no_path;
+use keyed_list::Test;
 use lsp_base::{
-    Becoming, Choice, Effect, GrantAs, Lsp, LspBase, Path, Record, RecordChange, is_path_of_lsp,
+    Effect, GrantAs, Lsp, LspBase, Path, Record, RecordChange, RecordRule, is_path_of_lsp,
     is_removed_as,
 };
 use pcep_objects::Plsp;
@@ -20,26 +21,26 @@ struct OtherOf {
     plsp: Plsp,
 }
 
-impl Choice for OtherOf {
+impl Test<Path> for OtherOf {
     ghost use Rattle.std.specs.Prelude.{◌&&◌, not};
     ghost use Rattle.lsp_base.specs.Base.{is_path_of};
     ghost use Rattle.lsp_base.specs.Pending.{is_grant_as};
 
-    ghost chooses = { λ s x. not (is_grant_as s.peer s.srp x) && is_path_of s.peer s.plsp x };
+    ghost passes = { λ s x. not (is_grant_as s.peer s.srp x) && is_path_of s.peer s.plsp x };
 
-    fn chooses(&self, path: &Path) -> bool {
+    fn passes(&self, path: &Path) -> bool {
         let grants = GrantAs {
             peer: self.peer,
             srp: self.srp,
         };
-        !grants.chooses(path) && is_path_of_lsp(path, self.peer, self.plsp)
+        !grants.passes(path) && is_path_of_lsp(path, self.peer, self.plsp)
     }
 }
 
 fn has_no_other(base: &LspBase, peer: u32, srp: u32, plsp: Plsp) -> bool
     ensures { result ≡ has_no_other base.now.content.paths peer srp plsp }
 {
-    !base.any_chosen_of(peer, plsp, &OtherOf { peer, srp, plsp })
+    !base.any_path_of_lsp(peer, plsp, &OtherOf { peer, srp, plsp })
 }
 
 /// Takes away the records of the LSPs of these grants, which go, where no path of the LSP stays.
@@ -86,24 +87,23 @@ struct ClearedOf {
     srp: u32,
 }
 
-impl Becoming for ClearedOf {
+impl RecordRule for ClearedOf {
     ghost use Rattle.lsp_base.specs.Pending.{is_removed_as};
     ghost use Rattle.delegate_rules.specs.Refusals.{removal_cleared};
 
-    ghost meets = { λ s r. is_removed_as s.peer s.srp r };
+    ghost applies = { λ s r. is_removed_as s.peer s.srp r };
 
-    ghost becomes = { λ s r. removal_cleared r };
+    ghost change = { λ s r. removal_cleared r };
 
-    fn meets(&self, known: &Record) -> bool {
+    fn applies(&self, known: &Record) -> bool {
         is_removed_as(known, self.peer, self.srp)
     }
 
-    fn becomes(&self, known: &Record) -> Result<RecordChange, AllocError> {
+    fn change(&self, known: &Record) -> Result<RecordChange, AllocError> {
         removal_cleared(known)
     }
 }
 
-#[tactic(auto, using(lsp_base::proofs::OfPeer::removed_as_met))]
 fn removals_cleared(
     alloc: Global,
     base: &LspBase,
@@ -112,7 +112,7 @@ fn removals_cleared(
 ) -> Result<Vec<RecordChange>, AllocError>
     ensures { IfOk result (λ changes. changes.items ≡ removals_cleared base.now.content peer srp) }
 {
-    base.changes_of_peer(alloc, peer, &ClearedOf { peer, srp })
+    base.record_changes(alloc, &ClearedOf { peer, srp })
 }
 
 /// The peer refused the request of this SRP-ID (a PCErr, RFC 8231 section 6.3): its grant of the number, bound
@@ -120,15 +120,16 @@ fn removals_cleared(
 /// grant has the number, the removal that has it isn't awaited any more. A number that neither has changes
 /// nothing.
 ///
-/// Grants are not kept by their numbers, so it goes over the peer's paths, and where none of them is the grant
-/// over the peer's records. It makes no pass over all.
-#[tactic(auto, unfolding(crate::specs::Refusals::refused_effect), using(lsp_base::proofs::OfPeer::grant_as_picked))]
+/// Grants are not kept by their numbers: it makes a pass over all paths, and where none of them is the grant one over
+/// all records.
+#[tactic(auto, unfolding(crate::specs::Refusals::refused_effect))]
 pub fn on_refused(alloc: Global, base: &LspBase, peer: u32, srp: u32) -> Result<Effect, AllocError>
     ensures effect { IfOk result (λ effect. effect ≡ refused_effect base.now.content peer srp) }
     ensures few { IfOk result (λ effect. IsWithinLimit base.now.content effect) }
 {
+    // for the proof alone: no more paths stand than there may be
     let _few = base.paths();
-    let grants = base.chosen_of_peer(alloc, peer, &GrantAs { peer, srp })?;
+    let grants = base.paths_passing(alloc, &GrantAs { peer, srp })?;
     if has_no_path(grants.as_slice()) {
         let records = removals_cleared(alloc, base, peer, srp)?;
         return Ok(Effect::new(grants, Vec::new(alloc), records, false));

@@ -6,7 +6,8 @@ ghost use Rattle.delegate_rules.specs.Effects.{is_reported_as, is_removed, goes_
 use crate::grants::{grants_bound, meets_grant, settles_grant};
 use crate::identity::{are_all_zero, identifiers};
 use crate::reported::has_no_path;
-use lsp_base::{Choice, Effect, LspBase, Part, Path, RecordChange, ended_record, is_path_of_lsp};
+use keyed_list::Test;
+use lsp_base::{Effect, LspBase, Part, Path, RecordChange, ended_record, is_path_of_lsp};
 use pcep_messages::StateReport;
 use pcep_objects::Plsp;
 use std::alloc::{AllocError, Global};
@@ -45,12 +46,12 @@ struct GoesByRemoval<'a> {
     report: &'a StateReport,
 }
 
-impl<'a> Choice for GoesByRemoval<'a> {
+impl<'a> Test<Path> for GoesByRemoval<'a> {
     ghost use Rattle.delegate_rules.specs.Effects.{goes_by_removal};
 
-    ghost chooses = { λ s x. goes_by_removal s.granted s.peer s.report.now x };
+    ghost passes = { λ s x. goes_by_removal s.granted s.peer s.report.now x };
 
-    fn chooses(&self, path: &Path) -> bool {
+    fn passes(&self, path: &Path) -> bool {
         removes(self.peer, self.report, path)
             || ends_grant(self.granted, self.peer, self.report, path)
     }
@@ -92,7 +93,7 @@ pub fn effect_of_removal(
         peer,
         report,
     };
-    let dropped = base.chosen_of(alloc, peer, report.plsp, &goes)?;
+    let dropped = base.paths_of_lsp(alloc, peer, report.plsp, &goes)?;
     let bound = grants_bound(alloc, base, granted, peer, report)?;
     let records = records_after(alloc, base, peer, report.plsp, &goes, bound.as_slice())?;
     Ok(Effect::new(dropped, bound, records, false))

@@ -6,8 +6,9 @@ ghost use Rattle.delegate_rules.specs.Effects.{is_nil, is_unsignalled, is_replac
 
 use crate::grants::{grants_moved, meets_grant};
 use crate::identity::{are_all_zero, identifiers, means_down, report_tunnel};
+use keyed_list::Test;
 use lsp_base::{
-    Choice, Constraints, Effect, Lsp, LspBase, OtherBounds, Part, Path, RecordChange, Tunnel,
+    Constraints, Effect, Lsp, LspBase, OtherBounds, Part, Path, RecordChange, Tunnel,
     is_path_of_lsp,
 };
 use pcep_messages::StateReport;
@@ -174,12 +175,12 @@ struct GoesByReport<'a> {
     report: &'a StateReport,
 }
 
-impl<'a> Choice for GoesByReport<'a> {
+impl<'a> Test<Path> for GoesByReport<'a> {
     ghost use Rattle.delegate_rules.specs.Effects.{goes_by_report};
 
-    ghost chooses = { λ s x. goes_by_report s.granted s.peer s.report.now x };
+    ghost passes = { λ s x. goes_by_report s.granted s.peer s.report.now x };
 
-    fn chooses(&self, path: &Path) -> bool {
+    fn passes(&self, path: &Path) -> bool {
         replaces(self.peer, self.report, path)
             || meets_grant(self.granted, self.peer, self.report, path)
     }
@@ -247,7 +248,7 @@ pub fn effect_of_report(
         peer,
         report,
     };
-    let dropped = base.chosen_of(alloc, peer, report.plsp, &goes)?;
+    let dropped = base.paths_of_lsp(alloc, peer, report.plsp, &goes)?;
     let grants = grants_moved(alloc, base, granted, peer, report)?;
     let wants_path = waits_for_path(report, grants.as_slice(), old);
     let path = path_of_report(alloc, te, peer, report)?;

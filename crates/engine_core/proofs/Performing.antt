@@ -6,13 +6,13 @@ use Rattle.step_core.specs.declared.event.Reply.{Reply}
 use Rattle.history_core.specs.Histories.{Content, stepped, is_full}
 use Rattle.history_core.specs.declared.fault.Fault.{Fault}
 use Rattle.history_core.specs.declared.fault.Fault.TheVariants.{OutOfMemory, HistoryFull}
-use Rattle.engine_core.specs.Lending.{Steps, IsFull, UnlistedMoves}
+use Rattle.engine_core.specs.Lending.{Steps, IsFull, LentMoves}
 use Rattle.engine_core.specs.Performed.{performed, Performs}
 use Rattle.engine_core.specs.Plans.{Plan, Returns, Reaches, Submits, Passes, Takes, LeadsTo}
 use Rattle.engine_core.specs.Stores.{Carries, MayFail, BreaksOff, Serves, ServesOrEnds}
 use Rattle.engine_core.specs.declared.client.Client.{Client}
+use Rattle.engine_core.specs.declared.lent.Lent.{Lent}
 use Rattle.engine_core.specs.declared.store.Call.{Call}
-use Rattle.engine_core.specs.declared.unlisted.Unlisted.{Unlisted}
 
 one_step : {W : Type 0} (event : Event) (go_on : Reply → Plan W) (call : Call) (d : Content) → call.event ≡ event → is_full d ≡ false → call.reply ≡ (step d.state call.event).reply
     → performed (Submits event go_on) d ≡ performed (go_on call.reply) (stepped d call.event call.reply)
@@ -61,40 +61,40 @@ performs_or_ends (Err HistoryFull) old new c after plan h = broke_off old new c 
 
 -- ---- a database that is lent
 
-abbrev moves_of : Unlisted → List Call → Unlisted → Type 0
-moves_of old made new = UnlistedMoves old made new
+abbrev moves_of : Lent → List Call → Lent → Type 0
+moves_of old made new = LentMoves old made new
 
-abbrev full_at : Unlisted → Type 0
+abbrev full_at : Lent → Type 0
 full_at s = IsFull s.database.now
 
-carried_below : {W : Type 0} (old new : Unlisted) (c after : Client) (plan rest : Plan W) → Carries moves_of old new c after plan rest → Carries Steps old.database.now new.database.now c after plan rest
+carried_below : {W : Type 0} (old new : Lent) (c after : Client) (plan rest : Plan W) → Carries moves_of old new c after plan rest → Carries Steps old.database.now new.database.now c after plan rest
 carried_below old new c after plan rest h = record { calls = h.calls; made = h.made.steps; leads = h.leads; joined = h.joined }
 
-cause_below : {W : Type 0} (s : Unlisted) (rest : Plan W) (fault : Fault) → MayFail full_at s rest fault → MayFail IsFull s.database.now rest fault
+cause_below : {W : Type 0} (s : Lent) (rest : Plan W) (fault : Fault) → MayFail full_at s rest fault → MayFail IsFull s.database.now rest fault
 cause_below s rest OutOfMemory h = tt
 cause_below s (Returns w) HistoryFull h = h
 cause_below s (Reaches c rest) HistoryFull h = h
 cause_below s (Submits event go_on) HistoryFull h = h
 
-broken_below : {W : Type 0} (old new : Unlisted) (c after : Client) (plan : Plan W) (fault : Fault) → BreaksOff moves_of full_at old new c after plan fault → BreaksOff Steps IsFull old.database.now new.database.now c after plan fault
+broken_below : {W : Type 0} (old new : Lent) (c after : Client) (plan : Plan W) (fault : Fault) → BreaksOff moves_of full_at old new c after plan fault → BreaksOff Steps IsFull old.database.now new.database.now c after plan fault
 broken_below old new c after plan fault h = record { rest = h.rest; carried = carried_below old new c after plan (Reaches after h.rest) h.carried; cause = cause_below new h.rest fault h.cause }
 
-pub serves_below : {X : Type 0} (result : Result X Fault) (old new : Unlisted) (c after : Client) (plan : Plan Client) → Serves result moves_of full_at old new c after plan (λ w. Returns w)
+pub serves_below : {X : Type 0} (result : Result X Fault) (old new : Lent) (c after : Client) (plan : Plan Client) → Serves result moves_of full_at old new c after plan (λ w. Returns w)
     → Serves result Steps IsFull old.database.now new.database.now c after plan (λ w. Returns w)
 serves_below (Ok x) old new c after plan h = carried_below old new c after plan (Returns after) h
 serves_below (Err fault) old new c after plan h = broken_below old new c after plan fault h
 
-pub ends_below : {X : Type 0} (result : Result X Fault) (old new : Unlisted) (c after : Client) (plan : Plan Client) → ServesOrEnds result moves_of full_at old new c after plan
+pub ends_below : {X : Type 0} (result : Result X Fault) (old new : Lent) (c after : Client) (plan : Plan Client) → ServesOrEnds result moves_of full_at old new c after plan
     → ServesOrEnds result Steps IsFull old.database.now new.database.now c after plan
 ends_below (Ok x) old new c after plan h = carried_below old new c after plan (Returns after) h
 ends_below (Err fault) old new c after plan h = record { reached = h.reached; broke_off = broken_below old new c h.reached plan fault h.broke_off; ended = h.ended }
 
-pub same_loan : {X : Type 0} (result : Result X Fault) (old new : Unlisted) (c after : Client) (plan : Plan Client) → Serves result moves_of full_at old new c after plan (λ w. Returns w)
+pub same_loan : {X : Type 0} (result : Result X Fault) (old new : Lent) (c after : Client) (plan : Plan Client) → Serves result moves_of full_at old new c after plan (λ w. Returns w)
     → new.database.ghost_name ≡ old.database.ghost_name
 same_loan (Ok x) old new c after plan h = h.made.same_loan
 same_loan (Err fault) old new c after plan h = h.carried.made.same_loan
 
-pub same_loan_ended : {X : Type 0} (result : Result X Fault) (old new : Unlisted) (c after : Client) (plan : Plan Client) → ServesOrEnds result moves_of full_at old new c after plan
+pub same_loan_ended : {X : Type 0} (result : Result X Fault) (old new : Lent) (c after : Client) (plan : Plan Client) → ServesOrEnds result moves_of full_at old new c after plan
     → new.database.ghost_name ≡ old.database.ghost_name
 same_loan_ended (Ok x) old new c after plan h = h.made.same_loan
 same_loan_ended (Err fault) old new c after plan h = h.broke_off.carried.made.same_loan

@@ -3,7 +3,6 @@ use Rattle.std.specs.Prelude.{ℕ, ◌≡◌, true, false, List, [], ◌∷◌, 
 use Rattle.step_core.specs.Steps.{step}
 use Rattle.history_core.specs.Histories.{Content, stepped, is_full, rolled_up, steps_of}
 use Rattle.engine_core.specs.declared.lent.Lent.{Lent}
-use Rattle.engine_core.specs.declared.unlisted.Unlisted.{Unlisted}
 use Rattle.engine_core.specs.declared.store.Call.{Call}
 
 -- each call is a step of the database that is kept, with the step's reply
@@ -33,8 +32,3 @@ pub record LentRolls (old : Lent) (steps : ℕ) (new : Lent) : Type 0 where
 pub record SameDatabase (old new : Lent) : Type 0 where
   pub same_loan : new.database.ghost_name ≡ old.database.ghost_name
   pub same : new.database.now ≡ old.database.now
-
--- the same without a list
-pub record UnlistedMoves (old : Unlisted) (made : List Call) (new : Unlisted) : Type 0 where
-  pub same_loan : new.database.ghost_name ≡ old.database.ghost_name
-  pub steps : Steps old.database.now made new.database.now

@@ -2,10 +2,9 @@
 use Rattle.std.proofs.Common.{◌++◌, List, [], ◌∷◌, refl, sym, ◌∙◌, ap, subst, append_assoc}
 use Rattle.std.proofs.lemmas.List.{append-nil}
 use Rattle.history_core.specs.Histories.{Content, stepped}
-use Rattle.engine_core.specs.Lending.{Steps, LentMoves, UnlistedMoves}
+use Rattle.engine_core.specs.Lending.{Steps, LentMoves}
 use Rattle.engine_core.specs.declared.lent.Lent.{Lent}
 use Rattle.engine_core.specs.declared.store.Call.{Call}
-use Rattle.engine_core.specs.declared.unlisted.Unlisted.{Unlisted}
 
 steps_on : (a b c : Content) (first second : List Call) → Steps a first b → Steps b second c → Steps a (first ++ second) c
 steps_on a b c [] second h k = subst (λ (d : Content). Steps d second c) h k
@@ -19,13 +18,4 @@ moves_on a b c first second h k = record {
   same_loan = k.same_loan ∙ h.same_loan;
   steps = steps_on a.database.now b.database.now c.database.now first second h.steps k.steps;
   added = k.added ∙ ap (λ (calls : List Call). calls ++ second) h.added ∙ append_assoc a.calls.items first second;
-}
-
-pub unlisted_nowhere : (s : Unlisted) → UnlistedMoves s [] s
-unlisted_nowhere s = record { same_loan = refl; steps = refl }
-
-pub unlisted_on : (a b c : Unlisted) (first second : List Call) → UnlistedMoves a first b → UnlistedMoves b second c → UnlistedMoves a (first ++ second) c
-unlisted_on a b c first second h k = record {
-  same_loan = k.same_loan ∙ h.same_loan;
-  steps = steps_on a.database.now b.database.now c.database.now first second h.steps k.steps;
 }

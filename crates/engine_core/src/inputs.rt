@@ -1,7 +1,8 @@
 //! What is done with what a session gives.
 
-ghost use Rattle.std.specs.Prelude.{◌≡◌, [], OnOk, OnErr, IfErr};
+ghost use Rattle.std.specs.Prelude.{◌≡◌, ◌<◌, [], length, OnOk, OnErr, IfErr};
 ghost use Rattle.history_core.specs.declared.fault.Fault.TheVariants.{OutOfMemory};
+ghost use Rattle.engine_core.specs.Calls.{newest_reply};
 ghost use Rattle.engine_core.specs.Engine.{event_of, on_up, on_wanted, after_report, on_report, on_reports, refused_request, after_request, on_request, on_requests, on_refusal, on_refusals, on_message, on_down, on_input, turns};
 ghost use Rattle.engine_core.specs.Plans.{Plan};
 ghost use Rattle.engine_core.specs.Stores.{Serves};
@@ -10,13 +11,13 @@ ghost use Rattle.pcep_session.specs.Ends.{most_turns};
 
 use crate::client::{Client, after_up, next, refuse_report, send};
 use crate::requests::{no_path_for, purpose_of, vector_for};
-use crate::sink::Sink;
+use crate::store::{Store, hand_in, reply};
 use history_core::{Event, Fault, Purpose, Reply, Why};
 use pcep_messages::{Errors, Message, PathRequest, StateReport};
 use pcep_objects::{Capabilities, Plsp};
 use pcep_session::Input;
 
-fn on_up<S: Sink>(
+fn on_up<S: Store>(
     client: &mut Client,
     peer: u32,
     capabilities: Option<Capabilities>,
@@ -24,8 +25,8 @@ fn on_up<S: Sink>(
 ) -> Result<(), Fault>
     ensures { (go_on : Client → Plan Client) → Serves result S.moves S.is_full store.old store.new client.old client.new (on_up peer capabilities client.old go_on) go_on }
 {
-    store.hand_in(Event::Up { peer, capabilities })?;
-    after_up(client, store.reply())
+    hand_in(store, Event::Up { peer, capabilities })?;
+    after_up(client, reply(store))
 }
 
 /// The end of synchronization (RFC 8231 section 5.6), or the report of an LSP.
@@ -39,27 +40,27 @@ fn event_of(peer: u32, report: StateReport) -> Event
 }
 
 /// A path is asked for, to update the LSP. What the store replies means nothing for the session.
-fn on_wanted<S: Sink>(client: &Client, peer: u32, plsp: Plsp, store: &mut S) -> Result<(), Fault>
+fn on_wanted<S: Store>(client: &Client, peer: u32, plsp: Plsp, store: &mut S) -> Result<(), Fault>
     ensures { (go_on : Client → Plan Client) → Serves result S.moves S.is_full store.old store.new client.now client.now (on_wanted peer plsp client.now go_on) go_on }
 {
     let purpose = Purpose::Update { plsp };
-    store.hand_in(Event::Ask { peer, purpose })?;
+    hand_in(store, Event::Ask { peer, purpose })?;
     Ok(())
 }
 
 /// What the reply to a report means: an LSP that waits for a path is asked for, and a report that is refused is answered.
 #[tactic(auto, unfolding(crate::specs::Engine::after_report))]
-fn after_report<S: Sink>(
+fn after_report<S: Store>(
     client: &mut Client,
     peer: u32,
     plsp: Plsp,
     srp: Option<u32>,
     store: &mut S,
 ) -> Result<(), Fault>
-    requires { S.is_answered store.old }
-    ensures { (go_on : Client → Plan Client) → Serves result S.moves S.is_full store.old store.new client.old client.new (after_report peer plsp srp (S.newest store.old) client.old go_on) go_on }
+    requires { 0 < length (S.calls store.old) }
+    ensures { (go_on : Client → Plan Client) → Serves result S.moves S.is_full store.old store.new client.old client.new (after_report peer plsp srp (newest_reply (S.calls store.old)) client.old go_on) go_on }
 {
-    match store.reply() {
+    match reply(store) {
         Reply::Refused(_) => refuse_report(client, srp),
         Reply::Booked { wants_path } => {
             if *wants_path {
@@ -71,7 +72,7 @@ fn after_report<S: Sink>(
     }
 }
 
-fn on_report<S: Sink>(
+fn on_report<S: Store>(
     client: &mut Client,
     peer: u32,
     report: StateReport,
@@ -81,11 +82,11 @@ fn on_report<S: Sink>(
 {
     let plsp = report.plsp;
     let srp = report.srp;
-    store.hand_in(event_of(peer, report))?;
+    hand_in(store, event_of(peer, report))?;
     after_report(client, peer, plsp, srp, store)
 }
 
-fn on_reports<S: Sink>(
+fn on_reports<S: Store>(
     client: &mut Client,
     peer: u32,
     reports: Vec<StateReport>,
@@ -100,14 +101,14 @@ fn on_reports<S: Sink>(
 }
 
 /// The peer refused the request of an SRP-ID.
-fn on_refusal<S: Sink>(client: &Client, peer: u32, srp: u32, store: &mut S) -> Result<(), Fault>
+fn on_refusal<S: Store>(client: &Client, peer: u32, srp: u32, store: &mut S) -> Result<(), Fault>
     ensures { (go_on : Client → Plan Client) → Serves result S.moves S.is_full store.old store.new client.now client.now (on_refusal peer srp client.now go_on) go_on }
 {
-    store.hand_in(Event::Refused { peer, srp })?;
+    hand_in(store, Event::Refused { peer, srp })?;
     Ok(())
 }
 
-fn on_refusals<S: Sink>(
+fn on_refusals<S: Store>(
     client: &Client,
     peer: u32,
     srps: Vec<u32>,
@@ -136,18 +137,18 @@ fn refuse_request(client: &mut Client, request: u32, why: Why) -> Result<(), Fau
 
 /// What the reply to a request that is asked for means: where there can't be a path it is answered at once.
 #[tactic(auto, unfolding(crate::specs::Engine::after_request))]
-fn after_request<S: Sink>(client: &mut Client, request: u32, store: &S) -> Result<(), Fault>
-    requires { S.is_answered store.now }
-    ensures { (go_on : Client → Plan Client) → Serves result S.moves S.is_full store.now store.now client.old client.new (after_request request (S.newest store.now) client.old go_on) go_on }
+fn after_request<S: Store>(client: &mut Client, request: u32, store: &S) -> Result<(), Fault>
+    requires { 0 < length (S.calls store.now) }
+    ensures { (go_on : Client → Plan Client) → Serves result S.moves S.is_full store.now store.now client.old client.new (after_request request (newest_reply (S.calls store.now)) client.old go_on) go_on }
 {
-    match store.reply() {
+    match reply(store) {
         Reply::Refused(why) => refuse_request(client, request, *why),
         _ => Ok(()),
     }
 }
 
 /// A path is asked for, to answer a request.
-fn on_request<S: Sink>(
+fn on_request<S: Store>(
     client: &mut Client,
     peer: u32,
     request: PathRequest,
@@ -156,11 +157,11 @@ fn on_request<S: Sink>(
     ensures { (go_on : Client → Plan Client) → Serves result S.moves S.is_full store.old store.new client.old client.new (on_request peer request client.old go_on) go_on }
 {
     let purpose = purpose_of(&request);
-    store.hand_in(Event::Ask { peer, purpose })?;
+    hand_in(store, Event::Ask { peer, purpose })?;
     after_request(client, request.request, store)
 }
 
-fn on_requests<S: Sink>(
+fn on_requests<S: Store>(
     client: &mut Client,
     peer: u32,
     requests: Vec<PathRequest>,
@@ -174,7 +175,7 @@ fn on_requests<S: Sink>(
     Ok(())
 }
 
-fn on_message<S: Sink>(
+fn on_message<S: Store>(
     client: &mut Client,
     peer: u32,
     message: Message,
@@ -191,20 +192,20 @@ fn on_message<S: Sink>(
 }
 
 /// A peer that is joined goes down.
-pub(crate) fn on_down<S: Sink>(client: &mut Client, peer: u32, store: &mut S) -> Result<(), Fault>
+pub(crate) fn on_down<S: Store>(client: &mut Client, peer: u32, store: &mut S) -> Result<(), Fault>
     ensures went_down { (go_on : Client → Plan Client) → Serves result S.moves S.is_full store.old store.new client.old client.new (on_down peer client.old go_on) go_on }
     ensures unchanged { OnErr result (client.new ≡ client.old) }
     ensures nothing_submitted { OnErr result (S.moves store.old [] store.new) }
 {
     if client.joined {
-        store.hand_in(Event::Down { peer })?;
+        hand_in(store, Event::Down { peer })?;
         client.joined = false;
     }
     Ok(())
 }
 
 #[tactic(auto, unfolding(crate::specs::Engine::on_input))]
-fn on_input<S: Sink>(
+fn on_input<S: Store>(
     client: &mut Client,
     peer: u32,
     input: Input,
@@ -221,7 +222,7 @@ fn on_input<S: Sink>(
 }
 
 /// All that the session gives, in order.
-pub(crate) fn take_turns<S: Sink>(
+pub(crate) fn take_turns<S: Store>(
     client: &mut Client,
     peer: u32,
     store: &mut S,

@@ -4,7 +4,7 @@
 //! them to a `Store` as events of the peer, answers the replies in the session's output, and sends what waits
 //! for the peer; `hang_up` is the end of the transport. No clock, socket or lock is touched here: `Lent` is a
 //! database on one thread, and another store may be one that threads share. `serve_database` and
-//! `hang_up_database` do the same over a database whose calls nobody reads: then no event is copied.
+//! `hang_up_database` do the same over a database whose calls nobody reads.
 //!
 //! What `serve` does is a plan (`specs/Plans`): events that are submitted one after the other, each chosen by the
 //! replies to those before it, and the states of the client on the way. `specs/Engine` has the plan of each call
@@ -23,23 +23,22 @@
 //! }
 //! ```
 //!
-//! The modules, lowest first: `store`, `sink`, `client`, `requests`, `inputs`, `serving`, `lent`, `unlisted`.
+//! The modules, lowest first: `store`, `desk`, `client`, `requests`, `inputs`, `serving`, `lent`.
 #![tactic(auto)]
 
 mod client;
+mod desk;
 mod inputs;
 mod laws;
 mod lent;
 mod requests;
 mod serving;
-mod sink;
 mod store;
-mod unlisted;
 
 pub use client::Client;
+pub use desk::Desk;
 pub use history_core::{Event, Fault, Reply};
 pub use laws::all_handled;
-pub use lent::Lent;
+pub use lent::{Lent, hang_up_database, serve_database};
 pub use serving::{hang_up, serve};
 pub use store::{Call, Store, last_reply};
-pub use unlisted::{hang_up_database, serve_database};

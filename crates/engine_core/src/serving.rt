@@ -1,9 +1,10 @@
 //! The calls on a client: its peer's bytes, and the end of the transport.
 
-ghost use Rattle.std.specs.Prelude.{◌≡◌, true, false, [], None, fold, OnErr, OnOk, IfErr};
+ghost use Rattle.std.specs.Prelude.{◌≡◌, ◌<◌, true, false, [], length, None, fold, OnErr, OnOk, IfErr};
 ghost use Rattle.pcep_session.specs.Calls.{fed};
 ghost use Rattle.pcep_session.specs.Ends.{most_turns};
 ghost use Rattle.pcep_session.specs.Turns.{is_closed};
+ghost use Rattle.engine_core.specs.Calls.{newest_reply};
 ghost use Rattle.engine_core.specs.Engine.{client_with, messages_of, sending_one, draining, served_from, served, hung_up};
 ghost use Rattle.engine_core.specs.Plans.{Plan, Returns, Reaches};
 ghost use Rattle.engine_core.specs.Sent.{SomeSent};
@@ -13,8 +14,7 @@ ghost use Rattle.engine_core.specs.declared.client.Client.{Client};
 
 use crate::client::{Client, close, send_each};
 use crate::inputs::{on_down, take_turns};
-use crate::sink::Sink;
-use crate::store::Store;
+use crate::store::{Store, hand_in, reply};
 use history_core::{Event, Fault, Reply};
 
 /// Stores bytes of the peer, and the moment at which they came.
@@ -31,39 +31,39 @@ fn feed(client: &mut Client, piece: &[u8], now_ms: u64) -> Result<(), Fault>
 }
 
 /// Sends the messages of a reply.
-fn send_out<S: Sink>(client: &mut Client, store: &S) -> Result<(), Fault>
-    requires { S.is_answered store.now }
-    ensures sent { OnOk result (client.new ≡ fold sending_one client.old (messages_of (S.newest store.now))) }
-    ensures some_sent { OnErr result (SomeSent (messages_of (S.newest store.now)) client.old client.new) }
+fn send_out<S: Store>(client: &mut Client, store: &S) -> Result<(), Fault>
+    requires { 0 < length (S.calls store.now) }
+    ensures sent { OnOk result (client.new ≡ fold sending_one client.old (messages_of (newest_reply (S.calls store.now)))) }
+    ensures some_sent { OnErr result (SomeSent (messages_of (newest_reply (S.calls store.now))) client.old client.new) }
     ensures joined { client.new.joined ≡ client.old.joined }
     ensures only_memory { IfErr result (λ fault. fault ≡ OutOfMemory) }
 {
-    match store.reply() {
+    match reply(store) {
         Reply::Out(messages) => send_each(client, messages.as_slice()),
         _ => Ok(()),
     }
 }
 
 /// The messages that wait for a peer whose session is up are sent.
-fn drain<S: Sink>(client: &mut Client, peer: u32, store: &mut S) -> Result<(), Fault>
+fn drain<S: Store>(client: &mut Client, peer: u32, store: &mut S) -> Result<(), Fault>
     ensures { (go_on : Client → Plan Client) → Serves result S.moves S.is_full store.old store.new client.old client.new (draining peer client.old go_on) go_on }
 {
     if !client.session.state().is_up() {
         return Ok(());
     }
-    store.hand_in(Event::Drain { peer })?;
+    hand_in(store, Event::Drain { peer })?;
     send_out(client, store)
 }
 
 /// All that an open session makes of what it holds.
-fn serve_open<S: Sink>(client: &mut Client, peer: u32, store: &mut S) -> Result<(), Fault>
+fn serve_open<S: Store>(client: &mut Client, peer: u32, store: &mut S) -> Result<(), Fault>
     ensures { (go_on : Client → Plan Client) → Serves result S.moves S.is_full store.old store.new client.old client.new (served_from peer client.old go_on) go_on }
 {
     take_turns(client, peer, store)?;
     drain(client, peer, store)
 }
 
-fn serve_fed<S: Sink>(
+fn serve_fed<S: Store>(
     client: &mut Client,
     peer: u32,
     piece: &[u8],
@@ -78,7 +78,7 @@ fn serve_fed<S: Sink>(
 }
 
 #[tactic(auto, unfolding(crate::specs::Engine::served))]
-fn serve_piece<S: Sink>(
+fn serve_piece<S: Store>(
     client: &mut Client,
     peer: u32,
     piece: &[u8],
@@ -91,24 +91,6 @@ fn serve_piece<S: Sink>(
         return Ok(());
     }
     serve_fed(client, peer, piece, now_ms, store)
-}
-
-/// Serves a session over any sink, and ends it after a fault.
-pub(crate) fn serve_into<S: Sink>(
-    client: &mut Client,
-    peer: u32,
-    piece: &[u8],
-    now_ms: u64,
-    store: &mut S,
-) -> Result<(), Fault>
-    ensures served { ServesOrEnds result S.moves S.is_full store.old store.new client.old client.new (served peer piece.now now_ms client.old) }
-    ensures closed_after_fault { OnErr result (is_closed client.new.session.state ≡ true) }
-{
-    let outcome = serve_piece(client, peer, piece, now_ms, store);
-    if outcome.is_err() {
-        close(client);
-    }
-    outcome
 }
 
 /// Serves a session with bytes of its peer at a moment, in milliseconds of one clock of the caller's. What the
@@ -128,15 +110,17 @@ pub fn serve<S: Store>(
     ensures served { ServesOrEnds result S.moves S.is_full store.old store.new client.old client.new (served peer piece.now now_ms client.old) }
     ensures closed_after_fault { OnErr result (is_closed client.new.session.state ≡ true) }
 {
-    serve_into(client, peer, piece, now_ms, store)
+    let outcome = serve_piece(client, peer, piece, now_ms, store);
+    if outcome.is_err() {
+        close(client);
+    }
+    outcome
 }
 
+/// The transport has ended: a peer that is joined goes down, and the session ends. After a fault all is as
+/// before.
 #[tactic(auto, unfolding(crate::specs::Engine::hung_up))]
-pub(crate) fn hang_up_into<S: Sink>(
-    client: &mut Client,
-    peer: u32,
-    store: &mut S,
-) -> Result<(), Fault>
+pub fn hang_up<S: Store>(client: &mut Client, peer: u32, store: &mut S) -> Result<(), Fault>
     ensures hung_up { Serves result S.moves S.is_full store.old store.new client.old client.new (hung_up peer client.old) Returns }
     ensures unchanged { OnErr result (client.new ≡ client.old) }
     ensures nothing_submitted { OnErr result (S.moves store.old [] store.new) }
@@ -144,14 +128,4 @@ pub(crate) fn hang_up_into<S: Sink>(
     on_down(client, peer, store)?;
     close(client);
     Ok(())
-}
-
-/// The transport has ended: a peer that is joined goes down, and the session ends. After a fault all is as
-/// before.
-pub fn hang_up<S: Store>(client: &mut Client, peer: u32, store: &mut S) -> Result<(), Fault>
-    ensures hung_up { Serves result S.moves S.is_full store.old store.new client.old client.new (hung_up peer client.old) Returns }
-    ensures unchanged { OnErr result (client.new ≡ client.old) }
-    ensures nothing_submitted { OnErr result (S.moves store.old [] store.new) }
-{
-    hang_up_into(client, peer, store)
 }

@@ -3,7 +3,7 @@
 ghost use Rattle.std.specs.Prelude.{ℕ, ◌≡◌, ◌<◌, ◌-◌, [], ◌∷◌, ◌++◌, List, length, slice_get, Some, Err, IfErr, IfOk, OnOk, OnErr};
 ghost use Rattle.history_core.specs.declared.fault.Fault.TheVariants.{HistoryFull};
 ghost use Rattle.step_core.specs.declared.event.Reply.{Reply};
-ghost use Rattle.engine_core.specs.Calls.{called};
+ghost use Rattle.engine_core.specs.Calls.{called, newest_reply};
 ghost use Rattle.engine_core.specs.declared.store.Call.{Call};
 
 use history_core::{Event, Fault, Reply, SharedEvent};
@@ -70,6 +70,24 @@ pub trait Store {
     ghost moves_on: { (a b c : Self) (first second : List Call) → moves a first b → moves b second c → moves a (first ++ second) c };
 
     ghost moves_add: { (a b : Self) (made : List Call) → moves a made b → calls b ≡ calls a ++ made };
+}
+
+/// Submits an event. Its call is the newest in the list.
+pub(crate) fn hand_in<S: Store>(store: &mut S, event: Event) -> Result<(), Fault>
+    ensures submitted { OnOk result (S.moves store.old (called event (newest_reply (S.calls store.new)) ∷ []) store.new) }
+    ensures answered { OnOk result (0 < length (S.calls store.new)) }
+    ensures unchanged { OnErr result (S.moves store.old [] store.new) }
+    ensures full { result ≡ Err HistoryFull → S.is_full store.new }
+{
+    store.submit(event)
+}
+
+/// The reply to the newest call.
+pub(crate) fn reply<S: Store>(store: &S) -> &Reply
+    requires { 0 < length (S.calls store.now) }
+    ensures { result.now ≡ newest_reply (S.calls store.now) }
+{
+    last_reply(store)
 }
 
 /// The reply to the last call.

@@ -25,7 +25,6 @@ pub const STEP_LIMIT: usize = 1_048_576;
 pub const LAST_STEP: u64 = 1 << 62;
 
 /// What is known, with the history that led to it from a base.
-#[derive(Drop)]
 pub struct Database {
     /// What was known before the first of the kept steps.
     base: Base,
@@ -37,6 +36,23 @@ pub struct Database {
     history: Vec<Step>,
     /// How many of all steps are grants.
     grants: u64,
+}
+
+/// Drops each part. A derived drop would be proved anew for each owner.
+impl Drop for Database {
+    fn drop(self) {
+        let Database {
+            base,
+            rolled: _,
+            rolled_grants: _,
+            state,
+            history,
+            grants: _,
+        } = self;
+        drop(base);
+        drop(state);
+        drop(history);
+    }
 }
 
 impl Model for Database {
@@ -85,14 +101,20 @@ impl Database {
         ensures { IfOk result (λ database. database ≡ nothing_happened te) }
     {
         let state = State::new(alloc, te)?;
-        Ok(Database {
-            base: state.copy()?,
-            rolled: 0,
-            rolled_grants: 0,
-            state,
-            history: Vec::new(alloc),
-            grants: 0,
-        })
+        match state.copy() {
+            Ok(base) => Ok(Database {
+                base,
+                rolled: 0,
+                rolled_grants: 0,
+                state,
+                history: Vec::new(alloc),
+                grants: 0,
+            }),
+            Err(error) => {
+                drop(state);
+                Err(error)
+            }
+        }
     }
 
     /// Whether no further step can be kept.

@@ -1,5 +1,5 @@
 //! The database with the totals of all seats.
-ghost use Rattle.std.specs.Prelude.{◌≡◌, ◌<◌, ◌≤◌, ◌↔◌, All, List, [], ◌∷◌, ◌++◌, length, IsTrue, IfOk, IfErr, OnOk, OnErr, replicate};
+ghost use Rattle.std.specs.Prelude.{◌≡◌, ◌<◌, ◌≤◌, ◌↔◌, All, List, [], ◌∷◌, ◌++◌, length, IsTrue, IfOk, IfErr, OnOk, OnErr, replicate, vec_len, ◌+◌};
 ghost use Rattle.step_core.specs.Steps.{step};
 ghost use Rattle.history_core.specs.Briefs.{brief_of};
 ghost use Rattle.history_core.specs.Histories.{Replays, IsSound, kept_step, stepped, is_full, steps_of, grants_of, rolled_up};
@@ -12,17 +12,16 @@ use crate::receipt::{Receipt, grant_count, past_floor};
 use crate::seat::Seat;
 use crate::shares::{gather, gather_places};
 use history_core::{Brief, Database, Fault, Step};
-use place_tokens::{Room, Source, Unopened};
+use place_tokens::{Drawn, Room, Source, Unopened};
 use sequence::PlainData;
 use std::alloc::{AllocError, Global};
 use std::marker::Model;
 use std::mem;
-use std::sync::ledger::{Blank, Book, Ledger};
+use std::sync::ledger::{Blank, Book, Ledger, Share};
 use step_core::{Event, Reply, SharedEvent};
 
 /// A database, with the totals of what its seats were told, and the source of the places of its steps. A
 /// contract sees the database.
-#[derive(Drop)]
 pub struct Held<S: Ledger, G: Ledger, B: Room> {
     alloc: Global,
     database: Database,
@@ -31,6 +30,24 @@ pub struct Held<S: Ledger, G: Ledger, B: Room> {
     steps: Book<S>,
     grants: Book<G>,
     source: Source<B>,
+}
+
+/// Drops each part. A derived drop would be proved anew for each owner.
+impl<S: Ledger, G: Ledger, B: Room> Drop for Held<S, G, B> {
+    fn drop(self) {
+        let Held {
+            alloc: _,
+            database,
+            seats: _,
+            steps,
+            grants,
+            source,
+        } = self;
+        drop(database);
+        drop(steps);
+        drop(grants);
+        drop(source);
+    }
 }
 
 impl<S: Ledger, G: Ledger, B: Room> Model for Held<S, G, B> {
@@ -56,6 +73,74 @@ fn newest_brief(steps: &[Step]) -> Brief
 }
 
 impl<S: Ledger, G: Ledger, B: Room> Held<S, G, B> {
+    /// The next token's seat, with a part of each share.
+    fn next_seat(
+        alloc: Global,
+        steps_left: &mut Share<S>,
+        grants_left: &mut Share<G>,
+        tokens: &mut Vec<Drawn<B>>,
+    ) -> Seat<S, G, B>
+        requires steps { (1 ≤ steps_left.old.parts) × (steps_left.old.amount ≡ 0) }
+        requires grants { (1 ≤ grants_left.old.parts) × (grants_left.old.amount ≡ 0) }
+        requires some { 0 < vec_len tokens.old }
+        requires none_drawn { All (λ d. d ≡ []) tokens.old.items }
+        ensures seat { result ≡ new_seat }
+        ensures steps { (steps_left.new.parts + 1 ≡ steps_left.old.parts) × (steps_left.new.amount ≡ 0) }
+        ensures grants { (grants_left.new.parts + 1 ≡ grants_left.old.parts) × (grants_left.new.amount ≡ 0) }
+        ensures count { vec_len tokens.new + 1 ≡ vec_len tokens.old }
+        ensures none_drawn { All (λ d. d ≡ []) tokens.new.items }
+    {
+        let Some(drawn) = tokens.pop() else {
+            unreachable!();
+        };
+        Seat::new(
+            alloc,
+            steps_left.split_off(1, 0),
+            grants_left.split_off(1, 0),
+            drawn,
+        )
+    }
+
+    /// A seat for each token.
+    fn seats_of(
+        alloc: Global,
+        n: u64,
+        steps_left: &mut Share<S>,
+        grants_left: &mut Share<G>,
+        tokens: &mut Vec<Drawn<B>>,
+    ) -> Result<Vec<Seat<S, G, B>>, AllocError>
+        requires steps { (steps_left.old.parts ≡ n) × (steps_left.old.amount ≡ 0) }
+        requires grants { (grants_left.old.parts ≡ n) × (grants_left.old.amount ≡ 0) }
+        requires tokens { tokens.old.items ≡ replicate n [] }
+        ensures { IfOk result (λ seats. seats.items ≡ replicate n new_seat) }
+    {
+        let mut seats = Vec::new(alloc);
+        for _i in 0..n {
+            seats.push(Held::<S, G, B>::next_seat(alloc, steps_left, grants_left, tokens))?;
+        }
+        Ok(seats)
+    }
+
+    /// The source of places, and a seat for each of its tokens, with a part of each share.
+    fn seated(
+        alloc: Global,
+        n: u64,
+        steps: Share<S>,
+        grants: Share<G>,
+        room: Unopened,
+    ) -> Result<(Source<B>, Vec<Seat<S, G, B>>), AllocError>
+        requires steps { (steps.parts ≡ n) × (steps.amount ≡ 0) }
+        requires grants { (grants.parts ≡ n) × (grants.amount ≡ 0) }
+        requires room { (room.table ≡ B.table) × (room.seats ≡ B.seats) × (room.seats ≡ n) }
+        ensures source { IfOk result (λ r. r.0 ≡ 0) }
+        ensures seats { IfOk result (λ r. r.1.items ≡ replicate n new_seat) }
+    {
+        let (mut steps, mut grants) = (steps, grants);
+        let (source, mut tokens) = room.open::<B>(alloc)?;
+        let seats = Held::<S, G, B>::seats_of(alloc, n, &mut steps, &mut grants, &mut tokens)?;
+        Ok((source, seats))
+    }
+
     /// The database of which no step was taken yet, with its seats, one for each part of the two blanks and each
     /// token of the room, 1 to 256 of them. All is dropped where memory is refused.
     pub fn new(
@@ -74,32 +159,27 @@ impl<S: Ledger, G: Ledger, B: Room> Held<S, G, B> {
         ensures database { IfOk result (λ r. r.0 ≡ database) }
         ensures seats { IfOk result (λ r. r.1.items ≡ replicate n new_seat) }
     {
+        // for the proof alone: no step is kept
         let _none = database.history();
-        let (steps, mut steps_left) = steps.open::<S>();
-        let (grants, mut grants_left) = grants.open::<G>();
-        let (source, mut tokens) = room.open::<B>(alloc)?;
-        let mut seats = Vec::new(alloc);
-        for _i in 0..n {
-            let Some(drawn) = tokens.pop() else {
-                unreachable!();
-            };
-            let seat = Seat::new(
-                alloc,
-                steps_left.split_off(1, 0),
-                grants_left.split_off(1, 0),
-                drawn,
-            );
-            seats.push(seat)?;
+        let (steps, steps_left) = steps.open::<S>();
+        let (grants, grants_left) = grants.open::<G>();
+        match Held::<S, G, B>::seated(alloc, n, steps_left, grants_left, room) {
+            Ok((source, seats)) => Ok((
+                Held {
+                    alloc,
+                    database,
+                    seats: n,
+                    steps,
+                    grants,
+                    source,
+                },
+                seats,
+            )),
+            Err(error) => {
+                drop(database);
+                Err(error)
+            }
         }
-        let held = Held {
-            alloc,
-            database,
-            seats: n,
-            steps,
-            grants,
-            source,
-        };
-        Ok((held, seats))
     }
 
     /// The database, lent to be looked at.
@@ -135,7 +215,7 @@ impl<S: Ledger, G: Ledger, B: Room> Held<S, G, B> {
         ensures found_replays { Replays self.old }
         ensures found_sound { IsSound self.old }
     {
-        // the history that is found replays
+        // for the proof alone: the history that is found replays
         let _found = self.database.history();
         if self.database.is_full() {
             return Err(Fault::HistoryFull);
@@ -179,6 +259,7 @@ impl<S: Ledger, G: Ledger, B: Room> Held<S, G, B> {
         ensures found_replays { Replays self.old }
         ensures found_sound { IsSound self.old }
     {
+        // for the proof alone: the history that is found is sound
         let _found = self.database.history();
         if self.database.is_full() {
             return Err(Fault::HistoryFull);
@@ -205,7 +286,7 @@ impl<S: Ledger, G: Ledger, B: Room> Held<S, G, B> {
         self.grants.add(&mut seat.grants, grants);
         self.steps.audit(&mut seat.steps);
         self.grants.audit(&mut seat.grants);
-        // a seat was told of no more steps and grants than there were
+        // for the proof alone: a seat was told of no more steps and grants than there were
         let _steps = self.database.steps();
         let _grants = self.database.grants();
         self.source.draw(&mut seat.drawn);

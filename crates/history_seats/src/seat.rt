@@ -9,7 +9,6 @@ use step_core::Job;
 /// What one caller holds: its receipts, its shares of all steps and of all grants, the token of its places, and
 /// perhaps a job. It is changed by calls of `Held` alone, but for the job in its hand, and a seat that is let go
 /// fails every audit from then on.
-#[derive(Drop)]
 pub struct Seat<S: Ledger, G: Ledger, B: Room> {
     /// How many steps the seat was told of, the folded ones among them.
     pub(crate) told: u64,
@@ -27,6 +26,29 @@ pub struct Seat<S: Ledger, G: Ledger, B: Room> {
     pub(crate) grants: Share<G>,
     /// The places of all its steps.
     pub(crate) drawn: Drawn<B>,
+}
+
+/// Drops each part. A derived drop would be proved anew for each owner.
+impl<S: Ledger, G: Ledger, B: Room> Drop for Seat<S, G, B> {
+    fn drop(self) {
+        let Seat {
+            told: _,
+            granted: _,
+            folded: _,
+            folded_grants: _,
+            floor: _,
+            receipts,
+            hand,
+            steps,
+            grants,
+            drawn,
+        } = self;
+        drop(receipts);
+        drop(hand);
+        drop(steps);
+        drop(grants);
+        drop(drawn);
+    }
 }
 
 impl<S: Ledger, G: Ledger, B: Room> Model for Seat<S, G, B> {

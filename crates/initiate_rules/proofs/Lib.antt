@@ -1,2 +1,1 @@
-pub mod Named
 mod Rows

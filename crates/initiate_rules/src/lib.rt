@@ -15,12 +15,10 @@ mod checks;
 mod messages;
 mod numbers;
 
-pub use checks::{check_delete, check_initiate, is_same_name};
+pub use checks::{check_delete, check_initiate};
+pub use lsp_base::is_same_name;
 pub use messages::{
     answer_message, delete_message, initiate_message, no_path_message, return_message,
     update_message,
 };
 pub use numbers::{is_srp_used, next_srp};
-
-#[cfg(test)]
-mod tests;

@@ -62,7 +62,7 @@ pub fn update_message(
     }))
 }
 
-/// The PCUpd that gives an LSP back (RFC 8231 section 5.7.4): flag D clear, and no route. Takes no memory.
+/// The PCUpd that gives an LSP back (RFC 8231 section 5.7.4): flag D clear, and no route. Allocates nothing.
 #[tactic(auto, unfolding(crate::specs::Messages::return_message))]
 pub fn return_message(alloc: Global, srp: u32, plsp: Plsp) -> Message
     ensures { result ≡ return_message srp plsp }
@@ -146,7 +146,7 @@ pub fn answer_message(
     }))
 }
 
-/// The PCRep that tells of no path (RFC 5440 section 6.5), without NO-PATH-VECTOR. Takes no memory.
+/// The PCRep that tells of no path (RFC 5440 section 6.5), without NO-PATH-VECTOR. Allocates nothing.
 #[tactic(auto, unfolding(crate::specs::Messages::no_path_message))]
 pub fn no_path_message(request: u32) -> Message
     ensures { result ≡ no_path_message request }

@@ -72,7 +72,7 @@ same_part-eq (Granted s) (Granted t) h = ap Granted (eqb-true s t h)
 same_part-eq (Reported i) (Granted t) h = absurd (false≢true h)
 same_part-eq (Granted s) (Reported j) h = absurd (false≢true h)
 
-same_links-eq : (xs ys : List ℕ) → same_links xs ys ≡ true → xs ≡ ys
+pub same_links-eq : (xs ys : List ℕ) → same_links xs ys ≡ true → xs ≡ ys
 same_links-eq [] [] h = refl
 same_links-eq (x ∷ xs) (y ∷ ys) h =
     let a = and_parts _ _ h in

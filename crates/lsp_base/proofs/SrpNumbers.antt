@@ -1,14 +1,17 @@
--- A number that is kept for a peer stays one that no SRP-ID exceeds, whatever comes and goes.
-use Rattle.std.proofs.Common.{◌≡◌, ◌≢◌, ◌++◌, ◌⊎◌, inl, inr, ◌||◌, ◌&&◌, ℕ, ◌+◌, ◌-◌, ◌<◌, ◌≤◌, max, Bool, true, false, cond, eqb, List, [], ◌∷◌, length, get_or, take, drop, map, Option, Some, None, refl, sym, ◌∙◌, ap, subst, arith}
+-- No SRP-ID of a peer is above the peer's number, whatever comes and goes.
+use Rattle.std.proofs.Common.{◌≡◌, ◌≢◌, ◌++◌, ◌⊎◌, inl, inr, ◌||◌, ◌&&◌, ℕ, ◌+◌, ◌-◌, ◌<◌, ◌≤◌, max, Bool, true, false, cond, eqb, nat_eq, List, [], ◌∷◌, length, get_or, take, drop, map, Option, Some, None, refl, sym, ◌∙◌, ap, subst, arith}
 use Rattle.std.specs.List.{list_any}
 use Rattle.std.proofs.lemmas.Bool.{cases_eq, eqb-true, eq-eqb, ne_eqb, and_parts, or_parts, false_from_ne_true}
-use Rattle.std.proofs.lemmas.List.{get_or-set_same, get_or-set_other, take_more, take-append-drop}
+use Rattle.std.proofs.lemmas.List.{take_more, take-append-drop}
+use Rattle.std.specs.Map.{lookup}
+use Rattle.std.specs.Option.{unwrap_or}
+use Rattle.indexmap.specs.IndexMap.{insert_entry}
 use Rattle.std.proofs.lemmas.List.Folds.{list_any-append}
 use Rattle.lsp_base.specs.Same.{same_path}
 use Rattle.lsp_base.specs.Base.{last_in_front, without_first, without, is_record_of, put, set_record, set_records, made_stale}
 use Rattle.lsp_base.specs.Grants.{is_number, has_srp}
 use Rattle.lsp_base.specs.Pending.{is_grant_as, is_removed_as}
-use Rattle.lsp_base.specs.SrpNumbers.{srp_of_grant, is_set_as, number_place, greatest_of, raised, IsRaised, NoneAbove}
+use Rattle.lsp_base.specs.SrpNumbers.{srp_of_grant, is_set_as, greatest_of, raised, IsRaised, NoneAbove}
 use Rattle.lsp_base.specs.declared.tunnel.Part.{Part}
 use Rattle.lsp_base.specs.declared.tunnel.Part.TheVariants.{Reported, Granted}
 use Rattle.lsp_base.specs.declared.path.Path.{Path}
@@ -42,53 +45,71 @@ none_without_first {X} t gone (x ∷ xs) a =
 
 -- ---- numbers raised
 
-pub IsRaised-same : (numbers : List ℕ) → IsRaised numbers numbers
+pub IsRaised-same : (numbers : List (ℕ × ℕ)) → IsRaised numbers numbers
 IsRaised-same numbers = record { least = λ peer. omega arith }
 
-pub IsRaised-then : (a b c : List ℕ) → IsRaised a b → IsRaised b c → IsRaised a c
+pub IsRaised-then : (a b c : List (ℕ × ℕ)) → IsRaised a b → IsRaised b c → IsRaised a c
 IsRaised-then a b c f g = record { least = λ peer. let l = f.least peer in let m = g.least peer in omega arith }
 
-greatest_of-raised_same : (numbers : List ℕ) (peer srp : ℕ) → number_place peer < length numbers → greatest_of (raised numbers peer (Some srp)) peer ≡ max (greatest_of numbers peer) srp
-greatest_of-raised_same numbers peer srp w = get_or-set_same numbers (number_place peer) _ 0 w
-
-IsRaised-raised : (numbers : List ℕ) (peer : ℕ) (srp : Option ℕ) → number_place peer < length numbers → IsRaised numbers (raised numbers peer srp)
-IsRaised-raised numbers peer None w = IsRaised-same numbers
-IsRaised-raised numbers peer (Some srp) w = record { least = λ q. by q (cases_eq (number_place q) (number_place peer)) }
+lookup-same : (numbers : List (ℕ × ℕ)) (peer srp : ℕ) → lookup (nat_eq peer) (insert_entry nat_eq numbers peer srp) ≡ Some srp
+lookup-same [] peer srp = ap (λ b. cond b (Some srp) None) (eq-eqb peer peer refl)
+lookup-same (e ∷ es) peer srp = by (nat_eq peer e.0) refl (lookup-same es peer srp)
   where
-    by : (q : ℕ) → (number_place q ≡ number_place peer) ⊎ (number_place q ≢ number_place peer) → greatest_of numbers q ≤ greatest_of (raised numbers peer (Some srp)) q
+    by : (b : Bool) → nat_eq peer e.0 ≡ b → lookup (nat_eq peer) (insert_entry nat_eq es peer srp) ≡ Some srp → lookup (nat_eq peer) (cond b ((e.0, srp) ∷ es) (e ∷ insert_entry nat_eq es peer srp)) ≡ Some srp
+    by true is rest = ap (λ b. cond b (Some srp) (lookup (nat_eq peer) es)) is
+    by false is rest = ap (λ b. cond b (Some e.1) (lookup (nat_eq peer) (insert_entry nat_eq es peer srp))) is ∙ rest
+
+lookup-other : (numbers : List (ℕ × ℕ)) (other peer srp : ℕ) → other ≢ peer → lookup (nat_eq other) (insert_entry nat_eq numbers peer srp) ≡ lookup (nat_eq other) numbers
+lookup-other [] other peer srp n = ap (λ b. cond b (Some srp) None) (ne_eqb other peer n)
+lookup-other (e ∷ es) other peer srp n = by (nat_eq peer e.0) refl (lookup-other es other peer srp n)
+  where
+    by : (b : Bool) → nat_eq peer e.0 ≡ b → lookup (nat_eq other) (insert_entry nat_eq es peer srp) ≡ lookup (nat_eq other) es
+        → lookup (nat_eq other) (cond b ((e.0, srp) ∷ es) (e ∷ insert_entry nat_eq es peer srp)) ≡ lookup (nat_eq other) (e ∷ es)
+    by true is rest =
+        let apart : nat_eq other e.0 ≡ false = ne_eqb other e.0 (λ h. n (h ∙ sym (eqb-true peer e.0 is))) in
+        ap (λ b. cond b (Some srp) (lookup (nat_eq other) es)) apart ∙ sym (ap (λ b. cond b (Some e.1) (lookup (nat_eq other) es)) apart)
+    by false is rest = ap (λ t. cond (nat_eq other e.0) (Some e.1) t) rest
+
+greatest_of-raised_same : (numbers : List (ℕ × ℕ)) (peer srp : ℕ) → greatest_of (raised numbers peer (Some srp)) peer ≡ max (greatest_of numbers peer) srp
+greatest_of-raised_same numbers peer srp = ap (λ o. unwrap_or o 0) (lookup-same numbers peer (max (greatest_of numbers peer) srp))
+
+IsRaised-raised : (numbers : List (ℕ × ℕ)) (peer : ℕ) (srp : Option ℕ) → IsRaised numbers (raised numbers peer srp)
+IsRaised-raised numbers peer None = IsRaised-same numbers
+IsRaised-raised numbers peer (Some srp) = record { least = λ q. by q (cases_eq q peer) }
+  where
+    by : (q : ℕ) → (q ≡ peer) ⊎ (q ≢ peer) → greatest_of numbers q ≤ greatest_of (raised numbers peer (Some srp)) q
     by q (inl e) =
-        let here = greatest_of-raised_same numbers peer srp w in
-        let after : greatest_of (raised numbers peer (Some srp)) q ≡ greatest_of (raised numbers peer (Some srp)) peer = ap (λ (p : ℕ). get_or (raised numbers peer (Some srp)) p 0) e in
-        let before : greatest_of numbers q ≡ greatest_of numbers peer = ap (λ (p : ℕ). get_or numbers p 0) e in
-        omega arith
-    by q (inr n) = let same = get_or-set_other numbers (number_place peer) (number_place q) (max (greatest_of numbers peer) srp) 0 n in omega arith
+        let here : greatest_of (raised numbers peer (Some srp)) peer ≡ max (greatest_of numbers peer) srp = greatest_of-raised_same numbers peer srp in
+        let own : greatest_of numbers peer ≤ greatest_of (raised numbers peer (Some srp)) peer = omega arith in
+        subst (λ (p : ℕ). greatest_of numbers p ≤ greatest_of (raised numbers peer (Some srp)) p) (sym e) own
+    by q (inr n) = let same = ap (λ (o : Option ℕ). unwrap_or o 0) (lookup-other numbers q peer (max (greatest_of numbers peer) srp) n) in omega arith
 
 -- an SRP-ID that a peer's number was raised to isn't above it
-number_above : (numbers : List ℕ) (peer srp : ℕ) (o : Option ℕ) → number_place peer < length numbers → greatest_of (raised numbers peer o) peer < srp → is_number o srp ≡ false
-number_above numbers peer srp None w l = refl
-number_above numbers peer srp (Some m) w l = ne_eqb m srp (λ e. let here = greatest_of-raised_same numbers peer m w in omega arith)
+number_above : (numbers : List (ℕ × ℕ)) (peer srp : ℕ) (o : Option ℕ) → greatest_of (raised numbers peer o) peer < srp → is_number o srp ≡ false
+number_above numbers peer srp None l = refl
+number_above numbers peer srp (Some m) l = ne_eqb m srp (λ e. let here = greatest_of-raised_same numbers peer m in omega arith)
 
 -- so what has it as the peer's has none above the number of the peer that is asked for
-number_of_peer : (numbers : List ℕ) (owner peer srp : ℕ) (o : Option ℕ) → number_place owner < length numbers → greatest_of (raised numbers owner o) peer < srp → (eqb owner peer && is_number o srp) ≡ false
-number_of_peer numbers owner peer srp o w l = false_from_ne_true _ (λ h.
+number_of_peer : (numbers : List (ℕ × ℕ)) (owner peer srp : ℕ) (o : Option ℕ) → greatest_of (raised numbers owner o) peer < srp → (eqb owner peer && is_number o srp) ≡ false
+number_of_peer numbers owner peer srp o l = false_from_ne_true _ (λ h.
     let parts = and_parts (eqb owner peer) (is_number o srp) h in
     let same : owner ≡ peer = eqb-true owner peer parts.0 in
-    let free = number_above numbers owner srp o w (subst (λ (q : ℕ). greatest_of (raised numbers owner o) q < srp) (sym same) l) in
+    let free = number_above numbers owner srp o (subst (λ (q : ℕ). greatest_of (raised numbers owner o) q < srp) (sym same) l) in
     cc (free, parts.1))
 
 -- ---- lists with nothing above
 
-pub NoneAbove-none : {A : Type 0} (numbers : List ℕ) (t : ℕ → ℕ → A → Bool) → NoneAbove numbers t []
+pub NoneAbove-none : {A : Type 0} (numbers : List (ℕ × ℕ)) (t : ℕ → ℕ → A → Bool) → NoneAbove numbers t []
 NoneAbove-none numbers t = record { none = λ peer srp l. refl }
 
-pub NoneAbove-raised : {A : Type 0} (old new : List ℕ) (t : ℕ → ℕ → A → Bool) (xs : List A) → IsRaised old new → NoneAbove old t xs → NoneAbove new t xs
+pub NoneAbove-raised : {A : Type 0} (old new : List (ℕ × ℕ)) (t : ℕ → ℕ → A → Bool) (xs : List A) → IsRaised old new → NoneAbove old t xs → NoneAbove new t xs
 NoneAbove-raised old new t xs r h = record { none = λ peer srp l. let least = r.least peer in h.none peer srp (omega arith) }
 
-pub NoneAbove-append : {A : Type 0} (numbers : List ℕ) (t : ℕ → ℕ → A → Bool) (xs ys : List A) → NoneAbove numbers t xs → NoneAbove numbers t ys → NoneAbove numbers t (xs ++ ys)
+pub NoneAbove-append : {A : Type 0} (numbers : List (ℕ × ℕ)) (t : ℕ → ℕ → A → Bool) (xs ys : List A) → NoneAbove numbers t xs → NoneAbove numbers t ys → NoneAbove numbers t (xs ++ ys)
 NoneAbove-append numbers t xs ys h k = record { none = λ peer srp l. none_of_two (t peer srp) xs ys (h.none peer srp l) (k.none peer srp l) }
 
 -- one more turn of a loop that raises the numbers
-pub NoneAbove-more : {A : Type 0} (old new : List ℕ) (t : ℕ → ℕ → A → Bool) (xs : List A) (i : ℕ) (x : A) → i < length xs → x ≡ get_or xs i x → IsRaised old new → ((peer srp : ℕ) → greatest_of new peer < srp → t peer srp x ≡ false) → NoneAbove old t (take i xs) → NoneAbove new t (take (i + 1) xs)
+pub NoneAbove-more : {A : Type 0} (old new : List (ℕ × ℕ)) (t : ℕ → ℕ → A → Bool) (xs : List A) (i : ℕ) (x : A) → i < length xs → x ≡ get_or xs i x → IsRaised old new → ((peer srp : ℕ) → greatest_of new peer < srp → t peer srp x ≡ false) → NoneAbove old t (take i xs) → NoneAbove new t (take (i + 1) xs)
 NoneAbove-more old new t xs i x w is r here h =
     let more : take (i + 1) xs ≡ take i xs ++ x ∷ [] = take_more xs i x w ∙ ap (λ y. take i xs ++ y ∷ []) (sym is) in
     let one : NoneAbove new t (x ∷ []) = record { none = λ peer srp l. none_of_more (t peer srp) x [] (here peer srp l) refl } in
@@ -96,12 +117,12 @@ NoneAbove-more old new t xs i x w is r here h =
 
 -- ---- a turn of the two loops
 
-pub IsRaised-by : (old new : List ℕ) (peer : ℕ) (o : Option ℕ) → length old ≡ 251 → new ≡ raised old peer o → IsRaised old new
-IsRaised-by old new peer o all is = subst (IsRaised old) (sym is) (IsRaised-raised old peer o (omega arith))
+pub IsRaised-by : (old new : List (ℕ × ℕ)) (peer : ℕ) (o : Option ℕ) → new ≡ raised old peer o → IsRaised old new
+IsRaised-by old new peer o is = subst (IsRaised old) (sym is) (IsRaised-raised old peer o)
 
 -- what has this SRP-ID, or none, as the owner's has none above
-pub none_by : (old new : List ℕ) (owner peer srp : ℕ) (o : Option ℕ) → length old ≡ 251 → new ≡ raised old owner o → greatest_of new peer < srp → (eqb owner peer && is_number o srp) ≡ false
-none_by old new owner peer srp o all is l = number_of_peer old owner peer srp o (omega arith) (subst (λ (numbers : List ℕ). greatest_of numbers peer < srp) is l)
+pub none_by : (old new : List (ℕ × ℕ)) (owner peer srp : ℕ) (o : Option ℕ) → new ≡ raised old owner o → greatest_of new peer < srp → (eqb owner peer && is_number o srp) ≡ false
+none_by old new owner peer srp o is l = number_of_peer old owner peer srp o (subst (λ (numbers : List (ℕ × ℕ)). greatest_of numbers peer < srp) is l)
 
 eqb_swap : (a b : ℕ) → eqb a b ≡ eqb b a
 eqb_swap a b = by (cases_eq a b)
@@ -119,7 +140,7 @@ grant_number peer srp x = by x.part
 
 -- ---- what comes and goes
 
-pub NoneAbove-without : (numbers : List ℕ) (t : ℕ → ℕ → Path → Bool) (xs dropped : List Path) → NoneAbove numbers t xs → NoneAbove numbers t (without xs dropped)
+pub NoneAbove-without : (numbers : List (ℕ × ℕ)) (t : ℕ → ℕ → Path → Bool) (xs dropped : List Path) → NoneAbove numbers t xs → NoneAbove numbers t (without xs dropped)
 NoneAbove-without numbers t xs [] h = h
 NoneAbove-without numbers t xs (d ∷ ds) h = NoneAbove-without numbers t (without_first (λ x. same_path x d) xs) ds (record { none = λ peer srp l. none_without_first (t peer srp) (λ x. same_path x d) xs (h.none peer srp l) })
 
@@ -137,7 +158,7 @@ none_set : (owner peer srp plsp : ℕ) (o : Option Lsp) (rs : List Record) → l
 none_set owner peer srp plsp None rs a b = none_without_first (is_removed_as peer srp) (is_record_of owner plsp) rs a
 none_set owner peer srp plsp (Some lsp) rs a b = none_put (is_removed_as peer srp) rs owner plsp lsp a b
 
-pub NoneAbove-set_records : (numbers : List ℕ) (owner : ℕ) (rs : List Record) (cs : List RecordChange) → NoneAbove numbers is_removed_as rs → NoneAbove numbers (is_set_as owner) cs → NoneAbove numbers is_removed_as (set_records owner rs cs)
+pub NoneAbove-set_records : (numbers : List (ℕ × ℕ)) (owner : ℕ) (rs : List Record) (cs : List RecordChange) → NoneAbove numbers is_removed_as rs → NoneAbove numbers (is_set_as owner) cs → NoneAbove numbers is_removed_as (set_records owner rs cs)
 NoneAbove-set_records numbers owner rs [] h k = h
 NoneAbove-set_records numbers owner rs (c ∷ cs) h k =
     NoneAbove-set_records numbers owner (set_record owner rs c.plsp c.lsp) cs
@@ -155,5 +176,5 @@ none_stale : (owner peer srp : ℕ) (xs : List Path) → list_any (is_grant_as p
 none_stale owner peer srp [] = refl
 none_stale owner peer srp (x ∷ xs) = ap (λ b. b || list_any (is_grant_as peer srp) (map (made_stale owner) xs)) (grant_stale owner peer srp x) ∙ ap (λ b. is_grant_as peer srp x || b) (none_stale owner peer srp xs)
 
-pub NoneAbove-stale : (numbers : List ℕ) (owner : ℕ) (xs : List Path) → NoneAbove numbers is_grant_as xs → NoneAbove numbers is_grant_as (map (made_stale owner) xs)
+pub NoneAbove-stale : (numbers : List (ℕ × ℕ)) (owner : ℕ) (xs : List Path) → NoneAbove numbers is_grant_as xs → NoneAbove numbers is_grant_as (map (made_stale owner) xs)
 NoneAbove-stale numbers owner xs h = record { none = λ peer srp l. none_stale owner peer srp xs ∙ h.none peer srp l }

@@ -1,5 +1,8 @@
 -- Lists from which the first element that passes a test went, and the last took its place.
-use Rattle.std.proofs.Common.{◌≡◌, ℕ, zero, suc, ◌+◌, ◌-◌, ◌<◌, Bool, true, false, cond, List, [], ◌∷◌, ◌++◌, length, take, drop, get_or, swap_remove, filter, find, Some, None, IsPermutation, refl, sym, subst, ◌∙◌, ap, arith}
+use Rattle.std.proofs.Common.{◌≡◌, ℕ, suc, ◌+◌, ◌-◌, ◌<◌, ◌≤◌, Bool, true, false, cond, not, nat_lt, List, [], ◌∷◌, ◌++◌, length, take, drop, get_or, position, swap_remove, filter, find, Some, None, IsPermutation, refl, sym, subst, ◌∙◌, ap, arith}
+use Rattle.std.specs.List.{position_or_len}
+use Rattle.std.proofs.lemmas.Bool.Decides.{nat_tests}
+use Rattle.std.proofs.lemmas.Grind.{common_steps}
 use Rattle.std.proofs.lemmas.List.{take-append-drop, drop_more, drop_all}
 use Rattle.std.proofs.lemmas.List.Elements.{filter-append}
 use Rattle.std.proofs.lemmas.List.Sorted.{IsPermutation-refl, IsPermutation-cons, IsPermutation-trans, IsPermutation-middle, IsPermutation-append_comm}
@@ -23,11 +26,53 @@ removed_behind y z x zs i =
     rw (e, f) refl
 
 -- `swap_remove` at the first place that passes
-pub swapped_out : {X : Type 0} (test : X → Bool) (xs : List X) (i : ℕ) (x : X) → i < length xs → x ≡ get_or xs i x → test x ≡ true → swap_remove xs i x ≡ take i xs ++ without_first test (drop i xs)
-swapped_out test [] i x within read passes = absurd (omega (arith, within))
-swapped_out test (y ∷ ys) zero x within read passes = removed_head y x ys ∙ sym (ap (λ b. cond b (last_in_front ys) (y ∷ without_first test ys)) (ap test (sym read) ∙ passes))
-swapped_out test (y ∷ []) (suc i) x within read passes = absurd (omega (arith, within))
-swapped_out test (y ∷ z ∷ zs) (suc i) x within read passes = removed_behind y z x zs i ∙ ap (λ t. y ∷ t) (swapped_out test (z ∷ zs) i x (omega (arith, within)) read passes)
+pub swapped : {X : Type 0} (t : X → Bool) (xs : List X) (d : X) → position_or_len t xs < length xs → swap_remove xs (position_or_len t xs) d ≡ without_first t xs
+swapped t [] d h = absurd (omega (arith, h))
+swapped t (x ∷ []) d h = by (t x) h
+  where
+    by : (b : Bool) → cond (not b) (1 + 0) 0 < length (x ∷ []) → swap_remove (x ∷ []) (cond (not b) (1 + 0) 0) d ≡ cond b (last_in_front []) (x ∷ [])
+    by true h = removed_head x d []
+    by false h = absurd (omega (arith, h))
+swapped t (x ∷ y ∷ ys) d h = by (t x) h (swapped t (y ∷ ys) d)
+  where
+    n : ℕ
+    n = position_or_len t (y ∷ ys)
+
+    by : (b : Bool) → cond (not b) (1 + n) 0 < length (x ∷ y ∷ ys) → (n < length (y ∷ ys) → swap_remove (y ∷ ys) n d ≡ without_first t (y ∷ ys))
+        → swap_remove (x ∷ y ∷ ys) (cond (not b) (1 + n) 0) d ≡ cond b (last_in_front (y ∷ ys)) (x ∷ without_first t (y ∷ ys))
+    by true h rest = removed_head x d (y ∷ ys)
+    by false h rest =
+        let next : 1 + n ≡ suc n = omega arith in
+        ap (λ k. swap_remove (x ∷ y ∷ ys) k d) next ∙ removed_behind x y d ys n ∙ ap (λ l. x ∷ l) (rest (omega (arith, h)))
+
+pub stays : {X : Type 0} (t : X → Bool) (xs : List X) → length xs ≤ position_or_len t xs → xs ≡ without_first t xs
+stays t [] h = refl
+stays t (x ∷ xs) h = by (t x) h (stays t xs)
+  where
+    by : (b : Bool) → length (x ∷ xs) ≤ cond (not b) (1 + position_or_len t xs) 0 → (length xs ≤ position_or_len t xs → xs ≡ without_first t xs) → x ∷ xs ≡ cond b (last_in_front xs) (x ∷ without_first t xs)
+    by true h rest = absurd (omega (arith, h))
+    by false h rest = ap (λ l. x ∷ l) (rest (omega (arith, h)))
+
+at_place : (n m i : ℕ) (b : Bool) → nat_lt n m ≡ b → Some i ≡ cond b (Some n) None → (n ≡ i) × (i < m)
+at_place n m i true lt is =
+    let same : n ≡ i = cc in
+    (same, grind (arith, nat_tests, common_steps))
+at_place n m i false lt is = absurd cc
+
+nowhere : (n m : ℕ) (b : Bool) → nat_lt n m ≡ b → None ≡ cond b (Some n) None → m ≤ n
+nowhere n m true lt is = absurd cc
+nowhere n m false lt is = grind (arith, nat_tests, common_steps)
+
+pub place_within : {X : Type 0} (t : X → Bool) (xs : List X) (i : ℕ) → Some i ≡ position t xs → i < length xs
+place_within t xs i is = (at_place (position_or_len t xs) (length xs) i (nat_lt (position_or_len t xs) (length xs)) refl is).1
+
+pub swapped_at : {X : Type 0} (t : X → Bool) (xs : List X) (i : ℕ) (d : X) → Some i ≡ position t xs → swap_remove xs i d ≡ without_first t xs
+swapped_at t xs i d is =
+    let at = at_place (position_or_len t xs) (length xs) i (nat_lt (position_or_len t xs) (length xs)) refl is in
+    ap (λ k. swap_remove xs k d) (sym at.0) ∙ swapped t xs d (omega (arith, at.0, at.1))
+
+pub stays_without : {X : Type 0} (t : X → Bool) (xs : List X) → None ≡ position t xs → xs ≡ without_first t xs
+stays_without t xs is = stays t xs (nowhere (position_or_len t xs) (length xs) (nat_lt (position_or_len t xs) (length xs)) refl is)
 
 -- ---- the same elements, whatever their order
 
@@ -46,15 +91,6 @@ without_first-permutes {X} test (y ∷ ys) x found = by (test y) found (without_
         let same : y ≡ x = cc in
         subst (λ z. IsPermutation (y ∷ ys) (z ∷ last_in_front ys)) same (IsPermutation-cons y _ _ (last_in_front-permutes ys))
     by false later rest = IsPermutation-trans _ _ _ (IsPermutation-cons y _ _ (rest later)) (IsPermutation-middle (y ∷ []) x (without_first test ys))
-
--- where none passes, all stay as they are
-pub without_first-none : {X : Type 0} (test : X → Bool) (xs : List X) → find test xs ≡ None → without_first test xs ≡ xs
-without_first-none test [] none = refl
-without_first-none {X} test (y ∷ ys) none = by (test y) none (without_first-none test ys)
-  where
-    by : (b : Bool) → cond b (Some y) (find test ys) ≡ None → (find test ys ≡ None → without_first test ys ≡ ys) → cond b (last_in_front ys) (y ∷ without_first test ys) ≡ y ∷ ys
-    by true here rest = absurd (cc (here))
-    by false later rest = ap (λ t. y ∷ t) (rest later)
 
 pub filter-last_in_front : {X : Type 0} (p : X → Bool) (xs : List X) → IsPermutation (filter p xs) (filter p (last_in_front xs))
 filter-last_in_front p xs =

@@ -4,10 +4,7 @@ pub mod Shares
 pub mod Base
 pub mod Rooms
 pub mod Grants
-pub mod Chains
-pub mod Marks
 pub mod Tables
 pub mod Refusals
 pub mod Pending
 pub mod SrpNumbers
-pub mod GrantCounts

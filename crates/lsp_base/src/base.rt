@@ -1,21 +1,22 @@
-//! The paths and the records of all LSPs.
-ghost use Rattle.std.specs.Prelude.{◌≡◌, ◌≤◌, ◌++◌, false, length, filter, map, IsPermutation, OnOk, IfOk, option_copied, slice_get};
+//! The LSP-DB.
+ghost use Rattle.std.specs.Prelude.{◌≡◌, ◌≤◌, ◌+◌, ◌++◌, ◌||◌, length, filter, map, IsPermutation, OnOk, IfOk, option_copied, slice_get};
 ghost use Rattle.std.specs.List.{list_any};
 ghost use Rattle.lsp_base.specs.Base.{AreDistinct, HasAll, no_lsps, lsp_at, changed, with_stale};
 ghost use Rattle.lsp_base.specs.Grants.{has_grant};
 ghost use Rattle.lsp_base.specs.Pending.{is_grant_as, is_removed_as};
 ghost use Rattle.lsp_base.specs.Rooms.{HasRoom, IsWithinLimit};
-ghost use Rattle.lsp_base.specs.Tables.{PicksFrom, PicksOfPeer, MeetsOfPeer};
+ghost use Rattle.lsp_base.specs.Tables.{is_named, PicksFrom, PicksOf};
 
-use crate::chained::Sought;
 use crate::effect::{Change, Effect, Record, RecordChange};
-use crate::lists::Choice;
+use crate::grants::GrantOf;
 use crate::lsp::Lsp;
-use crate::of_peer::Becoming;
+use crate::passes::{RecordRule, changes_of, paths_passing};
 use crate::path::Path;
-use crate::path_table::PathTable;
+use crate::path_list::{bucket_of_lsp, buckets_of_lsp, change_paths, make_stale};
+use crate::pending::{has_grant_as, has_removal_as};
 use crate::record_table::RecordTable;
 use crate::srp_table::SrpTable;
+use keyed_list::{KeyedList, Test};
 use pcep_objects::Plsp;
 use std::alloc::{AllocError, Global};
 use std::marker::Model;
@@ -23,13 +24,24 @@ use std::marker::Model;
 /// The greatest number of paths that stand at a time.
 pub const PATH_LIMIT: usize = 16384;
 
-/// The paths and the records of all LSPs, each in one order. A contract sees them beside the room that
-/// was made for more.
+/// How many items the first allocation has room for: 16,384, and as many again that an effect adds before the old ones
+/// go. So the tables never move.
+const FIRST_ROOM: usize = 32_768;
+
+/// The LSP-DB: the paths and the records of all LSPs, each in one order. A contract sees them beside the room that was
+/// made for more.
 #[derive(Drop)]
 pub struct LspBase {
-    paths: PathTable,
+    paths: KeyedList<Path>,
     records: RecordTable,
     srps: SrpTable,
+}
+
+/// Returns for how many more items room is made, where this many more come.
+fn wanted(count: usize, more: usize) -> usize
+    ensures { more ≤ result }
+{
+    FIRST_ROOM.saturating_sub(count).max(more)
 }
 
 impl Model for LspBase {
@@ -42,24 +54,25 @@ impl Model for LspBase {
     ghost Value = { Rooms };
 
     ghost view = { λ b. record {
-      content = record { paths = b.paths.paths; records = b.records.records };
+      content = record { paths = b.paths.items; records = b.records.records };
       path_room = b.paths.room;
       record_room = b.records.room;
+      srp_room = b.srps.room;
     } };
 
-    ghost invariant = { λ b. (length b.paths.paths ≤ 16384) × AreDistinct b.records.records
-        × NoneAbove b.srps.numbers is_grant_as b.paths.paths × NoneAbove b.srps.numbers is_removed_as b.records.records };
+    ghost invariant = { λ b. (length b.paths.items ≤ 16384) × AreDistinct b.records.records
+        × NoneAbove b.srps.numbers is_grant_as b.paths.items × NoneAbove b.srps.numbers is_removed_as b.records.records };
 }
 
 impl LspBase {
-    /// Nothing is known. Takes no memory.
+    /// Makes an LSP-DB of no LSPs. Allocates nothing.
     pub fn new(alloc: Global) -> LspBase
         ensures { result.content ≡ no_lsps }
     {
         LspBase {
-            paths: PathTable::new(alloc),
+            paths: KeyedList::new(alloc),
             records: RecordTable::new(alloc),
-            srps: SrpTable::new(),
+            srps: SrpTable::new(alloc),
         }
     }
 
@@ -68,14 +81,17 @@ impl LspBase {
         ensures ok { OnOk result (HasRoom self.new effect.now) }
         ensures unchanged { self.new.content ≡ self.old.content }
     {
-        self.paths.reserve(effect.change.added.as_slice().len())?;
-        self.records.reserve(effect.records.as_slice().len())?;
-        Ok(())
+        let added = effect.change.added.as_slice().len();
+        let changed = effect.records.as_slice().len();
+        let paths = self.paths.as_slice().len();
+        self.paths.reserve(wanted(paths, added))?;
+        let records = self.records.as_slice().len();
+        self.records.reserve(wanted(records, changed))?;
+        self.srps.reserve(added + changed)
     }
 
-    /// Carries out an effect on the LSPs of a peer: the dropped paths go, the last path taking the place of
-    /// each, the added ones come at the end, and the records are set in order. No other path comes or goes.
-    /// It grows nothing.
+    /// Carries out an effect on the LSPs of a peer: removes the dropped paths, the last path taking the place of each,
+    /// adds the others at the end, and sets the records in order. No other path comes or goes. Allocates nothing.
     #[tactic(auto, unfolding(crate::specs::Base::changed), using(crate::proofs::Distinct::set_records_distinct, crate::proofs::Removal::paths_exchanged))]
     pub fn change(&mut self, peer: u32, effect: Effect)
         requires reserved { HasRoom self.old effect }
@@ -84,7 +100,8 @@ impl LspBase {
         ensures exchanged { HasAll self.old.content.paths effect.change.dropped
             → IsPermutation (self.old.content.paths ++ effect.change.added) (effect.change.dropped ++ self.new.content.paths) }
         ensures same_path_room { self.new.path_room ≡ self.old.path_room }
-        ensures same_record_room { self.new.record_room ≡ self.old.record_room }
+        ensures record_room { self.old.record_room ≤ self.new.record_room + length effect.records }
+        ensures srp_room { self.old.srp_room ≤ self.new.srp_room + length effect.change.added + length effect.records }
     {
         let Effect {
             change,
@@ -94,20 +111,22 @@ impl LspBase {
         let Change { dropped, added } = change;
         self.srps.raise_for_grants(added.as_slice());
         self.srps.raise_for_removals(peer, records.as_slice());
-        self.paths.change(dropped.as_slice(), added.into_vec());
+        change_paths(&mut self.paths, dropped.as_slice(), added.into_vec());
         self.records.set_all(peer, records.into_vec());
     }
 
-    /// Makes the peer's paths stale, and changes nothing else. No pass over all.
+    /// Makes the peer's paths stale, and changes nothing else. Allocates nothing.
     #[tactic(auto, unfolding(crate::specs::Base::with_stale))]
     pub fn mark_stale(&mut self, peer: u32)
         ensures stale { self.new.content ≡ with_stale self.old.content peer }
         ensures same_path_room { self.new.path_room ≡ self.old.path_room }
         ensures same_record_room { self.new.record_room ≡ self.old.record_room }
+        ensures same_srp_room { self.new.srp_room ≡ self.old.srp_room }
     {
-        self.paths.mark_stale(peer);
+        make_stale(&mut self.paths, peer);
     }
 
+    /// Lends the paths, in order.
     pub fn paths(&self) -> &[Path]
         ensures paths { result.now ≡ self.now.content.paths }
         ensures few { length result.now ≤ 16384 }
@@ -115,104 +134,94 @@ impl LspBase {
         self.paths.as_slice()
     }
 
-    /// Copies of the paths that pass the test, in order, with no pass over all. All of them are the LSP's,
-    /// or grants of the peer that are not bound.
-    pub fn chosen_of<C: Choice>(
+    /// Copies the paths that pass, in order. All paths that pass are the LSP's, or grants of the peer that are not
+    /// bound to an LSP.
+    pub fn paths_of_lsp<T: Test<Path>>(
         &self,
         alloc: Global,
         peer: u32,
         plsp: Plsp,
-        choice: &C,
+        test: &T,
     ) -> Result<Vec<Path>, AllocError>
-        requires { PicksFrom (C.chooses choice.now) peer plsp }
-        ensures { IfOk result (λ found. found.items ≡ filter (C.chooses choice.now) self.now.content.paths) }
+        requires { PicksFrom (T.passes test.now) peer plsp }
+        ensures { IfOk result (λ found. found.items ≡ filter (T.passes test.now) self.now.content.paths) }
     {
-        self.paths.chosen_of(alloc, peer, plsp, choice)
+        self.paths
+            .filter_in(alloc, buckets_of_lsp(peer, plsp), test)
     }
 
-    /// Whether a path passes the test, with no pass over all. All that pass it are the LSP's, or grants of
-    /// the peer that are not bound.
-    pub fn any_chosen_of<C: Choice>(&self, peer: u32, plsp: Plsp, choice: &C) -> bool
-        requires { PicksFrom (C.chooses choice.now) peer plsp }
-        ensures { result ≡ list_any (C.chooses choice.now) self.now.content.paths }
+    /// Tests whether a path passes. All paths that pass are the LSP's. Allocates nothing.
+    pub fn any_path_of_lsp<T: Test<Path>>(&self, peer: u32, plsp: Plsp, test: &T) -> bool
+        requires { PicksOf (T.passes test.now) peer plsp }
+        ensures { result ≡ list_any (T.passes test.now) self.now.content.paths }
     {
-        self.paths.any_chosen_of(peer, plsp, choice)
+        self.paths.any(bucket_of_lsp(peer, plsp), test)
     }
 
-    /// Copies of the paths that pass the test, in order, with no pass over all: it goes by the peer's places.
-    /// All of them are the peer's, bound to an LSP or not.
-    pub fn chosen_of_peer<C: Choice>(
-        &self,
-        alloc: Global,
-        peer: u32,
-        choice: &C,
-    ) -> Result<Vec<Path>, AllocError>
-        requires { PicksOfPeer (C.chooses choice.now) peer }
-        ensures { IfOk result (λ found. found.items ≡ filter (C.chooses choice.now) self.now.content.paths) }
-    {
-        self.paths.chosen_of_peer(alloc, peer, choice)
-    }
-
-    /// Whether a path passes the test, with no pass over all. All that pass it are the peer's. Takes no memory.
-    pub fn any_chosen_of_peer<C: Choice>(&self, peer: u32, choice: &C) -> bool
-        requires { PicksOfPeer (C.chooses choice.now) peer }
-        ensures { result ≡ list_any (C.chooses choice.now) self.now.content.paths }
-    {
-        self.paths.any_chosen_of_peer(peer, choice)
-    }
-
-    /// What becomes of the records that pass the test, in their order, with no pass over all. All of them are
-    /// the peer's.
-    pub fn changes_of_peer<R: Becoming>(
-        &self,
-        alloc: Global,
-        peer: u32,
-        rule: &R,
-    ) -> Result<Vec<RecordChange>, AllocError>
-        requires { MeetsOfPeer (R.meets rule.now) peer }
-        ensures { IfOk result (λ changes. changes.items ≡ map (R.becomes rule.now) (filter (R.meets rule.now) self.now.content.records)) }
-    {
-        self.records.changes_of_peer(alloc, peer, rule)
-    }
-
-    /// Whether a record is sought, with no pass over all. All that are sought are the peer's. Takes no memory.
-    pub fn any_record_of_peer<S: Sought<Record>>(&self, peer: u32, sought: &S) -> bool
-        requires { MeetsOfPeer (S.seeks sought.now) peer }
-        ensures { result ≡ list_any (S.seeks sought.now) self.now.content.records }
-    {
-        self.records.any_of_peer(peer, sought)
-    }
-
-    /// Whether the LSP has a grant, with no pass over all. Where no grant of its peer is counted, no path is read.
+    /// Tests whether the LSP has a grant. Allocates nothing.
     pub fn has_grant(&self, peer: u32, plsp: Plsp) -> bool
         ensures { result ≡ has_grant self.now.content.paths peer plsp }
     {
-        self.paths.has_grant(peer, plsp)
+        self.any_path_of_lsp(peer, plsp, &GrantOf { peer, plsp })
     }
 
-    /// Whether a grant or an awaited removal of the peer may have the SRP-ID: where not, none has. Takes no
-    /// memory, and makes no pass over all.
-    pub fn may_have_srp(&self, peer: u32, srp: u32) -> bool
-        ensures no_grant { result ≡ false → list_any (is_grant_as peer srp) self.now.content.paths ≡ false }
-        ensures no_removal { result ≡ false → list_any (is_removed_as peer srp) self.now.content.records ≡ false }
+    /// Copies the paths that pass, in order, by a pass over all.
+    pub fn paths_passing<T: Test<Path>>(
+        &self,
+        alloc: Global,
+        test: &T,
+    ) -> Result<Vec<Path>, AllocError>
+        ensures { IfOk result (λ found. found.items ≡ filter (T.passes test.now) self.now.content.paths) }
     {
-        srp <= self.srps.greatest_of(peer)
+        paths_passing(alloc, self.paths.as_slice(), test)
     }
 
-    /// What is known of the LSP.
+    /// Lists what becomes of the records that the rule changes, in order, by a pass over all.
+    pub fn record_changes<R: RecordRule>(
+        &self,
+        alloc: Global,
+        rule: &R,
+    ) -> Result<Vec<RecordChange>, AllocError>
+        ensures { IfOk result (λ changes. changes.items ≡ map (R.change rule.now) (filter (R.applies rule.now) self.now.content.records)) }
+    {
+        changes_of(alloc, self.records.as_slice(), rule)
+    }
+
+    /// Tests whether a grant or an awaited removal of the peer has the SRP-ID. A number above all that the peer ever
+    /// had is free; else by a pass over all. Allocates nothing.
+    pub fn has_srp(&self, peer: u32, srp: u32) -> bool
+        ensures { result ≡ (list_any (is_grant_as peer srp) self.now.content.paths
+            || list_any (is_removed_as peer srp) self.now.content.records) }
+    {
+        if srp > self.srps.greatest_of(peer) {
+            return false;
+        }
+        has_grant_as(self.paths.as_slice(), peer, srp)
+            || has_removal_as(self.records.as_slice(), peer, srp)
+    }
+
+    /// Tests whether an LSP of the peer has the symbolic path name. Allocates nothing.
+    pub fn has_name(&self, peer: u32, name: &[u8]) -> bool
+        ensures { result ≡ list_any (is_named peer name.now) self.now.content.records }
+    {
+        self.records.has_name(peer, name)
+    }
+
+    /// Finds what is known of the LSP.
     pub fn lsp(&self, peer: u32, plsp: Plsp) -> Option<&Lsp>
         ensures { option_copied result ≡ lsp_at self.now.content.records peer plsp }
     {
         self.records.lsp(peer, plsp)
     }
 
-    /// The record at a place; each stands at one place below their number.
+    /// Returns the record at a place. Each record stands at one place below their number.
     pub fn record_at(&self, place: usize) -> Option<&Record>
         ensures { option_copied result ≡ slice_get self.now.content.records place }
     {
         self.records.as_slice().get(place)
     }
 
+    /// Lends the records, in order.
     pub fn records(&self) -> &[Record]
         ensures records { result.now ≡ self.now.content.records }
         ensures distinct { AreDistinct result.now }

@@ -3,9 +3,9 @@ ghost use Rattle.std.specs.Prelude.{◌≡◌};
 ghost use Rattle.lsp_base.specs.Grants.{is_grant_of, is_number, has_srp, is_unbound_grant};
 
 use crate::drops::is_path_of_lsp;
-use crate::lists::Choice;
 use crate::path::Path;
 use crate::tunnel::{Part, is_part_reported};
+use keyed_list::Test;
 use pcep_objects::Plsp;
 
 pub(crate) fn is_the_number(number: Option<u32>, other: u32) -> bool
@@ -17,7 +17,7 @@ pub(crate) fn is_the_number(number: Option<u32>, other: u32) -> bool
     }
 }
 
-/// Whether the part is a grant of this SRP-ID.
+/// Tests whether the part is a grant of this SRP-ID.
 pub fn carries_srp(srp: Option<u32>, part: Part) -> bool
     ensures { result ≡ has_srp srp part }
 {
@@ -27,33 +27,33 @@ pub fn carries_srp(srp: Option<u32>, part: Part) -> bool
     }
 }
 
-/// Whether the path is a grant that is bound to the LSP.
+/// Tests whether the path is a grant that is bound to the LSP.
 pub fn is_grant_of_lsp(path: &Path, peer: u32, plsp: Plsp) -> bool
     ensures { result ≡ is_grant_of peer plsp path.now }
 {
     is_path_of_lsp(path, peer, plsp) && !is_part_reported(path.part)
 }
 
-/// Whether the path is the peer's grant of this SRP-ID, and no report has bound it yet.
+/// Tests whether the path is the peer's grant of this SRP-ID, and no report has bound it yet.
 pub fn is_unbound(path: &Path, peer: u32, srp: Option<u32>) -> bool
     ensures { result ≡ is_unbound_grant peer srp path.now }
 {
     path.peer == peer && path.plsp.number() == 0 && carries_srp(srp, path.part)
 }
 
-/// The grants that are bound to an LSP.
+/// Tests whether a path is a grant that is bound to the LSP.
 #[derive(Drop)]
 pub struct GrantOf {
     pub peer: u32,
     pub plsp: Plsp,
 }
 
-impl Choice for GrantOf {
+impl Test<Path> for GrantOf {
     ghost use Rattle.lsp_base.specs.Grants.{is_grant_of};
 
-    ghost chooses = { λ s x. is_grant_of s.peer s.plsp x };
+    ghost passes = { λ s x. is_grant_of s.peer s.plsp x };
 
-    fn chooses(&self, path: &Path) -> bool {
+    fn passes(&self, path: &Path) -> bool {
         is_grant_of_lsp(path, self.peer, self.plsp)
     }
 }

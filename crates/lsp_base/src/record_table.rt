@@ -1,173 +1,195 @@
-//! Records in one order, of which an LSP's and a peer's are found without a pass over all.
-ghost use Rattle.std.specs.Prelude.{◌≡◌, ◌<◌, ◌≤◌, ◌+◌, [], length, map, filter, IfOk, OnOk, option_copied};
-ghost use Rattle.std.specs.List.{list_any};
+//! The records of the LSP-DB, found by LSP and by name.
+ghost use Rattle.std.specs.Prelude.{◌≡◌, ◌<◌, ◌≤◌, ◌+◌, [], length, OnOk, option_copied};
+ghost use Rattle.std.specs.List.{list_any, position_or_len};
+ghost use Rattle.std.specs.Map.{keys_of};
+ghost use Rattle.indexmap.specs.IndexMap.{insert_entry, spare, swap_remove_entry};
 ghost use Rattle.lsp_base.specs.Base.{lsp_at, put, taken_away, set_record, set_records};
-ghost use Rattle.lsp_base.specs.Tables.{MeetsOfPeer};
+ghost use Rattle.lsp_base.specs.Tables.{is_named, key_of, name_bucket, same_key};
 
-use crate::chain::Chain;
-use crate::chained::{Sought, first_place};
 use crate::effect::{Record, RecordChange};
-use crate::found::{ByLsp, bucket_of_lsp};
 use crate::lsp::Lsp;
-use crate::marked::{make_room, push_last, put_at, swap_out};
-use crate::marks::Marks;
-use crate::of_peer::{Becoming, ByPeer, any_in_column, changes_in_column, column_of_peer};
+use crate::names::is_same_name;
+use indexmap::IndexMap;
+use keyed_list::{BucketIndex, Keyed, Test, any};
 use pcep_objects::Plsp;
 use std::alloc::{AllocError, Global};
 use std::marker::Model;
 
-/// Records in one order. A contract sees the list of them, and for how many there is room in all.
+/// Names an LSP.
+#[derive(Clone, Copy, Debug, PartialEq, Eq, Hash)]
+pub struct LspKey {
+    pub peer: u32,
+    pub plsp: Plsp,
+}
+
+/// Records in one order, found by LSP and by name. A contract sees the list of them, and for how many more there is room.
 #[derive(Drop)]
 pub struct RecordTable {
-    items: Vec<Record>,
-    chain: Chain,
-    marks: Marks,
+    by_lsp: IndexMap<LspKey, Record>,
+    by_name: BucketIndex,
 }
 
 impl Model for RecordTable {
-    ghost use Rattle.std.specs.Prelude.{min, vec_capacity};
-    ghost use Rattle.lsp_base.specs.Chains.{IsChain};
-    ghost use Rattle.lsp_base.specs.Marks.{AreMarked, record_column};
-    ghost use Rattle.lsp_base.specs.Tables.{RecordRoom, record_bucket};
+    ghost use Rattle.std.specs.Prelude.{◌≡◌, ◌-◌, length, map, min};
+    ghost use Rattle.indexmap.specs.IndexMap.{spare, values};
+    ghost use Rattle.lsp_base.specs.Tables.{AreKeyed, RecordRoom, record_bucket};
 
     ghost Value = { RecordRoom };
 
-    ghost view = { λ t. record { records = t.items.items; room = min (vec_capacity t.items) (vec_capacity t.chain.earlier) } };
+    ghost view = { λ t. record { records = values t.by_lsp; room = min (spare t.by_lsp) (t.by_name.room - length t.by_name.buckets) } };
 
-    ghost invariant = { λ t. IsChain record_bucket t.items.items t.chain.newest.items t.chain.earlier.items
-        × AreMarked record_column t.items.items t.marks.words.items };
+    ghost invariant = { λ t. AreKeyed t.by_lsp.entries × (t.by_name.buckets ≡ map record_bucket (values t.by_lsp)) };
 }
 
-/// The records of an LSP.
-#[derive(Drop)]
-struct OfLsp {
-    peer: u32,
-    plsp: Plsp,
+/// Returns the bucket of the LSPs of a peer with this name.
+#[tactic(auto, unfolding(crate::specs::Tables::name_bucket))]
+fn bucket_of_name(peer: u32, name: &[u8]) -> u16
+    ensures { result ≡ name_bucket peer name.now }
+{
+    let mut bucket = peer % 16381;
+    for byte in name {
+        bucket = (bucket * 31 + u32::from(*byte)) % 16381;
+    }
+    bucket as u16
 }
 
-impl Sought<Record> for OfLsp {
-    ghost use Rattle.lsp_base.specs.Base.{is_record_of};
+impl Keyed for Record {
+    ghost use Rattle.lsp_base.specs.Tables.{record_bucket};
 
-    ghost seeks = { λ s r. is_record_of s.peer s.plsp r };
+    ghost bucket_of = { record_bucket };
 
-    fn seeks(&self, item: &Record) -> bool {
-        item.peer == self.peer && item.plsp == self.plsp
+    fn bucket(&self) -> u16 {
+        bucket_of_name(self.peer, self.lsp.name.as_slice())
     }
 }
 
+/// Tests whether a record is of an LSP of the peer with this name.
+#[derive(Drop)]
+struct Named<'a> {
+    peer: u32,
+    name: &'a [u8],
+}
+
+impl<'a> Test<Record> for Named<'a> {
+    ghost use Rattle.lsp_base.specs.Tables.{is_named};
+
+    ghost passes = { λ s r. is_named s.peer s.name.now r };
+
+    fn passes(&self, known: &Record) -> bool {
+        known.peer == self.peer && is_same_name(known.lsp.name.as_slice(), self.name)
+    }
+}
+
+/// Sets a record under its key, into room that is there. Returns its place.
+fn insert(map: &mut IndexMap<LspKey, Record>, known: Record) -> usize
+    requires { 0 < spare map.old }
+    ensures place { result ≡ position_or_len (same_key (key_of known)) (keys_of map.old.entries) }
+    ensures entries { map.new.entries ≡ insert_entry same_key map.old.entries (key_of known) known }
+    ensures room { spare map.old ≤ spare map.new + 1 }
+{
+    let key = LspKey {
+        peer: known.peer,
+        plsp: known.plsp,
+    };
+    let (place, _old) = map.insert_full(key, known).unwrap();
+    place
+}
+
+/// Removes a record. The last record takes its place.
+fn remove(map: &mut IndexMap<LspKey, Record>, key: LspKey)
+    ensures entries { map.new.entries ≡ swap_remove_entry (same_key key) map.old.entries }
+    ensures room { spare map.old ≤ spare map.new }
+{
+    let _old = map.swap_remove(&key);
+}
+
 impl RecordTable {
-    /// No record. Takes no memory.
+    /// Makes a table of no records. Allocates nothing.
     pub fn new(alloc: Global) -> RecordTable
         ensures { result.records ≡ [] }
     {
         RecordTable {
-            items: Vec::new(alloc),
-            chain: Chain {
-                newest: Vec::new(alloc),
-                earlier: Vec::new(alloc),
-            },
-            marks: Marks::new(alloc),
+            by_lsp: IndexMap::new(alloc),
+            by_name: BucketIndex::new(alloc),
         }
     }
 
+    /// Lends the records, in order.
     pub fn as_slice(&self) -> &[Record]
         ensures { result.now ≡ self.now.records }
     {
-        self.items.as_slice()
+        self.by_lsp.values().as_slice()
     }
 
     /// Makes room for this many more records.
     pub fn reserve(&mut self, more: usize) -> Result<(), AllocError>
-        ensures ok { OnOk result (length self.new.records + more ≤ self.new.room) }
+        ensures ok { OnOk result (more ≤ self.new.room) }
         ensures records { self.new.records ≡ self.old.records }
     {
-        let alloc = *self.items.allocator();
-        make_room::<Record, ByLsp, ByPeer>(
-            &mut self.items,
-            &mut self.chain,
-            &mut self.marks,
-            alloc,
-            more,
-        )
+        self.by_lsp.reserve(more)?;
+        self.by_name.reserve(more)
     }
 
-    /// What is known of the LSP.
+    /// Finds what is known of the LSP.
     pub fn lsp(&self, peer: u32, plsp: Plsp) -> Option<&Lsp>
         ensures { option_copied result ≡ lsp_at self.now.records peer plsp }
     {
-        let place = first_place::<Record, ByLsp, OfLsp>(
-            self.items.as_slice(),
-            &self.chain,
-            bucket_of_lsp(peer, plsp),
-            &OfLsp { peer, plsp },
-        );
-        match place {
-            Some(place) => Some(&self.items[place].lsp),
+        match self.by_lsp.get(&LspKey { peer, plsp }) {
+            Some(record) => Some(&record.lsp),
             None => None,
         }
     }
 
+    /// Tests whether an LSP of the peer has the name. Allocates nothing.
+    pub fn has_name(&self, peer: u32, name: &[u8]) -> bool
+        ensures { result ≡ list_any (is_named peer name.now) self.now.records }
+    {
+        let bucket = bucket_of_name(peer, name);
+        any(
+            self.by_lsp.values().as_slice(),
+            &self.by_name,
+            bucket,
+            &Named { peer, name },
+        )
+    }
+
     /// Sets a record: in its place where there is one, else as the last, into room that is there.
     fn put(&mut self, peer: u32, plsp: Plsp, lsp: Lsp)
-        requires { length self.old.records < self.old.room }
+        requires { 0 < self.old.room }
         ensures records { self.new.records ≡ put self.old.records peer plsp lsp }
-        ensures more { length self.new.records ≤ length self.old.records + 1 }
-        ensures room { self.new.room ≡ self.old.room }
+        ensures room { self.old.room ≤ self.new.room + 1 }
     {
         let record = Record { peer, plsp, lsp };
-        let place = first_place::<Record, ByLsp, OfLsp>(
-            self.items.as_slice(),
-            &self.chain,
-            bucket_of_lsp(peer, plsp),
-            &OfLsp { peer, plsp },
-        );
-        match place {
-            Some(place) => {
-                put_at::<Record, ByLsp, ByPeer>(
-                    &mut self.items,
-                    &mut self.chain,
-                    &mut self.marks,
-                    place,
-                    record,
-                );
-            }
-            None => push_last::<Record, ByLsp, ByPeer>(
-                &mut self.items,
-                &mut self.chain,
-                &mut self.marks,
-                record,
-            ),
+        let bucket = record.bucket();
+        let count = self.by_lsp.len();
+        let place = insert(&mut self.by_lsp, record);
+        if place < count {
+            self.by_name.set(place, bucket);
+        } else {
+            self.by_name.push(bucket);
         }
     }
 
-    /// Takes the LSP's first record away: the last takes its place.
+    /// Removes the LSP's record. The last record takes its place.
     fn take(&mut self, peer: u32, plsp: Plsp)
         ensures records { self.new.records ≡ taken_away self.old.records peer plsp }
-        ensures fewer { length self.new.records ≤ length self.old.records }
-        ensures room { self.new.room ≡ self.old.room }
+        ensures room { self.old.room ≤ self.new.room }
     {
-        let place = first_place::<Record, ByLsp, OfLsp>(
-            self.items.as_slice(),
-            &self.chain,
-            bucket_of_lsp(peer, plsp),
-            &OfLsp { peer, plsp },
-        );
-        if let Some(place) = place {
-            swap_out::<Record, ByLsp, ByPeer>(
-                &mut self.items,
-                &mut self.chain,
-                &mut self.marks,
-                place,
-            );
+        let key = LspKey { peer, plsp };
+        if let Some(place) = self.by_lsp.get_index_of(&key) {
+            let records = self.by_lsp.values().as_slice();
+            let last = records[records.len() - 1].bucket();
+            self.by_name.set(place, last);
+            self.by_name.pop();
+            remove(&mut self.by_lsp, key);
         }
     }
 
-    /// Sets or takes away a record of the peer, into room that is there.
+    /// Sets or removes a record of the peer, into room that is there.
     fn set(&mut self, peer: u32, change: RecordChange)
-        requires { length self.old.records < self.old.room }
+        requires { 0 < self.old.room }
         ensures records { self.new.records ≡ set_record peer self.old.records change.plsp change.lsp }
-        ensures more { length self.new.records ≤ length self.old.records + 1 }
-        ensures room { self.new.room ≡ self.old.room }
+        ensures room { self.old.room ≤ self.new.room + 1 }
     {
         let RecordChange { plsp, lsp } = change;
         match lsp {
@@ -176,45 +198,14 @@ impl RecordTable {
         }
     }
 
-    /// Sets or takes away each of these records of the peer, into room that is there.
+    /// Sets or removes each of these records of the peer, into room that is there. Allocates nothing.
     pub fn set_all(&mut self, peer: u32, changes: Vec<RecordChange>)
-        requires { length self.old.records + length changes.items ≤ self.old.room }
+        requires { length changes.items ≤ self.old.room }
         ensures records { self.new.records ≡ set_records peer self.old.records changes.items }
-        ensures room { self.new.room ≡ self.old.room }
+        ensures room { self.old.room ≤ self.new.room + length changes.items }
     {
         for change in changes {
             self.set(peer, change);
         }
-    }
-    /// What becomes of the records that pass the test, in order. All of them are the peer's.
-    pub fn changes_of_peer<R: Becoming>(
-        &self,
-        alloc: Global,
-        peer: u32,
-        rule: &R,
-    ) -> Result<Vec<RecordChange>, AllocError>
-        requires { MeetsOfPeer (R.meets rule.now) peer }
-        ensures { IfOk result (λ changes. changes.items ≡ map (R.becomes rule.now) (filter (R.meets rule.now) self.now.records)) }
-    {
-        changes_in_column(
-            alloc,
-            self.items.as_slice(),
-            &self.marks,
-            column_of_peer(peer),
-            rule,
-        )
-    }
-
-    /// Whether a record is sought. All that are sought are the peer's.
-    pub fn any_of_peer<S: Sought<Record>>(&self, peer: u32, sought: &S) -> bool
-        requires { MeetsOfPeer (S.seeks sought.now) peer }
-        ensures { result ≡ list_any (S.seeks sought.now) self.now.records }
-    {
-        any_in_column::<Record, ByPeer, S>(
-            self.items.as_slice(),
-            &self.marks,
-            column_of_peer(peer),
-            sought,
-        )
     }
 }

@@ -1,26 +1,29 @@
-//! The SRP-IDs of peers' grants and removals: numbers that none of them exceeds.
-ghost use Rattle.std.specs.Prelude.{◌≡◌, length, replicate};
+//! The greatest SRP-ID of each peer.
+ghost use Rattle.std.specs.Prelude.{◌≡◌, ◌<◌, ◌≤◌, ◌+◌, [], length, OnOk};
 ghost use Rattle.lsp_base.specs.Pending.{is_grant_as};
-ghost use Rattle.lsp_base.specs.SrpNumbers.{number_place, greatest_of, raised, srp_of_grant, srp_of_removal, is_set_as, IsRaised, NoneAbove};
+ghost use Rattle.lsp_base.specs.SrpNumbers.{greatest_of, raised, srp_of_grant, srp_of_removal, is_set_as, IsRaised, NoneAbove};
 
 use crate::effect::RecordChange;
 use crate::path::Path;
 use crate::tunnel::Part;
+use indexmap::IndexMap;
+use std::alloc::{AllocError, Global};
+use std::marker::Model;
 
-/// For each peer the greatest SRP-ID that a grant or an awaited removal of it ever had. 251 numbers are kept:
-/// peers of one place share theirs, so that a peer's may be greater than any SRP-ID of its own. No number
-/// ever falls.
+/// For each peer the greatest SRP-ID that a grant or an awaited removal of it ever had. No number ever falls. A contract
+/// sees the numbers, and for how many more peers there is room.
 #[derive(Drop)]
 pub struct SrpTable {
-    numbers: [u32; 251],
-    ghost all_there: { length numbers ≡ 251 },
+    greatest: IndexMap<u32, u32>,
 }
 
-/// The place of a peer's number, which other peers' may be at too.
-pub fn number_place(peer: u32) -> usize
-    ensures { result ≡ number_place peer }
-{
-    (peer % 251) as usize
+impl Model for SrpTable {
+    ghost use Rattle.indexmap.specs.IndexMap.{spare};
+    ghost use Rattle.lsp_base.specs.SrpNumbers.{SrpRoom};
+
+    ghost Value = { SrpRoom };
+
+    ghost view = { λ t. record { numbers = t.greatest.entries; room = spare t.greatest } };
 }
 
 fn srp_of_grant(part: Part) -> Option<u32>
@@ -42,44 +45,63 @@ fn srp_of_removal(change: &RecordChange) -> Option<u32>
 }
 
 impl SrpTable {
-    /// No SRP-ID. Takes no memory.
-    pub fn new() -> SrpTable
-        ensures { result.numbers ≡ replicate 251 0 }
+    /// Makes a table of no peers. Allocates nothing.
+    pub fn new(alloc: Global) -> SrpTable
+        ensures { result.numbers ≡ [] }
     {
-        SrpTable { numbers: [0; 251] }
+        SrpTable {
+            greatest: IndexMap::new(alloc),
+        }
     }
 
-    /// The number that is kept for a peer.
+    /// Makes room for this many more peers.
+    pub fn reserve(&mut self, more: usize) -> Result<(), AllocError>
+        ensures ok { OnOk result (more ≤ self.new.room) }
+        ensures numbers { self.new.numbers ≡ self.old.numbers }
+    {
+        self.greatest.reserve(more)
+    }
+
+    /// Returns the greatest number of a peer, or 0.
     pub fn greatest_of(&self, peer: u32) -> u32
         ensures { result ≡ greatest_of self.now.numbers peer }
     {
-        self.numbers[number_place(peer)]
+        match self.greatest.get(&peer) {
+            Some(srp) => *srp,
+            None => 0,
+        }
     }
 
     /// Raises the peer's number to an SRP-ID that is greater.
     fn raise(&mut self, peer: u32, srp: Option<u32>)
-        ensures { self.new.numbers ≡ raised self.old.numbers peer srp }
+        requires { 0 < self.old.room }
+        ensures numbers { self.new.numbers ≡ raised self.old.numbers peer srp }
+        ensures room { self.old.room ≤ self.new.room + 1 }
     {
         if let Some(srp) = srp {
-            let place = number_place(peer);
-            self.numbers[place] = self.numbers[place].max(srp);
+            let greatest = self.greatest_of(peer).max(srp);
+            let _old = self.greatest.insert(peer, greatest).unwrap();
         }
     }
 
-    /// Raises the numbers of the paths' peers to the SRP-IDs of those that are grants.
+    /// Raises the numbers of the paths' peers to the SRP-IDs of those that are grants. Allocates nothing.
     pub fn raise_for_grants(&mut self, paths: &[Path])
+        requires { length paths.now ≤ self.old.room }
         ensures raised { IsRaised self.old.numbers self.new.numbers }
         ensures above { NoneAbove self.new.numbers is_grant_as paths.now }
+        ensures room { self.old.room ≤ self.new.room + length paths.now }
     {
         for path in paths {
             self.raise(path.peer, srp_of_grant(path.part));
         }
     }
 
-    /// Raises the peer's number to the SRP-IDs of removals among what its records are set to.
+    /// Raises the peer's number to the SRP-IDs of removals among what its records are set to. Allocates nothing.
     pub fn raise_for_removals(&mut self, peer: u32, changes: &[RecordChange])
+        requires { length changes.now ≤ self.old.room }
         ensures raised { IsRaised self.old.numbers self.new.numbers }
         ensures above { NoneAbove self.new.numbers (is_set_as peer) changes.now }
+        ensures room { self.old.room ≤ self.new.room + length changes.now }
     {
         for change in changes {
             self.raise(peer, srp_of_removal(change));

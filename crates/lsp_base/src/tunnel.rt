@@ -36,19 +36,21 @@ pub enum Part {
     Granted(u32),
 }
 
+/// Tests whether two tunnels are the same.
 pub fn is_same_tunnel(a: &Tunnel, b: &Tunnel) -> bool
     ensures { result ≡ same_tunnel a.now b.now }
 {
     *a == *b
 }
 
+/// Tests whether two parts are the same.
 pub fn is_same_part(a: &Part, b: &Part) -> bool
     ensures { result ≡ same_part a.now b.now }
 {
     *a == *b
 }
 
-/// Whether the peer reported the path.
+/// Tests whether the peer reported the path.
 pub fn is_part_reported(part: Part) -> bool
     ensures { result ≡ is_reported part }
 {

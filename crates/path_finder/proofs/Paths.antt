@@ -177,7 +177,7 @@ under_limit q links source destination path m joined each few bound =
 
 -- the node of an end
 abbrev end_node : Query → Option ℕ → Option ℕ
-end_node q end = node_of q.topology.now end
+end_node q end = node_of q.topology.now.owners end
 
 joined_between : (q : Query) (source destination : ℕ) (path : List ℕ) → end_node q q.constraints.now.source ≡ Some source → end_node q q.constraints.now.destination ≡ Some destination → IsAdmissible (searched q) q.constraints.now q.own.now path → IsJoined q.topology.now.links source path destination
 joined_between q source destination path from to a =

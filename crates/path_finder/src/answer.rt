@@ -1,6 +1,6 @@
 //! The path that a search answers.
-ghost use Rattle.std.specs.Prelude.{◌≡◌, ◌<◌, ◌≤◌, ◌^◌, Some, IfOk, IfSome, IfNone, length, slice_get};
-ghost use Rattle.te_snapshot.specs.Admissible.{IsLeast, IsImpossible, cost_of, is_within, keeps_other_bounds, node_of, metric_of};
+ghost use Rattle.std.specs.Prelude.{◌≡◌, ◌<◌, ◌≤◌, ◌^◌, Some, IfOk, IfSome, IfNone};
+ghost use Rattle.te_snapshot.specs.Admissible.{IsLeast, IsImpossible, node_of};
 ghost use Rattle.path_finder.specs.Answers.{IsAnswer, IsRefused, searched};
 ghost use Rattle.path_finder.specs.Limits.{limit_of, hops_of};
 
@@ -8,11 +8,9 @@ use crate::found::Found;
 use crate::least::least_walk;
 use crate::query::{Ends, Query};
 use lsp_base::Constraints;
-use pcep_objects::MetricType;
-use pcep_word::Ipv4;
 use std::alloc::{AllocError, Global};
-use te_base::{Link, LinkNumber, NodeNumber};
-use te_snapshot::{OwnShares, Snapshot, Topology};
+use te_base::NodeNumber;
+use te_snapshot::{OwnShares, Snapshot, keeps_other_bounds};
 
 /// The least cost that is too much.
 fn limit_of(bound: Option<u64>) -> u32
@@ -35,16 +33,6 @@ fn hops_of(bound: Option<u64>) -> usize
     }
 }
 
-fn node_of(topology: &Topology, end: Option<Ipv4>) -> Option<NodeNumber>
-    ensures node { result ≡ node_of topology.now end }
-    ensures within { IfSome result (λ n. n < topology.now.nodes) }
-{
-    match end {
-        Some(address) => topology.owner(address),
-        None => None,
-    }
-}
-
 /// A least path between two nodes.
 fn between(
     alloc: Global,
@@ -53,8 +41,8 @@ fn between(
     destination: NodeNumber,
     fallbacks: &mut u64,
 ) -> Result<Option<Found>, AllocError>
-    requires from { node_of query.now.topology.now query.now.constraints.now.source ≡ Some source }
-    requires to { node_of query.now.topology.now query.now.constraints.now.destination ≡ Some destination }
+    requires from { node_of query.now.topology.now.owners query.now.constraints.now.source ≡ Some source }
+    requires to { node_of query.now.topology.now.owners query.now.constraints.now.destination ≡ Some destination }
     requires source { source < query.now.topology.now.nodes }
     requires destination { destination < query.now.topology.now.nodes }
     ensures some { IfOk result (λ r. IfSome r (λ f. IsLeast (searched query.now) query.now.constraints.now query.now.own.now f.links f.cost)) }
@@ -88,12 +76,12 @@ fn leaving(
     source: NodeNumber,
     fallbacks: &mut u64,
 ) -> Result<Option<Found>, AllocError>
-    requires from { node_of query.now.topology.now query.now.constraints.now.source ≡ Some source }
+    requires from { node_of query.now.topology.now.owners query.now.constraints.now.source ≡ Some source }
     requires source { source < query.now.topology.now.nodes }
     ensures some { IfOk result (λ r. IfSome r (λ f. IsLeast (searched query.now) query.now.constraints.now query.now.own.now f.links f.cost)) }
     ensures none { IfOk result (λ r. IfNone r (IsImpossible (searched query.now) query.now.constraints.now query.now.own.now)) }
 {
-    match node_of(query.topology, query.constraints.destination) {
+    match query.topology.node_of(query.constraints.destination) {
         None => Ok(None),
         Some(destination) => between(alloc, query, source, destination, fallbacks),
     }
@@ -108,56 +96,10 @@ fn least_path(
     ensures some { IfOk result (λ r. IfSome r (λ f. IsLeast (searched query.now) query.now.constraints.now query.now.own.now f.links f.cost)) }
     ensures none { IfOk result (λ r. IfNone r (IsImpossible (searched query.now) query.now.constraints.now query.now.own.now)) }
 {
-    match node_of(query.topology, query.constraints.source) {
+    match query.topology.node_of(query.constraints.source) {
         None => Ok(None),
         Some(source) => leaving(alloc, query, source, fallbacks),
     }
-}
-
-fn metric_on(metric: MetricType, links: &[Link], number: LinkNumber) -> u32
-    ensures value { result ≡ metric_of metric (slice_get links.now number) }
-{
-    match links.get(number) {
-        None => 0,
-        Some(link) => match metric {
-            MetricType::Igp => link.igp,
-            MetricType::Te => link.te,
-            MetricType::Hops => 1,
-        },
-    }
-}
-
-fn cost_of(metric: MetricType, links: &[Link], path: &[LinkNumber]) -> u64
-    requires { length path.now < 2 ^ 20 }
-    ensures { result ≡ cost_of metric links.now path.now }
-{
-    let mut cost = 0;
-    for number in path {
-        cost += u64::from(metric_on(metric, links, *number));
-    }
-    cost
-}
-
-fn is_within(bound: Option<u64>, cost: u64) -> bool
-    ensures { result ≡ is_within bound cost }
-{
-    match bound {
-        Some(bound) => cost <= bound,
-        None => true,
-    }
-}
-
-fn keeps_other_bounds(links: &[Link], constraints: &Constraints, path: &[LinkNumber]) -> bool
-    requires { length path.now < 2 ^ 20 }
-    ensures { result ≡ keeps_other_bounds links.now constraints.now path.now }
-{
-    is_within(
-        constraints.other_bounds.igp,
-        cost_of(MetricType::Igp, links, path),
-    ) && is_within(
-        constraints.other_bounds.te,
-        cost_of(MetricType::Te, links, path),
-    )
 }
 
 /// What is answered to a query.

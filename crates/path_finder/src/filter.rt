@@ -3,23 +3,14 @@ ghost use Rattle.std.specs.Prelude.{◌≡◌, ◌<◌, ◌≤◌, ◌^◌, ◌-
 ghost use Rattle.te_snapshot.specs.Room.{left, has_room_at, has_room};
 ghost use Rattle.te_base.specs.Base.{IsLinkAmong};
 ghost use Rattle.te_snapshot.specs.Leaving.{arc_of, IsArcAmong};
-ghost use Rattle.te_snapshot.specs.Admissible.{colours_pass, is_open};
+ghost use Rattle.te_snapshot.specs.Admissible.{is_open};
 ghost use Rattle.path_finder.specs.Passing.{arc_metric, fee, toll};
 
 use crate::query::Query;
-use pcep_objects::{Colours, MetricType};
+use pcep_objects::MetricType;
 use pcep_word::Priority;
 use te_base::{Link, LinkNumber};
-use te_snapshot::{Outgoing, own_share};
-
-#[inline(always)]
-fn colours_pass(colours: &Colours, colour: u32) -> bool
-    ensures { result ≡ colours_pass colours.now colour }
-{
-    colour & colours.exclude_any == 0
-        && (colours.include_any == 0 || colour & colours.include_any != 0)
-        && colour & colours.include_all == colours.include_all
-}
+use te_snapshot::{Outgoing, colours_pass, own_share};
 
 /// Whether what the tunnel's share rises by is left, or it doesn't rise.
 fn rise_fits(left: i64, share: u64, bandwidth: u64) -> bool

@@ -32,6 +32,3 @@ mod walk;
 
 pub use answer::{find, find_counting};
 pub use found::Found;
-
-#[cfg(test)]
-mod tests;

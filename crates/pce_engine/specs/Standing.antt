@@ -11,7 +11,7 @@ use Rattle.script_lines.specs.Orders.{order_of}
 use Rattle.pce_engine.specs.SessionLines.{message_line, end_line, open_line, up_line}
 use Rattle.script_lines.specs.Submits.{report_line, event_line}
 use Rattle.script_lines.specs.Rolls.{roll_line}
-use Rattle.job_search.specs.Answers.{MayAnswerTo}
+use Rattle.step_core.specs.Searches.{MayAnswerTo}
 use Rattle.script_lines.specs.Takes.{take_line}
 use Rattle.script_lines.specs.Texts.{book_text, history_text}
 use Rattle.script_lines.specs.Told.{Told, told, ◌>>=◌, behind, each, Fails}

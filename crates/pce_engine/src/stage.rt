@@ -16,11 +16,23 @@ use std::alloc::Global;
 use te_base::{TeBase, TeFault};
 
 /// The number of the next line, the link text so far, and what stands once the link text has ended.
-#[derive(Drop)]
 pub(crate) struct Stage {
     pub number: u64,
     pub header: Vec<u8>,
     pub standing: Option<Standing>,
+}
+
+/// Drops each part. A derived drop would be proved anew for each owner.
+impl Drop for Stage {
+    fn drop(self) {
+        let Stage {
+            number: _,
+            header,
+            standing,
+        } = self;
+        drop(header);
+        drop(standing);
+    }
 }
 
 #[tactic(auto, unfolding(crate::specs::Script::base_in))]

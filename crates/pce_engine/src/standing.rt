@@ -17,11 +17,23 @@ use std::alloc::{AllocError, Global};
 use te_base::TeBase;
 
 /// The database, the sessions that live, and the moment of the script, in milliseconds.
-#[derive(Drop)]
 pub(crate) struct Standing {
     pub database: Database,
     pub sessions: Sessions,
     pub moment_ms: u64,
+}
+
+/// Drops each part. A derived drop would be proved anew for each owner.
+impl Drop for Standing {
+    fn drop(self) {
+        let Standing {
+            database,
+            sessions,
+            moment_ms: _,
+        } = self;
+        drop(database);
+        drop(sessions);
+    }
 }
 
 fn serve_one(

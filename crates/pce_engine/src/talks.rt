@@ -51,6 +51,7 @@ pub(crate) fn tell_session(
 }
 
 fn serve(
+    alloc: Global,
     database: &mut Database,
     client: &mut Client,
     peer: u32,
@@ -59,7 +60,7 @@ fn serve(
 ) -> Result<(), CommandFault>
     ensures { Leaves result (talk_of (performed (served peer piece.now now_ms client.old) database.old)) (talk client.new database.new) }
 {
-    serve_database(database, client, peer, piece, now_ms)?;
+    serve_database(alloc, database, client, peer, piece, now_ms)?;
     Ok(())
 }
 
@@ -76,14 +77,19 @@ pub(crate) fn talk(
     ensures { Tells string_bytes result (talked peer piece.now now_ms client.old database.old) (talk client.new database.new) }
 {
     let was_up = client.session.state().is_up();
-    serve(database, client, peer, piece, now_ms)?;
+    serve(alloc, database, client, peer, piece, now_ms)?;
     Ok(tell_session(alloc, peer, was_up, client)?)
 }
 
-fn end(database: &mut Database, client: &mut Client, peer: u32) -> Result<(), CommandFault>
+fn end(
+    alloc: Global,
+    database: &mut Database,
+    client: &mut Client,
+    peer: u32,
+) -> Result<(), CommandFault>
     ensures { Leaves result (talk_of (performed (hung_up peer client.old) database.old)) (talk client.new database.new) }
 {
-    hang_up_database(database, client, peer)?;
+    hang_up_database(alloc, database, client, peer)?;
     Ok(())
 }
 
@@ -98,6 +104,6 @@ pub(crate) fn hang_up(
     ensures { Tells string_bytes result (hung peer client.old database.old) (talk client.new database.new) }
 {
     let was_up = client.session.state().is_up();
-    end(database, client, peer)?;
+    end(alloc, database, client, peer)?;
     Ok(tell_session(alloc, peer, was_up, client)?)
 }

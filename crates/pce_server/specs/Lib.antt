@@ -1,8 +1,3 @@
-pub mod Book
-pub mod Heard
 pub mod Ranges
-pub mod Goings
-pub mod Visits
-pub mod Operators
-pub mod Listening
-pub mod Dues
+pub mod Faults
+pub mod Expiries

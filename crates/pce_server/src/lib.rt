@@ -3,12 +3,9 @@
 //! which forgets peers that stay down; and the caller's own thread, which answers an operator's lines. At its end
 //! the database is closed with the audit of all seats (`shared_pce`).
 //!
-//! `connection` is one connection over any reader, writer and store. However it ends, the peer's Down is submitted
-//! before it returns, or that is told as a fault of the store; every other call is one that the engine's table names
-//! for this peer and the bytes that came (`specs/Visits`). `operate` is an operator over any reader, writer and store:
-//! each line leads to one call of the operator's event that it names, or to none, and is told what came of it
-//! (`specs/Operators`). What a session makes of bytes, what a step does and what an audit says is proved in the layers
-//! below; that threads run, that sockets deliver and that nothing waits for ever is shown by tests alone.
+//! What is said on a connection and to an operator is proved in `server_talk`, and what a session makes of bytes, what a
+//! step does and what an audit says in the layers below it; that threads run, that sockets deliver and that nothing
+//! waits for ever is shown by tests alone.
 //!
 //! ```text
 //! fn run<R: Wait + Threads + Clock + Net<Listener = TcpListener, Stream = TcpStream> + AllocGlobal + Log + Sync>(rt: &R, listener: &TcpListener, te: TeBase) -> Result<Audit, RunFault>
@@ -18,34 +15,24 @@
 //! }
 //! ```
 //!
-//! The modules, lowest first: `traits` (what a connection asks of its surroundings), `talk` (a connection), `socket`,
-//! `places` (where seats rest), `dues` (who expires when), `alarms` (what wakes a connection, and how many an address
-//! has), `run` (whether the run is to end, and why), `floor` (what each thread is lent), `staff` (workers and keeper),
-//! `visits` (a connection's thread), `door` (the acceptor), `book` (its text), `commands` (a line of an operator),
-//! `operator`, `server`.
+//! The modules, lowest first: `places` (where seats rest), `expiry` (what happens to peers, and when they are
+//! forgotten), `noted` (a store that tells of it), `alarms` (what wakes a connection, and how many an address has), `run`
+//! (whether the run is to end, and why), `floor` (what each thread is lent), `staff` (workers and keeper), `visits` (a
+//! connection's thread), `door` (the acceptor), `server`.
 #![tactic(auto)]
 
 mod alarms;
-mod book;
-mod commands;
 mod door;
-mod dues;
+mod expiry;
 mod floor;
-mod operator;
+mod noted;
 mod places;
 mod run;
 mod server;
-mod socket;
 mod staff;
-mod talk;
-mod traits;
 mod visits;
 
 pub use alarms::OF_ONE_ADDRESS;
-pub use book::books_read_alike;
-pub use operator::{LINE_LIMIT, operate};
 pub use run::RunFault;
 pub use server::{AT_ONCE, Orders, Sessions, serve_run};
 pub use shared_pce::{Audit, AuditFault, Fault};
-pub use talk::{Ended, TAKEN_WITHIN_MS, connection};
-pub use traits::{Desk, Patient, Watch};

@@ -4,17 +4,16 @@ ghost use Rattle.pce_server.specs.Ranges.{AreSessions, AreOrders};
 
 use crate::alarms::Alarms;
 use crate::door::accept_all;
-use crate::dues::Dues;
+use crate::expiry::Peers;
 use crate::floor::Floor;
-use crate::operator::operate;
 use crate::places::Places;
 use crate::run::{Run, RunFault};
-use crate::socket::bound_accepts;
 use crate::staff::{keep_time, work};
 use history_core::Database;
 use log::Log;
 use place_tokens::{Room, Unopened};
 use seated_store::Seated;
+use server_talk::{bound_accepts, operate};
 use shared_pce::{Audit, Fault, Seat, Shared};
 use std::alloc::Global;
 use std::io::{Read, Write};
@@ -126,9 +125,6 @@ where
     requires room { (room.table ≡ B.table) × (room.seats ≡ B.seats) × (room.seats ≡ seats) }
 {
     let alloc = rt.alloc();
-    if bound_accepts(listener).is_err() {
-        return Err(RunFault::Device);
-    }
     let database = Database::new(alloc, te)?;
     let (shared, all) = Shared::<S, G, B>::new(alloc, database, seats, steps, grants, room)?;
     let places = Places::new(alloc, all)?;
@@ -177,8 +173,11 @@ where
         + Sync,
     requires orders { AreOrders orders }
 {
+    if bound_accepts(listener).is_err() {
+        return Err(RunFault::Device);
+    }
     let run = Run::new();
-    let dues = Dues::new(alloc);
+    let peers = Peers::new(alloc);
     let live = live_of(orders.sessions) as usize;
     let alarms = Alarms::new(alloc, live)?;
     let floor = Floor {
@@ -186,7 +185,7 @@ where
         alloc,
         shared,
         places,
-        dues: &dues,
+        peers: &peers,
         run: &run,
         alarms: &alarms,
         start: Instant::now(rt).ok(),
@@ -194,7 +193,7 @@ where
         live,
     };
     staff(&floor, listener, orders, reader, writer);
-    if dues.owes_a_down(rt) {
+    if peers.owes_a_down(rt) {
         run.cut(rt, RunFault::Store(Fault::OutOfMemory));
     }
     match run.into_fault() {
@@ -270,7 +269,7 @@ fn hear_operator<S: Ledger, G: Ledger, B: Room, R: Wait + Clock, I: Read, O: Wri
     let heard = operate(floor.alloc, reader, writer, &floor.moments(), &mut store);
     drop(store);
     if let Err(fault) = heard {
-        floor.cut(fault);
+        floor.cut(RunFault::from(fault));
     }
     floor.places.put(floor.rt, at, seat);
 }

@@ -1,7 +1,6 @@
 -- Parts that are taken in one after the other, as a loop does, are the parts of all objects.
-use Rattle.std.proofs.Common.{◌≡◌, false, ℕ, ◌<◌, List, [], ◌∷◌, length, drop, map, fold, Option, Some, None, Result, Ok, Err, refl, sym, ap, ◌∙◌, arith}
+use Rattle.std.proofs.Common.{◌≡◌, ℕ, List, [], ◌∷◌, map, fold, Option, Some, None, Result, Ok, Err, refl, sym, ap, ◌∙◌}
 use Rattle.std.specs.Option.{option_or}
-use Rattle.pcep_objects.specs.Objects.{object_at, sized}
 use Rattle.pcep_objects.specs.declared.fault.BodyFault.{BodyFault}
 use Rattle.pcep_objects.specs.declared.fault.ObjectFault.{ObjectFault}
 use Rattle.pcep_objects.specs.declared.object.Hop.{Hop}
@@ -16,15 +15,12 @@ use Rattle.pcep_objects.specs.declared.request_objects.Rp.{Rp}
 use Rattle.pcep_objects.specs.declared.session_objects.Close.{Close}
 use Rattle.pcep_objects.specs.declared.session_objects.Open.{Open}
 use Rattle.pcep_objects.specs.declared.object.Object.TheVariants as objects
-use Rattle.pcep_messages.specs.declared.objects.Next.TheVariants as next
 use Rattle.pcep_messages.specs.declared.parts.Parts.{Parts}
 use Rattle.pcep_messages.specs.Counting.{first_of, opening_of, rp_of, no_path_of, end_points_of, metric_of, ero_of, lspa_of, close_of, lsp_of, srp_of, requested_of, greater_of}
-use Rattle.pcep_messages.specs.Objects.{Found, found_from, found_in}
-use Rattle.pcep_messages.specs.ObjectSteps.{next_of}
+use Rattle.pcep_messages.specs.Objects.{Found, stopped_by}
+use Rattle.pcep_messages.specs.ObjectSteps.{begun_by, nothing_found}
 use Rattle.pcep_messages.specs.Parts as all
 use Rattle.pcep_messages.specs.PartSteps.{no_parts, and_then, joined, kept, ArePartsOf}
-use Rattle.pcep_messages.proofs.Finding.{step, passed}
-use Rattle.pcep_messages.proofs.Stepping.{is_next}
 use Rattle.pcep_messages.proofs.Taking.{or_assoc, or_none}
 
 -- parts that were taken in, with the objects that follow
@@ -81,31 +77,20 @@ pub begins : (whole : Found) → Continues no_parts whole whole
 unfolding all.parts_of
 begins whole = (refl, refl)
 
-pub goes_on : (parts taken : Parts) (rest : List ℕ) (object : Object) (n : ℕ) (whole : Found) → 0 < length rest → 0 < n → next.Object object n ≡ next_of false (object_at rest) → taken ≡ and_then parts object
-    → Continues parts (found_in rest) whole → Continues taken (found_in (drop n rest)) whole
-goes_on parts taken rest object n whole some pos e is so_far =
-    let behind = found_in (drop n rest) in
-    let one : found_in rest ≡ record { objects = object ∷ behind.objects; fault = behind.fault } =
-    step false rest some ∙ rw (← e) (ap (λ (f : Found). record { objects = object ∷ f.objects; fault = f.fault }) (passed false rest n pos some)) in
-    (ap (λ (p : Parts). with_objects p behind.objects) is ∙ sym (takes parts object behind.objects) ∙ ap (λ (f : Found). with_objects parts f.objects) (sym one) ∙ so_far.0, ap (λ (f : Found). f.fault) (sym one) ∙ so_far.1)
+goes_on : (parts taken : Parts) (found rest whole : Found) (object : Object) → found ≡ record { objects = object ∷ rest.objects; fault = rest.fault } → taken ≡ and_then parts object
+    → Continues parts found whole → Continues taken rest whole
+goes_on parts taken found rest whole object one is so_far =
+    (ap (λ (p : Parts). with_objects p rest.objects) is ∙ sym (takes parts object rest.objects) ∙ ap (λ (f : Found). with_objects parts f.objects) (sym one) ∙ so_far.0, ap (λ (f : Found). f.fault) (sym one) ∙ so_far.1)
 
--- the same by the object's body
-pub takes_body : (parts taken : Parts) (rest : List ℕ) (read : Result Object BodyFault) (n : ℕ) (whole : Found) → 0 < length rest → 0 < n → object_at rest ≡ sized n read → joined read parts ≡ Ok taken
-    → Continues parts (found_in rest) whole → Continues taken (found_in (drop n rest)) whole
-takes_body parts taken rest (Ok object) n whole some pos at took so_far = let is : taken ≡ and_then parts object = cc in goes_on parts taken rest object n whole some pos (is_next false rest object n at) is so_far
-takes_body parts taken rest (Err fault) n whole some pos at took so_far = cc
+pub takes_body : (parts taken : Parts) (found rest whole : Found) (read : Result Object BodyFault) → found ≡ begun_by read rest → joined read parts ≡ Ok taken
+    → Continues parts found whole → Continues taken rest whole
+takes_body parts taken found rest whole (Ok object) one took so_far = let is : taken ≡ and_then parts object = cc in goes_on parts taken found rest whole object one is so_far
+takes_body parts taken found rest whole (Err fault) one took so_far = cc
 
-pub skips : (parts : Parts) (rest : List ℕ) (n : ℕ) (whole : Found) → 0 < length rest → 0 < n → next.Skipped n ≡ next_of false (object_at rest) → Continues parts (found_in rest) whole → Continues parts (found_in (drop n rest)) whole
-skips parts rest n whole some pos e so_far =
-    let one : found_in rest ≡ found_in (drop n rest) = step false rest some ∙ rw (← e) (passed false rest n pos some) in
-    (ap (λ (f : Found). with_objects parts f.objects) (sym one) ∙ so_far.0, ap (λ (f : Found). f.fault) (sym one) ∙ so_far.1)
-
-pub stops : (parts : Parts) (rest : List ℕ) (fault : ObjectFault) (whole : Found) → 0 < length rest → next.Bad fault ≡ next_of false (object_at rest) → Continues parts (found_in rest) whole → ArePartsOf whole parts (Some fault)
-stops parts rest fault whole some e so_far =
-    let one : found_in rest ≡ record { objects = []; fault = Some fault } = step false rest some ∙ rw (← e) refl in
+pub stops : (parts : Parts) (found whole : Found) (fault : ObjectFault) → found ≡ stopped_by fault → Continues parts found whole → ArePartsOf whole parts (Some fault)
+stops parts found whole fault one so_far =
     (sym so_far.0 ∙ ap (λ (f : Found). with_objects parts f.objects) one ∙ with_none parts, sym so_far.1 ∙ ap (λ (f : Found). f.fault) one)
 
-pub ends : (parts : Parts) (rest : List ℕ) (whole : Found) → length rest ≡ 0 → Continues parts (found_in rest) whole → ArePartsOf whole parts None
-unfolding found_from
-ends parts [] whole none so_far = (sym so_far.0 ∙ with_none parts, sym so_far.1)
-ends parts (b ∷ bytes) whole none so_far = absurd (omega arith)
+pub ends : (parts : Parts) (found whole : Found) → found ≡ nothing_found → Continues parts found whole → ArePartsOf whole parts None
+ends parts found whole one so_far =
+    (sym so_far.0 ∙ ap (λ (f : Found). with_objects parts f.objects) one ∙ with_none parts, sym so_far.1 ∙ ap (λ (f : Found). f.fault) one)

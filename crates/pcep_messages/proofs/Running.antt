@@ -1,17 +1,15 @@
 -- Objects that are taken in one after the other, as a loop does: after says what one object makes of a state, finished what the end of
 -- the objects does, or an object that has a fault of its own.
-use Rattle.std.proofs.Common.{◌≡◌, ℕ, Bool, ◌<◌, List, [], ◌∷◌, ◌++◌, length, drop, Option, Some, None, Result, Ok, Err, refl, sym, ap, subst, ◌∙◌, append_assoc, arith}
+use Rattle.std.proofs.Common.{◌≡◌, ℕ, Bool, List, [], ◌∷◌, ◌++◌, Option, Some, None, Result, Ok, Err, refl, sym, ap, subst, ◌∙◌, append_assoc}
 use Rattle.pcep_objects.specs.Steps.{◌>>=◌}
-use Rattle.pcep_objects.specs.Objects.{object_at}
+use Rattle.pcep_objects.specs.declared.fault.BodyFault.{BodyFault}
 use Rattle.pcep_objects.specs.declared.fault.ObjectFault.{ObjectFault}
 use Rattle.pcep_objects.specs.declared.object.Object.{Object}
-use Rattle.pcep_messages.specs.declared.objects.Next.TheVariants as next
 use Rattle.pcep_messages.specs.declared.fault.MessageFault.{MessageFault}
 use Rattle.pcep_messages.specs.declared.fault.MessageFault.TheVariants.{BadHeader, BadObject, Missing, MissingIdentifiers, BadP, Refused, OutOfMemory}
 use Rattle.pcep_messages.specs.Faults.{Fails, Gives}
-use Rattle.pcep_messages.specs.Objects.{Found, found_from, found_by}
-use Rattle.pcep_messages.specs.ObjectSteps.{next_of}
-use Rattle.pcep_messages.proofs.Finding.{step, passed}
+use Rattle.pcep_messages.specs.Objects.{Found, stopped_by, found_by}
+use Rattle.pcep_messages.specs.ObjectSteps.{begun_by, nothing_found, taken_by}
 
 -- ---- lists that are read element by element
 
@@ -50,47 +48,47 @@ run_to_end after finished s objects own = run after s objects >>= λ t. finished
 
 -- what the rest of the bytes gives from a state on
 abbrev pub rest_gives : {S Y : Type 0} → (Object → S → Result S MessageFault) → (S → Option ObjectFault → Result Y MessageFault) → Bool → S → List ℕ → Result Y MessageFault
-rest_gives after finished heeds_p s rest = run_to_end after finished s (found_by heeds_p rest).objects (found_by heeds_p rest).fault
+rest_gives after finished checks_p s rest = run_to_end after finished s (found_by checks_p rest).objects (found_by checks_p rest).fault
 
-with_object : (heeds_p : Bool) (rest : List ℕ) (object : Object) (n : ℕ) → 0 < length rest → 0 < n → next.Object object n ≡ next_of heeds_p (object_at rest)
-    → found_by heeds_p rest ≡ record { objects = object ∷ (found_by heeds_p (drop n rest)).objects; fault = (found_by heeds_p (drop n rest)).fault }
-with_object heeds_p rest object n some pos e =
-    step heeds_p rest some ∙ rw (← e) (ap (λ (f : Found). record { objects = object ∷ f.objects; fault = f.fault }) (passed heeds_p rest n pos some))
-
-pub goes_on : {S Y : Type 0} (after : Object → S → Result S MessageFault) (finished : S → Option ObjectFault → Result Y MessageFault) (heeds_p : Bool) (s t : S) (rest : List ℕ) (object : Object) (n : ℕ) (total : Result Y MessageFault)
-    → 0 < length rest → 0 < n → next.Object object n ≡ next_of heeds_p (object_at rest) → after object s ≡ Ok t
-    → rest_gives after finished heeds_p s rest ≡ total → rest_gives after finished heeds_p t (drop n rest) ≡ total
-goes_on after finished heeds_p s t rest object n total some pos e took so_far =
-    let one = with_object heeds_p rest object n some pos e in
-    let f = found_by heeds_p (drop n rest) in
-    ap (λ (r : _). (r >>= λ u. run after u f.objects) >>= λ u. finished u f.fault) (sym took)
+pub goes_on : {S Y : Type 0} (after : Object → S → Result S MessageFault) (finished : S → Option ObjectFault → Result Y MessageFault) (s t : S) (found rest : Found) (read : Result Object BodyFault) (total : Result Y MessageFault)
+    → found ≡ begun_by read rest → taken_by after read s ≡ Ok t
+    → run_to_end after finished s found.objects found.fault ≡ total → run_to_end after finished t rest.objects rest.fault ≡ total
+goes_on after finished s t found rest (Ok object) total one took so_far =
+    ap (λ (r : _). (r >>= λ u. run after u rest.objects) >>= λ u. finished u rest.fault) (sym took)
     ∙ ap (λ (g : Found). run_to_end after finished s g.objects g.fault) (sym one) ∙ so_far
+goes_on after finished s t found rest (Err fault) total one took so_far = cc
 
-pub takes_none : {S Y : Type 0} (after : Object → S → Result S MessageFault) (finished : S → Option ObjectFault → Result Y MessageFault) (heeds_p : Bool) (s : S) (rest : List ℕ) (object : Object) (n : ℕ) (e : MessageFault) (total : Result Y MessageFault)
-    → 0 < length rest → 0 < n → next.Object object n ≡ next_of heeds_p (object_at rest) → Fails e (after object s)
-    → rest_gives after finished heeds_p s rest ≡ total → Fails e total
-takes_none after finished heeds_p s rest object n e total some pos is failed so_far =
-    let one = with_object heeds_p rest object n some pos is in
-    let f = found_by heeds_p (drop n rest) in
-    fails_from e (run after s (object ∷ f.objects)) (λ u. finished u f.fault) total
-    (fails_from e (after object s) (λ u. run after u f.objects) (run after s (object ∷ f.objects)) failed refl)
+only_memory : {S Y : Type 0} (e : MessageFault) (none : Result S MessageFault) (total : Result Y MessageFault) → none ≡ Err OutOfMemory → Fails e none → Fails e total
+only_memory BadHeader none total is failed = cc
+only_memory (BadObject f a) none total is failed = cc
+only_memory (Missing k a) none total is failed = cc
+only_memory (MissingIdentifiers a) none total is failed = cc
+only_memory (BadP a) none total is failed = cc
+only_memory (Refused k v a) none total is failed = cc
+only_memory OutOfMemory none total is failed = tt
+
+pub takes_none : {S Y : Type 0} (after : Object → S → Result S MessageFault) (finished : S → Option ObjectFault → Result Y MessageFault) (s : S) (found rest : Found) (read : Result Object BodyFault) (e : MessageFault) (total : Result Y MessageFault)
+    → found ≡ begun_by read rest → Fails e (taken_by after read s)
+    → run_to_end after finished s found.objects found.fault ≡ total → Fails e total
+takes_none after finished s found rest (Ok object) e total one failed so_far =
+    fails_from e (run after s (object ∷ rest.objects)) (λ u. finished u rest.fault) total
+    (fails_from e (after object s) (λ u. run after u rest.objects) (run after s (object ∷ rest.objects)) failed refl)
     (ap (λ (g : Found). run_to_end after finished s g.objects g.fault) (sym one) ∙ so_far)
+takes_none after finished s found rest (Err fault) e total one failed so_far = only_memory e (taken_by after (Err fault) s) total refl failed
 
-pub skips : {S Y : Type 0} (after : Object → S → Result S MessageFault) (finished : S → Option ObjectFault → Result Y MessageFault) (heeds_p : Bool) (s : S) (rest : List ℕ) (n : ℕ) (total : Result Y MessageFault)
-    → 0 < length rest → 0 < n → next.Skipped n ≡ next_of heeds_p (object_at rest)
-    → rest_gives after finished heeds_p s rest ≡ total → rest_gives after finished heeds_p s (drop n rest) ≡ total
-skips after finished heeds_p s rest n total some pos e so_far =
-    let one : found_by heeds_p rest ≡ found_by heeds_p (drop n rest) = step heeds_p rest some ∙ rw (← e) (passed heeds_p rest n pos some) in
-    ap (λ (g : Found). run_to_end after finished s g.objects g.fault) (sym one) ∙ so_far
+pub stops : {S Y : Type 0} (after : Object → S → Result S MessageFault) (finished : S → Option ObjectFault → Result Y MessageFault) (s : S) (found : Found) (fault : ObjectFault) (total : Result Y MessageFault)
+    → found ≡ stopped_by fault → run_to_end after finished s found.objects found.fault ≡ total → finished s (Some fault) ≡ total
+stops after finished s found fault total one so_far = ap (λ (g : Found). run_to_end after finished s g.objects g.fault) (sym one) ∙ so_far
 
-pub stops : {S Y : Type 0} (after : Object → S → Result S MessageFault) (finished : S → Option ObjectFault → Result Y MessageFault) (heeds_p : Bool) (s : S) (rest : List ℕ) (fault : ObjectFault) (total : Result Y MessageFault)
-    → 0 < length rest → next.Bad fault ≡ next_of heeds_p (object_at rest) → rest_gives after finished heeds_p s rest ≡ total → finished s (Some fault) ≡ total
-stops after finished heeds_p s rest fault total some e so_far =
-    let one : found_by heeds_p rest ≡ record { objects = []; fault = Some fault } = step heeds_p rest some ∙ rw (← e) refl in
-    ap (λ (g : Found). run_to_end after finished s g.objects g.fault) (sym one) ∙ so_far
+pub ends : {S Y : Type 0} (after : Object → S → Result S MessageFault) (finished : S → Option ObjectFault → Result Y MessageFault) (s : S) (found : Found) (total : Result Y MessageFault)
+    → found ≡ nothing_found → run_to_end after finished s found.objects found.fault ≡ total → finished s None ≡ total
+ends after finished s found total one so_far = ap (λ (g : Found). run_to_end after finished s g.objects g.fault) (sym one) ∙ so_far
 
-pub ends : {S Y : Type 0} (after : Object → S → Result S MessageFault) (finished : S → Option ObjectFault → Result Y MessageFault) (heeds_p : Bool) (s : S) (rest : List ℕ) (total : Result Y MessageFault)
-    → length rest ≡ 0 → rest_gives after finished heeds_p s rest ≡ total → finished s None ≡ total
-unfolding found_from
-ends after finished heeds_p s [] total none so_far = so_far
-ends after finished heeds_p s (b ∷ bytes) total none so_far = absurd (omega arith)
+pub is_fault : {Y : Type 0} (e : MessageFault) (total : Result Y MessageFault) → total ≡ Err e → Fails e total
+is_fault BadHeader total is = is
+is_fault (BadObject f a) total is = is
+is_fault (Missing k a) total is = is
+is_fault (MissingIdentifiers a) total is = is
+is_fault (BadP a) total is = is
+is_fault (Refused k v a) total is = is
+is_fault OutOfMemory total is = tt

@@ -13,22 +13,22 @@ pub record Found : Type 0 where
 abbrev pub stopped_by : ObjectFault → Found
 stopped_by fault = record { objects = []; fault = Some fault }
 
--- What stands at the front, and the rest behind its bytes. An object of an unknown class or type is skipped; in a message that heeds
--- their P flag, one that has to be processed is a fault.
+-- What stands at the front, and the rest behind its bytes. An object of an unknown class or type is skipped; in a message that
+-- checks their P flag, one that has to be processed is a fault.
 abbrev pub followed_by : Bool → Result (Object × ℕ) ObjectFault → (ℕ → Found) → Found
-followed_by heeds_p (Ok x) rest = record { objects = x.0 ∷ (rest x.1).objects; fault = (rest x.1).fault }
-followed_by heeds_p (Err (UnknownClass p n)) rest = if heeds_p && p then stopped_by (UnknownClass p n) else rest n
-followed_by heeds_p (Err (UnknownType p n)) rest = if heeds_p && p then stopped_by (UnknownType p n) else rest n
-followed_by heeds_p (Err fault) rest = stopped_by fault
+followed_by checks_p (Ok x) rest = record { objects = x.0 ∷ (rest x.1).objects; fault = (rest x.1).fault }
+followed_by checks_p (Err (UnknownClass p n)) rest = if checks_p && p then stopped_by (UnknownClass p n) else rest n
+followed_by checks_p (Err (UnknownType p n)) rest = if checks_p && p then stopped_by (UnknownType p n) else rest n
+followed_by checks_p (Err fault) rest = stopped_by fault
 
 -- skip counts the bytes of an object that was read and are still to pass
 unfoldable pub found_from : Bool → ℕ → List ℕ → Found
-found_from heeds_p skip [] = record { objects = []; fault = None }
-found_from heeds_p (suc skip) (b ∷ bytes) = found_from heeds_p skip bytes
-found_from heeds_p zero (b ∷ bytes) = followed_by heeds_p (object_at (b ∷ bytes)) (λ n. found_from heeds_p (n - 1) bytes)
+found_from checks_p skip [] = record { objects = []; fault = None }
+found_from checks_p (suc skip) (b ∷ bytes) = found_from checks_p skip bytes
+found_from checks_p zero (b ∷ bytes) = followed_by checks_p (object_at (b ∷ bytes)) (λ n. found_from checks_p (n - 1) bytes)
 
 abbrev pub found_by : Bool → List ℕ → Found
-found_by heeds_p bytes = found_from heeds_p 0 bytes
+found_by checks_p bytes = found_from checks_p 0 bytes
 
 -- P counts in a request alone (RFC 5440 section 7.2)
 abbrev pub found_in : List ℕ → Found

@@ -14,7 +14,7 @@ use crate::putting::{
 use pcep_objects::{Close, Open, PcepError, Plsp, WriteFault, put_close, put_open};
 use std::alloc::AllocError;
 
-/// The RPs of a PCErr, with P clear.
+/// Appends the RPs of a PCErr, with P clear.
 #[tactic(auto, using(crate::proofs::Fronts::front_one))]
 fn put_requests(requests: &[u32], out: &mut Vec<u8>) -> Result<(), AllocError>
     ensures written { OnOk result (out.new.items ≡ out.old.items ++ flat_map (λ id. object_spelled (rp_object false id)) requests.now) }
@@ -26,7 +26,7 @@ fn put_requests(requests: &[u32], out: &mut Vec<u8>) -> Result<(), AllocError>
     Ok(())
 }
 
-/// The SRPs of a PCErr.
+/// Appends the SRPs of a PCErr.
 #[tactic(auto, using(crate::proofs::Fronts::front_one))]
 fn put_srps(srps: &[u32], out: &mut Vec<u8>) -> Result<(), AllocError>
     ensures written { OnOk result (out.new.items ≡ out.old.items ++ flat_map (λ id. object_spelled (srp_object false id)) srps.now) }
@@ -38,7 +38,7 @@ fn put_srps(srps: &[u32], out: &mut Vec<u8>) -> Result<(), AllocError>
     Ok(())
 }
 
-/// The PCEP-ERRORs of a PCErr.
+/// Appends the PCEP-ERRORs of a PCErr.
 #[tactic(auto, using(crate::proofs::Fronts::front_one))]
 fn put_each_error(errors: &[PcepError], out: &mut Vec<u8>) -> Result<(), AllocError>
     ensures written { OnOk result (out.new.items ≡ out.old.items ++ flat_map (λ error. object_spelled (objects.Error error)) errors.now) }
@@ -50,7 +50,7 @@ fn put_each_error(errors: &[PcepError], out: &mut Vec<u8>) -> Result<(), AllocEr
     Ok(())
 }
 
-/// The body of a PCErr.
+/// Appends the body of a PCErr.
 #[tactic(auto, using(crate::proofs::ErrorObjects::errors_fit, crate::proofs::Fronts::front_same, crate::proofs::Fronts::front_one, crate::proofs::Fronts::front_two, crate::proofs::Fronts::front_again))]
 fn put_errors(errors: &Errors, out: &mut Vec<u8>) -> Result<(), WriteFault>
     ensures written { OnOk result (out.new.items ≡ out.old.items ++ objects_spelled (error_objects errors.now)) }
@@ -84,7 +84,7 @@ fn put_answer(answer: &Answer, out: &mut Vec<u8>) -> Result<(), WriteFault>
     }
 }
 
-/// The body of a PCRep.
+/// Appends the body of a PCRep.
 #[tactic(auto, using(crate::proofs::Fronts::front_same, crate::proofs::Fronts::front_one, crate::proofs::Fronts::front_again))]
 fn put_reply(reply: &Reply, out: &mut Vec<u8>) -> Result<(), WriteFault>
     ensures written { OnOk result (out.new.items ≡ out.old.items ++ objects_spelled (reply_objects reply.now)) }
@@ -96,7 +96,7 @@ fn put_reply(reply: &Reply, out: &mut Vec<u8>) -> Result<(), WriteFault>
     put_answer(&reply.answer, out)
 }
 
-/// The body of a PCUpd.
+/// Appends the body of a PCUpd.
 #[tactic(auto, using(crate::proofs::Fronts::front_same, crate::proofs::Fronts::front_one, crate::proofs::Fronts::front_two, crate::proofs::Fronts::front_three, crate::proofs::Fronts::front_again))]
 fn put_update(update: &Update, out: &mut Vec<u8>) -> Result<(), WriteFault>
     ensures written { OnOk result (out.new.items ≡ out.old.items ++ objects_spelled (update_objects update.now)) }
@@ -111,7 +111,7 @@ fn put_update(update: &Update, out: &mut Vec<u8>) -> Result<(), WriteFault>
     Ok(())
 }
 
-/// The body of a PCInitiate for a new LSP.
+/// Appends the body of a PCInitiate for a new LSP.
 #[tactic(auto, using(crate::proofs::Fronts::front_same, crate::proofs::Fronts::front_one, crate::proofs::Fronts::front_two, crate::proofs::Fronts::front_three, crate::proofs::Fronts::front_four, crate::proofs::Fronts::front_again))]
 fn put_create(create: &Create, out: &mut Vec<u8>) -> Result<(), WriteFault>
     ensures written { OnOk result (out.new.items ≡ out.old.items ++ objects_spelled (create_objects create.now)) }
@@ -127,7 +127,7 @@ fn put_create(create: &Create, out: &mut Vec<u8>) -> Result<(), WriteFault>
     Ok(())
 }
 
-/// The body of a PCInitiate that deletes an LSP.
+/// Appends the body of a PCInitiate that deletes an LSP.
 #[tactic(auto, using(crate::proofs::Fronts::front_same, crate::proofs::Fronts::front_one))]
 fn put_remove(srp: u32, plsp: Plsp, out: &mut Vec<u8>) -> Result<(), AllocError>
     ensures written { OnOk result (out.new.items ≡ out.old.items ++ objects_spelled (remove_objects srp plsp)) }
@@ -138,7 +138,7 @@ fn put_remove(srp: u32, plsp: Plsp, out: &mut Vec<u8>) -> Result<(), AllocError>
     put_lsp(plsp, true, false, out)
 }
 
-/// The body of a PCInitiate.
+/// Appends the body of a PCInitiate.
 fn put_initiate(initiate: &Initiate, out: &mut Vec<u8>) -> Result<(), WriteFault>
     ensures written { OnOk result (out.new.items ≡ out.old.items ++ objects_spelled (initiate_objects initiate.now)) }
     ensures fits { IfOk result (λ _. objects_fit (initiate_objects initiate.now) ≡ true) }
@@ -154,7 +154,7 @@ fn put_initiate(initiate: &Initiate, out: &mut Vec<u8>) -> Result<(), WriteFault
     }
 }
 
-/// The body of an Open.
+/// Appends the body of an Open.
 #[tactic(auto, unfolding(crate::specs::Spelling::object_spelled, crate::specs::Spelling::object_fits))]
 fn put_opening(opening: &Open, out: &mut Vec<u8>) -> Result<(), AllocError>
     ensures written { OnOk result (out.new.items ≡ out.old.items ++ objects_spelled (objects.Open opening.now ∷ [])) }
@@ -164,7 +164,7 @@ fn put_opening(opening: &Open, out: &mut Vec<u8>) -> Result<(), AllocError>
     put_open(opening, out)
 }
 
-/// The body of a Close.
+/// Appends the body of a Close.
 #[tactic(auto, unfolding(crate::specs::Spelling::object_spelled, crate::specs::Spelling::object_fits))]
 fn put_reason(reason: u8, out: &mut Vec<u8>) -> Result<(), AllocError>
     ensures written { OnOk result (out.new.items ≡ out.old.items ++ objects_spelled (objects.Close (record { reason = reason }) ∷ [])) }

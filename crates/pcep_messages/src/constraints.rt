@@ -8,7 +8,7 @@ use crate::message::Bounds;
 use pcep_objects::{BandwidthType, Metric, MetricType};
 use pcep_word::Bandwidth;
 
-/// The bandwidth that is asked for: that of an LSP that stands is not.
+/// Returns the bandwidth that is asked for, 0 for that of an LSP that stands.
 pub fn bandwidth_asked(kind: BandwidthType, bandwidth: Bandwidth) -> Bandwidth
     ensures { result ≡ bandwidth_asked (objects.Bandwidth kind bandwidth) }
 {
@@ -29,7 +29,7 @@ fn metric_type(number: u8) -> Option<MetricType>
     }
 }
 
-/// The metric that is to be least.
+/// Returns the metric that is to be least.
 pub fn minimised_by(metric: &Metric) -> Option<MetricType>
     ensures { result ≡ minimised_by (objects.Metric metric.now) }
 {
@@ -60,7 +60,7 @@ fn lesser(bound: Option<u64>, other: Option<u64>) -> Option<u64>
     }
 }
 
-/// The bounds, with that of one more METRIC.
+/// Adds the bound of one more METRIC to the bounds.
 pub fn bounded(bounds: Bounds, metric: &Metric) -> Bounds
     ensures igp { result.igp ≡ lesser bounds.igp (bound_on 1 (objects.Metric metric.now)) }
     ensures te { result.te ≡ lesser bounds.te (bound_on 2 (objects.Metric metric.now)) }

@@ -79,7 +79,7 @@ fn errors_of(alloc: Global, objects: &[Object]) -> Result<Errors, AllocError>
     })
 }
 
-/// The body of a PCErr.
+/// Reads the body of a PCErr.
 #[tactic(auto, unfolding(crate::specs::Errors::errors_body))]
 #[inline(never)]
 pub fn read_errors(alloc: Global, body: &[u8]) -> Result<Message, MessageFault>

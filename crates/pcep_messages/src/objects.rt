@@ -1,104 +1,81 @@
 //! The objects of a message, from first to last.
 
-ghost use Rattle.std.specs.Prelude.{◌≡◌, ◌≤◌, length, IfOk};
-ghost use Rattle.pcep_objects.specs.Objects.{object_at};
-ghost use Rattle.pcep_messages.specs.Objects.{found_by, found_in, found_in_request, IsFound};
-ghost use Rattle.pcep_messages.specs.ObjectSteps.{next_of, skipped, SizeWithin};
+ghost use Rattle.std.specs.Prelude.{◌≡◌, IfOk};
+ghost use Rattle.pcep_messages.specs.Objects.{found_in, IsFound};
+ghost use Rattle.pcep_messages.specs.ObjectSteps.{skipped, IsNext};
 
-use pcep_objects::{Object, ObjectFault, read_object};
+use pcep_objects::{BodyFault, Front, Object, ObjectFault, front_of, read_body};
 use std::alloc::{AllocError, Global};
 
-/// What stands at the front of the bytes.
-#[derive(Drop)]
-pub enum Next {
-    /// An object, and its length.
-    Object(Object, usize),
-    /// An object of an unknown class or type that is skipped, by its length.
-    Skipped(usize),
-    /// An object with a fault of its own.
+/// The next object of a message.
+#[derive(Clone, Copy)]
+pub enum Next<'a> {
+    /// An object of a known kind by its header, and the bytes behind it.
+    Object(Front<'a>, &'a [u8]),
+    /// A header with a fault of its own.
     Bad(ObjectFault),
+    /// No object follows.
+    End,
 }
 
-pub fn next_object(alloc: Global, bytes: &[u8], heeds_p: bool) -> Result<Next, AllocError>
-    ensures next { IfOk result (λ x. x ≡ next_of heeds_p (object_at bytes.now)) }
-    ensures size { IfOk result (SizeWithin (length bytes.now)) }
-{
-    match read_object(alloc, bytes) {
-        Ok((object, size)) => Ok(Next::Object(object, size)),
-        Err(ObjectFault::UnknownClass { p, size }) => Ok(if heeds_p && p {
-            Next::Bad(ObjectFault::UnknownClass { p, size })
-        } else {
-            Next::Skipped(size)
-        }),
-        Err(ObjectFault::UnknownType { p, size }) => Ok(if heeds_p && p {
-            Next::Bad(ObjectFault::UnknownType { p, size })
-        } else {
-            Next::Skipped(size)
-        }),
-        Err(ObjectFault::OutOfMemory) => Err(AllocError),
-        Err(ObjectFault::Short) => Ok(Next::Bad(ObjectFault::Short)),
-        Err(ObjectFault::BadLength) => Ok(Next::Bad(ObjectFault::BadLength)),
-        Err(ObjectFault::BadTlv) => Ok(Next::Bad(ObjectFault::BadTlv)),
-        Err(ObjectFault::BadNumber) => Ok(Next::Bad(ObjectFault::BadNumber)),
-    }
-}
-
-/// The length of an object that is skipped in place of a fault; None: it isn't.
-pub fn skipped(fault: ObjectFault, heeds_p: bool) -> Option<usize>
-    ensures { result ≡ skipped heeds_p fault }
+/// Returns the length of an object that is skipped in place of a fault; None: it isn't.
+fn skipped(fault: ObjectFault, checks_p: bool) -> Option<usize>
+    ensures { result ≡ skipped checks_p fault }
 {
     match fault {
-        ObjectFault::UnknownClass { p, size } => { if heeds_p && p { None } else { Some(size) } }
-        ObjectFault::UnknownType { p, size } => { if heeds_p && p { None } else { Some(size) } }
+        ObjectFault::UnknownClass { p, size } => { if checks_p && p { None } else { Some(size) } }
+        ObjectFault::UnknownType { p, size } => { if checks_p && p { None } else { Some(size) } }
         _ => None,
     }
 }
 
-fn objects_by(
-    alloc: Global,
-    bytes: &[u8],
-    heeds_p: bool,
-) -> Result<(Vec<Object>, Option<ObjectFault>), AllocError>
-    ensures { IfOk result (λ x. IsFound (found_by heeds_p bytes.now) x.0.items x.1) }
+/// Finds the next object. Those of unknown classes and types are skipped, but for those with P set where
+/// P is checked (RFC 5440 section 7.2).
+#[inline(always)]
+pub fn next_object(bytes: &[u8], checks_p: bool) -> Next<'_>
+    ensures { IsNext checks_p bytes.now result }
 {
-    // Most messages have fewer.
-    let mut objects = Vec::with_capacity(alloc, 8)?;
     let mut rest = bytes;
     while !rest.is_empty() {
-        match next_object(alloc, rest, heeds_p)? {
-            Next::Object(object, size) => {
-                objects.push(object)?;
-                let (_, after) = rest.split_at(size);
-                rest = after;
+        match front_of(rest) {
+            Ok(front) => {
+                let (_, after) = rest.split_at(front.size);
+                return Next::Object(front, after);
             }
-            Next::Skipped(size) => {
-                let (_, after) = rest.split_at(size);
-                rest = after;
-            }
-            Next::Bad(fault) => return Ok((objects, Some(fault))),
+            Err(fault) => match skipped(fault, checks_p) {
+                Some(size) => {
+                    let (_, after) = rest.split_at(size);
+                    rest = after;
+                }
+                None => return Next::Bad(fault),
+            },
         }
     }
-    Ok((objects, None))
+    Next::End
 }
 
-/// The objects up to the first that has a fault of its own, and that fault. Those of unknown classes and
-/// types are skipped.
+/// Reads the objects up to the first that has a fault of its own, and that fault.
 pub fn objects_in(
     alloc: Global,
     bytes: &[u8],
 ) -> Result<(Vec<Object>, Option<ObjectFault>), AllocError>
     ensures { IfOk result (λ x. IsFound (found_in bytes.now) x.0.items x.1) }
 {
-    objects_by(alloc, bytes, false)
-}
-
-/// The same of a request, where an object of an unknown class or type with the P flag is a fault
-/// (RFC 5440 section 7.2).
-pub fn request_objects_in(
-    alloc: Global,
-    bytes: &[u8],
-) -> Result<(Vec<Object>, Option<ObjectFault>), AllocError>
-    ensures { IfOk result (λ x. IsFound (found_in_request bytes.now) x.0.items x.1) }
-{
-    objects_by(alloc, bytes, true)
+    // Most messages have fewer.
+    let mut objects = Vec::with_capacity(alloc, 8)?;
+    let mut rest = bytes;
+    loop {
+        match next_object(rest, false) {
+            Next::Object(front, after) => match read_body(alloc, front.kind, front.p, front.body) {
+                Ok(object) => {
+                    objects.push(object)?;
+                    rest = after;
+                }
+                Err(BodyFault::OutOfMemory) => return Err(AllocError),
+                Err(own) => return Ok((objects, Some(own.into()))),
+            },
+            Next::Bad(fault) => return Ok((objects, Some(fault))),
+            Next::End => return Ok((objects, None)),
+        }
+    }
 }

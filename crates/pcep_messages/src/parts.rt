@@ -1,4 +1,4 @@
-//! The parts of a message that has one item: what counts of its objects.
+//! The parts of a message of one item: the first object of each class.
 
 ghost use Rattle.std.specs.Prelude.{◌≡◌, IfOk, IfErr};
 ghost use Rattle.pcep_objects.specs.Bodies.{lsp_body};
@@ -10,11 +10,11 @@ ghost use Rattle.pcep_messages.specs.PartSteps.{no_parts, and_then, joined, AreP
 ghost use Rattle.pcep_objects.specs.declared.object.Object.TheVariants as objects;
 
 use crate::counting::{greater, keep_first};
-use crate::objects::skipped;
+use crate::objects::{Next, next_object};
 use pcep_objects::{
     BandwidthType, BodyFault, Close, EndPoints, Front, Hop, Kind, LspObject, Lspa, Metric, NoPath,
-    Object, ObjectFault, Open, Rp, Srp, front_of, read_bandwidth, read_body, read_ero, read_lsp,
-    read_lspa, read_rp, read_srp,
+    Object, ObjectFault, Open, Rp, Srp, read_bandwidth, read_body, read_ero, read_lsp, read_lspa,
+    read_rp, read_srp,
 };
 use pcep_word::Bandwidth;
 use sequence::Sequence;
@@ -55,7 +55,7 @@ fn no_parts() -> Parts
     }
 }
 
-/// The greater of the bandwidths that are asked for.
+/// Returns the greater of the bandwidths that are asked for.
 fn requested(
     kind: BandwidthType,
     bandwidth: Bandwidth,
@@ -115,7 +115,7 @@ fn take_lsp(alloc: Global, body: &[u8], parts: &mut Parts) -> Result<(), BodyFau
     Ok(())
 }
 
-/// Reads the body of an object and takes the object in. Where it has a fault of its own, nothing has changed.
+/// Reads the body of an object and takes the object in. After a fault nothing has changed.
 #[inline(always)]
 fn take_front(alloc: Global, front: Front<'_>, parts: &mut Parts) -> Result<(), BodyFault>
     ensures taken { Gives (λ done. parts.new) result (joined (body_of front.entry.kind front.entry.p front.entry.body.now) parts.old) }
@@ -139,31 +139,24 @@ fn take_front(alloc: Global, front: Front<'_>, parts: &mut Parts) -> Result<(), 
     Ok(())
 }
 
-/// The parts of the objects up to the first that has a fault of its own, and that fault.
+/// Reads the parts of the objects up to the first that has a fault of its own, and that fault.
 #[inline(always)]
 pub fn parts_in(alloc: Global, bytes: &[u8]) -> Result<(Parts, Option<ObjectFault>), AllocError>
     ensures { IfOk result (λ x. ArePartsOf (found_in bytes.now) x.0 x.1) }
 {
     let mut parts = no_parts();
     let mut rest = bytes;
-    while !rest.is_empty() {
-        match front_of(rest) {
-            Ok(front) => match take_front(alloc, front, &mut parts) {
+    loop {
+        match next_object(rest, false) {
+            Next::Object(front, after) => match take_front(alloc, front, &mut parts) {
                 Ok(()) => {
-                    let (_, after) = rest.split_at(front.size);
                     rest = after;
                 }
                 Err(BodyFault::OutOfMemory) => return Err(AllocError),
                 Err(own) => return Ok((parts, Some(own.into()))),
             },
-            Err(fault) => match skipped(fault, false) {
-                Some(size) => {
-                    let (_, after) = rest.split_at(size);
-                    rest = after;
-                }
-                None => return Ok((parts, Some(fault))),
-            },
+            Next::Bad(fault) => return Ok((parts, Some(fault))),
+            Next::End => return Ok((parts, None)),
         }
     }
-    Ok((parts, None))
 }

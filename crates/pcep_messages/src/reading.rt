@@ -65,7 +65,7 @@ fn read(alloc: Global, bytes: &[u8]) -> Result<Message, MessageFault>
 /// own fault comes first, then what the item that it ends lacks, then its P flag, its place or its missing
 /// identifiers. Objects that an item doesn't name are skipped, and so are those of unknown classes and
 /// types, but for those of a PCReq that have P set. In a message of one item the first object of each class
-/// counts (of BANDWIDTHs the greatest), and what it lacks is told in the order SRP, LSP, ERO, RP, END-POINTS.
+/// counts (of BANDWIDTHs the greatest), and what it lacks is reported in the order SRP, LSP, ERO, RP, END-POINTS.
 /// `OutOfMemory` comes where a growth was refused, and may then stand in place of any answer but `BadHeader`.
 pub fn read_message(alloc: Global, bytes: &[u8]) -> Result<Message, MessageFault>
     ensures reads { IfOk result (Reads bytes.now) }

@@ -34,7 +34,7 @@ fn cost_of(metric: Option<Metric>) -> Option<Cost>
     }
 }
 
-/// What the reply to a request says of its path.
+/// Returns what the reply to a request says of its path.
 fn answer_of(
     about: About,
     no_path: Option<NoPath>,
@@ -52,9 +52,9 @@ fn answer_of(
     }
 }
 
-/// The reply of the parts that are there.
-fn reply_of(mut parts: Parts) -> Result<Message, MessageFault>
-    ensures { Gives (λ x. x) result (reply_of (kept parts)) }
+/// Returns the reply of the parts that are there, and takes what it says out of them.
+fn reply_of(parts: &mut Parts) -> Result<Message, MessageFault>
+    ensures { Gives (λ x. x) result (reply_of (kept parts.old)) }
 {
     let about = about_rp(parts.rp);
     let answer = answer_of(about, parts.no_path, parts.ero.take(), parts.metric)?;
@@ -67,15 +67,15 @@ fn reply_of(mut parts: Parts) -> Result<Message, MessageFault>
     }))
 }
 
-/// The body of a PCRep.
+/// Reads the body of a PCRep.
 #[tactic(auto, unfolding(crate::specs::Replies::reply_body))]
 #[inline(never)]
 pub fn read_reply(alloc: Global, body: &[u8]) -> Result<Message, MessageFault>
     ensures { Gives (λ x. x) result (reply_body body.now) }
 {
-    let (parts, fault) = parts_in(alloc, body)?;
+    let (mut parts, fault) = parts_in(alloc, body)?;
     if let Some(fault) = fault {
         return Err(MessageFault::BadObject(fault, about_rp(parts.rp)));
     }
-    reply_of(parts)
+    reply_of(&mut parts)
 }

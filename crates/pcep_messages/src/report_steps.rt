@@ -1,4 +1,4 @@
-//! State reports, whose items are told apart while their objects are read.
+//! The state reports of a PCRpt, read object by object.
 
 ghost use Rattle.std.specs.Prelude.{◌≡◌, List, None, Some, Err, IfOk, IfErr};
 ghost use Rattle.pcep_objects.specs.Bodies.{lsp_body};
@@ -15,11 +15,11 @@ use crate::counting::{greater, keep_first};
 use crate::fault::{About, MessageFault};
 use crate::items::{Item, Place, no_objects};
 use crate::message::StateReport;
-use crate::objects::skipped;
+use crate::objects::{Next, next_object};
 use crate::reports::{cut_off, report_from};
 use pcep_objects::{
-    BodyFault, Front, Kind, LspObject, Object, ObjectFault, Srp, front_of, read_bandwidth,
-    read_body, read_ero, read_lsp, read_lspa, read_srp,
+    BodyFault, Front, Kind, LspObject, Object, ObjectFault, Srp, read_bandwidth, read_body,
+    read_ero, read_lsp, read_lspa, read_srp,
 };
 use std::alloc::Global;
 use std::mem;
@@ -116,7 +116,7 @@ fn take_lsp(
     Ok(Place::Within)
 }
 
-/// The place behind an object that starts no item.
+/// Returns the place behind an object that starts no item.
 fn inside(place: Place) -> Result<Place, MessageFault>
     ensures { IsInside place result }
 {
@@ -236,7 +236,7 @@ fn take_front(
     })
 }
 
-/// The fault where an object has one of its own.
+/// Returns the first fault, where an object has one of its own.
 fn fault_at(place: Place, item: &Item, fault: ObjectFault) -> MessageFault
     ensures { (reports : List StateReport) → finished_at place reports item.now (Some fault) ≡ Err result }
 {
@@ -246,7 +246,7 @@ fn fault_at(place: Place, item: &Item, fault: ObjectFault) -> MessageFault
     }
 }
 
-/// The reports at the end of the objects.
+/// Ends the last item and returns the reports.
 #[inline(always)]
 fn finish(
     alloc: Global,
@@ -265,7 +265,7 @@ fn finish(
     }
 }
 
-/// The reports of the body of a PCRpt.
+/// Reads the reports of the body of a PCRpt.
 #[inline(never)]
 pub fn reports_in(alloc: Global, body: &[u8]) -> Result<Vec<StateReport>, MessageFault>
     ensures { Gives (λ v. v.items) result (report_body body.now) }
@@ -275,25 +275,24 @@ pub fn reports_in(alloc: Global, body: &[u8]) -> Result<Vec<StateReport>, Messag
     let mut item = no_objects();
     let mut place = Place::InFront;
     let mut rest = body;
-    while !rest.is_empty() {
-        match front_of(rest) {
-            Ok(front) => match take_front(alloc, front, place, &mut item, &mut reports) {
+    loop {
+        match next_object(rest, false) {
+            Next::Object(front, after) => match take_front(
+                alloc,
+                front,
+                place,
+                &mut item,
+                &mut reports,
+            ) {
                 Ok(step) => {
                     place = step?;
-                    let (_, after) = rest.split_at(front.size);
                     rest = after;
                 }
                 Err(BodyFault::OutOfMemory) => return Err(MessageFault::OutOfMemory),
                 Err(own) => return Err(fault_at(place, &item, own.into())),
             },
-            Err(fault) => match skipped(fault, false) {
-                Some(size) => {
-                    let (_, after) = rest.split_at(size);
-                    rest = after;
-                }
-                None => return Err(fault_at(place, &item, fault)),
-            },
+            Next::Bad(fault) => return Err(fault_at(place, &item, fault)),
+            Next::End => return finish(alloc, place, item, reports),
         }
     }
-    finish(alloc, place, item, reports)
 }

@@ -1,4 +1,4 @@
-//! What an item of a state report says.
+//! The state report of an item.
 
 ghost use Rattle.std.specs.Prelude.{◌≡◌, [], None};
 ghost use Rattle.std.specs.Option.{unwrap_or};
@@ -38,7 +38,7 @@ fn lacks_identifiers(lsp: &LspObject) -> bool
     lsp.plsp.number() != 0 && lsp.identifiers.is_none()
 }
 
-/// The setup priority and the holding priority in force.
+/// Returns the setup priority and the holding priority in force.
 pub fn priorities_of(lspa: Option<Lspa>) -> Priorities
     ensures { result ≡ priorities_of lspa }
 {
@@ -70,7 +70,7 @@ pub fn hops_or_empty(alloc: Global, ero: Option<Sequence<Hop>>) -> Sequence<Hop>
     }
 }
 
-/// The report of an item that has an LSP.
+/// Returns the report of an item that has an LSP.
 #[inline(always)]
 fn report_with(alloc: Global, item: Item, lsp: LspObject) -> StateReport
     ensures { result ≡ report_with item.srp lsp item.ero item.rro item.lspa item.bandwidth }
@@ -97,7 +97,7 @@ fn report_with(alloc: Global, item: Item, lsp: LspObject) -> StateReport
     }
 }
 
-/// The report of an item that has ended.
+/// Returns the report of an item that has ended.
 #[inline(always)]
 pub fn report_from(alloc: Global, mut item: Item) -> Result<StateReport, MessageFault>
     ensures { Gives (λ x. x) result (report_from item None) }
@@ -115,7 +115,7 @@ pub fn report_from(alloc: Global, mut item: Item) -> Result<StateReport, Message
     Ok(report_with(alloc, item, lsp))
 }
 
-/// The fault where an object cannot be read in this item.
+/// Returns the first fault, where an object of this item has one of its own.
 pub fn cut_off(item: &Item, fault: ObjectFault) -> MessageFault
     ensures { result ≡ cut_off item.now.srp item.now.lsp fault }
 {

@@ -1,4 +1,4 @@
-//! Requests, which are told apart while the objects of a PCReq are read.
+//! The path requests of a PCReq, read object by object.
 
 ghost use Rattle.std.specs.Prelude.{◌≡◌, List, None, Some, Err, IfOk, IfErr};
 ghost use Rattle.pcep_objects.specs.Objects.{body_of};
@@ -14,12 +14,12 @@ ghost use Rattle.pcep_objects.specs.declared.object.Object.TheVariants as object
 use crate::asked::{Asked, begun, take, take_bandwidth, take_end_points};
 use crate::fault::{About, MessageFault};
 use crate::message::PathRequest;
-use crate::objects::skipped;
+use crate::objects::{Next, next_object};
 use crate::reports::{colours_of, priorities_of};
 use pcep_objects::{
     BandwidthType, BodyFault, EndPoints, Front, KeptClass, Kind, Lspa, Metric, MetricType, Object,
-    ObjectFault, Plsp, Rp, front_of, read_bandwidth, read_body, read_end_points, read_lspa,
-    read_metric, read_rp,
+    ObjectFault, Plsp, Rp, read_bandwidth, read_body, read_end_points, read_lspa, read_metric,
+    read_rp,
 };
 use pcep_word::Bandwidth;
 use std::alloc::Global;
@@ -48,7 +48,7 @@ fn lacks_rro(asked: &Asked) -> bool
     asked.rp.reoptimize && !asked.has_rro && asked.has_bandwidth
 }
 
-/// The request of what was read, at its end.
+/// Returns the request of what was read, at its end.
 fn request_from(asked: &Asked) -> Result<PathRequest, MessageFault>
     ensures { Gives (λ x. x) result (request_from asked.now None) }
 {
@@ -74,7 +74,7 @@ fn fault_of_kept(class: KeptClass, p: bool) -> Option<MessageFault>
     }
 }
 
-/// The fault of an object in front of the first RP.
+/// Returns the fault of an object in front of the first RP.
 fn fault_in_front(object: &Object) -> Option<MessageFault>
     ensures { result ≡ fault_in_front object.now }
 {
@@ -84,7 +84,7 @@ fn fault_in_front(object: &Object) -> Option<MessageFault>
     }
 }
 
-/// The fault of an object at its place in a request.
+/// Returns the fault of an object at its place in a request.
 fn place_fault(about: About, first: Option<EndPoints>, object: &Object) -> Option<MessageFault>
     ensures { result ≡ place_fault about first object.now }
 {
@@ -95,7 +95,7 @@ fn place_fault(about: About, first: Option<EndPoints>, object: &Object) -> Optio
     }
 }
 
-/// The fault where an object has one of its own.
+/// Returns the first fault, where an object has one of its own.
 fn cut_off(asked: &Option<Asked>, fault: ObjectFault) -> MessageFault
     ensures { (requests : List PathRequest) → finished_at asked.now requests (Some fault) ≡ Err result }
 {
@@ -111,14 +111,14 @@ fn end_before(asked: &Option<Asked>, requests: &mut Vec<PathRequest>) -> Result<
     ensures { Ends (ended asked.now requests.old.items) result requests.new.items }
 {
     if let Some(asked) = asked {
-        // The prover has to be told of the types in a request.
+        // For the prover: the types in a request.
         let _plsp: Option<Plsp> = asked.plsp;
         requests.push(request_from(asked)?)?;
     }
     Ok(())
 }
 
-/// The requests at the end of the objects.
+/// Ends the last request and returns all of them.
 #[inline(always)]
 fn finish(
     asked: Option<Asked>,
@@ -129,7 +129,7 @@ fn finish(
     match asked {
         None => Err(MessageFault::Refused(6, 1, About::Nothing)),
         Some(asked) => {
-            // The prover has to be told of the types in a request.
+            // For the prover: the types in a request.
             let _plsp: Option<Plsp> = asked.plsp;
             requests.push(request_from(&asked)?)?;
             Ok(requests)
@@ -281,7 +281,7 @@ fn take_front(
     })
 }
 
-/// The requests of the body of a PCReq.
+/// Reads the requests of the body of a PCReq.
 #[inline(never)]
 pub fn requests_in(alloc: Global, body: &[u8]) -> Result<Vec<PathRequest>, MessageFault>
     ensures { Gives (λ v. v.items) result (requests_in_body body.now) }
@@ -290,25 +290,23 @@ pub fn requests_in(alloc: Global, body: &[u8]) -> Result<Vec<PathRequest>, Messa
     let mut requests = Vec::with_capacity(alloc, 1)?;
     let mut asked = None;
     let mut rest = body;
-    while !rest.is_empty() {
-        match front_of(rest) {
-            Ok(front) => match take_front(alloc, front, &mut asked, &mut requests) {
+    loop {
+        match next_object(rest, true) {
+            Next::Object(front, after) => match take_front(
+                alloc,
+                front,
+                &mut asked,
+                &mut requests,
+            ) {
                 Ok(step) => {
                     step?;
-                    let (_, after) = rest.split_at(front.size);
                     rest = after;
                 }
                 Err(BodyFault::OutOfMemory) => return Err(MessageFault::OutOfMemory),
                 Err(own) => return Err(cut_off(&asked, own.into())),
             },
-            Err(fault) => match skipped(fault, true) {
-                Some(size) => {
-                    let (_, after) = rest.split_at(size);
-                    rest = after;
-                }
-                None => return Err(cut_off(&asked, fault)),
-            },
+            Next::Bad(fault) => return Err(cut_off(&asked, fault)),
+            Next::End => return finish(asked, requests),
         }
     }
-    finish(asked, requests)
 }

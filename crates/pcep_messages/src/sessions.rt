@@ -10,7 +10,7 @@ use crate::parts::parts_in;
 use pcep_objects::Close;
 use std::alloc::Global;
 
-/// The body of an Open.
+/// Reads the body of an Open.
 #[tactic(auto, unfolding(crate::specs::Sessions::opening_body))]
 #[inline(never)]
 pub fn read_opening(alloc: Global, body: &[u8]) -> Result<Message, MessageFault>
@@ -26,7 +26,7 @@ pub fn read_opening(alloc: Global, body: &[u8]) -> Result<Message, MessageFault>
     }
 }
 
-/// The body of a Keepalive, whose objects are skipped.
+/// Reads the body of a Keepalive, whose objects are skipped.
 #[tactic(auto, unfolding(crate::specs::Sessions::keepalive_body))]
 #[inline(never)]
 pub fn read_keepalive(alloc: Global, body: &[u8]) -> Result<Message, MessageFault>
@@ -48,7 +48,7 @@ fn reason_of(close: Option<Close>) -> u8
     }
 }
 
-/// The body of a Close.
+/// Reads the body of a Close.
 #[tactic(auto, unfolding(crate::specs::Sessions::close_body))]
 #[inline(never)]
 pub fn read_close(alloc: Global, body: &[u8]) -> Result<Message, MessageFault>

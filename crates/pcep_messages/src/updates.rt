@@ -36,8 +36,8 @@ fn name_or_empty(alloc: Global, name: Option<Sequence<u8>>) -> Sequence<u8>
     }
 }
 
-fn update_with(alloc: Global, srp: Srp, lsp: &LspObject, parts: Parts) -> Update
-    ensures { result ≡ update_with srp lsp.now (kept parts) }
+fn update_with(alloc: Global, srp: Srp, lsp: &LspObject, parts: &mut Parts) -> Update
+    ensures { result ≡ update_with srp lsp.now (kept parts.old) }
 {
     let attributes = attributes_of(parts.lspa);
     Update {
@@ -45,15 +45,15 @@ fn update_with(alloc: Global, srp: Srp, lsp: &LspObject, parts: Parts) -> Update
         plsp: lsp.plsp,
         delegate: lsp.delegate,
         admin: lsp.admin,
-        ero: hops_or_empty(alloc, parts.ero),
+        ero: hops_or_empty(alloc, parts.ero.take()),
         attributes,
         bandwidth: parts.bandwidth,
     }
 }
 
-/// The update of the parts that are there.
-fn update_of(alloc: Global, mut parts: Parts) -> Result<Message, MessageFault>
-    ensures { Gives (λ x. x) result (update_of (kept parts)) }
+/// Returns the update of the parts that are there, and takes what it says out of them.
+fn update_of(alloc: Global, parts: &mut Parts) -> Result<Message, MessageFault>
+    ensures { Gives (λ x. x) result (update_of (kept parts.old)) }
 {
     let about = about_srp(srp_id(parts.srp));
     let Some(srp) = parts.srp else {
@@ -68,18 +68,18 @@ fn update_of(alloc: Global, mut parts: Parts) -> Result<Message, MessageFault>
     Ok(Message::Update(update_with(alloc, srp, &lsp, parts)))
 }
 
-/// The body of a PCUpd.
+/// Reads the body of a PCUpd.
 #[tactic(auto, unfolding(crate::specs::Updates::update_body))]
 #[inline(never)]
 pub fn read_update(alloc: Global, body: &[u8]) -> Result<Message, MessageFault>
     ensures { Gives (λ x. x) result (update_body body.now) }
 {
-    let (parts, fault) = parts_in(alloc, body)?;
+    let (mut parts, fault) = parts_in(alloc, body)?;
     if let Some(fault) = fault {
         let about = about_srp(srp_id(parts.srp));
         return Err(MessageFault::BadObject(fault, about));
     }
-    update_of(alloc, parts)
+    update_of(alloc, &mut parts)
 }
 
 fn create_with(
@@ -88,9 +88,9 @@ fn create_with(
     lsp: LspObject,
     end_points: EndPoints,
     hops: Sequence<Hop>,
-    parts: Parts,
+    parts: &Parts,
 ) -> Create
-    ensures { result ≡ create_with srp lsp end_points hops (kept parts) }
+    ensures { result ≡ create_with srp lsp end_points hops (kept parts.now) }
 {
     let attributes = attributes_of(parts.lspa);
     Create {
@@ -104,14 +104,14 @@ fn create_with(
     }
 }
 
-/// The new LSP of the parts that are there.
+/// Returns the new LSP of the parts that are there.
 fn create_of(
     alloc: Global,
     srp: Srp,
     lsp: LspObject,
-    mut parts: Parts,
+    parts: &mut Parts,
 ) -> Result<Message, MessageFault>
-    ensures { Gives (λ x. x) result (create_or_missing srp lsp (kept parts) parts.ero parts.end_points) }
+    ensures { Gives (λ x. x) result (create_or_missing srp lsp (kept parts.old) parts.old.ero parts.old.end_points) }
 {
     let about = about_srp(srp_id(parts.srp));
     let (end_points, ero) = (parts.end_points, parts.ero.take());
@@ -125,9 +125,9 @@ fn create_of(
     Ok(Message::Initiate(Initiate::Create(create)))
 }
 
-/// What the parts that are there ask for.
-fn initiate_of(alloc: Global, mut parts: Parts) -> Result<Message, MessageFault>
-    ensures { Gives (λ x. x) result (initiate_of (kept parts)) }
+/// Returns what the parts that are there ask for.
+fn initiate_of(alloc: Global, parts: &mut Parts) -> Result<Message, MessageFault>
+    ensures { Gives (λ x. x) result (initiate_of (kept parts.old)) }
 {
     let about = about_srp(srp_id(parts.srp));
     let Some(srp) = parts.srp else {
@@ -145,16 +145,16 @@ fn initiate_of(alloc: Global, mut parts: Parts) -> Result<Message, MessageFault>
     create_of(alloc, srp, lsp, parts)
 }
 
-/// The body of a PCInitiate.
+/// Reads the body of a PCInitiate.
 #[tactic(auto, unfolding(crate::specs::Updates::initiate_body))]
 #[inline(never)]
 pub fn read_initiate(alloc: Global, body: &[u8]) -> Result<Message, MessageFault>
     ensures { Gives (λ x. x) result (initiate_body body.now) }
 {
-    let (parts, fault) = parts_in(alloc, body)?;
+    let (mut parts, fault) = parts_in(alloc, body)?;
     if let Some(fault) = fault {
         let about = about_srp(srp_id(parts.srp));
         return Err(MessageFault::BadObject(fault, about));
     }
-    initiate_of(alloc, parts)
+    initiate_of(alloc, &mut parts)
 }

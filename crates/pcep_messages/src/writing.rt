@@ -27,7 +27,7 @@ impl Message {
     }
 }
 
-/// The message's type (RFC 5440 section 6.1).
+/// Returns the message's type (RFC 5440 section 6.1).
 fn kind_number(message: &Message) -> u8
     ensures { result ≡ kind_number message.now }
 {

@@ -65,10 +65,3 @@ pub use session_objects::{
     Close, Notification, Open, PcepError, put_close, put_error, put_notification, put_open,
 };
 pub use writing::{objects_are_read_again, put_fitting, what_is_read_is_normal, write_object};
-
-#[cfg(test)]
-mod borrowed_tests;
-#[cfg(test)]
-mod spelling_tests;
-#[cfg(test)]
-mod tests;

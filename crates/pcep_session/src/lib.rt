@@ -46,6 +46,3 @@ pub use fault::SessionFault;
 pub use laws::{calls_are_a_run, cut_any_way, own_open_is_a_message, turns_end, turns_run_out};
 pub use session::Session;
 pub use table::{Input, State};
-
-#[cfg(test)]
-mod tests;

@@ -76,6 +76,7 @@ impl Bandwidth {
         ensures exact { magnitude result ≡ units self }
         ensures read_again { bandwidth_of result ≡ Some self }
     {
+        // for the proof alone: the value is one that a bandwidth has
         let _known = self.value;
         metric_word(self.value)
     }

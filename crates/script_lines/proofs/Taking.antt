@@ -7,7 +7,7 @@ use Rattle.step_core.specs.declared.event.Reply.{Reply}
 use Rattle.history_core.specs.Histories.{Content, is_full, stepped}
 use Rattle.history_core.specs.declared.fault.Fault.TheVariants.{HistoryFull}
 use Rattle.script_lines.specs.Submits.{Answer, answer, answer_of, submitted}
-use Rattle.job_search.specs.Answers.{MayAnswerTo}
+use Rattle.step_core.specs.Searches.{MayAnswerTo}
 use Rattle.script_lines.specs.Takes.{taken_text, take_line}
 use Rattle.script_lines.specs.Told.{told, ◌>>=◌}
 use Rattle.script_lines.specs.declared.fault.CommandFault.{CommandFault}

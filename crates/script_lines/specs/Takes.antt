@@ -6,7 +6,7 @@ use Rattle.step_core.specs.declared.event.Reply.{Reply}
 use Rattle.step_core.specs.declared.event.Reply.TheVariants as reply
 use Rattle.step_core.specs.declared.job.Job.{Job}
 use Rattle.history_core.specs.Histories.{Content}
-use Rattle.job_search.specs.Answers.{MayAnswerTo}
+use Rattle.step_core.specs.Searches.{MayAnswerTo}
 use Rattle.script_lines.specs.Texts.{reply_text, job_text, answer_text}
 use Rattle.script_lines.specs.Submits.{submitted}
 use Rattle.script_lines.specs.Told.{Told, told, ◌>>=◌, Fails}

@@ -1,7 +1,7 @@
 //! The events of a line.
 
-ghost use Rattle.std.specs.Prelude.{◌≡◌, List, ℕ, string_bytes};
-ghost use Rattle.script_lines.specs.Submits.{answer, submitted, came_up, up_at_least, event_line, reports_told, report_line};
+ghost use Rattle.std.specs.Prelude.{◌≡◌, ◌++◌, List, ℕ, OnOk, string_bytes};
+ghost use Rattle.script_lines.specs.Submits.{answer, submitted, came_up, up_at_least, reply_line, event_line, reports_told, report_line};
 ghost use Rattle.script_lines.specs.Told.{told, behind, Gives, Tells, Leaves};
 
 use crate::fault::CommandFault;
@@ -10,7 +10,7 @@ use history_core::{Database, Event, Reply};
 use pcep_messages::StateReport;
 use pcep_objects::Capabilities;
 use sequence::Sequence;
-use std::alloc::Global;
+use std::alloc::{AllocError, Global};
 
 #[tactic(auto, unfolding(crate::specs::Submits::submitted))]
 pub(crate) fn submit(database: &mut Database, event: Event) -> Result<Reply, CommandFault>
@@ -27,8 +27,8 @@ fn come_up(database: &mut Database, peer: u32) -> Result<(), CommandFault>
         update: true,
         create: true,
     });
-    let _up = submit(database, Event::Up { peer, capabilities })?;
-    let _marked = submit(database, Event::Marker { peer })?;
+    drop(submit(database, Event::Up { peer, capabilities })?);
+    drop(submit(database, Event::Marker { peer })?);
     Ok(())
 }
 
@@ -43,14 +43,21 @@ fn come_up_first(database: &mut Database, peer: u32) -> Result<(), CommandFault>
     come_up(database, peer)
 }
 
+/// Adds a reply on a line.
+fn add_reply_line(text: &mut String, reply: &Reply) -> Result<(), AllocError>
+    ensures { OnOk result (string_bytes text.new ≡ string_bytes text.old ++ reply_line reply.now) }
+{
+    add_reply(text, reply)?;
+    text.push_str("\n")
+}
+
 /// Submits an event, and adds its reply on a line.
 #[tactic(auto, unfolding(crate::specs::Submits::event_line))]
 fn add_event(database: &mut Database, event: Event, text: &mut String) -> Result<(), CommandFault>
     ensures { Leaves result (behind (string_bytes text.old) (event_line event database.old)) (told (string_bytes text.new) database.new) }
 {
     let reply = submit(database, event)?;
-    add_reply(text, &reply)?;
-    text.push_str("\n")?;
+    add_reply_line(text, &reply)?;
     Ok(())
 }
 

@@ -1,21 +1,20 @@
 //! The line `take`: a ticket is taken, and its path is searched for.
 
 ghost use Rattle.std.specs.Prelude.{◌≡◌, ◌++◌, List, ℕ, Option, OnOk, codes, string_bytes};
-ghost use Rattle.job_search.specs.Answers.{MayAnswer, MayAnswerTo};
+ghost use Rattle.step_core.specs.Searches.{MayAnswer, MayAnswerTo};
 ghost use Rattle.script_lines.specs.Takes.{job_line, taken_text, TellsTaken};
 
 use crate::fault::CommandFault;
 use crate::submits::submit;
 use crate::texts::{add_answer, add_number, add_reply};
 use history_core::{Database, Event, Job, Reply};
-use job_search::search;
 use std::alloc::{AllocError, Global};
 
 /// Searches for the path of a job, and adds its line.
 fn add_job(alloc: Global, text: &mut String, job: &Job) -> Result<(), AllocError>
     ensures { OnOk result ((answer : Option (List ℕ)) × MayAnswer job.now answer × (string_bytes text.new ≡ string_bytes text.old ++ job_line job.now answer)) }
 {
-    let answer = search(alloc, job)?;
+    let answer = job.search(alloc)?;
     add_number(text, "job ", job.ticket.id)?;
     text.push_str(" ")?;
     match &answer {

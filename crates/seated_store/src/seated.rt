@@ -4,7 +4,7 @@ ghost use Rattle.history_core.specs.Histories.{Content, Replays};
 ghost use Rattle.step_core.specs.States.{is_queued};
 ghost use Rattle.te_snapshot.specs.Left.{all_left};
 
-use engine_core::{Call, Store};
+use engine_core::{Call, Desk, Store};
 use place_tokens::Room;
 use sequence::PlainData;
 use shared_pce::{Event, Fault, Seat, Shared, SharedEvent};
@@ -20,6 +20,20 @@ pub struct Seated<'a, R: Wait, S: Ledger, G: Ledger, B: Room> {
     shared: &'a Shared<S, G, B>,
     seat: &'a mut Seat<S, G, B>,
     calls: Vec<Call>,
+}
+
+/// The event, to be kept twice: it stands in memory once.
+fn shared_twice(alloc: Global, event: Event) -> Result<(SharedEvent, SharedEvent), AllocError>
+    ensures { IfOk result (λ both. (both.0 ≡ event) × (both.1 ≡ event)) }
+{
+    let first = SharedEvent::new(alloc, event)?;
+    match first.copy() {
+        Ok(second) => Ok((first, second)),
+        Err(error) => {
+            drop(first);
+            Err(error)
+        }
+    }
 }
 
 impl<'a, R: Wait, S: Ledger, G: Ledger, B: Room> Seated<'a, R, S, G, B> {
@@ -89,11 +103,17 @@ impl<'a, R: Wait, S: Ledger, G: Ledger, B: Room> Store for Seated<'a, R, S, G, B
     /// One step under the lock. The room for the call is made first, and the event stands in memory once.
     fn submit(&mut self, event: Event) -> Result<(), Fault> {
         self.calls.reserve(1)?;
-        let event = SharedEvent::new(*self.calls.allocator(), event)?;
-        let kept = event.copy()?;
-        let reply = self.shared.submit_shared(self.rt, self.seat, kept)?;
-        self.calls.push_reserved(Call { event, reply });
-        Ok(())
+        let (event, kept) = shared_twice(*self.calls.allocator(), event)?;
+        match self.shared.submit_shared(self.rt, self.seat, kept) {
+            Ok(reply) => {
+                self.calls.push_reserved(Call { event, reply });
+                Ok(())
+            }
+            Err(fault) => {
+                drop(event);
+                Err(fault)
+            }
+        }
     }
 
     fn calls(&self) -> &[Call] {
@@ -106,5 +126,21 @@ impl<'a, R: Wait, S: Ledger, G: Ledger, B: Room> Store for Seated<'a, R, S, G, B
 
     fn roll(&mut self) -> Result<u64, AllocError> {
         self.shared.roll(self.rt)
+    }
+}
+
+impl<'a, R: Wait + Clock, S: Ledger, G: Ledger, B: Room> Desk for Seated<'a, R, S, G, B> {
+    ghost use Rattle.std.specs.Prelude.{◌≡◌};
+    ghost use Rattle.history_core.specs.Histories.{Content, Replays};
+    ghost use Rattle.te_snapshot.specs.Left.{all_left};
+
+    ghost is_left = { λ _ table. (d : Content) × Replays d × (table ≡ all_left d.state.te.links d.state.base.paths) };
+
+    fn queued(&self, peer: u32) -> bool {
+        Seated::queued(self, peer)
+    }
+
+    fn left(&self) -> Result<Vec<[i64; 8]>, AllocError> {
+        Seated::left(self)
     }
 }

@@ -16,8 +16,6 @@
 
 mod list;
 mod plain;
-#[cfg(test)]
-mod tests;
 
 pub use list::Sequence;
 pub use plain::PlainData;

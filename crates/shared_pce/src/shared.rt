@@ -13,7 +13,6 @@ use crate::looks::left_on_each;
 use crate::work::{Gate, Worked};
 use history_core::{Database, Event, Fault, Job, Reply, SharedEvent};
 use history_seats::{Held, Seat};
-use job_search::search;
 use place_tokens::{Room, Unopened};
 use sequence::PlainData;
 use std::alloc::{AllocError, Global};
@@ -22,11 +21,23 @@ use std::sync::{CondvarTimeouts, Mutex, Wait};
 use std::time::{Clock, Duration};
 
 /// One database for all threads, behind one lock.
-#[derive(Drop)]
 pub struct Shared<S: Ledger, G: Ledger, B: Room> {
     alloc: Global,
     held: Mutex<Held<S, G, B>>,
     bells: Bells,
+}
+
+/// Drops each part. A derived drop would be proved anew for each owner.
+impl<S: Ledger, G: Ledger, B: Room> Drop for Shared<S, G, B> {
+    fn drop(self) {
+        let Shared {
+            alloc: _,
+            held,
+            bells,
+        } = self;
+        drop(held);
+        drop(bells);
+    }
 }
 
 /// The peer to which an event may leave messages: its own.
@@ -59,14 +70,22 @@ impl<S: Ledger, G: Ledger, B: Room> Shared<S, G, B> {
         requires room { (room.table ≡ B.table) × (room.seats ≡ B.seats) × (room.seats ≡ seats) }
         ensures { IfOk result (λ made. made.1.items ≡ replicate seats new_seat) }
     {
-        let bells = Bells::new(alloc)?;
         let (held, seats) = Held::new(alloc, database, seats, steps, grants, room)?;
-        let shared = Shared {
-            alloc,
-            held: Mutex::new(held),
-            bells,
-        };
-        Ok((shared, seats))
+        match Bells::new(alloc) {
+            Ok(bells) => Ok((
+                Shared {
+                    alloc,
+                    held: Mutex::new(held),
+                    bells,
+                },
+                seats,
+            )),
+            Err(error) => {
+                drop(held);
+                drop(seats);
+                Err(error)
+            }
+        }
     }
 
     /// One event, as one step under the lock, with its receipt to the seat. After a fault the seat is as before,
@@ -135,7 +154,7 @@ impl<S: Ledger, G: Ledger, B: Room> Shared<S, G, B> {
         ensures unchanged_on_fault { OnErr result (seat.new ≡ seat.old) }
         ensures full { result ≡ Err Fault.HistoryFull → (d : Content) × Replays d × (is_full d ≡ true) }
     {
-        let offer = search(self.alloc, job)?;
+        let offer = job.search(self.alloc)?;
         let event = Event::Commit {
             ticket: job.ticket.id,
             offer,
@@ -205,6 +224,7 @@ impl<S: Ledger, G: Ledger, B: Room> Shared<S, G, B> {
         ensures { IfOk result (λ table. (d : Content) × Replays d × (table.items ≡ all_left d.state.te.links d.state.base.paths)) }
     {
         let held = self.held.lock(rt);
+        // for the proof alone: the history replays
         let _replays = held.database().history();
         left_on_each(self.alloc, held.database())
     }
@@ -227,6 +247,7 @@ impl<S: Ledger, G: Ledger, B: Room> Shared<S, G, B> {
         ensures { (d : Content) × Replays d × (seat.new ≡ tidy d.rolled seat.old) }
     {
         let held = self.held.lock(rt);
+        // for the proof alone: the history replays
         let _replays = held.database().history();
         let let_go = held.fold(seat);
         drop(held);
@@ -286,6 +307,7 @@ impl<S: Ledger, G: Ledger, B: Room> Shared<S, G, B> {
     {
         let Shared { alloc, held, bells } = self;
         let mut held = held.into_inner();
+        // for the proof alone: the history replays
         let _replays = held.database().history();
         let mut seats = seats;
         if let Err(fault) = held.audit(&mut seats) {
@@ -300,6 +322,7 @@ impl<S: Ledger, G: Ledger, B: Room> Shared<S, G, B> {
             });
         }
         let database = held.into_database();
+        // for the proof alone: the history is sound
         let _sound = database.history();
         let steps = database.steps();
         let grants = database.grants();

@@ -1,5 +1,4 @@
 pub mod PeerLists
-pub mod PeerPlaces
 pub mod TicketLists
 pub mod Others
 pub mod OtherTickets
@@ -12,6 +11,5 @@ pub mod StepLaws
 pub mod SoundSteps
 pub mod Concluded
 pub mod AskTests
-pub mod NameTables
-pub mod TicketPlaces
-pub mod AskCounts
+pub mod NameEntries
+pub mod TicketEntries

@@ -4,7 +4,6 @@ use Rattle.std.specs.Prelude.{Option, Some, None, find, position, unwrap_or, is_
 use Rattle.std.specs.List.{position_or_len}
 use Rattle.std.proofs.lemmas.Grind.{common_steps}
 use Rattle.std.proofs.lemmas.Bool.Decides.{nat_tests}
-use Rattle.std.proofs.lemmas.List.{set-get_or}
 use Rattle.std.proofs.lemmas.List.Folds.{find_at}
 use Rattle.std.proofs.lemmas.List.Quantifiers.{position-Some}
 use Rattle.std.proofs.lemmas.Option.{slice_get-get_or}
@@ -13,9 +12,6 @@ use Rattle.step_core.specs.declared.peer.Peer.{Peer}
 
 same_number : (a b : ℕ) → (a == b) ≡ true → a ≡ b
 same_number a b is = grind (arith, nat_tests)
-
-own_number : (n : ℕ) → (n == n) ≡ true
-own_number n = grind (arith, nat_tests)
 
 one_more : (k : ℕ) → 1 + k ≡ suc k
 one_more k = omega arith
@@ -87,7 +83,3 @@ put_new n ps change keeps is =
     let number : (change (unknown_peer n)).number ≡ n = keeps (unknown_peer n) in
     let last : put_peer ps (change (unknown_peer n)) ≡ ps ++ change (unknown_peer n) ∷ [] = put_last (change (unknown_peer n)) ps (ap (λ k. find (is_peer k) ps) number ∙ none) in
     sym (ap (λ p. put_peer ps (change p)) new ∙ last)
-
--- a peer that is set where it stands changes nothing
-pub same_there : (i : ℕ) (ps : List Peer) (q : Peer) → q ≡ get_or ps i q → set ps i q ≡ ps
-same_there i ps q there = ap (λ p. set ps i p) there ∙ set-get_or ps i q

@@ -1,83 +1,10 @@
--- Tickets in a list, at the place of the first that passes a test.
-use Rattle.std.proofs.Common.{◌≡◌, ◌&&◌, ℕ, ◌+◌, ◌<◌, Bool, List, [], ◌∷◌, length, set, get_or, sym, ◌∙◌, ap, subst, true, false, suc, cond, refl, arith, nat_lt, nat_le}
-use Rattle.std.specs.Prelude.{Option, Some, None, IfSome, find, position, not, if◌then◌else◌}
-use Rattle.std.specs.List.{position_or_len, remove}
-use Rattle.std.proofs.lemmas.Grind.{common_steps}
+-- Tickets have tries left, whatever is done to their list.
+use Rattle.std.proofs.Common.{◌≡◌, ◌&&◌, ℕ, ◌+◌, ◌<◌, Bool, List, [], ◌∷◌, ◌++◌, ◌∙◌, ap, subst, true, false, cond, refl, arith, nat_lt, nat_le}
+use Rattle.std.specs.Prelude.{Option, Some, None, IfSome, find, not, if◌then◌else◌}
 use Rattle.std.proofs.lemmas.Bool.{and_parts}
 use Rattle.std.proofs.lemmas.Bool.Decides.{nat_tests}
 use Rattle.step_core.specs.Tickets.{edit_first, drop_first, has_tries_left, all_have_tries, searched_for, waiting_again, is_waiting, is_ticket, take_first, put_back}
 use Rattle.commit_core.specs.declared.ticket.Ticket.{Ticket}
-
-one_more : (k : ℕ) → 1 + k ≡ suc k
-one_more k = omega arith
-
-place_is : {X : Type 0} (test : X → Bool) (i : ℕ) (xs : List X) → position test xs ≡ Some i → position_or_len test xs ≡ i
-place_is test i xs is = grind (arith, common_steps)
-
-place_within : {X : Type 0} (test : X → Bool) (i : ℕ) (xs : List X) → position test xs ≡ Some i → i < length xs
-place_within test i xs is = grind (arith, common_steps)
-
--- ---- an edit
-
-edit_by_test : {X : Type 0} (test : X → Bool) (edit : X → X) (q x : X) (xs : List X) (k : ℕ) (b : Bool) → cond (not b) (1 + k) 0 < length (x ∷ xs) → q ≡ get_or (x ∷ xs) (cond (not b) (1 + k) 0) q
-    → (k < length xs → q ≡ get_or xs k q → set xs k (edit q) ≡ edit_first test edit xs) → set (x ∷ xs) (cond (not b) (1 + k) 0) (edit q) ≡ (if b then edit x ∷ xs else x ∷ edit_first test edit xs)
-edit_by_test test edit q x xs k true within there rest = ap (λ y. edit y ∷ xs) there
-edit_by_test test edit q x xs k false within there rest =
-    ap (λ j. set (x ∷ xs) j (edit q)) (one_more k) ∙ ap (λ t. x ∷ t) (rest (omega arith) (there ∙ ap (λ j. get_or (x ∷ xs) j q) (one_more k)))
-
-edit_at_first : {X : Type 0} (test : X → Bool) (edit : X → X) (q : X) (xs : List X) → position_or_len test xs < length xs → q ≡ get_or xs (position_or_len test xs) q → set xs (position_or_len test xs) (edit q) ≡ edit_first test edit xs
-edit_at_first test edit q [] within there = absurd (omega arith)
-edit_at_first test edit q (x ∷ xs) within there = edit_by_test test edit q x xs (position_or_len test xs) (test x) within there (edit_at_first test edit q xs)
-
--- the item at the first place that passes the test is edited there
-pub edit_there : {X : Type 0} (test : X → Bool) (edit : X → X) (i : ℕ) (xs : List X) (q : X) → position test xs ≡ Some i → q ≡ get_or xs i q → set xs i (edit q) ≡ edit_first test edit xs
-edit_there test edit i xs q is there =
-    let at : position_or_len test xs ≡ i = place_is test i xs is in
-    ap (λ k. set xs k (edit q)) (sym at) ∙ edit_at_first test edit q xs (rw at (place_within test i xs is)) (there ∙ ap (λ k. get_or xs k q) (sym at))
-
--- ---- a removal
-
-drop_by_test : {X : Type 0} (test : X → Bool) (x : X) (xs : List X) (k : ℕ) (b : Bool) → cond (not b) (1 + k) 0 < length (x ∷ xs)
-    → (k < length xs → remove xs k ≡ drop_first test xs) → remove (x ∷ xs) (cond (not b) (1 + k) 0) ≡ (if b then xs else x ∷ drop_first test xs)
-drop_by_test test x xs k true within rest = refl
-drop_by_test test x xs k false within rest = ap (λ j. remove (x ∷ xs) j) (one_more k) ∙ ap (λ t. x ∷ t) (rest (omega arith))
-
-drop_at_first : {X : Type 0} (test : X → Bool) (xs : List X) → position_or_len test xs < length xs → remove xs (position_or_len test xs) ≡ drop_first test xs
-drop_at_first test [] within = absurd (omega arith)
-drop_at_first test (x ∷ xs) within = drop_by_test test x xs (position_or_len test xs) (test x) within (drop_at_first test xs)
-
-pub drop_there : {X : Type 0} (test : X → Bool) (i : ℕ) (xs : List X) → position test xs ≡ Some i → remove xs i ≡ drop_first test xs
-drop_there test i xs is =
-    let at : position_or_len test xs ≡ i = place_is test i xs is in
-    ap (λ k. remove xs k) (sym at) ∙ drop_at_first test xs (rw at (place_within test i xs is))
-
--- ---- none passes the test
-
-place_later : (k m : ℕ) → cond {A = Option ℕ} (nat_lt (1 + k) (suc m)) (Some (1 + k)) None ≡ None → cond {A = Option ℕ} (nat_lt k m) (Some k) None ≡ None
-place_later k m is = grind (arith, common_steps)
-
-first_place : (m : ℕ) → cond {A = Option ℕ} (nat_lt 0 (suc m)) (Some 0) None ≡ Some 0
-first_place m = grind (arith, common_steps)
-
-unedited_by_test : {X : Type 0} (test : X → Bool) (edit : X → X) (x : X) (xs : List X) (k : ℕ) (b : Bool) → cond {A = Option ℕ} (nat_lt (cond (not b) (1 + k) 0) (suc (length xs))) (Some (cond (not b) (1 + k) 0)) None ≡ None
-    → (cond {A = Option ℕ} (nat_lt k (length xs)) (Some k) None ≡ None → xs ≡ edit_first test edit xs) → x ∷ xs ≡ (if b then edit x ∷ xs else x ∷ edit_first test edit xs)
-unedited_by_test test edit x xs k true is rest = absurd (cc (is, first_place (length xs)))
-unedited_by_test test edit x xs k false is rest = ap (λ t. x ∷ t) (rest (place_later k (length xs) is))
-
-pub unedited : {X : Type 0} (test : X → Bool) (edit : X → X) (xs : List X) → position test xs ≡ None → xs ≡ edit_first test edit xs
-unedited test edit [] is = refl
-unedited test edit (x ∷ xs) is = unedited_by_test test edit x xs (position_or_len test xs) (test x) is (unedited test edit xs)
-
-undropped_by_test : {X : Type 0} (test : X → Bool) (x : X) (xs : List X) (k : ℕ) (b : Bool) → cond {A = Option ℕ} (nat_lt (cond (not b) (1 + k) 0) (suc (length xs))) (Some (cond (not b) (1 + k) 0)) None ≡ None
-    → (cond {A = Option ℕ} (nat_lt k (length xs)) (Some k) None ≡ None → xs ≡ drop_first test xs) → x ∷ xs ≡ (if b then xs else x ∷ drop_first test xs)
-undropped_by_test test x xs k true is rest = absurd (cc (is, first_place (length xs)))
-undropped_by_test test x xs k false is rest = ap (λ t. x ∷ t) (rest (place_later k (length xs) is))
-
-pub undropped : {X : Type 0} (test : X → Bool) (xs : List X) → position test xs ≡ None → xs ≡ drop_first test xs
-undropped test [] is = refl
-undropped test (x ∷ xs) is = undropped_by_test test x xs (position_or_len test xs) (test x) is (undropped test xs)
-
--- ---- tries
 
 both : (a b : Bool) → a ≡ true → b ≡ true → (a && b) ≡ true
 both true b p q = q
@@ -105,6 +32,12 @@ tries_less_by_test test x xs false all rest = both (has_tries_left x) (all_have_
 pub tries_after_drop : (test : Ticket → Bool) (xs : List Ticket) → all_have_tries xs ≡ true → all_have_tries (drop_first test xs) ≡ true
 tries_after_drop test [] all = refl
 tries_after_drop test (x ∷ xs) all = tries_less_by_test test x xs (test x) all (tries_after_drop test xs (and_parts (has_tries_left x) (all_have_tries xs) all).1)
+
+pub tries_after_push : (t : Ticket) (xs : List Ticket) → has_tries_left t ≡ true → all_have_tries xs ≡ true → all_have_tries (xs ++ t ∷ []) ≡ true
+tries_after_push t [] left all = both (has_tries_left t) true left refl
+tries_after_push t (x ∷ xs) left all =
+    let parts = and_parts (has_tries_left x) (all_have_tries xs) all in
+    both (has_tries_left x) (all_have_tries (xs ++ t ∷ [])) parts.0 (tries_after_push t xs left parts.1)
 
 -- what is found passes the test, and has tries left
 found_by_test : (test : Ticket → Bool) (x t : Ticket) (o : Option Ticket) (b : Bool) → test x ≡ b → has_tries_left x ≡ true → cond b (Some x) o ≡ Some t → (o ≡ Some t → (test t ≡ true) × (has_tries_left t ≡ true)) → (test t ≡ true) × (has_tries_left t ≡ true)

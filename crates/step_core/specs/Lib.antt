@@ -1,14 +1,13 @@
 pub mod Tickets
-pub mod TicketPlaces
-pub mod AskCounts
+pub mod TicketTables
 pub mod States
-pub mod PeerPlaces
 pub mod Names
 pub mod Bases
 pub mod Networks
 pub mod Outcomes
 pub mod Asks
 pub mod Grants
+pub mod Searches
 pub mod Steps
 pub mod Laws
 pub mod Sound

@@ -3,7 +3,6 @@ use Rattle.std.specs.Prelude.{ℕ, ◌+◌, Bool, true, false, ◌==◌, ◌&&�
 use Rattle.std.specs.List.{list_any, list_all}
 use Rattle.te_base.specs.Base.{Base}
 use Rattle.te_snapshot.specs.Admissible.{node_of}
-use Rattle.te_snapshot.specs.Network.{network_of}
 use Rattle.lsp_base.specs.Base.{lsp_at}
 use Rattle.lsp_base.specs.Same.{same_links}
 use Rattle.lsp_base.specs.declared.effect.Record.{Record}
@@ -68,7 +67,7 @@ missing_ends (Some from) None = Some Destination
 missing_ends (Some from) (Some to) = if from == to then Some Destination else None
 
 abbrev pub missing_ends_of : Base → Constraints → Option Ends
-missing_ends_of te c = missing_ends (node_of (network_of te) c.source) (node_of (network_of te) c.destination)
+missing_ends_of te c = missing_ends (node_of te.owners c.source) (node_of te.owners c.destination)
 
 -- ---- the list, as tickets are taken, wait again and end
 

@@ -1,8 +1,13 @@
-//! What a search is given.
+//! What a search is given, and the search.
+ghost use Rattle.std.specs.Prelude.{IfOk};
+ghost use Rattle.step_core.specs.Searches.{MayAnswer};
+
 use commit_core::Ticket;
-use sequence::PlainData;
-use std::alloc::AllocError;
+use path_finder::find;
+use sequence::{PlainData, Sequence};
+use std::alloc::{AllocError, Global};
 use std::fmt;
+use te_base::LinkNumber;
 use te_snapshot::{OwnShares, Snapshot};
 
 /// What the search for a path is given. It is made outside, of the network as it was when the ticket was taken.
@@ -14,6 +19,20 @@ pub struct Job {
     pub snapshot: Snapshot,
     /// What the tunnel of the ticket's LSP reserves already.
     pub own: OwnShares,
+}
+
+impl Job {
+    /// Finds the links of a path of least cost on the job's own network that keeps its other bounds, from the source
+    /// on. `None` where the network bears none, or the least one that was found breaks an other bound. It takes no
+    /// lock, and keeps nothing.
+    pub fn search(&self, alloc: Global) -> Result<Option<Sequence<LinkNumber>>, AllocError>
+        ensures { IfOk result (λ answer. MayAnswer self.now answer) }
+    {
+        match find(alloc, &self.snapshot, &self.ticket.constraints, &self.own)? {
+            Some(found) => Ok(Some(found.links)),
+            None => Ok(None),
+        }
+    }
 }
 
 impl PlainData for Job {

@@ -1,4 +1,4 @@
-//! What the database knows at one moment, and what one event does to it: sessions that come up and go
+//! The state: what the database knows at one moment, and what one event does to it: sessions that come up and go
 //! down, the end of synchronization, state reports, peers that expire, LSPs that are given back to their
 //! peers, requests that a peer refuses, and the messages that wait for a peer, which are handed out to be
 //! sent. `State::step` is the definition `step` of `specs/Steps.antt` in
@@ -20,7 +20,6 @@
 //! ```
 #![tactic(auto)]
 
-mod ask_counts;
 mod base;
 mod event;
 mod job;
@@ -32,7 +31,7 @@ mod peer_list;
 mod queue;
 mod shared_event;
 mod state;
-mod ticket_list;
+mod ticket_table;
 
 pub use base::Base;
 pub use commit_core::{LspName, Purpose, Ticket};
@@ -44,4 +43,4 @@ pub use peer::{PEER_LIMIT, Peer};
 pub use queue::Queue;
 pub use shared_event::SharedEvent;
 pub use state::State;
-pub use ticket_list::TICKET_LIMIT;
+pub use ticket_table::TICKET_LIMIT;

@@ -1,5 +1,5 @@
 //! A network with the LSPs over it, and the book of what their paths reserve.
-ghost use Rattle.std.specs.Prelude.{◌≡◌, ◌↔◌, ◌<◌, ◌≤◌, ◌++◌, ◌∷◌, [], List, length, OnOk, OnErr, IsNone, IfOk, IfSome, option_copied};
+ghost use Rattle.std.specs.Prelude.{◌≡◌, ◌↔◌, ◌<◌, ◌≤◌, ◌++◌, ◌∷◌, [], false, List, length, OnOk, OnErr, IsNone, IfOk, IfSome, option_copied};
 ghost use Rattle.std.specs.List.{list_any};
 ghost use Rattle.lsp_base.specs.Base.{HasAll, no_lsps, changed, with_stale, without};
 ghost use Rattle.lsp_base.specs.Rooms.{IsWithinLimit, HasRoom};
@@ -8,6 +8,7 @@ ghost use Rattle.lsp_base.specs.declared.path.Path.{Path};
 ghost use Rattle.bandwidth_book.specs.Books.{IsReady, StandsFor, network_of};
 ghost use Rattle.commit_core.specs.Verdicts.{verdict};
 ghost use Rattle.step_core.specs.Grants.{granting, own_of, snapshot_of, with_name};
+ghost use Rattle.step_core.specs.Names.{is_of_grant};
 ghost use Rattle.step_core.specs.Networks.{carried_out};
 ghost use Rattle.step_core.specs.States.{is_awaited_as};
 
@@ -82,9 +83,22 @@ fn granting(alloc: Global, path: Path) -> Result<Effect, AllocError>
     Ok(Effect::new(Vec::new(alloc), added, Vec::new(alloc), false))
 }
 
+/// Makes room for a name, if there is one.
+fn reserve_name(names: &mut NameTable, name: &Option<AwaitedName>) -> Result<(), AllocError>
+    ensures room { OnOk result (IfSome name.now (λ a. 0 < names.new.room)) }
+    ensures absent { OnOk result (IfSome name.now (λ a. list_any (is_of_grant a.peer a.srp) names.new.names ≡ false)) }
+    ensures names { names.new.names ≡ names.old.names }
+{
+    match name {
+        Some(name) => names.reserve_for(name.peer, name.srp),
+        None => Ok(()),
+    }
+}
+
 /// Holds a name from now on, if there is one, in room that is there.
 fn hold_name(names: &mut NameTable, name: Option<AwaitedName>)
-    requires { length names.old.names < names.old.room }
+    requires room { IfSome name (λ a. 0 < names.old.room) }
+    requires absent { IfSome name (λ a. list_any (is_of_grant a.peer a.srp) names.old.names ≡ false) }
     ensures { names.new.names ≡ with_name names.old.names name }
 {
     if let Some(name) = name {
@@ -164,7 +178,7 @@ impl Network {
     {
         let effect = granting(self.alloc, path)?;
         make_room(&mut self.lsps, &mut self.book, &effect)?;
-        self.names.reserve(1)?;
+        reserve_name(&mut self.names, &name)?;
         queue.push(message)?;
         make_change(&mut self.lsps, &mut self.book, peer, effect);
         hold_name(&mut self.names, name);

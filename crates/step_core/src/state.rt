@@ -11,7 +11,7 @@ use crate::base::{Base, copies};
 use crate::event::{Event, Reply};
 use crate::network::Network;
 use crate::peer_list::PeerList;
-use crate::ticket_list::TicketList;
+use crate::ticket_table::TicketTable;
 use pcep_word::Priority;
 use std::alloc::{AllocError, Global};
 use std::marker::Model;
@@ -29,10 +29,9 @@ pub struct State {
     alloc: Global,
     network: Network,
     peers: PeerList,
-    tickets: TicketList,
+    tickets: TicketTable,
     changes: u64,
     last_session: u64,
-    last_ticket: u64,
 }
 
 impl Model for State {
@@ -45,10 +44,10 @@ impl Model for State {
       base = s.network.base;
       names = s.network.names;
       peers = s.peers;
-      tickets = s.tickets;
+      tickets = s.tickets.tickets;
       changes = s.changes;
       last_session = s.last_session;
-      last_ticket = s.last_ticket;
+      last_ticket = s.tickets.last;
     } };
 }
 
@@ -62,10 +61,9 @@ impl State {
             alloc,
             network: Network::new(alloc, te)?,
             peers: PeerList::new(alloc)?,
-            tickets: TicketList::new(alloc),
+            tickets: TicketTable::new(alloc),
             changes: 0,
             last_session: 0,
-            last_ticket: 0,
         })
     }
 
@@ -106,7 +104,7 @@ impl State {
         ensures counts_rise { CountsRise self.old self.new }
         ensures sound { (srp : ℕ) → result ≡ Ok (Reply.Granted srp) → IsSoundGrant self.old event.now self.new }
     {
-        // of each LSP at most one record stands
+        // for the proof alone: of each LSP at most one record stands
         let _records = self.network.lsps().records();
         self.take_step(event)
     }
@@ -168,7 +166,7 @@ impl State {
             tickets: copies(self.alloc, self.tickets.as_slice())?,
             changes: self.changes,
             last_session: self.last_session,
-            last_ticket: self.last_ticket,
+            last_ticket: self.tickets.last(),
         })
     }
 }

@@ -15,6 +15,3 @@
 mod rules;
 
 pub use rules::{on_down, on_expire, on_marker, on_up};
-
-#[cfg(test)]
-mod tests;

@@ -3,47 +3,46 @@ ghost use Rattle.lsp_base.specs.Base.{changed, effect_of};
 ghost use Rattle.lsp_base.specs.Rooms.{IsWithinLimit};
 ghost use Rattle.sync_rules.specs.Peers.{is_stale_of, is_of_peer, left_alone, marker_effect, up_effect, down_effect, expire_effect};
 
-use lsp_base::{
-    Becoming, Choice, Effect, Lsp, LspBase, Path, Record, RecordChange, dropping_of_peer,
-};
+use keyed_list::Test;
+use lsp_base::{Effect, Lsp, LspBase, Path, Record, RecordChange, RecordRule, dropping_of_peer};
 use pcep_objects::Capabilities;
 use sequence::PlainData;
 use std::alloc::{AllocError, Global};
 
-/// The peer's stale paths and grants.
+/// Tests whether a path is a stale path or grant of the peer.
 #[derive(Drop)]
 struct StaleOf {
     peer: u32,
 }
 
-impl Choice for StaleOf {
+impl Test<Path> for StaleOf {
     ghost use Rattle.sync_rules.specs.Peers.{is_stale_of};
 
-    ghost chooses = { λ s x. is_stale_of s.peer x };
+    ghost passes = { λ s x. is_stale_of s.peer x };
 
-    fn chooses(&self, path: &Path) -> bool {
+    fn passes(&self, path: &Path) -> bool {
         path.peer == self.peer && !path.fresh
     }
 }
 
-/// All of the peer's paths and grants.
+/// Tests whether a path is a path or grant of the peer.
 #[derive(Drop)]
 struct OfPeer {
     peer: u32,
 }
 
-impl Choice for OfPeer {
+impl Test<Path> for OfPeer {
     ghost use Rattle.sync_rules.specs.Peers.{is_of_peer};
 
-    ghost chooses = { λ s x. is_of_peer s.peer x };
+    ghost passes = { λ s x. is_of_peer s.peer x };
 
-    fn chooses(&self, path: &Path) -> bool {
+    fn passes(&self, path: &Path) -> bool {
         path.peer == self.peer
     }
 }
 
 /// The end of the peer's synchronization: what it did not report again is gone, with the records that then
-/// have no path (RFC 8231 section 5.6). It goes by the peer's paths and records, with no pass over all.
+/// have no path (RFC 8231 section 5.6).
 #[tactic(auto, unfolding(crate::specs::Peers::marker_effect))]
 pub fn on_marker(alloc: Global, base: &LspBase, peer: u32) -> Result<Effect, AllocError>
     ensures effect { IfOk result (λ effect. effect ≡ marker_effect base.now.content peer) }
@@ -54,8 +53,7 @@ pub fn on_marker(alloc: Global, base: &LspBase, peer: u32) -> Result<Effect, All
     dropping_of_peer(alloc, base, peer, &StaleOf { peer })
 }
 
-/// The peer is given up: all that it reported or was granted goes, with its records. It goes by the peer's
-/// paths and records, with no pass over all.
+/// The peer is given up: all that it reported or was granted goes, with its records.
 #[tactic(auto, unfolding(crate::specs::Peers::expire_effect))]
 pub fn on_expire(alloc: Global, base: &LspBase, peer: u32) -> Result<Effect, AllocError>
     ensures effect { IfOk result (λ effect. effect ≡ expire_effect base.now.content peer) }
@@ -73,6 +71,7 @@ fn keeping_paths(alloc: Global, base: &LspBase, peer: u32, records: Vec<RecordCh
     ensures stay { (changed base.now.content peer result).paths ≡ base.now.content.paths }
     ensures few { IsWithinLimit base.now.content result }
 {
+    // for the proof alone: no more paths stand than there may be
     let _few = base.paths();
     Effect::new(Vec::new(alloc), Vec::new(alloc), records, false)
 }
@@ -112,37 +111,37 @@ fn left_by_itself(known: &Record) -> Result<RecordChange, AllocError>
     })
 }
 
-/// The records of the peer, each left by itself.
+/// Leaves each record of the peer by itself.
 #[derive(Drop)]
 struct LeftBy {
     peer: u32,
 }
 
-impl Becoming for LeftBy {
+impl RecordRule for LeftBy {
     ghost use Rattle.std.specs.Prelude.{◌==◌};
     ghost use Rattle.sync_rules.specs.Peers.{left_alone};
 
-    ghost meets = { λ s r. r.peer == s.peer };
+    ghost applies = { λ s r. r.peer == s.peer };
 
-    ghost becomes = { λ s r. left_alone r };
+    ghost change = { λ s r. left_alone r };
 
-    fn meets(&self, known: &Record) -> bool {
+    fn applies(&self, known: &Record) -> bool {
         known.peer == self.peer
     }
 
-    fn becomes(&self, known: &Record) -> Result<RecordChange, AllocError> {
+    fn change(&self, known: &Record) -> Result<RecordChange, AllocError> {
         left_by_itself(known)
     }
 }
 
 /// The session of the peer has ended: its delegations and removals end. No path goes (the caller makes
-/// them stale). It goes by the peer's records, with no pass over all.
+/// them stale).
 #[tactic(auto, unfolding(crate::specs::Peers::down_effect))]
 pub fn on_down(alloc: Global, base: &LspBase, peer: u32) -> Result<Effect, AllocError>
     ensures effect { IfOk result (λ effect. effect ≡ down_effect base.now.content peer) }
     ensures stay { IfOk result (λ effect. (changed base.now.content peer effect).paths ≡ base.now.content.paths) }
     ensures few { IfOk result (λ effect. IsWithinLimit base.now.content effect) }
 {
-    let records = base.changes_of_peer(alloc, peer, &LeftBy { peer })?;
+    let records = base.record_changes(alloc, &LeftBy { peer })?;
     Ok(keeping_paths(alloc, base, peer, records))
 }

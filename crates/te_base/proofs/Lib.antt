@@ -5,4 +5,4 @@ pub mod Rows
 pub mod Soundness
 pub mod Steps
 pub mod WalkLaws
-pub mod Listing
+pub mod Entries

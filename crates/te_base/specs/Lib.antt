@@ -6,6 +6,4 @@ pub mod Ranges
 pub mod LinkText
 pub mod Views
 pub mod Walk
-pub mod Chains
-pub mod Listed
-pub mod Buckets
+pub mod Entries

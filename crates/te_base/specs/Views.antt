@@ -13,4 +13,4 @@ link_texts f = record { from = f.from.now; to = f.to.now; local = f.local.now; r
 
 -- what the parts stand for
 abbrev pub base_in : Parts → Base
-base_in p = record { nodes = p.nodes; links = p.links; owners = p.owners }
+base_in p = record { nodes = p.nodes; links = p.links.items; owners = p.owners }

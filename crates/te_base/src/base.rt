@@ -1,4 +1,4 @@
-//! What a link text says, and look-ups in it.
+//! The TED as its link text says it, and look-ups in it.
 ghost use Rattle.std.specs.Prelude.{◌≡◌, ◌≢◌, ◌<◌, ◌≤◌, ◌↔◌, ℕ, IsTrue, IfOk, IfSome, All, AllPairs, map, slice_get, length};
 ghost use Rattle.te_base.specs.Base.{IsLinkAmong};
 ghost use Rattle.te_base.specs.Faults.{Gives};
@@ -10,20 +10,30 @@ ghost use Rattle.toml.specs.View.{table_view};
 
 use crate::fault::TeFault;
 use crate::fields::tables;
-use crate::listed::Listed;
-use crate::network::{Link, LinkNumber, NodeNumber, Owner, Parts};
-use crate::tables::{add_links, add_nodes, owner_in};
+use crate::network::{Link, LinkNumber, NodeNumber, Parts};
+use crate::nodes::NodeTable;
+use crate::owners::OwnerTable;
+use crate::tables::{add_links, add_nodes};
 use crate::walk::walk_parts;
+use keyed_list::KeyedList;
 use pcep_objects::Hop;
 use pcep_word::Ipv4;
 use std::alloc::{AllocError, Global};
 use std::marker::Model;
 use toml::Table;
 
-/// The nodes, links and owners of a link text. A contract sees it as a `Base` of lists, which is sound.
-#[derive(Debug, Drop)]
+/// The TED: the nodes, links and owners of a link text. A contract sees it as a `Base` of lists, which is sound.
+#[derive(Debug)]
 pub struct TeBase {
     parts: Parts,
+}
+
+/// Drops its parts. A derived drop would be proved anew for each owner.
+impl Drop for TeBase {
+    fn drop(self) {
+        let TeBase { parts } = self;
+        drop(parts);
+    }
 }
 
 impl Model for TeBase {
@@ -42,9 +52,9 @@ fn parts_of(alloc: Global, nodes: &[&Table], links: &[&Table]) -> Result<Parts, 
     ensures { Gives base_in result (base_of_tables (map (λ t. table_view t.now) nodes.now) (map (λ t. table_view t.now) links.now)) }
 {
     let mut parts = Parts {
-        nodes: Listed::new(alloc)?,
-        links: Listed::new(alloc)?,
-        owners: Listed::new(alloc)?,
+        nodes: NodeTable::new(alloc),
+        links: KeyedList::new(alloc),
+        owners: OwnerTable::new(alloc),
     };
     add_nodes(alloc, &mut parts, nodes)?;
     add_links(&mut parts, links)?;
@@ -101,7 +111,7 @@ impl TeBase {
         ensures count { result ≡ length self.now.links }
         ensures few { result ≤ 4096 }
     {
-        self.parts.links.len()
+        self.parts.links.as_slice().len()
     }
 
     /// How many nodes there are, at most 1,024.
@@ -121,12 +131,12 @@ impl TeBase {
         self.parts.links.as_slice()
     }
 
-    /// Who owns which address.
-    pub fn owners(&self) -> &[Owner]
+    /// Lends the owners of addresses.
+    pub fn owners(&self) -> &OwnerTable
         ensures owners { result.now ≡ self.now.owners }
         ensures nodes { All (λ o. o.node < length self.now.nodes) result.now }
     {
-        self.parts.owners.as_slice()
+        &self.parts.owners
     }
 
     /// The node that owns an address: the one that has it as its own, as the local address of a link
@@ -136,7 +146,7 @@ impl TeBase {
         ensures owns { (node : ℕ) → (result ≡ Some node) ↔ IsTrue (owns self.now.nodes self.now.links node address) }
         ensures node { IfSome result (λ n. n < length self.now.nodes) }
     {
-        owner_in(&self.parts.owners, address)
+        self.parts.owners.node(address)
     }
 
     /// The links that a route uses from a start to an end, in order (RFC 3209 section 4.3.3 for an

@@ -6,34 +6,35 @@ use std::alloc::{AllocError, AllocFailed};
 use thiserror::Error;
 
 /// The first fault of a link text. The text itself comes first, then too many tables, then each node's
-/// table in order, then each link's; within a table, faults come in the order that each variant tells.
+/// table in order, then each link's; within a table, faults come in the order that each variant tells. The text of a
+/// fault is what a user is told: its number.
 #[derive(Clone, Copy, Debug, PartialEq, Eq, Error)]
 pub enum TeFault {
     /// The text is not TOML; an integer that TOML can't hold is one reason.
-    #[error("the link text is not TOML")]
+    #[error("te fault 1")]
     NotToml,
     /// A field is absent or of another kind, or `node` or `link` is not an array of tables. All fields of
     /// a table are looked for before any value is judged.
-    #[error("a field is missing or of another kind")]
+    #[error("te fault 2")]
     MissingField,
     /// A name of no or more than 64 bytes, an address that is not four numbers joined by dots or is
     /// 0.0.0.0, or a number out of its range.
-    #[error("a value is out of range")]
+    #[error("te fault 3")]
     OutOfRange,
     /// An end of a link is no node's name.
-    #[error("no node has that name")]
+    #[error("te fault 4")]
     UnknownNode,
     /// An address has two nodes as owners. The last fault of a table that is looked for.
-    #[error("another node owns that address")]
+    #[error("te fault 5")]
     AddressTwice,
     /// An earlier node has the name.
-    #[error("a node has that name already")]
+    #[error("te fault 6")]
     NameTwice,
     /// Both ends of a link are one node.
-    #[error("a link leads from a node to itself")]
+    #[error("te fault 7")]
     SelfLoop,
     /// More than 1,024 nodes or 4,096 links. Looked for before anything in a table.
-    #[error("too many nodes or links")]
+    #[error("te fault 8")]
     TooMany,
     /// There is no memory for what is read. May come in place of any answer.
     #[error("out of memory")]

@@ -1,14 +1,22 @@
-//! The network that paths are booked on: nodes, directed links and who owns which address. A link text
-//! in TOML says it, `TeBase::read` gives what the text says or its first fault, and it never changes after.
+//! The TED (traffic engineering database): nodes, directed links and who owns which address. A link text in TOML says
+//! it, `TeBase::read` gives what the text says or its first fault, and it never changes after.
 //!
-//! The layer above may rely on each `TeBase` being sound: at most 1,024 nodes and 4,096 links, each link
-//! from one node to another with every number in its range, each address owned by the node that has it as
-//! its own or as its end of a link, and by no other. `TeBase::walk` gives the links that a route of RFC 3209
-//! uses, of which each exists and none comes twice; they are what a path on that route reserves.
+//! The layer above may rely on each `TeBase` being sound: at most 1,024 nodes and 4,096 links, each link from one node to
+//! another with every number in its range, each address owned by the node that has it as its own or as its end of a
+//! link, and by no other. `TeBase::walk` gives the links that a route of RFC 3209 uses, of which each exists and none
+//! comes twice; they are what a path on that route reserves.
 //!
-//! The definitions stand in `specs/`: `LinkText` is the text's meaning with its faults in order, over
-//! `Fields`, `Ranges` and `Owners`; `Base` has the lists and `IsSound`, `Walk` the walk, and `Faults` the
-//! words in which a clause says "this value, or this fault first".
+//! The definitions stand in `specs/`: `LinkText` is the text's meaning with its faults in order, over `Fields`, `Ranges`
+//! and `Owners`; `Base` has the lists and `IsSound`, `Walk` the walk, and `Faults` the words in which a clause says "this
+//! value, or this fault first". Names and addresses are looked up in an `IndexMap`, the links that leave a node in a
+//! `KeyedList`.
+//!
+//! - `network`, `name`, `fault`: plain data, and the faults of a link text
+//! - `fields`, `ranges`: a table's fields, and their values
+//! - `nodes`, `owners`, `links`: what is found by name, by address and by node
+//! - `tables`: nodes and links read from their tables
+//! - `walk`: the links of a route
+//! - `base`: the TED
 //!
 //! ```text
 //! fn first_link(alloc: Global, text: &str, from: Ipv4, to: Ipv4) -> Result<Option<Link>, TeFault> {
@@ -23,15 +31,14 @@
 #![tactic(auto)]
 
 mod base;
-mod buckets;
-mod chains;
 mod fault;
 mod fields;
-mod listed;
+mod links;
 mod name;
 mod network;
+mod nodes;
+mod owners;
 mod ranges;
-mod sought;
 mod tables;
 mod walk;
 
@@ -39,3 +46,4 @@ pub use base::TeBase;
 pub use fault::TeFault;
 pub use name::Name;
 pub use network::{Link, LinkNumber, Node, NodeNumber, Owner};
+pub use owners::OwnerTable;

@@ -1,6 +1,8 @@
 //! Nodes, links and owners of addresses, as plain data.
-use crate::listed::Listed;
 use crate::name::Name;
+use crate::nodes::NodeTable;
+use crate::owners::OwnerTable;
+use keyed_list::KeyedList;
 use pcep_word::Ipv4;
 
 /// The place of a node in the link text, from 0.
@@ -51,7 +53,7 @@ pub struct Owner {
 /// What was read so far of a link text.
 #[derive(Debug, Drop)]
 pub(crate) struct Parts {
-    pub nodes: Listed<Node>,
-    pub links: Listed<Link>,
-    pub owners: Listed<Owner>,
+    pub nodes: NodeTable,
+    pub links: KeyedList<Link>,
+    pub owners: OwnerTable,
 }

@@ -1,47 +1,24 @@
 //! The tables of a link text, one after the other: each adds a node or a link to what was read before.
-ghost use Rattle.std.specs.Prelude.{◌≡◌, map, option_map, slice_get};
+ghost use Rattle.std.specs.Prelude.{map};
 ghost use Rattle.toml.specs.View.{table_view};
 ghost use Rattle.te_base.specs.Faults.{Gives, Leaves};
-ghost use Rattle.te_base.specs.Owners.{owner_of, owned};
-ghost use Rattle.te_base.specs.LinkText.{node_named, with_node, with_link, with_nodes, with_links, ends_of};
+ghost use Rattle.te_base.specs.Owners.{owned};
+ghost use Rattle.te_base.specs.LinkText.{with_node, with_link, with_nodes, with_links, ends_of};
 ghost use Rattle.te_base.specs.Views.{link_texts, base_in};
 
 use crate::fault::TeFault;
 use crate::fields::{LinkFields, link_fields, node_fields};
-use crate::listed::Listed;
-use crate::network::{Link, Node, NodeNumber, Owner, Parts};
+use crate::network::{Link, NodeNumber, Owner, Parts};
+use crate::owners::OwnerTable;
 use crate::ranges::{link_in_ranges, node_of};
-use crate::sought::{Named, Owning};
 use pcep_word::Ipv4;
 use std::alloc::Global;
 use toml::Table;
 
-fn node_at(owners: &[Owner], place: usize) -> Option<NodeNumber>
-    ensures { result ≡ option_map (λ o. o.node) (slice_get owners.now place) }
-{
-    owners.get(place).map(|o| o.node)
-}
-
-/// The node that owns an address.
-pub(crate) fn owner_in(owners: &Listed<Owner>, address: Ipv4) -> Option<NodeNumber>
-    ensures { result ≡ owner_of owners.now address }
-{
-    match owners.first(&Owning { address }) {
-        Some(place) => node_at(owners.as_slice(), place),
-        None => None,
-    }
-}
-
-fn node_number(nodes: &Listed<Node>, name: &str) -> Option<NodeNumber>
-    ensures { result ≡ node_named nodes.now name.now }
-{
-    nodes.first(&Named { name })
-}
-
-fn own(owners: &mut Listed<Owner>, address: Ipv4, node: NodeNumber) -> Result<(), TeFault>
+fn own(owners: &mut OwnerTable, address: Ipv4, node: NodeNumber) -> Result<(), TeFault>
     ensures { Leaves result (owned owners.old address node) owners.new }
 {
-    match owner_in(owners, address) {
+    match owners.node(address) {
         None => {
             owners.push(Owner { address, node })?;
             Ok(())
@@ -62,9 +39,9 @@ fn add_node(alloc: Global, parts: &mut Parts, table: &Table) -> Result<(), TeFau
 {
     let fields = node_fields(table)?;
     let node = node_of(alloc, &fields)?;
-    if node_number(&parts.nodes, node.name.as_str()).is_some() {
+    let None = parts.nodes.number(node.name.as_str()) else {
         return Err(TeFault::NameTwice);
-    }
+    };
     let number = parts.nodes.len();
     own(&mut parts.owners, node.id, number)?;
     parts.nodes.push(node)?;
@@ -75,10 +52,10 @@ fn add_node(alloc: Global, parts: &mut Parts, table: &Table) -> Result<(), TeFau
 fn ends(parts: &Parts, fields: &LinkFields) -> Result<(NodeNumber, NodeNumber), TeFault>
     ensures { Gives (λ p. p) result (ends_of (base_in parts.now) (link_texts fields.now)) }
 {
-    let Some(from) = node_number(&parts.nodes, fields.from) else {
+    let Some(from) = parts.nodes.number(fields.from) else {
         return Err(TeFault::UnknownNode);
     };
-    let Some(to) = node_number(&parts.nodes, fields.to) else {
+    let Some(to) = parts.nodes.number(fields.to) else {
         return Err(TeFault::UnknownNode);
     };
     if from == to {
@@ -96,7 +73,8 @@ fn add_link(parts: &mut Parts, table: &Table) -> Result<(), TeFault>
     let (from, to) = ends(parts, &fields)?;
     own(&mut parts.owners, link.local, from)?;
     own(&mut parts.owners, link.remote, to)?;
-    parts.links.push(Link { from, to, ..link })?;
+    parts.links.reserve(1)?;
+    parts.links.push(Link { from, to, ..link });
     Ok(())
 }
 

@@ -1,12 +1,10 @@
 //! The links that a route uses.
-ghost use Rattle.std.specs.Prelude.{◌≡◌, IfOk, fold, position, ◌==◌, ◌&&◌};
-ghost use Rattle.te_base.specs.Walk.{walk, chosen_link, with_link_once, stepped, hopped, place_of, joins, remembered_link};
+ghost use Rattle.std.specs.Prelude.{◌≡◌, IfOk, fold};
+ghost use Rattle.te_base.specs.Walk.{walk, with_link_once, stepped, hopped, place_of};
 ghost use Rattle.te_base.specs.Views.{base_in};
 
-use crate::listed::Listed;
-use crate::network::{Link, LinkNumber, NodeNumber, Parts};
-use crate::sought::{Joining, WithLocal, WithRemote};
-use crate::tables::owner_in;
+use crate::links::chosen;
+use crate::network::{LinkNumber, NodeNumber, Parts};
 use pcep_objects::Hop;
 use pcep_word::Ipv4;
 use std::alloc::{AllocError, Global};
@@ -17,73 +15,6 @@ struct Walker {
     node: NodeNumber,
     remembered: Option<Ipv4>,
     links: Vec<LinkNumber>,
-}
-
-fn by_remote(
-    links: &Listed<Link>,
-    from: NodeNumber,
-    to: NodeNumber,
-    address: Ipv4,
-) -> Option<LinkNumber>
-    ensures { result ≡ position (λ l. joins from to l && l.remote == address) links.now }
-{
-    links.first(&WithRemote {
-        joining: Joining { from, to },
-        remote: address,
-    })
-}
-
-fn by_local(
-    links: &Listed<Link>,
-    from: NodeNumber,
-    to: NodeNumber,
-    near: Ipv4,
-) -> Option<LinkNumber>
-    ensures { result ≡ position (λ l. joins from to l && l.local == near) links.now }
-{
-    links.first(&WithLocal {
-        joining: Joining { from, to },
-        local: near,
-    })
-}
-
-fn by_remembered(
-    links: &Listed<Link>,
-    from: NodeNumber,
-    to: NodeNumber,
-    remembered: Option<Ipv4>,
-) -> Option<LinkNumber>
-    ensures { result ≡ remembered_link links.now from to remembered }
-{
-    match remembered {
-        None => None,
-        Some(near) => by_local(links, from, to, near),
-    }
-}
-
-fn any_link(links: &Listed<Link>, from: NodeNumber, to: NodeNumber) -> Option<LinkNumber>
-    ensures { result ≡ position (joins from to) links.now }
-{
-    links.first(&Joining { from, to })
-}
-
-/// Which link leads from one node to another, for the hop at this address.
-fn chosen(
-    links: &Listed<Link>,
-    from: NodeNumber,
-    to: NodeNumber,
-    address: Ipv4,
-    remembered: Option<Ipv4>,
-) -> Option<LinkNumber>
-    ensures { result ≡ chosen_link links.now from to address remembered }
-{
-    match by_remote(links, from, to, address) {
-        Some(link) => Some(link),
-        None => match by_remembered(links, from, to, remembered) {
-            Some(link) => Some(link),
-            None => any_link(links, from, to),
-        },
-    }
 }
 
 fn add_once(links: &mut Vec<LinkNumber>, link: Option<LinkNumber>) -> Result<(), AllocError>
@@ -100,7 +31,7 @@ fn add_once(links: &mut Vec<LinkNumber>, link: Option<LinkNumber>) -> Result<(),
 fn step(parts: &Parts, walker: &mut Walker, address: Ipv4) -> Result<(), AllocError>
     ensures { IfOk result (λ _. place_of walker.new ≡ stepped (base_in parts.now) (place_of walker.old) address) }
 {
-    let Some(node) = owner_in(&parts.owners, address) else {
+    let Some(node) = parts.owners.node(address) else {
         return Ok(());
     };
     if node == walker.node {
@@ -134,7 +65,7 @@ pub(crate) fn walk_parts(
 ) -> Result<Vec<LinkNumber>, AllocError>
     ensures { IfOk result (λ v. v.items ≡ walk (base_in parts.now) start hops.now end) }
 {
-    let Some(node) = owner_in(&parts.owners, start) else {
+    let Some(node) = parts.owners.node(start) else {
         return Ok(Vec::new(alloc));
     };
     let mut walker = Walker {

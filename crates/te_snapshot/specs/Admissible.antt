@@ -5,10 +5,11 @@ use Rattle.pcep_objects.specs.declared.object.Colours.{Colours}
 use Rattle.pcep_objects.specs.declared.object.MetricType.{MetricType}
 use Rattle.pcep_objects.specs.declared.object.MetricType.TheVariants.{Igp, Te, Hops}
 use Rattle.te_base.specs.declared.network.Link.{Link}
+use Rattle.te_base.specs.declared.network.Owner.{Owner}
 use Rattle.te_base.specs.Owners.{owner_of}
 use Rattle.lsp_base.specs.declared.lsp.Constraints.{Constraints}
 use Rattle.te_snapshot.specs.declared.own.OwnShare.{OwnShare}
-use Rattle.te_snapshot.specs.Network.{Network, NetworkState}
+use Rattle.te_snapshot.specs.Network.{NetworkState}
 use Rattle.te_snapshot.specs.Room.{has_room}
 
 -- ---- links
@@ -68,17 +69,17 @@ is_distinct [] = true
 is_distinct (x ∷ xs) = not (list_any (λ y. y == x) xs) && is_distinct xs
 
 -- the node that owns the address of an end; none where the end isn't told
-abbrev pub node_of : Network → Option ℕ → Option ℕ
-node_of n None = None
-node_of n (Some address) = owner_of n.owners address
+abbrev pub node_of : List Owner → Option ℕ → Option ℕ
+node_of owners None = None
+node_of owners (Some address) = owner_of owners address
 
 -- the path leads from the source's node to the destination's, passes no node twice, has 1 to 64 links and
 -- no more than the hop bound, takes links that it may take, and keeps the bound on the metric to minimise
 pub record IsAdmissible (s : NetworkState) (c : Constraints) (own : List OwnShare) (path : List ℕ) : Type 0 where
   pub source : ℕ
   pub destination : ℕ
-  pub from : node_of s.network c.source ≡ Some source
-  pub to : node_of s.network c.destination ≡ Some destination
+  pub from : node_of s.network.owners c.source ≡ Some source
+  pub to : node_of s.network.owners c.destination ≡ Some destination
   pub joined : IsJoined s.network.links source path destination
   pub once : is_distinct (nodes_of s.network.links source path) ≡ true
   pub some : 1 ≤ length path

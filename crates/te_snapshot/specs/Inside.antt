@@ -5,7 +5,7 @@ use Rattle.te_snapshot.specs.Network.{Network, IsSoundNetwork}
 use Rattle.te_snapshot.specs.Leaving.{leaving, entering, listed}
 
 abbrev pub network_in : Inside → Network
-network_in t = record { nodes = t.nodes; links = t.links.items; owners = t.owners.items }
+network_in t = record { nodes = t.nodes; links = t.links.items; owners = t.owners }
 
 -- the network is sound, and the links that leave each node and those that enter it are listed
 pub record IsInOrder (t : Inside) : Type 0 where

@@ -8,7 +8,8 @@
 //! The layer above may rely on each snapshot being sound: at most 1,024 nodes and 4,096 links, each link
 //! from one node to another with metrics from 1 to 16,777,215, and eight numbers for each link. The
 //! definitions stand in `specs/`: `Network` has the lists, `Leaving` the links that leave or enter a node, and
-//! `Room` says whether a link bears a bandwidth beside what the tunnel holds there.
+//! `Room` says whether a link bears a bandwidth beside what the tunnel holds there, and `Admissible` which paths
+//! constraints allow. `route` has the tests of a path that a search and a verdict share.
 //!
 //! ```text
 //! fn snapshot_of(alloc: Global, te: &TeBase, unreserved: Vec<[i64; 8]>) -> Result<Snapshot, AllocError>
@@ -24,10 +25,12 @@
 mod leaving;
 mod outgoing;
 mod own;
+mod route;
 mod snapshot;
 mod topology;
 
 pub use outgoing::Outgoing;
 pub use own::{OwnShare, OwnShares, own_share};
+pub use route::{colours_pass, cost_of, is_within, keeps_other_bounds, node_of};
 pub use snapshot::Snapshot;
 pub use topology::Topology;

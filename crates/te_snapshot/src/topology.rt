@@ -1,24 +1,26 @@
 //! The network that snapshots share.
 ghost use Rattle.std.specs.Prelude.{◌≡◌, ◌<◌, ◌≤◌, IfOk, IfSome, All, length, slice_get};
 ghost use Rattle.te_base.specs.Base.{IsLinkAmong};
-ghost use Rattle.te_base.specs.Owners.{owner_of};
+ghost use Rattle.te_snapshot.specs.Admissible.{node_of};
 ghost use Rattle.te_snapshot.specs.Leaving.{entering, leaving, IsArcAmong};
 ghost use Rattle.te_snapshot.specs.Network.{network_of};
 
 use crate::leaving::{entering, leaving, list_at};
 use crate::outgoing::Outgoing;
+use crate::route::node_of;
 use pcep_word::Ipv4;
+use sequence::PlainData;
 use std::alloc::{AllocError, Global};
 use std::marker::Model;
-use te_base::{Link, LinkNumber, NodeNumber, Owner, TeBase};
+use te_base::{Link, LinkNumber, NodeNumber, OwnerTable, TeBase};
 
-/// The links, the links that leave each node and those that enter it, and the owners of addresses. A contract
-/// sees it as a `Network` of lists, which is sound.
+/// The links, the links that leave each node and those that enter it, and the owners of addresses with their
+/// index. A contract sees it as a `Network` of lists, which is sound.
 #[derive(Debug, Drop)]
 pub struct Topology {
     nodes: usize,
     links: Vec<Link>,
-    owners: Vec<Owner>,
+    owners: OwnerTable,
     leaving: Vec<Vec<Outgoing>>,
     entering: Vec<Vec<Outgoing>>,
 }
@@ -35,12 +37,6 @@ impl Model for Topology {
     ghost invariant = { IsInOrder };
 }
 
-fn owner_in(owners: &[Owner], address: Ipv4) -> Option<NodeNumber>
-    ensures { result ≡ owner_of owners.now address }
-{
-    owners.iter().find(|o| o.address == address).map(|o| o.node)
-}
-
 impl Topology {
     /// The network of a link text. Takes memory of its own.
     pub fn new(alloc: Global, te: &TeBase) -> Result<Topology, AllocError>
@@ -50,7 +46,7 @@ impl Topology {
         Ok(Topology {
             nodes,
             links: te.links().to_vec(alloc)?,
-            owners: te.owners().to_vec(alloc)?,
+            owners: te.owners().copy()?,
             leaving: leaving(alloc, te.links(), nodes)?,
             entering: entering(alloc, te.links(), nodes)?,
         })
@@ -81,12 +77,12 @@ impl Topology {
         self.links.get(number).copied()
     }
 
-    /// The node that owns an address, None where no node does.
-    pub fn owner(&self, address: Ipv4) -> Option<NodeNumber>
-        ensures owner { result ≡ owner_of self.now.owners address }
-        ensures node { IfSome result (λ n. n < self.now.nodes) }
+    /// The node that owns the address of an end, None where the end isn't told or no node owns it.
+    pub fn node_of(&self, end: Option<Ipv4>) -> Option<NodeNumber>
+        ensures node { result ≡ node_of self.now.owners end }
+        ensures within { IfSome result (λ n. n < self.now.nodes) }
     {
-        owner_in(&self.owners, address)
+        node_of(&self.owners, end)
     }
 
     /// The links that leave a node, in the order of their numbers.

@@ -1,8 +1,5 @@
 //! Paths that are asked for.
 ghost use Rattle.std.specs.Prelude.{◌≡◌, ◌<◌, ◌^◌, length, option_map, IfOk, OnOk, OnErr};
-ghost use Rattle.te_base.specs.Owners.{owner_of};
-ghost use Rattle.te_snapshot.specs.Admissible.{node_of};
-ghost use Rattle.te_snapshot.specs.Network.{network_of};
 ghost use Rattle.lsp_base.specs.Refusals.{◌⨟◌};
 ghost use Rattle.delegate_rules.specs.Returns.{must_be_held};
 ghost use Rattle.initiate_rules.specs.Checks.{must_be_new};
@@ -17,15 +14,15 @@ use super::requests::{why_not_initiated, why_not_updated};
 use super::sessions::why_not_up;
 use crate::event::Reply;
 use crate::peer_list::PeerList;
-use crate::ticket_list::{TICKET_LIMIT, TicketList};
+use crate::ticket_table::{TICKET_LIMIT, TicketTable};
 use commit_core::{Purpose, Ticket};
 use initiate_rules::check_initiate;
 use lsp_base::{Constraints, Ends, LspBase, Why, is_delegated, is_pending};
 use pcep_objects::Plsp;
-use pcep_word::Ipv4;
 use sequence::PlainData;
 use std::alloc::AllocError;
 use te_base::{NodeNumber, TeBase};
+use te_snapshot::node_of;
 
 /// Why the LSP can't be updated.
 fn why_not_held(base: &LspBase, peer: u32, plsp: Plsp) -> Option<Why>
@@ -68,16 +65,6 @@ fn constraints_for(base: &LspBase, peer: u32, purpose: &Purpose) -> Option<Const
     }
 }
 
-/// The node that owns an address, if one is told.
-fn node_at(te: &TeBase, address: Option<Ipv4>) -> Option<NodeNumber>
-    ensures { result ≡ node_of (network_of te.now) address }
-{
-    match address {
-        Some(address) => te.owner(address),
-        None => None,
-    }
-}
-
 /// Which ends no node owns; a path to the node at which it begins has no destination.
 fn missing_ends(from: Option<NodeNumber>, to: Option<NodeNumber>) -> Option<Ends>
     ensures { result ≡ missing_ends from to }
@@ -100,8 +87,8 @@ fn missing_ends(from: Option<NodeNumber>, to: Option<NodeNumber>) -> Option<Ends
 fn why_no_ends(te: &TeBase, constraints: &Constraints) -> Option<Why>
     ensures { result ≡ must_have_ends te.now constraints.now }
 {
-    let from = node_at(te, constraints.source);
-    let to = node_at(te, constraints.destination);
+    let from = node_of(te.owners(), constraints.source);
+    let to = node_of(te.owners(), constraints.destination);
     match missing_ends(from, to) {
         Some(ends) => Some(Why::UnknownNode(ends)),
         None => None,
@@ -109,8 +96,8 @@ fn why_no_ends(te: &TeBase, constraints: &Constraints) -> Option<Why>
 }
 
 /// Why no further ticket can stand.
-fn why_no_ticket(tickets: &TicketList) -> Option<Why>
-    ensures { result ≡ may_have_one_more tickets.now }
+fn why_no_ticket(tickets: &TicketTable) -> Option<Why>
+    ensures { result ≡ may_have_one_more tickets.now.tickets }
 {
     if tickets.as_slice().len() < TICKET_LIMIT {
         None
@@ -186,7 +173,7 @@ impl State {
         ensures { IfOk result (λ ticket. ticket ≡ new_ticket self.now peer purpose.now constraints) }
     {
         Ok(Ticket {
-            id: self.last_ticket + 1,
+            id: self.tickets.last() + 1,
             peer,
             session: session_of(&self.peers, peer),
             purpose: purpose.copy()?,
@@ -218,7 +205,6 @@ impl State {
         }
         let ticket = self.new_ticket(peer, purpose, constraints)?;
         self.tickets.push(ticket)?;
-        self.last_ticket += 1;
-        Ok(Reply::Asked(self.last_ticket))
+        Ok(Reply::Asked(self.tickets.last()))
     }
 }

@@ -14,7 +14,7 @@ use crate::names::AwaitedName;
 use crate::network::Network;
 use crate::peer::tell_peer;
 use crate::peer_list::PeerList;
-use commit_core::{PeerView, Purpose, Ticket, Verdict, cost_of, offered_path};
+use commit_core::{PeerView, Purpose, Ticket, Verdict, offered_path};
 use initiate_rules::{answer_message, initiate_message, next_srp, no_path_message, update_message};
 use lsp_base::{Path, Why};
 use pcep_messages::Message;
@@ -22,6 +22,7 @@ use pcep_objects::MetricValue;
 use sequence::{PlainData, Sequence};
 use std::alloc::{AllocError, Global};
 use te_base::{LinkNumber, TeBase};
+use te_snapshot::cost_of;
 
 /// What the peer is sent where the offer is good: an update, an initiation, or the reply to its request.
 fn message_of(
@@ -42,7 +43,7 @@ fn message_of(
         }
         Purpose::Answer { request, .. } => {
             let minimise = constraints.minimise;
-            let cost = MetricValue::new(cost_of(te, minimise, links));
+            let cost = MetricValue::new(cost_of(minimise, te.links(), links));
             answer_message(alloc, te, *request, minimise, cost, links)
         }
     }

@@ -11,7 +11,7 @@ use super::State;
 use crate::event::Reply;
 use crate::network::Network;
 use crate::peer::Peer;
-use crate::ticket_list::TicketList;
+use crate::ticket_table::TicketTable;
 use delegate_rules::{RuleFault, on_report};
 use lsp_base::{Effect, Why};
 use pcep_messages::StateReport;
@@ -54,8 +54,8 @@ pub(super) fn change_lsps(
 }
 
 /// The LSP waits for a path, none is asked for, and the PCE may send the peer one.
-fn wants_path(known: &Peer, tickets: &TicketList, peer: u32, plsp: Plsp, effect: &Effect) -> bool
-    ensures { result ≡ (effect.now.wants_path && (known.now.capabilities).update && not known.now.syncing && not (is_update_asked tickets.now peer plsp)) }
+fn wants_path(known: &Peer, tickets: &TicketTable, peer: u32, plsp: Plsp, effect: &Effect) -> bool
+    ensures { result ≡ (effect.now.wants_path && (known.now.capabilities).update && not known.now.syncing && not (is_update_asked tickets.now.tickets peer plsp)) }
 {
     effect.wants_path
         && known.capabilities.update

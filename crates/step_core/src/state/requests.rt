@@ -131,6 +131,7 @@ fn removal_asked(
     ensures effect { IfOk result (λ effect. effect ≡ removal_asked srp plsp (lsp_at base.now.content.records peer plsp)) }
     ensures few { IfOk result (λ effect. IsWithinLimit base.now.content effect) }
 {
+    // for the proof alone: no more paths stand than there may be
     let _few = base.paths();
     let mut records = Vec::new(alloc);
     if let Some(lsp) = base.lsp(peer, plsp) {

@@ -5,5 +5,5 @@ use Rattle.bandwidth_book.proofs.looks.sums_at.Goals as goal
 pub returns-clause-reserved : goal.returns-clause-reserved
 returns-clause-reserved c = λ paths s p h.
     c.sums.ensures.summed p h
-    ∙ total_is_reserved c.args.ledgers.now.tunnels.items.items paths c.args.link p c.sums.ensures.unique
+    ∙ total_is_reserved c.args.ledgers.now.tunnels.entries paths c.args.link p c.sums.ensures.unique
     (λ t one. s c.args.link t one c.requires)

@@ -5,7 +5,6 @@ use Rattle.bandwidth_book.specs.declared.link_entries.LinkEntry.{LinkEntry}
 use Rattle.bandwidth_book.specs.Entries.{entry_on, held_in, links_with}
 use Rattle.bandwidth_book.specs.Ledgers.{count, held_at}
 use Rattle.bandwidth_book.specs.Links.{own_among}
-use Rattle.bandwidth_book.specs.Paths.{tunnel_eq}
 use Rattle.bandwidth_book.proofs.OwnShares.{among_next_entry, own_listed, rising_links, unlisted}
 use Rattle.bandwidth_book.proofs.Rising.{found_at, get_at}
 use Rattle.bandwidth_book.proofs.own.own_on.Goals as goal
@@ -19,7 +18,7 @@ loop-entry-preserved c = λ paths held.
     let n = count c.args.ledgers.now in
     let i = c.loop-entry.entry-index in
     let there : slice_get entries i ≡ Some entry = get_at entries i entry c.loop-entry-test.true ∙ ap (λ (x : LinkEntry). Some x) (sym c.entry-item.is) in
-    let same : held_at tunnel_eq c.args.ledgers.now entry.link t ≡ entry.entry.held
+    let same : held_at c.args.ledgers.now entry.link t ≡ entry.entry.held
     = ap (λ (xs : List LinkEntry). held_in (entry_on entry.link xs)) (sym known.entries) ∙ ap held_in (found_at entry entries i known.rising there) in
     let more : c.list_entry.new.own.items ≡ c.loop-entry.own.items ++ own_among paths t n (entry.link ∷ [])
     = rw c.count.ensures at (c.in_ok-list_entry.ensures paths t (λ h less. rw same at (held entry.link t h (let e = c.count.ensures in omega (arith, less, e))))) in
@@ -37,6 +36,6 @@ returns c = λ paths held.
     let more : length (links_with entries) ≤ c.loop-entry.entry-index = omega (arith, long) in
     c.loop-entry.invariant paths held
     ∙ ap (λ (xs : List ℕ). own_among paths t n xs) (take_all c.loop-entry.entry-index (links_with entries) more)
-    ∙ own_listed (held_at tunnel_eq c.args.ledgers.now) n (links_with entries) t
+    ∙ own_listed (held_at c.args.ledgers.now) n (links_with entries) t
     (λ l none. ap (λ (xs : List LinkEntry). held_in (entry_on l xs)) (sym known.entries) ∙ ap held_in (unlisted l entries none))
     (rising_links entries known.rising) paths held

@@ -8,4 +8,4 @@ use Rattle.engine_core.proofs.inputs.on_refusals.Given as goal
 -- the refusals that were taken lead to those that are left
 abbrev pub invariant-loop-srp : goal.invariant-loop-srp
 invariant-loop-srp g l =
-    (go_on : Client → Plan Client) → Carries g.S.Sink.moves l.fn.store l.store l.client l.client (on_refusals l.peer l.fn.srps.items l.client go_on) (on_refusals l.peer (into_iter_items l.srp-iterator) l.client go_on)
+    (go_on : Client → Plan Client) → Carries g.S.Store.moves l.fn.store l.store l.client l.client (on_refusals l.peer l.fn.srps.items l.client go_on) (on_refusals l.peer (into_iter_items l.srp-iterator) l.client go_on)

@@ -8,4 +8,4 @@ use Rattle.engine_core.proofs.inputs.on_reports.Given as goal
 -- the reports that were taken lead to those that are left
 abbrev pub invariant-loop-report : goal.invariant-loop-report
 invariant-loop-report g l =
-    (go_on : Client → Plan Client) → Carries g.S.Sink.moves l.fn.store l.store l.fn.client l.client (on_reports l.peer l.fn.reports.items l.fn.client go_on) (on_reports l.peer (into_iter_items l.report-iterator) l.client go_on)
+    (go_on : Client → Plan Client) → Carries g.S.Store.moves l.fn.store l.store l.fn.client l.client (on_reports l.peer l.fn.reports.items l.fn.client go_on) (on_reports l.peer (into_iter_items l.report-iterator) l.client go_on)

@@ -2,18 +2,19 @@ use Rattle.std.proofs.Common.{[], refl, rules, Ok}
 use Rattle.std.proofs.lemmas.Result.{err_from_is_err_and}
 use Rattle.step_core.specs.declared.event.Event.TheVariants.{Ask}
 use Rattle.commit_core.specs.declared.ticket.Purpose.TheVariants.{Update}
+use Rattle.engine_core.specs.Calls.{newest_reply}
 use Rattle.engine_core.proofs.Carrying.{stays, not_submitted, carries_on, submitted, passes}
 use Rattle.engine_core.proofs.inputs.on_wanted.Goals as goal
 
 pub returns-in_err-hand_in : goal.returns-in_err-hand_in
 returns-in_err-hand_in g c = λ go_on.
     let p = err_from_is_err_and c.from_residual.result c.from_residual.ensures.1 in
-    rw (p.1, p.2) (not_submitted g.S.Sink.moves g.S.Sink.is_full c.args.store.now c.hand_in.new.self c.args.client.now (Ask c.args.peer (Update c.args.plsp)) (λ reply. go_on c.args.client.now) c.in_err-hand_in.field-0.0 c.in_err-hand_in.ensures.unchanged (search rules))
+    rw (p.1, p.2) (not_submitted g.S.Store.moves g.S.Store.is_full c.args.store.now c.hand_in.new.store c.args.client.now (Ask c.args.peer (Update c.args.plsp)) (λ reply. go_on c.args.client.now) c.in_err-hand_in.field-0.0 c.in_err-hand_in.ensures.unchanged (search rules))
 
 pub returns : goal.returns
 returns g c = λ go_on.
     let client = c.args.client.now in
-    let store = c.hand_in.new.self in
-    carries_on g.S.Sink.moves g.met.S.Sink.moves_on c.args.store.now store store client client client _ _ (go_on client)
-    (submitted g.S.Sink.moves c.args.store.now store client client client (Ask c.args.peer (Update c.args.plsp)) (g.S.Sink.newest store) (λ reply. go_on client) c.in_ok-hand_in.ensures.submitted refl)
-    (passes g.S.Sink.moves store store client client client (go_on client) (go_on client) (stays g.S.Sink.moves store client client (go_on client) (g.met.S.Sink.moves_nowhere store) refl))
+    let store = c.hand_in.new.store in
+    carries_on g.S.Store.moves g.met.S.Store.moves_on c.args.store.now store store client client client _ _ (go_on client)
+    (submitted g.S.Store.moves c.args.store.now store client client client (Ask c.args.peer (Update c.args.plsp)) (newest_reply (g.S.Store.calls store)) (λ reply. go_on client) c.in_ok-hand_in.ensures.submitted refl)
+    (passes g.S.Store.moves store store client client client (go_on client) (go_on client) (stays g.S.Store.moves store client client (go_on client) (g.met.S.Store.moves_nowhere store) refl))

@@ -8,7 +8,7 @@ use Rattle.lsp_base.proofs.drops.dropping_of_peer.Goals as goal
 pub returns-clause-few : goal.returns-clause-few
 returns-clause-few g c =
     let lsps = c.args.base.now.content in
-    let test = g.C.Choice.chooses c.args.choice.now in
+    let test = g.T.Test.passes c.args.test.now in
     let dropped = c.in_ok-dropped.ensures in
     let standing = ap length c.paths-few.ensures.paths in
     let most = c.paths-few.ensures.few in
@@ -19,7 +19,7 @@ returns-clause-few g c =
 pub returns-clause-stay : goal.returns-clause-stay
 returns-clause-stay g c =
     let lsps = c.args.base.now.content in
-    let test = g.C.Choice.chooses c.args.choice.now in
+    let test = g.T.Test.passes c.args.test.now in
     let stay = filter (λ x. not (test x)) lsps.paths in
     let dropped = c.in_ok-dropped.ensures in
     let none : stay ++ c.new.result.items ≡ stay = ap (λ added. stay ++ added) c.new.ensures.items ∙ append-nil stay in

@@ -5,8 +5,8 @@ use Rattle.pcep_messages.proofs.Running.{rest_gives}
 use Rattle.pcep_messages.proofs.report_steps.reports_in.Given as goal
 
 -- what was read, with the rest, gives the reports of all, and in front of the first item nothing of one was read
-abbrev pub invariant-loop-rest : goal.invariant-loop-rest
-invariant-loop-rest l = (rest_gives after finished false (record { reports = l.reports.items; item = l.item; place = l.place }) l.rest ≡ report_body l.body) × IsEmptyInFront l.place l.item
+abbrev pub invariant-loop-front : goal.invariant-loop-front
+invariant-loop-front l = (rest_gives after finished false (record { reports = l.reports.items; item = l.item; place = l.place }) l.rest ≡ report_body l.body) × IsEmptyInFront l.place l.item
 
-abbrev pub decreases-loop-rest : goal.decreases-loop-rest
-decreases-loop-rest l = length l.rest
+abbrev pub decreases-loop-front : goal.decreases-loop-front
+decreases-loop-front l = length l.rest

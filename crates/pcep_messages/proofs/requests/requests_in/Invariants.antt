@@ -5,8 +5,8 @@ use Rattle.pcep_messages.proofs.Running.{rest_gives}
 use Rattle.pcep_messages.proofs.requests.requests_in.Given as goal
 
 -- what was read, with the rest, gives the requests of all
-abbrev pub invariant-loop-rest : goal.invariant-loop-rest
-invariant-loop-rest l = rest_gives after finished true (record { requests = l.requests.items; asked = l.asked }) l.rest ≡ requests_in_body l.body
+abbrev pub invariant-loop-front : goal.invariant-loop-front
+invariant-loop-front l = rest_gives after finished true (record { requests = l.requests.items; asked = l.asked }) l.rest ≡ requests_in_body l.body
 
-abbrev pub decreases-loop-rest : goal.decreases-loop-rest
-decreases-loop-rest l = length l.rest
+abbrev pub decreases-loop-front : goal.decreases-loop-front
+decreases-loop-front l = length l.rest

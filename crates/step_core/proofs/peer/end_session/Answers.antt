@@ -1,14 +1,7 @@
 use Rattle.std.proofs.Common.{rules, refl}
 use Rattle.step_core.specs.States.{out_of_session}
 use Rattle.step_core.proofs.PeerLists.{put_there, not_known}
-use Rattle.step_core.proofs.PeerPlaces.{first_kept}
 use Rattle.step_core.proofs.peer.end_session.Goals as goal
-
-pub invariant_of-peers : goal.invariant_of-peers
-invariant_of-peers c = record {
-  first = first_kept c.peers.inside.first c.peers.inside.items.items c.in-Some.place c.index_mut-peer.result.now _ c.peers.invariant.first c.index_mut-peer.ensures.value refl;
-  room = c.peers.invariant.room;
-}
 
 pub returns-in-Some : goal.returns-in-Some
 returns-in-Some c =

@@ -2,14 +2,7 @@ use Rattle.std.proofs.Common.{rules, refl, ◌∙◌, ap, sym}
 use Rattle.step_core.specs.States.{emptied}
 use Rattle.step_core.specs.declared.peer.Peer.{Peer}
 use Rattle.step_core.proofs.PeerLists.{put_there, there_is, not_known}
-use Rattle.step_core.proofs.PeerPlaces.{first_kept}
 use Rattle.step_core.proofs.peer.take_outgoing.Goals as goal
-
-pub invariant_of-peers : goal.invariant_of-peers
-invariant_of-peers c = record {
-  first = first_kept c.peers.inside.first c.peers.inside.items.items c.in-Some.place c.index_mut.result.now _ c.peers.invariant.first c.index_mut.ensures.value refl;
-  room = c.peers.invariant.room;
-}
 
 pub returns-in-Some-clause-messages : goal.returns-in-Some-clause-messages
 returns-in-Some-clause-messages c =

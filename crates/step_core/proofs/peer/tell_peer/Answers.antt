@@ -1,14 +1,7 @@
 use Rattle.std.proofs.Common.{rules, refl}
 use Rattle.step_core.specs.States.{told}
 use Rattle.step_core.proofs.PeerLists.{put_there}
-use Rattle.step_core.proofs.PeerPlaces.{first_kept}
 use Rattle.step_core.proofs.peer.tell_peer.Goals as goal
-
-pub invariant_of-peers : goal.invariant_of-peers
-invariant_of-peers c = record {
-  first = first_kept c.peers.inside.first c.peers.inside.items.items c.in-Some.place c.index_mut-peer.result.now _ c.peers.invariant.first c.index_mut-peer.ensures.value refl;
-  room = c.peers.invariant.room;
-}
 
 pub returns-clause-told : goal.returns-clause-told
 returns-clause-told c =

@@ -1,5 +1,5 @@
 use Rattle.std.proofs.Common.{◌≡◌, ◌<◌, ◌≤◌, ◌+◌, ℕ, length, drop}
-use Rattle.bandwidth_book.specs.declared.held.Held.{Held}
+use Rattle.bandwidth_book.specs.Held.{Held}
 use Rattle.bandwidth_book.specs.Entries.{entry_on, kept, promised_to}
 use Rattle.bandwidth_book.specs.Tunnels.{held_by_links}
 use Rattle.bandwidth_book.proofs.link_entries.LinkEntries.promise_links.Given as goal

@@ -1,5 +1,5 @@
 use Rattle.std.proofs.Common.{◌≡◌, ℕ, [], true, length, drop}
-use Rattle.bandwidth_book.specs.declared.held.Held.{Held}
+use Rattle.bandwidth_book.specs.Held.{Held}
 use Rattle.bandwidth_book.specs.Entries.{has_entry, kept}
 use Rattle.bandwidth_book.specs.Tunnels.{held_by_links}
 use Rattle.bandwidth_book.proofs.link_entries.LinkEntries.withdraw_links.Given as goal

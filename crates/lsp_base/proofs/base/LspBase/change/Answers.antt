@@ -13,7 +13,7 @@ pub invariant_of-self : goal.invariant_of-self
 invariant_of-self c =
     let known = c.self.invariant in
     let numbers = c.raise_for_removals.new.self.numbers in
-    let paths = c.self.inside.paths.paths in
+    let paths = c.self.inside.paths.items in
     let records = c.self.inside.records.records in
     let added : c.into_vec.result.items ≡ c.as_slice.result.now = c.into_vec.ensures ∙ sym c.as_slice.ensures in
     let changes : c.into_vec-2.result.items ≡ c.as_slice-2.result.now = c.into_vec-2.ensures ∙ sym c.as_slice-2.ensures in
@@ -26,5 +26,5 @@ invariant_of-self c =
     (NoneAbove-raised _ numbers is_removed_as records raised (NoneAbove-raised _ _ is_removed_as records c.raise_for_grants.ensures.raised known.3))
     (subst (λ (cs : List RecordChange). NoneAbove numbers (is_set_as c.args.peer) cs) (sym changes) c.raise_for_removals.ensures.above) in
     let same : paths ≡ c.args.self.now.content.paths = ap (λ (v : Rooms). v.content.paths) c.self.view_is in
-    let left : c.change.new.self.paths ≡ without c.args.self.now.content.paths c.args.effect.change.dropped ++ c.args.effect.change.added = cc in
-    (subst (λ (xs : List Path). length xs ≤ 16384) (sym left) c.requires.few, subst AreDistinct (sym c.set_all.ensures.records) (set_records_distinct c.args.peer records c.into_vec-2.result.items known.1), subst (NoneAbove numbers is_grant_as) (sym c.change.ensures.paths) grants, subst (NoneAbove numbers is_removed_as) (sym c.set_all.ensures.records) removals)
+    let left : c.change_paths.new.paths.items ≡ without c.args.self.now.content.paths c.args.effect.change.dropped ++ c.args.effect.change.added = cc in
+    (subst (λ (xs : List Path). length xs ≤ 16384) (sym left) c.requires.few, subst AreDistinct (sym c.set_all.ensures.records) (set_records_distinct c.args.peer records c.into_vec-2.result.items known.1), subst (NoneAbove numbers is_grant_as) (sym c.change_paths.ensures.paths) grants, subst (NoneAbove numbers is_removed_as) (sym c.set_all.ensures.records) removals)

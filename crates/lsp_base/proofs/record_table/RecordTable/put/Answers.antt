@@ -1,20 +1,43 @@
-use Rattle.std.proofs.Common.{length, sym, subst, ap, ◌∙◌}
-use Rattle.lsp_base.specs.Base.{is_record_of, put}
-use Rattle.lsp_base.specs.Chains.{IsFree, IsFirst}
-use Rattle.lsp_base.specs.Tables.{RecordRoom}
-use Rattle.lsp_base.proofs.Keys.{put-first, put-free}
+use Rattle.std.proofs.Common.{◌<◌, ◌≤◌, ◌++◌, ◌∷◌, [], length, set, ap, sym, subst, ◌∙◌, arith}
+use Rattle.std.specs.Map.{values_of}
+use Rattle.lsp_base.specs.Base.{put}
+use Rattle.lsp_base.specs.Tables.{AreKeyed, RecordRoom}
+use Rattle.lsp_base.specs.declared.effect.Record.{Record}
+use Rattle.lsp_base.proofs.RecordEntries.{buckets_pushed, buckets_set, keyed_placed, placed}
 use Rattle.lsp_base.proofs.record_table.RecordTable.put.Goals as goal
 
-pub returns-in-Some-clause-records : goal.returns-in-Some-clause-records
-returns-in-Some-clause-records c =
-    let xs = c.self.inside.items.items in
-    let test = is_record_of c.args.peer c.args.plsp in
-    let first : IsFirst xs test c.in-Some.place = subst (λ ys. IsFirst ys test c.in-Some.place) c.as_slice.ensures.value c.in-Some.ensures.first in
-    c.put_at.ensures.items ∙ put-first xs c.args.peer c.args.plsp c.in-Some.place c.args.lsp first ∙ ap (λ (v : RecordRoom). put v.records c.args.peer c.args.plsp c.args.lsp) c.self.view_is
+pub invariant_of-self : goal.invariant_of-self
+invariant_of-self c =
+    let known = c.self.invariant in
+    let r : Record = record { peer = c.args.peer; plsp = c.args.plsp; lsp = c.args.lsp } in
+    let es = c.self.inside.by_lsp.entries in
+    let old = c.self.inside.by_name.buckets in
+    let count = c.len-count.ensures.len in
+    let below = c.if-place-count.true in
+    let within : c.insert-place.result < length es = omega arith in
+    let added = c.insert-place.ensures in (
+      subst AreKeyed (sym added.entries) (keyed_placed r _ known.0),
+      c.set.ensures.buckets ∙ ap (λ b. set old c.insert-place.result b) c.bucket-bucket.ensures ∙ buckets_set (record { peer = c.args.peer; plsp = c.args.plsp }) r es _ old c.insert-place.result known.1 added.place within added.entries,
+    )
 
-pub returns-in-None-clause-records : goal.returns-in-None-clause-records
-returns-in-None-clause-records c =
-    let xs = c.self.inside.items.items in
-    let test = is_record_of c.args.peer c.args.plsp in
-    let none : IsFree xs test 0 (length xs) = subst (λ ys. IsFree ys test 0 (length ys)) c.as_slice.ensures.value c.in-None.ensures.none in
-    c.push_last.ensures.items ∙ sym (put-free xs c.args.peer c.args.plsp c.args.lsp none) ∙ ap (λ (v : RecordRoom). put v.records c.args.peer c.args.plsp c.args.lsp) c.self.view_is
+pub invariant_of-self-else-place-count : goal.invariant_of-self-else-place-count
+invariant_of-self-else-place-count c =
+    let known = c.self.invariant in
+    let r : Record = record { peer = c.args.peer; plsp = c.args.plsp; lsp = c.args.lsp } in
+    let es = c.self.inside.by_lsp.entries in
+    let old = c.self.inside.by_name.buckets in
+    let count = c.len-count.ensures.len in
+    let above = c.if-place-count.false in
+    let beyond : length es ≤ c.insert-place.result = omega arith in
+    let added = c.insert-place.ensures in (
+      subst AreKeyed (sym added.entries) (keyed_placed r _ known.0),
+      c.push.ensures.buckets ∙ ap (λ b. old ++ b ∷ []) c.bucket-bucket.ensures ∙ buckets_pushed (record { peer = c.args.peer; plsp = c.args.plsp }) r es _ old c.insert-place.result known.1 added.place beyond added.entries,
+    )
+
+pub returns-then-place-count-clause-records : goal.returns-then-place-count-clause-records
+returns-then-place-count-clause-records c =
+    ap values_of c.insert-place.ensures.entries ∙ placed (record { peer = c.args.peer; plsp = c.args.plsp }) c.args.lsp _ c.self.invariant.0 ∙ ap (λ (t : RecordRoom). put t.records c.args.peer c.args.plsp c.args.lsp) c.self.view_is
+
+pub returns-else-place-count-clause-records : goal.returns-else-place-count-clause-records
+returns-else-place-count-clause-records c =
+    ap values_of c.insert-place.ensures.entries ∙ placed (record { peer = c.args.peer; plsp = c.args.plsp }) c.args.lsp _ c.self.invariant.0 ∙ ap (λ (t : RecordRoom). put t.records c.args.peer c.args.plsp c.args.lsp) c.self.view_is

@@ -10,8 +10,8 @@ pub invariant_of-self : goal.invariant_of-self
 invariant_of-self c =
     rw c.make_room.ensures.same_lsps (IsBooked-reserved c.self.inside.te c.self.inside.lsps.content c.self.inside.book c.make_room.new.book c.make_room.ensures.same_network c.make_room.ensures.stands c.self.invariant)
 
-pub invariant_of-self-in_err-reserve : goal.invariant_of-self-in_err-reserve
-invariant_of-self-in_err-reserve c =
+pub invariant_of-self-in_err-reserve_name : goal.invariant_of-self-in_err-reserve_name
+invariant_of-self-in_err-reserve_name c =
     rw c.make_room.ensures.same_lsps (IsBooked-reserved c.self.inside.te c.self.inside.lsps.content c.self.inside.book c.make_room.new.book c.make_room.ensures.same_network c.make_room.ensures.stands c.self.invariant)
 
 pub invariant_of-self-in_err-push : goal.invariant_of-self-in_err-push

@@ -25,7 +25,7 @@ answer-requires-clause-known c = peer_is_known c.args.self.now c.args.ticket.now
 pub put_back-requires : goal.put_back-requires
 put_back-requires c =
     let there = ap (λ (s : State). ticket_at s.tickets c.args.ticket.now.id) c.self.view_is ∙ c.requires.there in
-    found_has_tries (ticket_at c.self.inside.tickets c.args.ticket.now.id) c.args.ticket.now there (again_has_tries c.args.self.now c.args.ticket.now c.args.offer.now (sym c.requires.verdict ∙ c.in-Again-default.is-0))
+    found_has_tries (ticket_at c.self.inside.tickets.tickets c.args.ticket.now.id) c.args.ticket.now there (again_has_tries c.args.self.now c.args.ticket.now c.args.offer.now (sym c.requires.verdict ∙ c.in-Again-default.is-0))
 
 pub end_in_vain-requires : goal.end_in_vain-requires
 end_in_vain-requires c = record { known = peer_is_known c.args.self.now c.args.ticket.now c.args.offer.now _ (sym c.requires.verdict ∙ c.in-NoPath-default.is-0) (λ no. cc) }

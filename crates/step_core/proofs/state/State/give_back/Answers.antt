@@ -25,7 +25,7 @@ pub returns-clause-state : goal.returns-clause-state
 returns-clause-state c =
     let s : State = c.args.self.now in
     let inside = c.self.inside in
-    let u : State = record { te = inside.network.te; base = inside.network.base; names = inside.network.names; peers = inside.peers; tickets = inside.tickets; changes = inside.changes; last_session = inside.last_session; last_ticket = inside.last_ticket } in
+    let u : State = record { te = inside.network.te; base = inside.network.base; names = inside.network.names; peers = inside.peers; tickets = inside.tickets.tickets; changes = inside.changes; last_session = inside.last_session; last_ticket = inside.tickets.last } in
     let number = c.next_number-number.ensures in
     returned_state s _ c.args.peer c.args.plsp c.in-Ok.effect (search rules) (search rules) (search rules)
     (asking_by s u _ c.args.peer c.args.plsp c.next_number-number.result c.in-Ok.effect c.return_message-message.result c.self.view_is number c.return_message-message.ensures (search rules))

@@ -3,7 +3,7 @@ use Rattle.te_base.proofs.Soundness.{owner_within}
 use Rattle.te_base.proofs.base.TeBase.owner.Goals as goal
 
 pub returns-clause-owns : goal.returns-clause-owns
-returns-clause-owns c = rw (c.owner_in.ensures, ← c.self.view_is) (owner_of-iff _ _ _ c.self.invariant.owned c.args.address)
+returns-clause-owns c = rw (c.node.ensures, ← c.self.view_is) (owner_of-iff _ _ _ c.self.invariant.owned c.args.address)
 
 pub returns-clause-node : goal.returns-clause-node
-returns-clause-node c = rw (c.owner_in.ensures, ← c.self.view_is) (owner_within _ _ _ c.self.invariant.owners)
+returns-clause-node c = rw (c.node.ensures, ← c.self.view_is) (owner_within _ _ _ c.self.invariant.owners)

@@ -1,0 +1,192 @@
+//! Each end of a connection.
+use super::fakes::{Beat, Beats, Faulty, Noon, Slow, Tap};
+use super::*;
+use engine_core::Fault;
+use server_talk::{Ended, connection};
+use std::cell::Cell;
+use std::collections::VecDeque;
+use std::process::Abort;
+use std::sync::Wait;
+
+/// A connection whose session comes up, and its end.
+#[derive(Clone, Copy)]
+struct Case {
+    last: Beat,
+    /// So many writes succeed.
+    writes: u64,
+    /// What the store answers so many Downs by.
+    fault: Fault,
+    faults: u32,
+    is_closing: bool,
+    ended: Ended,
+    /// So many Downs are in, and so often the history was rolled.
+    downs: u32,
+    rolls: u32,
+}
+
+/// The peer has closed.
+const CLOSED: Case = Case {
+    last: Beat::Nothing,
+    writes: 9,
+    fault: Fault::OutOfMemory,
+    faults: 0,
+    is_closing: false,
+    ended: Ended::PeerClosed,
+    downs: 1,
+    rolls: 0,
+};
+
+const CASES: [Case; 9] = [
+    CLOSED,
+    Case {
+        last: Beat::Fault,
+        ended: Ended::ReadFault,
+        ..CLOSED
+    },
+    Case {
+        last: Beat::Bytes(CLOSE),
+        ended: Ended::SessionEnded,
+        ..CLOSED
+    },
+    Case {
+        last: Beat::Bytes(CLOSE),
+        faults: 3,
+        ended: Ended::SessionEnded,
+        ..CLOSED
+    },
+    Case {
+        last: Beat::Fault,
+        faults: 4,
+        ended: Ended::StoreFault(Fault::OutOfMemory),
+        downs: 0,
+        ..CLOSED
+    },
+    Case {
+        last: Beat::Fault,
+        fault: Fault::HistoryFull,
+        faults: 1,
+        ended: Ended::ReadFault,
+        rolls: 1,
+        ..CLOSED
+    },
+    // one bad byte of a header
+    Case {
+        last: Beat::Bytes(b"\x00\x00\x00\x00"),
+        ended: Ended::SessionEnded,
+        ..CLOSED
+    },
+    // the bytes of its end can't be written
+    Case {
+        last: Beat::Bytes(b"\x00\x00\x00\x00"),
+        writes: 2,
+        ended: Ended::WriteFault,
+        ..CLOSED
+    },
+    // its first bytes can't be written, so the session isn't up
+    Case {
+        last: Beat::Nothing,
+        writes: 0,
+        ended: Ended::WriteFault,
+        downs: 0,
+        ..CLOSED
+    },
+];
+
+fn ends<R: Wait + Abort>(rt: &R, alloc: Global, case: Case) -> Result<(), Fail> {
+    let mut beats = VecDeque::new(alloc);
+    for beat in [
+        Beat::Bytes(OPEN),
+        Beat::Bytes(KEEPALIVE),
+        Beat::Nothing,
+        case.last,
+    ] {
+        beats.push_back(beat)?;
+    }
+    let mut reader = Beats { beats };
+    let mut writer = Tap {
+        left: case.writes,
+        most: usize::MAX,
+        bytes: Vec::new(alloc),
+    };
+    let mut store = Faulty {
+        calls: Vec::new(alloc),
+        fault: case.fault,
+        faults: case.faults,
+        downs: 0,
+        rolls: 0,
+    };
+    let watch = Noon {
+        is_closing: case.is_closing,
+    };
+    let ended = connection(rt, alloc, 7, &mut reader, &mut writer, &watch, &mut store);
+    assert_eq!(rt; ended, case.ended);
+    assert_eq!(rt; store.downs, case.downs);
+    assert_eq!(rt; store.rolls, case.rolls);
+    Ok(())
+}
+
+#[test]
+fn each_end_hangs_up(rt: HostRuntime) -> Result<(), Fail> {
+    for case in CASES {
+        ends(&rt, rt.alloc(), case)?;
+    }
+    Ok(())
+}
+
+/// A store that replies Done to all.
+fn done(alloc: Global) -> Faulty {
+    Faulty {
+        calls: Vec::new(alloc),
+        fault: Fault::OutOfMemory,
+        faults: 0,
+        downs: 0,
+        rolls: 0,
+    }
+}
+
+/// Where the run is to end, the session is closed at its next turn. All bytes go out, however few a write takes.
+#[test]
+fn a_closing_run_closes_its_sessions(rt: HostRuntime) -> Result<(), Fail> {
+    let alloc = rt.alloc();
+    for most in [usize::MAX, 3] {
+        let mut reader = Beats {
+            beats: VecDeque::new(alloc),
+        };
+        let mut writer = Tap {
+            left: 99,
+            most,
+            bytes: Vec::new(alloc),
+        };
+        let watch = Noon { is_closing: true };
+        let mut store = done(alloc);
+        let ended = connection(&rt, alloc, 7, &mut reader, &mut writer, &watch, &mut store);
+        assert_eq!(rt; ended, Ended::SessionEnded);
+        let Some(close) = writer.bytes.as_slice().strip_prefix(OPEN) else {
+            return Err(Fail::new("no Open was sent"));
+        };
+        assert_eq!(rt; close, CLOSE);
+    }
+    Ok(())
+}
+
+/// A write that takes a part once its time is over isn't followed by another.
+#[test]
+fn a_part_taken_late_ends_the_connection(rt: HostRuntime) -> Result<(), Fail> {
+    let alloc = rt.alloc();
+    let mut reader = Beats {
+        beats: VecDeque::new(alloc),
+    };
+    let mut writer = Tap {
+        left: 99,
+        most: 1,
+        bytes: Vec::new(alloc),
+    };
+    let watch = Slow {
+        now_ms: Cell::new(0),
+    };
+    let mut store = done(alloc);
+    let ended = connection(&rt, alloc, 7, &mut reader, &mut writer, &watch, &mut store);
+    assert_eq!(rt; ended, Ended::WriteFault);
+    assert_eq!(rt; writer.bytes.len(), 1);
+    Ok(())
+}

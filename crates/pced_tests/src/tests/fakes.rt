@@ -1,0 +1,186 @@
+//! Readers, writers, watches and stores that do what a test wants.
+use engine_core::{Call, Desk, Event, Fault, Reply, Store};
+use history_core::SharedEvent;
+use server_talk::{Patient, TAKEN_WITHIN_MS, Watch};
+use std::alloc::AllocError;
+use std::cell::Cell;
+use std::collections::VecDeque;
+use std::io;
+use std::io::{ErrorKind, Read, Write};
+use std::time::Duration;
+
+/// What a read gives. At the end of the list the peer has closed.
+#[derive(Clone, Copy)]
+pub enum Beat {
+    Bytes(&'static [u8]),
+    Nothing,
+    Fault,
+}
+
+/// A reader of beats.
+#[derive(Drop)]
+pub struct Beats {
+    pub beats: VecDeque<Beat>,
+}
+
+impl Read for Beats {
+    fn read(&mut self, buf: &mut [u8]) -> io::Result<usize> {
+        match self.beats.pop_front() {
+            Some(Beat::Bytes(bytes)) => {
+                let count = bytes.len().min(buf.len());
+                buf[..count].copy_from_slice(&bytes[..count]);
+                Ok(count)
+            }
+            Some(Beat::Nothing) => Err(io::Error::from(ErrorKind::WouldBlock)),
+            Some(Beat::Fault) => Err(io::Error::from(ErrorKind::ConnectionReset)),
+            None => Ok(0),
+        }
+    }
+}
+
+impl Patient for Beats {
+    fn set_patience(&mut self, _most: Duration) {}
+}
+
+/// A writer that takes so many writes, of so many bytes each at most, and then fails.
+#[derive(Drop)]
+pub struct Tap {
+    pub left: u64,
+    pub most: usize,
+    pub bytes: Vec<u8>,
+}
+
+impl Write for Tap {
+    fn write(&mut self, buf: &[u8]) -> io::Result<usize> {
+        if self.left == 0 {
+            return Err(io::Error::from(ErrorKind::BrokenPipe));
+        }
+        self.left -= 1;
+        let count = buf.len().min(self.most);
+        match self.bytes.extend_from_slice(&buf[..count]) {
+            Ok(()) => Ok(count),
+            Err(_) => Err(io::Error::from(ErrorKind::OutOfMemory)),
+        }
+    }
+
+    fn flush(&mut self) -> io::Result<()> {
+        Ok(())
+    }
+}
+
+/// A watch that stands.
+#[derive(Drop)]
+pub struct Noon {
+    pub is_closing: bool,
+}
+
+impl Watch for Noon {
+    fn now_ms(&self) -> u64 {
+        43_200_000
+    }
+
+    fn is_closing(&self) -> bool {
+        self.is_closing
+    }
+
+    fn ring(&self, _peer: u32) {}
+}
+
+/// A watch by which each look takes as long as a peer may let a write wait.
+#[derive(Drop)]
+pub struct Slow {
+    pub now_ms: Cell<u64>,
+}
+
+impl Watch for Slow {
+    fn now_ms(&self) -> u64 {
+        self.now_ms
+            .set(self.now_ms.get().saturating_add(TAKEN_WITHIN_MS));
+        self.now_ms.get()
+    }
+
+    fn is_closing(&self) -> bool {
+        false
+    }
+
+    fn ring(&self, _peer: u32) {}
+}
+
+/// A store that replies Done to all, but first answers so many Downs by a fault.
+#[derive(Drop)]
+pub struct Faulty {
+    pub calls: Vec<Call>,
+    pub fault: Fault,
+    pub faults: u32,
+    pub downs: u32,
+    pub rolls: u32,
+}
+
+impl Store for Faulty {
+    ghost use Rattle.std.specs.Prelude.{◌≡◌, ◌++◌, List, ⊤};
+    ghost use Rattle.std.proofs.Common.{sym, ◌∙◌, ap, append_assoc};
+    ghost use Rattle.std.proofs.lemmas.List.{append-nil};
+    ghost use Rattle.engine_core.specs.declared.store.Call.{Call};
+
+    ghost calls = { λ s. s.calls.items };
+
+    ghost moves = { λ old made new. new.calls.items ≡ old.calls.items ++ made };
+
+    ghost same_but_calls = { λ old new. new.faults ≡ old.faults };
+
+    ghost is_full = { λ s. ⊤ };
+
+    ghost rolls = { λ old steps new. new.calls ≡ old.calls };
+
+    ghost moves_nowhere = { λ s. sym (append-nil s.calls.items) };
+
+    ghost moves_on = { λ a b c first second h k. k ∙ ap (λ (calls : List Call). calls ++ second) h ∙ append_assoc a.calls.items first second };
+
+    ghost moves_add = { λ a b made h. h };
+
+    fn submit(&mut self, event: Event) -> Result<(), Fault> {
+        let is_down = matches!(event, Event::Down { .. });
+        if is_down && self.faults > 0 {
+            self.faults -= 1;
+            return Err(self.fault);
+        }
+        let event = SharedEvent::new(*self.calls.allocator(), event)?;
+        self.calls.push(Call {
+            event,
+            reply: Reply::Done,
+        })?;
+        self.downs = self.downs.wrapping_add(u32::from(is_down));
+        Ok(())
+    }
+
+    fn calls(&self) -> &[Call] {
+        self.calls.as_slice()
+    }
+
+    fn forget(&mut self) {
+        self.calls.clear();
+    }
+
+    fn roll(&mut self) -> Result<u64, AllocError> {
+        self.rolls = self.rolls.wrapping_add(1);
+        Ok(0)
+    }
+}
+
+impl Desk for Faulty {
+    ghost use Rattle.std.specs.Prelude.{⊤};
+
+    ghost is_left = { λ _ table. ⊤ };
+
+    fn queued(&self, _peer: u32) -> bool {
+        false
+    }
+
+    /// Of two links, the second of which bears less than is reported.
+    fn left(&self) -> Result<Vec<[i64; 8]>, AllocError> {
+        let mut table = Vec::new(*self.calls.allocator());
+        table.push([1, 2, 3, 4, 5, 6, 7, 8])?;
+        table.push([-1; 8])?;
+        Ok(table)
+    }
+}

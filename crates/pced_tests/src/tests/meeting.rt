@@ -1,0 +1,291 @@
+//! Two workers that are between taking a ticket and committing it at once, and a seat that is missing at the audit.
+use super::*;
+use history_core::{Event, Reply};
+use pcep_objects::Capabilities;
+use pcep_word::Priority;
+use place_tokens::Room;
+use script_lines::event_in;
+use shared_pce::{AuditFault, Fault, Gate, Quiet, Seat, Shared, Worked};
+use std::process::Abort;
+use std::sync::Wait;
+use std::sync::atomic::{AtomicBool, AtomicU32, Ordering};
+use std::sync::ledger::Ledger;
+use std::thread;
+use std::thread::Threads;
+use std::time::{Clock, Duration};
+
+/// How a gate waits at most, in turns of a millisecond.
+const TURNS: u32 = 10_000;
+
+/// What the two workers know of each other.
+#[derive(Drop)]
+struct Meeting {
+    called: AtomicU32,
+    answered: AtomicBool,
+}
+
+/// Holds a worker until both were called; the late one goes on once the other's commit was answered.
+#[derive(Drop)]
+struct Holding<'a, R: Clock> {
+    rt: &'a R,
+    meeting: &'a Meeting,
+    is_late: bool,
+    met: bool,
+}
+
+impl<'a, R: Clock> Holding<'a, R> {
+    fn may_go(&self) -> bool {
+        let both = self.meeting.called.load(Ordering::SeqCst) >= 2;
+        both && (!self.is_late || self.meeting.answered.load(Ordering::SeqCst))
+    }
+}
+
+impl<'a, R: Clock> Gate for Holding<'a, R> {
+    fn computing(&mut self, _ticket: u64) {
+        let _before = self.meeting.called.fetch_add(1, Ordering::SeqCst);
+        for _turn in 0..TURNS {
+            if self.may_go() {
+                self.met = true;
+                return;
+            }
+            let _slept = thread::sleep(self.rt, Duration::from_millis(1));
+        }
+    }
+}
+
+/// What a turn came to.
+#[derive(Clone, Copy, Debug, PartialEq, Eq)]
+enum Came {
+    Idle,
+    Granted(u32),
+    Again,
+    Otherwise,
+    /// The other worker was not met.
+    Alone,
+}
+
+fn came_to(worked: &Worked) -> Came {
+    match worked {
+        Worked::Idle => Came::Idle,
+        Worked::Done { reply, .. } => match reply {
+            Reply::Granted(srp) => Came::Granted(*srp),
+            Reply::Again => Came::Again,
+            _ => Came::Otherwise,
+        },
+    }
+}
+
+fn turn<R: Wait + Clock, S: Ledger, G: Ledger, B: Room>(
+    rt: &R,
+    shared: &Shared<S, G, B>,
+    seat: &mut Seat<S, G, B>,
+    meeting: &Meeting,
+    is_late: bool,
+) -> Result<Came, Fault> {
+    let mut gate = Holding {
+        rt,
+        meeting,
+        is_late,
+        met: false,
+    };
+    let worked = shared.work_one(rt, seat, &mut gate)?;
+    meeting.answered.store(true, Ordering::SeqCst);
+    if gate.met {
+        Ok(came_to(&worked))
+    } else {
+        Ok(Came::Alone)
+    }
+}
+
+/// The turns of both workers at once, of the late one and of the early one.
+fn work_at_once<
+    R: Threads + Wait + Clock + Sync,
+    S: Ledger + Send + Sync,
+    G: Ledger + Send + Sync,
+    B: Room + Send + Sync,
+>(
+    rt: &R,
+    shared: &Shared<S, G, B>,
+    late: &mut Seat<S, G, B>,
+    early: &mut Seat<S, G, B>,
+) -> Result<(Came, Came), Fault> {
+    let meeting = Meeting {
+        called: AtomicU32::new(0),
+        answered: AtomicBool::new(false),
+    };
+    let (late, early) = thread::join(
+        rt,
+        || turn(rt, shared, late, &meeting, true),
+        || turn(rt, shared, early, &meeting, false),
+    );
+    Ok((late?, early?))
+}
+
+/// The event of an operator's line.
+fn event_of(alloc: Global, line: &str) -> Result<Event, Fail> {
+    match event_in(alloc, line)? {
+        Some(event) => Ok(event),
+        None => Err(Fail::new("a bad line")),
+    }
+}
+
+/// Submits the event of an operator's line.
+fn ask<R: Wait, S: Ledger, G: Ledger, B: Room>(
+    rt: &R,
+    alloc: Global,
+    shared: &Shared<S, G, B>,
+    seat: &mut Seat<S, G, B>,
+    line: &str,
+) -> Result<(), Fail> {
+    let _asked = shared.submit(rt, seat, event_of(alloc, line)?)?;
+    Ok(())
+}
+
+/// The peer comes up, and is in sync at once.
+pub fn come_up<R: Wait, S: Ledger, G: Ledger, B: Room>(
+    rt: &R,
+    shared: &Shared<S, G, B>,
+    seat: &mut Seat<S, G, B>,
+    peer: u32,
+) -> Result<(), Fail> {
+    let capabilities = Some(Capabilities {
+        update: true,
+        create: true,
+    });
+    let _up = shared.submit(rt, seat, Event::Up { peer, capabilities })?;
+    let _marked = shared.submit(rt, seat, Event::Marker { peer })?;
+    Ok(())
+}
+
+/// Asks for two initiations of which the links over B bear one.
+fn ask_twice<R: Wait, S: Ledger, G: Ledger, B: Room>(
+    rt: &R,
+    alloc: Global,
+    shared: &Shared<S, G, B>,
+    seat: &mut Seat<S, G, B>,
+) -> Result<(), Fail> {
+    come_up(rt, shared, seat, 1)?;
+    ask(
+        rt,
+        alloc,
+        shared,
+        seat,
+        "initiate 1 t1 10.0.0.1 10.0.0.4 600000 7 0",
+    )?;
+    ask(
+        rt,
+        alloc,
+        shared,
+        seat,
+        "initiate 1 t2 10.0.0.1 10.0.0.4 600000 7 0",
+    )
+}
+
+/// The ticket that is to wait again is granted over C, behind a roll.
+fn grant_the_other<R: Wait + Abort, S: Ledger, G: Ledger, B: Room>(
+    rt: &R,
+    shared: &Shared<S, G, B>,
+    seat: &mut Seat<S, G, B>,
+) -> Result<(), Fail> {
+    let waiting = shared.waiting(rt);
+    let kept = shared.kept(rt);
+    let rolled = shared.roll(rt)?;
+    let left = shared.kept(rt);
+    let came = came_to(&shared.work_one(rt, seat, &mut Quiet)?);
+    let seen = (
+        waiting,
+        kept,
+        rolled,
+        left,
+        came,
+        shared.waiting(rt),
+        shared.queued(rt, 1),
+    );
+    assert_eq!(rt; seen, (true, 8, 8, 0, Came::Granted(2), false, true));
+    Ok(())
+}
+
+/// Both tickets are searched for at once: one is granted, and the other is to wait again.
+pub fn ask_and_meet<
+    R: Threads + Wait + Clock + Abort + Sync,
+    S: Ledger + Send + Sync,
+    G: Ledger + Send + Sync,
+    B: Room + Send + Sync,
+>(
+    rt: &R,
+    alloc: Global,
+    shared: &Shared<S, G, B>,
+    first: &mut Seat<S, G, B>,
+    second: &mut Seat<S, G, B>,
+) -> Result<(), Fail> {
+    ask_twice(rt, alloc, shared, first)?;
+    let came = work_at_once(rt, shared, first, second)?;
+    assert_eq!(rt; came, (Came::Again, Came::Granted(1)));
+    grant_the_other(rt, shared, first)
+}
+
+/// What is left of each link at the best priority.
+fn left_of_each(database: &Database) -> [Option<i64>; 4] {
+    let best = Priority::capped(0);
+    [
+        database.unreserved(0, best),
+        database.unreserved(1, best),
+        database.unreserved(2, best),
+        database.unreserved(3, best),
+    ]
+}
+
+/// The seats' sums are all steps and grants, and 400,000 are left on each link.
+pub fn both_are_granted<R: Abort, S: Ledger, G: Ledger, B: Room>(
+    rt: &R,
+    shared: Shared<S, G, B>,
+    seats: Vec<Seat<S, G, B>>,
+) -> Result<(), Fail> {
+    let Ok(audit) = shared.close(seats) else {
+        return Err(Fail::new("the audit failed"));
+    };
+    let left = left_of_each(&audit.database);
+    let counts = (
+        audit.steps,
+        audit.grants,
+        audit.database.rolled(),
+        audit.database.history().len(),
+    );
+    assert_eq!(rt; (left, counts), ([Some(400_000); 4], (10, 2, 8, 2)));
+    Ok(())
+}
+
+/// All seats are here, and two steps were made through them.
+fn passes<R: Abort, S: Ledger, G: Ledger, B: Room>(
+    rt: &R,
+    shared: Shared<S, G, B>,
+    seats: Vec<Seat<S, G, B>>,
+) -> Result<(), Fail> {
+    let Ok(audit) = shared.close(seats) else {
+        return Err(Fail::new("all seats are here"));
+    };
+    assert_eq!(rt; audit.steps, 2);
+    Ok(())
+}
+
+/// The audit without a seat hands the others back, and with it passes.
+pub fn is_refused_without_a_seat<R: Abort, S: Ledger, G: Ledger, B: Room>(
+    rt: &R,
+    shared: Shared<S, G, B>,
+    seats: Vec<Seat<S, G, B>>,
+) -> Result<(), Fail> {
+    let mut seats = seats;
+    let Some(missing) = seats.pop() else {
+        return Err(Fail::new("two seats"));
+    };
+    let Err(refused) = shared.close(seats) else {
+        return Err(Fail::new("a seat is missing"));
+    };
+    assert_eq!(rt;
+        (refused.fault, refused.seats.len()),
+        (AuditFault::SeatMissing, 1)
+    );
+    let mut seats = refused.seats;
+    seats.push(missing)?;
+    passes(rt, refused.shared, seats)
+}

@@ -1,0 +1,131 @@
+//! One connection that fails behind its session's coming up, and another of the same shared database.
+use super::fakes::{Beat, Beats, Noon, Tap};
+use super::*;
+use engine_core::Event;
+use place_tokens::Room;
+use seated_store::Seated;
+use server_talk::{Ended, connection};
+use shared_pce::{Audit, Seat, Shared};
+use std::collections::VecDeque;
+use std::process::Abort;
+use std::sync::Wait;
+use std::sync::ledger::Ledger;
+use std::time::Clock;
+
+/// How a peer's connection behaves behind its Open and Keepalive, and how it is to end.
+#[derive(Clone, Copy)]
+struct Visit {
+    peer: u32,
+    last: Beat,
+    /// So many writes succeed.
+    writes: u64,
+    ended: Ended,
+}
+
+/// Its reads fail.
+const DEAF: Visit = Visit {
+    peer: 7,
+    last: Beat::Fault,
+    writes: 9,
+    ended: Ended::ReadFault,
+};
+
+/// Its Open and its Keepalive were taken, and the end that it is told isn't.
+const GONE: Visit = Visit {
+    peer: 8,
+    last: Beat::Bytes(b"\x00\x00\x00\x00"),
+    writes: 2,
+    ended: Ended::WriteFault,
+};
+
+/// It closes, and is answered to the end.
+const WELL: Visit = Visit {
+    peer: 9,
+    last: Beat::Bytes(CLOSE),
+    writes: 9,
+    ended: Ended::SessionEnded,
+};
+
+fn beats_of(alloc: Global, visit: Visit) -> Result<Beats, Fail> {
+    let mut beats = VecDeque::new(alloc);
+    for beat in [Beat::Bytes(OPEN), Beat::Bytes(KEEPALIVE), visit.last] {
+        beats.push_back(beat)?;
+    }
+    Ok(Beats { beats })
+}
+
+/// One connection, and what was written to it.
+fn visited<R: Wait + Clock + Abort, S: Ledger, G: Ledger, B: Room>(
+    rt: &R,
+    alloc: Global,
+    shared: &Shared<S, G, B>,
+    seat: &mut Seat<S, G, B>,
+    visit: Visit,
+) -> Result<Vec<u8>, Fail> {
+    let mut reader = beats_of(alloc, visit)?;
+    let mut writer = Tap {
+        left: visit.writes,
+        most: usize::MAX,
+        bytes: Vec::new(alloc),
+    };
+    let watch = Noon { is_closing: false };
+    let mut store = Seated::new(rt, alloc, shared, seat);
+    let peer = visit.peer;
+    let ended = connection(
+        rt,
+        alloc,
+        peer,
+        &mut reader,
+        &mut writer,
+        &watch,
+        &mut store,
+    );
+    assert_eq!(rt; ended, visit.ended);
+    Ok(writer.bytes)
+}
+
+/// Whether the peer's Down is among the steps.
+fn has_down(database: &Database, peer: u32) -> bool {
+    database.history().iter().any(
+        |step| matches!(step.event.event(), Event::Down { peer: down } if *down == peer),
+    )
+}
+
+/// Each peer is down, and nothing is booked.
+fn all_are_down(rt: &impl Abort, audit: &Audit) {
+    for peer in [DEAF.peer, GONE.peer, WELL.peer] {
+        assert!(rt; has_down(&audit.database, peer));
+        assert!(rt; !audit.database.is_up(peer));
+    }
+}
+
+/// The audit passes, and all peers are down.
+pub fn are_down<R: Abort, S: Ledger, G: Ledger, B: Room>(
+    rt: &R,
+    shared: Shared<S, G, B>,
+    seats: Vec<Seat<S, G, B>>,
+) -> Result<(), Fail> {
+    let Ok(audit) = shared.close(seats) else {
+        return Err(Fail::new("the audit failed"));
+    };
+    all_are_down(rt, &audit);
+    Ok(())
+}
+
+/// Two connections fail, and the one behind them is answered.
+pub fn visit_all<R: Wait + Clock + Abort, S: Ledger, G: Ledger, B: Room>(
+    rt: &R,
+    alloc: Global,
+    shared: &Shared<S, G, B>,
+    seat: &mut Seat<S, G, B>,
+) -> Result<(), Fail> {
+    for visit in [DEAF, GONE] {
+        let _written = visited(rt, alloc, shared, seat, visit)?;
+    }
+    let written = visited(rt, alloc, shared, seat, WELL)?;
+    let Some(behind) = written.as_slice().strip_prefix(OPEN) else {
+        return Err(Fail::new("no Open was sent"));
+    };
+    assert!(rt; behind.starts_with(KEEPALIVE));
+    Ok(())
+}

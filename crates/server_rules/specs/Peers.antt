@@ -1,0 +1,75 @@
+-- When a router is forgotten, and which Down is still to be submitted, by all that happened.
+use Rattle.std.specs.Prelude.{◌≡◌, ℕ, ◌+◌, ◌-◌, max, Bool, true, false, nat_eq, nat_lt, nat_le, ◌&&◌, List, [], ◌∷◌, Option, Some, None, unwrap_or, if◌then◌else◌}
+use Rattle.indexmap.specs.IndexMap.{get}
+use Rattle.server_rules.specs.declared.known.Happening.{Happening}
+use Rattle.server_rules.specs.declared.known.Happening.TheVariants as happening
+use Rattle.server_rules.specs.declared.known.Known.{Known}
+use Rattle.server_rules.specs.declared.known.Owing.{Owing}
+use Rattle.server_rules.specs.declared.known.Owing.TheVariants.{Down, Expire}
+use Rattle.server_rules.specs.declared.expiry.Due.{Due}
+use Rattle.server_rules.specs.declared.expiry.Expiry.{Expiry}
+
+-- of a peer that never came
+abbrev pub nothing : Known
+nothing = record { live = 0; up = 0; owes_a_down = false; last_down = None }
+
+abbrev pub later : ℕ → Option ℕ → ℕ
+later at_ms None = at_ms
+later at_ms (Some other_ms) = max at_ms other_ms
+
+-- What a happening makes of what was known of its peer. A session comes up on a connection that lives, and goes down
+-- from being up. An owed Down leaves by being submitted alone. The last Down is the latest, whatever came last.
+abbrev pub after : Happening → Known → Known
+after happening.Connected k = record k { live = k.live + 1 }
+after happening.Up k = if nat_lt k.up k.live then record k { up = k.up + 1 } else k
+after (happening.Down at_ms) k = if nat_eq k.up 0 then k else record k { up = k.up - 1; last_down = Some (later at_ms k.last_down) }
+after happening.Owed k = if nat_eq k.up 0 then k else record k { up = k.up - 1; owes_a_down = true }
+after (happening.Submitted at_ms) k = if k.owes_a_down then record k { owes_a_down = false; last_down = Some (later at_ms k.last_down) } else k
+after happening.Gone k = record k { live = k.live - 1 }
+after happening.Forgotten k = record k { last_down = None }
+
+-- what is known of a peer from all that happened, the latest first
+abbrev pub known_from : List (ℕ × Happening) → ℕ → Known
+known_from [] peer = nothing
+known_from (h ∷ past) peer = if nat_eq h.0 peer then after h.1 (known_from past peer) else known_from past peer
+
+-- so long after its last Down, where there is one
+abbrev pub is_kept_out : ℕ → ℕ → Option ℕ → Bool
+is_kept_out now_ms keep_ms None = false
+is_kept_out now_ms keep_ms (Some at_ms) = nat_le at_ms now_ms && nat_le keep_ms (now_ms - at_ms)
+
+-- What is due of a peer at a moment: an owed Down first, at once; and where no session of it is up, and its last Down is
+-- so long ago or longer, that it is forgotten. A connection whose session never came up doesn't count.
+abbrev pub owing : ℕ → ℕ → Known → Option Owing
+owing now_ms keep_ms k =
+    if k.owes_a_down then Some Down else if nat_eq k.up 0 && is_kept_out now_ms keep_ms k.last_down then Some Expire else None
+
+-- all but a connection that comes
+abbrev pub needs_no_room : Happening → Bool
+needs_no_room happening.Connected = false
+needs_no_room _ = true
+
+-- what the table has of a peer
+abbrev pub known_in : Expiry → ℕ → Known
+known_in expiry peer = unwrap_or (get nat_eq expiry.peers peer) nothing
+
+-- the table has of each peer what is known from all that happened
+abbrev pub Tells : Expiry → List (ℕ × Happening) → Type 0
+Tells expiry past = (peer : ℕ) → known_in expiry peer ≡ known_from past peer
+
+-- the table has of each peer what it had
+abbrev pub IsSame : Expiry → Expiry → Type 0
+IsSame old new = (peer : ℕ) → known_in new peer ≡ known_in old peer
+
+-- the table has of this peer what the happening makes of it, and of each other what it had
+abbrev pub Notes : Expiry → Expiry → ℕ → Happening → Type 0
+Notes old new peer what = (other : ℕ) → known_in new other ≡ (if nat_eq peer other then after what (known_in old other) else known_in old other)
+
+-- the table told all that happened, and tells this besides
+abbrev pub Adds : Expiry → Expiry → ℕ → Happening → Type 0
+Adds old new peer what = (past : List (ℕ × Happening)) → Tells old past → Tells new ((peer, what) ∷ past)
+
+-- what is told to be due is; where nothing is told, nothing is due of any peer
+abbrev pub IsDue : List (ℕ × Happening) → ℕ → ℕ → Option Due → Type 0
+IsDue past now_ms keep_ms (Some due) = owing now_ms keep_ms (known_from past due.peer) ≡ Some due.what
+IsDue past now_ms keep_ms None = (peer : ℕ) → owing now_ms keep_ms (known_from past peer) ≡ None

@@ -1,0 +1,129 @@
+//! When a router is forgotten, and which Down is still to be submitted.
+ghost use Rattle.std.specs.Prelude.{◌≡◌, ℕ, List, [], ◌∷◌, Option, None, Some, IsTrue, OnOk, OnErr, ◌+◌, IfSome, IfNone};
+ghost use Rattle.server_rules.specs.Peers.{needs_no_room, Notes, IsSame, Adds, Tells, IsDue};
+ghost use Rattle.server_rules.specs.declared.known.Happening.{Happening};
+ghost use Rattle.server_rules.specs.declared.known.Happening.TheVariants.{Connected, Up, Down, Owed, Submitted, Gone, Forgotten};
+
+use crate::known::{Happening, Known, Owing, after, due_of, one_more};
+use indexmap::IndexMap;
+use std::alloc::{AllocError, Global};
+
+/// What is due of a peer.
+#[derive(Clone, Copy, PartialEq, Eq, Debug)]
+pub struct Due {
+    pub peer: u32,
+    pub what: Owing,
+}
+
+/// One entry for each peer of which a connection lives, a Down is owed, or that is still to be forgotten.
+#[derive(Drop)]
+pub struct Expiry {
+    peers: IndexMap<u32, Known>,
+}
+
+impl Expiry {
+    pub fn new(alloc: Global) -> Expiry
+        ensures { Tells result [] }
+    {
+        Expiry {
+            peers: IndexMap::new(alloc),
+        }
+    }
+
+    /// A connection of the peer was accepted. From then on its end takes no memory.
+    pub fn connected(&mut self, peer: u32) -> Result<(), AllocError>
+        ensures ok { OnOk result (Adds self.old self.new peer Connected) }
+        ensures err { OnErr result (IsSame self.old self.new) }
+    {
+        let known = self.peers.get(&peer).copied().unwrap_or(Known::NOTHING);
+        let known = one_more(known).ok_or(AllocError)?;
+        self.peers.insert(peer, known)?;
+        Ok(())
+    }
+
+    /// A session of the peer came up.
+    pub fn up(&mut self, peer: u32)
+        ensures { Adds self.old self.new peer Up }
+    {
+        self.note(peer, Happening::Up);
+    }
+
+    /// The session that was up ended, and its Down was submitted by this moment.
+    pub fn down(&mut self, peer: u32, at_ms: u64)
+        ensures { Adds self.old self.new peer (Down at_ms) }
+    {
+        self.note(peer, Happening::Down(at_ms));
+    }
+
+    /// The session that was up ended, and its Down found no memory.
+    pub fn owed(&mut self, peer: u32)
+        ensures { Adds self.old self.new peer Owed }
+    {
+        self.note(peer, Happening::Owed);
+    }
+
+    /// The Down that was owed was submitted by this moment.
+    pub fn submitted(&mut self, peer: u32, at_ms: u64)
+        ensures { Adds self.old self.new peer (Submitted at_ms) }
+    {
+        self.note(peer, Happening::Submitted(at_ms));
+    }
+
+    /// A connection of the peer ended.
+    pub fn gone(&mut self, peer: u32)
+        ensures { Adds self.old self.new peer Gone }
+    {
+        self.note(peer, Happening::Gone);
+    }
+
+    /// The peer was forgotten.
+    pub fn forgotten(&mut self, peer: u32)
+        ensures { Adds self.old self.new peer Forgotten }
+    {
+        self.note(peer, Happening::Forgotten);
+    }
+
+    fn note(&mut self, peer: u32, what: Happening)
+        requires { IsTrue (needs_no_room what) }
+        ensures { Notes self.old self.new peer what }
+    {
+        let Some(known) = self.peers.get(&peer).copied() else {
+            return;
+        };
+        let known = after(what, known);
+        if known == Known::NOTHING {
+            let _nothing = self.peers.swap_remove(&peer);
+        } else if let Some(place) = self.peers.get_mut(&peer) {
+            *place = known;
+        }
+    }
+
+    /// What is due of a peer at this moment, where peers are kept for so long after their last Down.
+    pub fn due(&self, now_ms: u64, keep_ms: u64) -> Option<Due>
+        ensures { (past : List (ℕ × Happening)) → Tells self.now past → IsDue past now_ms keep_ms result }
+    {
+        for at in 0..self.peers.len() {
+            if let Some((peer, known)) = self.peers.get_index(at) {
+                if let Some(what) = due_of(*known, now_ms, keep_ms) {
+                    return Some(Due { peer: *peer, what });
+                }
+            }
+        }
+        None
+    }
+
+    /// What is due of the peer couldn't be done: what is due of others comes first next time.
+    pub fn put_off(&mut self, peer: u32)
+        ensures { IsSame self.old self.new }
+    {
+        if let Some(at) = self.peers.get_index_of(&peer) {
+            let last = self.peers.len() - 1;
+            self.peers.move_index(at, last);
+        }
+    }
+
+    /// Whether a peer's Down couldn't be submitted yet.
+    pub fn owes_a_down(&self) -> bool {
+        self.peers.values().any(|known| known.owes_a_down)
+    }
+}

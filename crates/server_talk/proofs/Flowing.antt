@@ -1,0 +1,90 @@
+-- Bytes that are written one after the other.
+use Rattle.std.proofs.Common.{◌≡◌, ℕ, ◌+◌, ◌-◌, Bool, true, false, List, [], ◌++◌, length, take, drop, Option, Some, None, sym, ◌∙◌, ap, subst, append_assoc, take-append-drop}
+use Rattle.std.proofs.lemmas.List.{append-nil, drop-drop, length-drop}
+use Rattle.std.proofs.Math.Seq.{take-add, take-append-add, take-append_seam, take-length}
+use Rattle.std.specs.Io.KnownBytes.{Appends, Keeps}
+use Rattle.history_core.specs.declared.fault.Fault.{Fault}
+use Rattle.server_talk.specs.declared.talk.Ended.{Ended}
+use Rattle.server_talk.specs.declared.talk.Ended.TheVariants.{PeerClosed, SessionEnded, ReadFault, WriteFault, StoreFault}
+use Rattle.server_talk.specs.Visits.{TakesSome, Takes, GoesOut}
+
+pub appends_none : (a : Option (List ℕ)) → Appends a a []
+appends_none None = tt
+appends_none (Some xs) = sym (append-nil xs)
+
+pub appends_on : (a b c : Option (List ℕ)) (x y : List ℕ) → Appends a b x → Appends b c y → Appends a c (x ++ y)
+appends_on None b c x y h k = tt
+appends_on (Some xs) None c x y h k = absurd h
+appends_on (Some xs) (Some ys) None x y h k = absurd k
+appends_on (Some xs) (Some ys) (Some zs) x y h k = k ∙ ap (λ (front : List ℕ). front ++ y) h ∙ append_assoc xs x y
+
+pub appends_kept : (a b c : Option (List ℕ)) (x : List ℕ) → Appends a b x → Keeps b c → Appends a c x
+appends_kept None b c x h k = tt
+appends_kept (Some xs) None c x h k = absurd h
+appends_kept (Some xs) (Some ys) None x h k = absurd k
+appends_kept (Some xs) (Some ys) (Some zs) x h k = k ∙ h
+
+-- some of the bytes behind others
+pub some_behind : (a b c : Option (List ℕ)) (x y : List ℕ) → Appends a b x → TakesSome b c y → TakesSome a c (x ++ y)
+some_behind a b c x y h k =
+    (length x + k.0, subst (λ (bytes : List ℕ). Appends a c bytes) (sym (take-append-add x y k.0)) (appends_on a b c x (take k.0 y) h k.1))
+
+pub goes_out_behind : (end : Option Ended) (a b c : Option (List ℕ)) (x y : List ℕ) → Appends a b x → GoesOut end b c y → GoesOut end a c (x ++ y)
+goes_out_behind None a b c x y h k = appends_on a b c x y h k
+goes_out_behind (Some PeerClosed) a b c x y h k = appends_on a b c x y h k
+goes_out_behind (Some SessionEnded) a b c x y h k = appends_on a b c x y h k
+goes_out_behind (Some ReadFault) a b c x y h k = appends_on a b c x y h k
+goes_out_behind (Some WriteFault) a b c x y h k = some_behind a b c x y h k
+goes_out_behind (Some (StoreFault fault)) a b c x y h k = some_behind a b c x y h k
+
+-- all of the bytes are some of them
+pub all_are_some : (a b : Option (List ℕ)) (x : List ℕ) → Appends a b x → TakesSome a b x
+all_are_some a b x h = (length x, subst (λ (bytes : List ℕ). Appends a b bytes) (sym (take-length x)) h)
+
+-- whatever the end, a fault of the store may be told in its place
+pub out_at_fault : (end : Option Ended) (a b : Option (List ℕ)) (x : List ℕ) (fault : Fault) → GoesOut end a b x → GoesOut (Some (StoreFault fault)) a b x
+out_at_fault None a b x fault h = all_are_some a b x h
+out_at_fault (Some PeerClosed) a b x fault h = all_are_some a b x h
+out_at_fault (Some SessionEnded) a b x fault h = all_are_some a b x h
+out_at_fault (Some ReadFault) a b x fault h = all_are_some a b x h
+out_at_fault (Some WriteFault) a b x fault h = h
+out_at_fault (Some (StoreFault other)) a b x fault h = h
+
+-- some more of the bytes
+pub some_more : (a b c : Option (List ℕ)) (bytes rest : List ℕ) (n k : ℕ) → rest ≡ drop n bytes → Appends a b (take n bytes) → Appends b c (take k rest) → Appends a c (take (n + k) bytes)
+some_more a b c bytes rest n k is h e =
+    subst (λ (x : List ℕ). Appends a c x) (sym (take-add n k bytes)) (appends_on a b c (take n bytes) (take k (drop n bytes)) h (subst (λ (l : List ℕ). Appends b c (take k l)) is e))
+
+-- the rest of the bytes behind these
+pub rest_on : (bytes rest : List ℕ) (n k : ℕ) → rest ≡ drop n bytes → take (length rest - k) (drop k rest) ≡ drop (n + k) bytes
+rest_on bytes rest n k h =
+    ap (λ (m : ℕ). take m (drop k rest)) (sym (length-drop k rest)) ∙ take-length (drop k rest) ∙ ap (λ (l : List ℕ). drop k l) h ∙ drop-drop k n bytes
+
+-- ---- bytes that are written part by part
+
+-- a part behind one that was taken whole
+pub takes_behind : (r : Bool) (a b c : Option (List ℕ)) (x y : List ℕ) → Appends a b x → Takes r b c y → Takes r a c (x ++ y)
+takes_behind true a b c x y h k = appends_on a b c x y h k
+takes_behind false a b c x y h k = some_behind a b c x y h k
+
+front_of_both : (x y : List ℕ) (n : ℕ) → take (length (take n x)) (x ++ y) ≡ take n x
+front_of_both x y n =
+    ap (λ (all : List ℕ). take (length (take n x)) (all ++ y)) (sym (take-append-drop n x)) ∙ ap (λ (all : List ℕ). take (length (take n x)) all) (append_assoc (take n x) (drop n x) y) ∙ take-append_seam (take n x) (drop n x ++ y)
+
+-- some of the first part, and nothing of the other
+pub some_of_both : (a b : Option (List ℕ)) (x y : List ℕ) → TakesSome a b x → TakesSome a b (x ++ y)
+some_of_both a b x y h = (length (take h.0 x), subst (λ (bytes : List ℕ). Appends a b bytes) (sym (front_of_both x y h.0)) h.1)
+
+-- the first of two parts was not taken whole, or was
+pub first_fails : (r : Bool) (a b : Option (List ℕ)) (x y : List ℕ) → r ≡ false → Takes r a b x → TakesSome a b (x ++ y)
+first_fails false a b x y is h = some_of_both a b x y h
+first_fails true a b x y is h = cc
+
+pub first_goes_out : (r second : Bool) (a b c : Option (List ℕ)) (x y : List ℕ) → r ≡ true → Takes r a b x → Takes second b c y → Takes second a c (x ++ y)
+first_goes_out true second a b c x y is h k = takes_behind second a b c x y h k
+first_goes_out false second a b c x y is h k = cc
+
+-- what was taken stays, whatever is told then
+pub takes_kept : (r : Bool) (a b c : Option (List ℕ)) (x : List ℕ) → Appends a b x → Keeps b c → Takes r a c x
+takes_kept true a b c x h k = appends_kept a b c x h k
+takes_kept false a b c x h k = all_are_some a c x (appends_kept a b c x h k)

@@ -1,0 +1,165 @@
+-- A visit, step by step.
+use Rattle.std.proofs.Common.{◌≡◌, ℕ, Bool, true, false, List, [], ◌++◌, Option, Some, None, Result, Ok, Err, refl, sym, ◌∙◌, ap, subst}
+use Rattle.std.proofs.lemmas.List.{append-nil}
+use Rattle.std.proofs.KnownBytes.{Consumes-nil, Consumes-trans}
+use Rattle.std.specs.Io.KnownBytes.{Consumes}
+use Rattle.std.specs.Result.{is_err}
+use Rattle.pcep_session.specs.Calls.{Does}
+use Rattle.pcep_session.specs.Runs.{or_same}
+use Rattle.pcep_session.specs.declared.contents.Contents.{Contents}
+use Rattle.pcep_session.specs.declared.fault.SessionFault.{SessionFault}
+use Rattle.history_core.specs.declared.fault.Fault.{Fault}
+use Rattle.engine_core.specs.Engine.{new_client, ending, served}
+use Rattle.engine_core.specs.Joining.{joined_after}
+use Rattle.engine_core.specs.Stores.{ServesOrEnds}
+use Rattle.engine_core.specs.declared.client.Client.{Client}
+use Rattle.engine_core.specs.declared.store.Call.{Call}
+use Rattle.server_talk.specs.declared.talk.Ended.{Ended}
+use Rattle.server_talk.specs.declared.talk.Ended.TheVariants.{PeerClosed, SessionEnded, ReadFault, WriteFault, StoreFault}
+use Rattle.server_talk.specs.Goings.{Goes}
+use Rattle.server_talk.specs.Goings.Goes.{Stays, Moves}
+use Rattle.server_talk.specs.Visits.{Talks, SoFar, GoesOut, IsToldOf, spoken, IsDown, owes_down, Lasts, Visited}
+use Rattle.server_talk.specs.Visits.Talks.{Begins, Serves, Breaks, Says, Closes}
+use Rattle.server_talk.proofs.Flowing.{appends_none, goes_out_behind, out_at_fault}
+use Rattle.server_talk.proofs.Leaving.{joined_on, is_down}
+
+-- a store that goes on by any calls up to one goes on by them up to the other
+abbrev pub LeadsOn : {S : Type 0} → (S → List Call → S → Type 0) → (S → S → Type 0) → (S → ℕ → S → Type 0) → S → S → S → Type 0
+LeadsOn moves same_but_calls rolls start a b = (calls : List Call) → Goes moves same_but_calls rolls start calls a → Goes moves same_but_calls rolls start calls b
+
+-- it begins
+pub begun : {S : Type 0} (moves : S → List Call → S → Type 0) (same_but_calls : S → S → Type 0) (rolls : S → ℕ → S → Type 0) (peer : ℕ) (store : S) (unread blank : Option (List ℕ)) (now_ms : ℕ) (c : Client)
+    → c ≡ new_client now_ms → SoFar moves same_but_calls rolls peer store unread blank None store unread blank c
+begun moves same_but_calls rolls peer store unread blank now_ms c is =
+    subst (λ (w : Client). SoFar moves same_but_calls rolls peer store unread blank None store unread blank w) (sym is) (record {
+      heard = [];
+      said = [];
+      calls = [];
+      talks = Begins now_ms;
+      joined = refl;
+      goes = Stays;
+      read = Consumes-nil unread;
+      out = appends_none blank;
+      told = tt;
+    })
+
+-- bytes were served
+pub heeded : {X S : Type 0} (moves : S → List Call → S → Type 0) (is_full : S → Type 0) (same_but_calls : S → S → Type 0) (rolls : S → ℕ → S → Type 0) (r : Result X Fault) (peer : ℕ) (start old mid new : S) (unread blank left read written : Option (List ℕ)) (piece : List ℕ) (now_ms : ℕ) (c d : Client)
+    → ServesOrEnds r moves is_full old mid c d (served peer piece now_ms c) → LeadsOn moves same_but_calls rolls start mid new
+    → SoFar moves same_but_calls rolls peer start unread blank None old left written c → Consumes left read piece
+    → SoFar moves same_but_calls rolls peer start unread blank None new read written d
+heeded moves is_full same_but_calls rolls (Ok x) peer start old mid new unread blank left read written piece now_ms c d h on s k = record {
+  heard = s.heard ++ piece;
+  said = s.said;
+  calls = s.calls ++ h.calls;
+  talks = Serves s.heard s.said piece s.calls h.calls now_ms c d s.talks h.leads;
+  joined = h.joined ∙ ap (λ (is : Bool). joined_after is h.calls) s.joined ∙ sym (joined_on false s.calls h.calls);
+  goes = on (s.calls ++ h.calls) (Moves s.calls h.calls old mid s.goes h.made);
+  read = Consumes-trans unread left read s.heard piece s.read k;
+  out = s.out;
+  told = tt;
+}
+heeded moves is_full same_but_calls rolls (Err fault) peer start old mid new unread blank left read written piece now_ms c d h on s k =
+    let b = h.broke_off.carried in
+    subst (λ (w : Client). SoFar moves same_but_calls rolls peer start unread blank None new read written w) (sym h.ended) (record {
+      heard = s.heard ++ piece;
+      said = s.said;
+      calls = s.calls ++ b.calls;
+      talks = Breaks s.heard s.said piece s.calls b.calls now_ms c h.reached h.broke_off.rest s.talks b.leads;
+      joined = b.joined ∙ ap (λ (is : Bool). joined_after is b.calls) s.joined ∙ sym (joined_on false s.calls b.calls);
+      goes = on (s.calls ++ b.calls) (Moves s.calls b.calls old mid s.goes b.made);
+      read = Consumes-trans unread left read s.heard piece s.read k;
+      out = s.out;
+      told = tt;
+    })
+
+-- what there was to say was said
+pub said : {S : Type 0} (moves : S → List Call → S → Type 0) (same_but_calls : S → S → Type 0) (rolls : S → ℕ → S → Type 0) (peer : ℕ) (start now : S) (unread blank left written after : Option (List ℕ)) (end : Option Ended) (c d : Client)
+    → d ≡ spoken c → GoesOut end written after c.session.output → IsToldOf end left d
+    → SoFar moves same_but_calls rolls peer start unread blank None now left written c → SoFar moves same_but_calls rolls peer start unread blank end now left after d
+said moves same_but_calls rolls peer start now unread blank left written after end c d is out told s = record {
+  heard = s.heard;
+  said = s.said ++ c.session.output;
+  calls = s.calls;
+  talks = subst (λ (w : Client). Talks peer s.heard s.calls (s.said ++ c.session.output) w) (sym is) (Says s.heard s.said s.calls c s.talks);
+  joined = ap (λ (w : Client). w.joined) is ∙ s.joined;
+  goes = s.goes;
+  read = s.read;
+  out = goes_out_behind end blank written after s.said c.session.output s.out out;
+  told = told;
+}
+
+-- the session was closed from this side
+pub closed : {S : Type 0} (moves : S → List Call → S → Type 0) (same_but_calls : S → S → Type 0) (rolls : S → ℕ → S → Type 0) (peer : ℕ) (start now : S) (unread blank left written : Option (List ℕ)) (c d : Client)
+    → (reason : Option ℕ) × (d ≡ ending None reason c)
+    → SoFar moves same_but_calls rolls peer start unread blank None now left written c → SoFar moves same_but_calls rolls peer start unread blank None now left written d
+closed moves same_but_calls rolls peer start now unread blank left written c d h s = record {
+  heard = s.heard;
+  said = s.said;
+  calls = s.calls;
+  talks = subst (λ (w : Client). Talks peer s.heard s.calls s.said w) (sym h.1) (Closes s.heard s.said s.calls c h.0 s.talks);
+  joined = ap (λ (w : Client). w.joined) h.1 ∙ s.joined;
+  goes = s.goes;
+  read = s.read;
+  out = s.out;
+  told = tt;
+}
+
+-- a session that could be ended is the one that has ended
+pub ended_ok : {X : Type 0} (r : Result X SessionFault) (old new : Contents) (step : Result Contents SessionFault) → is_err r ≡ false → Does r old new step → new ≡ or_same old step
+ended_ok (Ok x) old new step h k = rw k refl
+ended_ok (Err fault) old new step h k = cc
+
+-- ---- the end
+
+-- what the last calls are where the Down was submitted
+lasts_at : {S : Type 0} (ended : Ended) (listed : S → List Call) (peer : ℕ) (joined : Bool) (new : S) (last : List Call) → owes_down ended ≡ false → IsDown peer joined last → listed new ≡ last → Lasts ended listed peer joined new last
+lasts_at PeerClosed listed peer joined new last here h k = (h, k)
+lasts_at SessionEnded listed peer joined new last here h k = (h, k)
+lasts_at ReadFault listed peer joined new last here h k = (h, k)
+lasts_at WriteFault listed peer joined new last here h k = (h, k)
+lasts_at (StoreFault fault) listed peer joined new last here h k = cc
+
+-- a visit is over, and its Down was submitted where its peer was joined
+pub over : {S : Type 0} (listed : S → List Call) (moves : S → List Call → S → Type 0) (same_but_calls : S → S → Type 0) (rolls : S → ℕ → S → Type 0) (peer : ℕ) (start mid new : S) (unread blank left written : Option (List ℕ)) (ended : Ended) (c : Client)
+    → (s : SoFar moves same_but_calls rolls peer start unread blank (Some ended) mid left written c) → c.session.output ≡ []
+    → (last : List Call) × IsDown peer c.joined last × Goes moves same_but_calls rolls start (s.calls ++ last) new × (listed new ≡ last)
+    → Visited listed moves same_but_calls rolls peer start unread blank ended new left written
+over listed moves same_but_calls rolls peer start mid new unread blank left written ended c s silent h =
+    let down : IsDown peer (joined_after false s.calls) h.0 = subst (λ (is : Bool). IsDown peer is h.0) s.joined h.1 in
+    record {
+      heard = s.heard;
+      said = s.said;
+      calls = s.calls;
+      last = h.0;
+      client = c;
+      talks = s.talks;
+      silent = silent;
+      goes = h.2;
+      down = joined_on false s.calls h.0 ∙ is_down peer (joined_after false s.calls) h.0 down ∙ sym s.told.1;
+      lasts = lasts_at ended listed peer (joined_after false s.calls) new h.0 s.told.1 down h.3;
+      read = s.read;
+      out = s.out;
+      told = s.told.0;
+    }
+
+-- a visit is over, and its peer is left joined
+pub left_joined : {S : Type 0} (listed : S → List Call) (moves : S → List Call → S → Type 0) (same_but_calls : S → S → Type 0) (rolls : S → ℕ → S → Type 0) (peer : ℕ) (start mid new : S) (unread blank left written : Option (List ℕ)) (ended : Ended) (fault : Fault) (c : Client)
+    → (s : SoFar moves same_but_calls rolls peer start unread blank (Some ended) mid left written c) → c.session.output ≡ []
+    → (c.joined ≡ true) × Goes moves same_but_calls rolls start s.calls new
+    → Visited listed moves same_but_calls rolls peer start unread blank (StoreFault fault) new left written
+left_joined listed moves same_but_calls rolls peer start mid new unread blank left written ended fault c s silent h = record {
+  heard = s.heard;
+  said = s.said;
+  calls = s.calls;
+  last = [];
+  client = c;
+  talks = s.talks;
+  silent = silent;
+  goes = subst (λ (all : List Call). Goes moves same_but_calls rolls start all new) (sym (append-nil s.calls)) h.1;
+  down = joined_on false s.calls [] ∙ sym s.joined ∙ h.0;
+  lasts = refl;
+  read = s.read;
+  out = out_at_fault (Some ended) blank written s.said fault s.out;
+  told = tt;
+}

@@ -1,0 +1,137 @@
+//! A peer's socket: its waits, and its end.
+use crate::talk::TAKEN_WITHIN_MS;
+use crate::traits::{Patient, Watch};
+use mio::unix::SourceFd;
+use mio::{Events, Interest, Poll, Token, Waker};
+use std::alloc::Global;
+use std::io;
+use std::io::{ErrorKind, Read};
+use std::net::{Net, Shutdown, SocketAddr, TcpListener, TcpStream};
+use std::os::fd::{AsRawFd, OwnedFd, RawFd};
+use std::time::Duration;
+
+/// So long a read waits where bytes were found and are not there, and for what a peer still sends after the end, in
+/// milliseconds.
+const READ_WAIT_MS: u64 = 80;
+
+/// So long an accept waits, in milliseconds.
+pub const ACCEPT_WAIT_MS: u64 = 100;
+
+/// So long a write waits for a peer that takes nothing, in milliseconds: when it gives up, a clock says that the
+/// peer's time is over.
+const WRITE_WAIT_MS: u64 = TAKEN_WITHIN_MS + 20;
+
+/// So long it is heard what a peer still sends after the end, in milliseconds.
+const PART_MS: u64 = 1000;
+
+/// So many reads are made then, at most.
+const PART_READS: u32 = 64;
+
+/// What a wait found the socket by, and what by a ring.
+const SOCKET: Token = Token(0);
+
+const BELL: Token = Token(1);
+
+/// So many things are found by one wait: bytes, and a ring.
+const FOUND: usize = 2;
+
+/// A socket that is waited for together with a bell.
+#[derive(Drop)]
+pub struct Line<'a> {
+    stream: &'a TcpStream,
+    descriptor: RawFd,
+    poll: Poll,
+    found: Events,
+    most: Duration,
+}
+
+impl<'a> Line<'a> {
+    pub fn new<R: Net>(rt: &R, alloc: Global, stream: &'a TcpStream) -> io::Result<Line<'a>> {
+        let descriptor = stream.as_raw_fd();
+        let poll = Poll::new(rt)?;
+        poll.registry()
+            .register(&mut SourceFd(&descriptor), SOCKET, Interest::READABLE)?;
+        Ok(Line {
+            stream,
+            descriptor,
+            poll,
+            found: Events::with_capacity(alloc, FOUND)?,
+            most: Duration::from_millis(0),
+        })
+    }
+
+    /// By which another thread ends a wait of this line.
+    pub fn waker(&self) -> io::Result<Waker> {
+        Waker::new(self.poll.registry(), BELL)
+    }
+
+    /// Waits, and says whether bytes came, or the end. What came before the wait is found anew, since the socket
+    /// is noted anew.
+    fn is_spoken_to(&mut self) -> io::Result<bool> {
+        let registry = self.poll.registry();
+        registry.reregister(&mut SourceFd(&self.descriptor), SOCKET, Interest::READABLE)?;
+        self.poll.poll(&mut self.found, Some(self.most))?;
+        Ok(self.found.iter().any(|event| event.token() == SOCKET))
+    }
+}
+
+impl<'a> Read for Line<'a> {
+    fn read(&mut self, buf: &mut [u8]) -> io::Result<usize> {
+        if !self.is_spoken_to()? {
+            return Err(io::Error::from(ErrorKind::WouldBlock));
+        }
+        let mut stream = self.stream;
+        stream.read(buf)
+    }
+}
+
+impl<'a> Patient for Line<'a> {
+    fn set_patience(&mut self, most: Duration) {
+        self.most = most;
+    }
+}
+
+/// The number of the source address: a peer is known by it. 0 where it is none of IPv4.
+pub fn peer_of(address: SocketAddr) -> u32 {
+    match address {
+        SocketAddr::V4(v4) => v4.ip().to_bits(),
+        SocketAddr::V6(_) => 0,
+    }
+}
+
+/// Sends without delay, and bounds the waits.
+pub fn prepare(stream: &TcpStream) -> io::Result<()> {
+    stream.set_nodelay(true)?;
+    stream.set_read_timeout(Some(Duration::from_millis(READ_WAIT_MS)))?;
+    stream.set_write_timeout(Some(Duration::from_millis(WRITE_WAIT_MS)))
+}
+
+/// Bounds the wait of an accept. The option is the socket's, whichever handle sets it.
+pub fn bound_accepts(listener: &TcpListener) -> io::Result<()> {
+    let handle = TcpStream::from(OwnedFd::from(listener.try_clone()?));
+    handle.set_read_timeout(Some(Duration::from_millis(ACCEPT_WAIT_MS)))
+}
+
+/// Whether the peer may still send: it doesn't once it has closed, or a read fails.
+fn may_send(stream: &TcpStream, buffer: &mut [u8]) -> bool {
+    let mut reader = stream;
+    match reader.read(buffer) {
+        Ok(count) => count > 0,
+        Err(error) => matches!(error.kind(), ErrorKind::WouldBlock | ErrorKind::TimedOut),
+    }
+}
+
+/// Tells the peer that no more comes, and hears for a while what it still sends: a socket that is closed over
+/// unread bytes is reset, and the peer may lose the last bytes that were sent to it.
+pub fn part<W: Watch>(stream: &TcpStream, watch: &W) {
+    if stream.shutdown(Shutdown::Write).is_err() {
+        return;
+    }
+    let mut buffer = [0u8; 1024];
+    let start_ms = watch.now_ms();
+    for _read in 0..PART_READS {
+        if !may_send(stream, &mut buffer) || watch.now_ms().saturating_sub(start_ms) >= PART_MS {
+            return;
+        }
+    }
+}

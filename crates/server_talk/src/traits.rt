@@ -1,0 +1,31 @@
+//! What a connection and the operator ask of their socket and their run: each a trait, so that a test can have it fail.
+ghost use Rattle.std.specs.Io.KnownBytes.{Keeps};
+
+use std::io::Read;
+use std::time::Duration;
+
+/// A reader that waits for bytes, but no longer than it is told, and only until it is rung for. Where none came, it
+/// answers `WouldBlock` or `TimedOut`.
+pub trait Patient: Read {
+    /// The reads from now on wait so long at most. What they give stays the same.
+    fn set_patience(&mut self, most: Duration)
+        ensures { Keeps (Self.remaining self.old) (Self.remaining self.new) };
+}
+
+/// What a connection knows of the run that it is part of.
+pub trait Watch {
+    ghost use Rattle.std.specs.Prelude.{◌≡◌, true, ⊤};
+
+    /// The run may be told to end.
+    ghost may_close: { Self → Type 0 } = { λ _. ⊤ };
+
+    /// The moment, in milliseconds since the run began.
+    fn now_ms(&self) -> u64;
+
+    /// Whether the run is to end, so that each session is to be closed.
+    fn is_closing(&self) -> bool
+        ensures { result ≡ true → may_close self.now };
+
+    /// Has the connection of a peer, if there is one, look for what it has to say.
+    fn ring(&self, peer: u32);
+}

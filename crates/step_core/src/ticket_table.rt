@@ -1,0 +1,170 @@
+//! Tickets, in the order in which they were asked for.
+ghost use Rattle.std.specs.Prelude.{◌≡◌, ◌<◌, ◌≤◌, ◌+◌, ◌++◌, ◌∷◌, [], All, true, OnOk, OnErr, IfSome, option_copied};
+ghost use Rattle.step_core.specs.TicketTables.{AreRising};
+ghost use Rattle.step_core.specs.Tickets.{first_waiting, ticket_at, is_update_of, is_update_asked, is_initiation_of, is_name_asked, take_first, put_back, without_ticket, has_tries_left, is_waiting};
+
+use commit_core::{Purpose, Ticket};
+use indexmap::IndexMap;
+use initiate_rules::is_same_name;
+use pcep_objects::Plsp;
+use std::alloc::{AllocError, Global};
+use std::marker::Model;
+
+/// The greatest number of tickets that stand at a time.
+pub const TICKET_LIMIT: usize = 1024;
+
+/// The tickets that stand, in the order of their numbers, and the last number that was given. None was taken more than
+/// four times, and one that waits fewer times.
+#[derive(Drop)]
+pub(crate) struct TicketTable {
+    map: IndexMap<u64, Ticket>,
+    last: u64,
+}
+
+impl Model for TicketTable {
+    ghost use Rattle.indexmap.specs.IndexMap.{values};
+    ghost use Rattle.step_core.specs.TicketTables.{IsKept, TicketTable as Table};
+
+    ghost Value = { Table };
+
+    ghost view = { λ t. record { tickets = values t.map; last = t.last } };
+
+    ghost invariant = { λ t. IsKept t.last t.map.entries };
+}
+
+fn is_update_of(plsp: Plsp, purpose: &Purpose) -> bool
+    ensures { result ≡ is_update_of plsp purpose.now }
+{
+    match purpose {
+        Purpose::Update { plsp: updated } => *updated == plsp,
+        Purpose::Initiate { .. } | Purpose::Answer { .. } => false,
+    }
+}
+
+fn is_update_asked(tickets: &[Ticket], peer: u32, plsp: Plsp) -> bool
+    ensures { result ≡ is_update_asked tickets.now peer plsp }
+{
+    tickets.iter().any(|ticket| ticket.peer == peer && is_update_of(plsp, &ticket.purpose))
+}
+
+fn is_initiation_of(name: &[u8], purpose: &Purpose) -> bool
+    ensures { result ≡ is_initiation_of name.now purpose.now }
+{
+    match purpose {
+        Purpose::Initiate { name: asked, .. } => is_same_name(asked.as_slice(), name),
+        Purpose::Update { .. } | Purpose::Answer { .. } => false,
+    }
+}
+
+fn is_name_asked(tickets: &[Ticket], peer: u32, name: &[u8]) -> bool
+    ensures { result ≡ is_name_asked tickets.now peer name.now }
+{
+    tickets.iter().any(|ticket| ticket.peer == peer && is_initiation_of(name, &ticket.purpose))
+}
+
+impl TicketTable {
+    /// No ticket. Takes no memory.
+    pub fn new(alloc: Global) -> TicketTable
+        ensures { result ≡ record { tickets = []; last = 0 } }
+    {
+        TicketTable {
+            map: IndexMap::new(alloc),
+            last: 0,
+        }
+    }
+
+    /// The tickets, in the order of their numbers.
+    pub fn as_slice(&self) -> &[Ticket]
+        ensures tickets { result.now ≡ self.now.tickets }
+        ensures rising { AreRising self.now.tickets }
+    {
+        self.map.values().as_slice()
+    }
+
+    /// The number of the last ticket, 0 where there was none.
+    pub fn last(&self) -> u64
+        ensures { result ≡ self.now.last }
+    {
+        self.last
+    }
+
+    /// Adds a ticket of the next number, behind all others.
+    pub fn push(&mut self, ticket: Ticket) -> Result<(), AllocError>
+        requires number { ticket.id ≡ self.old.last + 1 }
+        requires tries { has_tries_left ticket ≡ true }
+        ensures added { OnOk result (self.new ≡ record { tickets = self.old.tickets ++ ticket ∷ []; last = ticket.id }) }
+        ensures unchanged { OnErr result (self.new ≡ self.old) }
+    {
+        let id = ticket.id;
+        self.map.insert(id, ticket)?;
+        self.last = id;
+        Ok(())
+    }
+
+    /// The ticket of the number.
+    pub fn find(&self, id: u64) -> Option<&Ticket>
+        ensures { option_copied result ≡ ticket_at self.now.tickets id }
+    {
+        self.map.get(&id)
+    }
+
+    /// The waiting ticket of the least number. It was taken fewer than four times.
+    pub fn first_waiting(&self) -> Option<&Ticket>
+        ensures first { option_copied result ≡ first_waiting self.now.tickets }
+        ensures tries { IfSome result (λ t. t.now.tries < 4) }
+        ensures least { IfSome result (λ t. All (λ u. is_waiting u ≡ true → t.now.id ≤ u.id) self.now.tickets) }
+    {
+        for ticket in self.map.values() {
+            if !ticket.taken {
+                return Some(ticket);
+            }
+        }
+        None
+    }
+
+    /// Takes the first that waits, to be searched for; paths came or went `changes` times so far.
+    pub fn take_first(&mut self, changes: u64)
+        ensures { self.new ≡ record self.old { tickets = take_first self.old.tickets changes } }
+    {
+        let Some(waiting) = self.first_waiting() else {
+            return;
+        };
+        let (id, tries) = (waiting.id, waiting.tries + 1);
+        if let Some(ticket) = self.map.get_mut(&id) {
+            ticket.taken = true;
+            ticket.tries = tries;
+            ticket.seen = changes;
+        }
+    }
+
+    /// The ticket of the number waits again. It has tries left.
+    pub fn put_back(&mut self, id: u64)
+        requires { IfSome (ticket_at self.old.tickets id) (λ t. t.tries < 4) }
+        ensures { self.new ≡ record self.old { tickets = put_back self.old.tickets id } }
+    {
+        if let Some(ticket) = self.map.get_mut(&id) {
+            ticket.taken = false;
+        }
+    }
+
+    /// The ticket of the number ends.
+    pub fn end(&mut self, id: u64)
+        ensures { self.new ≡ record self.old { tickets = without_ticket self.old.tickets id } }
+    {
+        self.map.shift_remove(&id);
+    }
+
+    /// Whether an update of the LSP is asked for.
+    pub fn is_update_asked(&self, peer: u32, plsp: Plsp) -> bool
+        ensures { result ≡ is_update_asked self.now.tickets peer plsp }
+    {
+        is_update_asked(self.as_slice(), peer, plsp)
+    }
+
+    /// Whether an LSP of this name is asked for.
+    pub fn is_name_asked(&self, peer: u32, name: &[u8]) -> bool
+        ensures { result ≡ is_name_asked self.now.tickets peer name.now }
+    {
+        is_name_asked(self.as_slice(), peer, name)
+    }
+}

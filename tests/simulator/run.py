@@ -1,0 +1,70 @@
+"""Runs of drawn scripts: the program's output is compared with what may be printed for each line."""
+
+import random
+import subprocess
+
+SECONDS = 120
+
+
+def play(scenario):
+    """The text of a drawn script, and for each line of output the line of the script and the texts that may stand there."""
+    lines = [*scenario.script.network.text(), "---"]
+    expected = []
+    number = sum(line.count("\n") + 1 for line in lines)
+    for line in scenario.lines():
+        number += 1
+        lines.append(line)
+        expected += [(number, line, told) for told in scenario.script.line(line)]
+    return "\n".join(lines) + "\n", expected
+
+
+def first_difference(expected, output):
+    """Where the output differs from what may be printed, told in three lines, or None."""
+    for (number, line, told), got in zip(expected, output):
+        if got not in told:
+            return told_difference(number, line, " or ".join(sorted(told)), got)
+    if len(output) < len(expected):
+        number, line, told = expected[len(output)]
+        return told_difference(number, line, " or ".join(sorted(told)), "(nothing)")
+    if len(output) > len(expected):
+        return told_difference(expected[-1][0] if expected else 0, "(the end)", "(nothing)", output[len(expected)])
+    return None
+
+
+def told_difference(number, line, wanted, got):
+    return f"  line {number}: {line[:200]}\n  wanted: {wanted[:400]}\n  got:    {got[:400]}"
+
+
+def fault_of(program, text, expected):
+    """What is wrong with the program's run of a script, or None."""
+    try:
+        run = subprocess.run([program, "script"], input=text, capture_output=True, text=True, timeout=SECONDS)
+    except subprocess.TimeoutExpired:
+        return f"  no end within {SECONDS} s"
+    except OSError as fault:
+        return f"  {fault}"
+    told = first_difference(expected, run.stdout.splitlines())
+    if told is None and run.returncode:
+        told = f"  status {run.returncode}: {run.stderr[:400]}"
+    return told
+
+
+class Tally:
+    """Counts runs, and leaves the scripts of those that fail."""
+
+    def __init__(self, programs, folder):
+        self.programs, self.folder = programs, folder
+        self.passed = self.failed = 0
+
+    def run(self, kind, seed, scenario_of, amount):
+        text, expected = play(scenario_of(random.Random(seed), amount))
+        for program in self.programs:
+            fault = fault_of(program, text, expected)
+            if fault is None:
+                self.passed += 1
+                continue
+            self.failed += 1
+            self.folder.mkdir(parents=True, exist_ok=True)
+            left = self.folder / f"{kind}-{seed}.txt"
+            left.write_text(text)
+            print(f"seed {seed}: {amount} {kind}, {program}, script in {left}\n{fault}", flush=True)

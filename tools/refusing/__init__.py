@@ -1,0 +1,1 @@
+"""Allocations of a program that are refused in turn."""

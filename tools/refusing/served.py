@@ -1,0 +1,333 @@
+"""A server whose allocations are refused while it is called: the call that is told so is made again."""
+import socket
+import struct
+import subprocess
+import time
+
+from reader import messages as m
+from reader.numbers import word_of
+
+MOST, SECONDS = 400, 20
+A, D = bytes([10, 0, 0, 1]), bytes([10, 0, 0, 4])
+OUT_OF_MEMORY = "out of memory"
+END_OF_SYNCHRONIZATION = m.message(m.M_PCRPT, m.thing(32, bytes(4) + struct.pack(">HH", 18, 16) + bytes(16)), m.thing(7, b""))
+FREE = [[1_000_000] * 8 for _ in range(4)]
+HELD = [[500_000] * 8 for _ in range(2)] + FREE[2:]
+
+
+def report(flags, lsp_id=1):
+    """The LSP 5, over the links 0 and 1 with half of what they bear."""
+    ends = A + struct.pack(">HH", lsp_id, 1) + A + D
+    over_b = bytes.fromhex("01080a0100022000 01080a0200022000")
+    attributes = m.thing(9, struct.pack(">III4B", 0, 0, 0, 7, 0, 0, 0)), m.thing(5, struct.pack(">I", word_of(500_000)))
+    return m.message(m.M_PCRPT, m.thing(32, struct.pack(">IHH", 5 << 12 | flags, 18, 16) + ends), m.thing(7, over_b), *attributes)
+
+
+REMOVAL = m.message(m.M_PCRPT, m.thing(32, struct.pack(">IHH", 5 << 12 | 4, 18, 16) + bytes(16)), m.thing(7, b""))
+
+
+def request(number):
+    return m.message(m.M_PCREQ, m.thing(2, struct.pack(">II", 0, number), flags=2), m.thing(4, A + D, flags=2))
+
+
+def refusal(srp):
+    return m.message(m.M_PCERR, m.thing(33, struct.pack(">II", 0, srp)), m.thing(13, bytes([0, 0, 24, 1])))
+
+
+class Gone(Exception):
+    """The server has ended the connection."""
+
+
+class Served:
+    def __init__(self, program, network, refusals, place=-1):
+        self.refusals, self.router, self.number = refusals, None, 0
+        refusals.order(place)
+        with socket.create_server(("127.0.0.1", 0)) as free:
+            self.port = free.getsockname()[1]
+        self.process = subprocess.Popen(
+            [program, "serve", "--te", network, "--listen", f"127.0.0.1:{self.port}", "--endless", "--workers", "1"],
+            stdin=subprocess.PIPE, stdout=subprocess.PIPE, stderr=subprocess.PIPE, bufsize=0, env=refusals.environment,
+        )
+
+    def come(self):
+        """The router connects, and is in sync; again, where an earlier session still stands or memory was refused."""
+        until = time.monotonic() + SECONDS
+        while time.monotonic() < until:
+            try:
+                self.connect()
+                self.send(m.OWN_OPEN + m.KEEPALIVE + END_OF_SYNCHRONIZATION)
+                self.is_answered()
+                return
+            except (OSError, Gone):
+                time.sleep(0.02)
+        raise ValueError("the router can't come up")
+
+    def connect(self):
+        if self.router:
+            self.router.close()
+        self.router = socket.create_connection(("127.0.0.1", self.port), timeout=SECONDS)
+        self.router.setsockopt(socket.IPPROTO_TCP, socket.TCP_NODELAY, 1)
+
+    def send(self, data):
+        try:
+            self.router.sendall(data)
+        except OSError:
+            raise Gone from None
+
+    def take(self, count):
+        data = b""
+        while len(data) < count:
+            try:
+                more = self.router.recv(count - len(data))
+            except ConnectionError:
+                more = b""
+            if not more:
+                raise Gone
+            data += more
+        return data
+
+    def hear_of(self, kind):
+        """The next message of this type."""
+        while True:
+            head = self.take(4)
+            message = head + self.take(struct.unpack(">H", head[2:])[0] - 4)
+            if message[1] == kind:
+                return message
+
+    def is_answered(self):
+        """Asks for a path: what the router sent before has been handled."""
+        self.number += 1
+        self.send(request(self.number))
+        while self.hear_of(m.M_PCREP)[8:16] != struct.pack(">II", 0, self.number):
+            pass
+
+    def tell(self, line, answers=1):
+        self.process.stdin.write(line.encode() + b"\n")
+        first = self.process.stdout.readline().decode().rstrip("\n")
+        more = answers - 1 if first != OUT_OF_MEMORY else 0
+        return [first] + [self.process.stdout.readline().decode().rstrip("\n") for _ in range(more)]
+
+    def book(self):
+        self.refusals.lift()
+        return [[int(word) for word in line.split()[2:]] for line in self.tell("book", 4)]
+
+    def end(self):
+        """The status, and the last line on standard error that isn't of the log."""
+        self.process.stdin.close()
+        said = [line for line in self.process.stderr.read().decode().splitlines() if not line.startswith("[INFO")]
+        return self.process.wait(timeout=SECONDS), said[-1] if said else ""
+
+
+class Call:
+    """A call of the server, and what has to be before it and comes of it."""
+
+    def __init__(self, served):
+        self.served, self.address, self.told = served, "127.0.0.1", 0
+
+    def answer_of(self, line, before):
+        """The answer to an operator's line, which is told again where memory was refused: then nothing was done."""
+        answer = self.served.tell(line)[0]
+        if answer == OUT_OF_MEMORY:
+            self.told += 1
+            self.served.refusals.lift()
+            wants(self.served.book(), before)
+            answer = self.served.tell(line)[0]
+        return answer
+
+    def hears(self, kind):
+        """The number (SRP-ID) of the request that comes."""
+        message = self.served.hear_of(kind)
+        return struct.unpack_from(">I", message, 12)[0]
+
+    def reset(self):
+        """No LSP stands, and the router is up."""
+        self.served.refusals.lift()
+        try:
+            self.served.send(REMOVAL)
+            self.served.is_answered()
+        except Gone:
+            self.served.come()
+        wants(self.served.book(), FREE)
+
+    def run_again(self, place):
+        """The session has ended."""
+        self.served.come()
+
+    def report(self, flags):
+        self.served.send(report(flags))
+        self.served.is_answered()
+
+
+def wants(came, wanted):
+    if came != wanted:
+        raise ValueError(f"wanted {wanted}, came {came}")
+
+
+class Initiation(Call):
+    """An initiation is told, searched for, granted and sent; the router refuses it."""
+
+    def run(self, place):
+        answer = self.answer_of(f"initiate {self.address} t{place} 10.0.0.1 10.0.0.4 500000 7 0", FREE)
+        wants(answer.split()[0], "asked")
+        srp = self.hears(m.M_PCINITIATE)
+        wants(self.served.book(), HELD)
+        self.served.send(refusal(srp))
+
+
+class Update(Call):
+    """An update is told, searched for, granted and sent; the router refuses it."""
+
+    def reset(self):
+        super().reset()
+        self.report(0x09)
+
+    def run(self, place):
+        wants(self.answer_of(f"update {self.address} 5", FREE).split()[0], "asked")
+        srp = self.hears(m.M_PCUPD)
+        wants(self.served.book(), HELD)
+        self.served.send(refusal(srp))
+
+
+class Return(Call):
+    """An LSP is given back."""
+
+    def reset(self):
+        super().reset()
+        self.report(0x19)
+
+    def run(self, place):
+        wants(self.answer_of(f"return {self.address} 5", HELD), "done")
+        self.hears(m.M_PCUPD)
+
+
+class Removal(Call):
+    """An LSP that was initiated is to be removed."""
+
+    def reset(self):
+        super().reset()
+        self.report(0x99)
+
+    def run(self, place):
+        wants(self.answer_of(f"delete {self.address} 5", HELD).split()[0], "removing")
+        self.hears(m.M_PCINITIATE)
+
+
+class Report(Call):
+    """A report is booked, and a request that follows it is answered."""
+
+    def run(self, place):
+        self.report(0x18)
+        wants(self.served.book(), HELD)
+
+    def run_again(self, place):
+        """The report was booked before the session ended, or not at all."""
+        book = self.served.book()
+        wants(book, FREE if book == FREE else HELD)
+        self.served.come()
+        self.run(place)
+
+
+class Coming(Call):
+    """A router connects, and comes up."""
+
+    def run(self, place):
+        self.served.router.close()
+        self.served.connect()
+        self.served.send(m.OWN_OPEN + m.KEEPALIVE + END_OF_SYNCHRONIZATION)
+        self.served.is_answered()
+
+
+class Look(Call):
+    """The book is looked at."""
+
+    def reset(self):
+        super().reset()
+        self.report(0x18)
+
+    def run(self, place):
+        wanted = [f"link {link} " + " ".join(map(str, left)) for link, left in enumerate(HELD)]
+        printed = self.served.tell("book", 4)
+        if printed == [OUT_OF_MEMORY]:
+            self.told += 1
+            printed = self.served.tell("book", 4)
+        wants(printed, wanted)
+
+
+CALLS = (Look, Initiation, Update, Return, Removal, Report, Coming)
+
+
+def refuse_each(call):
+    """Makes the call with each allocation refused in turn, until it meets none: how many there are, and how many of the
+    refusals ended the session."""
+    ended = 0
+    for place in range(MOST):
+        call.reset()
+        call.served.refusals.order(place)
+        try:
+            call.run(place)
+        except Gone:
+            ended += 1
+            call.served.refusals.lift()
+            call.run_again(place)
+        if call.served.refusals.met() == 0:
+            return place, ended
+    raise ValueError(f"more than {MOST} allocations")
+
+
+ENDS = (0, ""), (5, OUT_OF_MEMORY)
+
+
+def refuse_each_of_a_start(program, network, refusals):
+    """The server starts, and ends at once."""
+    for place in range(MOST):
+        end = Served(program, network, refusals, place).end()
+        # (what a thread lacked that can't be started isn't told)
+        wants(end, end if end in (*ENDS, (3, "device fault")) else ENDS)
+        if refusals.met() == 0:
+            return f"{place} refusals"
+    raise ValueError(f"more than {MOST} allocations")
+
+
+def refuse_each_of_an_end(program, network, refusals):
+    """The server ends, after a router has come."""
+    for place in range(MOST):
+        served = Served(program, network, refusals)
+        served.come()
+        refusals.order(place)
+        end = served.end()
+        wants(end, end if end in ENDS else ENDS)
+        served.router.close()
+        if refusals.met() == 0:
+            return f"{place} refusals"
+    raise ValueError(f"more than {MOST} allocations")
+
+
+def refuse_each_of_the_calls(program, network, refusals):
+    """Each call of a server that goes on, whose audit passes in the end."""
+    served = Served(program, network, refusals)
+    try:
+        served.come()
+        for kind in CALLS:
+            call = kind(served)
+            places, ended = refuse_each(call)
+            print(f"      {kind.__doc__} {places} refusals: {call.told} told to the operator, {ended} ended the session", flush=True)
+        refusals.lift()
+        wants(served.end(), (0, ""))
+        return "the audit passes"
+    finally:
+        served.process.kill()
+        served.process.wait()
+
+
+def results_of(program, network, refusals):
+    """Tries a server under refusals, and prints how it went."""
+    results = []
+    for case in (refuse_each_of_a_start, refuse_each_of_the_calls, refuse_each_of_an_end):
+        try:
+            said = case(program, network, refusals)
+            results.append(True)
+        except (OSError, ValueError, Gone, subprocess.TimeoutExpired) as problem:
+            said = repr(problem)
+            results.append(False)
+        print(f"{'ok   ' if results[-1] else 'WRONG'} {case.__doc__} {said}", flush=True)
+    return results
