@@ -146,21 +146,30 @@ def _():
     return script
 
 
+def taken():
+    """Nothing waits, and is taken as often as steps are kept."""
+    script = Script("---\n")
+    script.lines, script.printed = ["take"] * STEPS, ["idle"] * STEPS
+    return script
+
+
 @limit("1,048,576 kept steps, and one more")
 def _():
-    script = Script("---\n")
-    script.lines, script.printed = ["expire 1"] * STEPS, ["refused 1"] * STEPS
-    script.does("history", *(f"step {n} expire refused 1" for n in range(STEPS)))
-    script.does("expire 1")
+    script = taken()
+    script.does("history", *(f"step {n} take idle" for n in range(STEPS)))
+    script.does("take")
     script.fault, script.status = "history full\n", 5
     return script
 
 
-@limit("1,048,576 kept steps, a roll, and one more")
+@limit("1,048,576 kept steps, a roll, as many again, and one more")
 def _():
-    script = Script("---\n")
-    script.lines, script.printed = ["expire 1"] * STEPS, ["refused 1"] * STEPS
+    script = taken()
     script.does("roll", f"rolled {STEPS}")
-    script.does("expire 1", "refused 1")
-    script.does("history", f"step {STEPS} expire refused 1")
+    script.does("take", "idle")
+    script.does("history", f"step {STEPS} take idle")
+    script.lines += ["take"] * (STEPS - 1)
+    script.printed += ["idle"] * (STEPS - 1)
+    script.does("take")
+    script.fault, script.status = "history full\n", 5
     return script

@@ -22,7 +22,7 @@ class Events:
         self.state, self.sessions = self.script.state, self.script.sessions
         self.peers = [draw.choice((1, 0x0A000000)) + number for number in range(peers)]
         self.routers = Routers(draw, self.script, plsps)
-        self.rest, self.books = {}, 0
+        self.rest = {}
 
     def chance(self, share):
         return self.draw.random() < share

@@ -55,8 +55,8 @@ class Reports:
     def wants_path(self, peer, report, has_grant, record):
         down = report.delegated and report.operational == wire.DOWN and not report.ero
         known = self.peers[peer]
-        free = not has_grant and record.removing is None and not self.is_update_asked(peer, report.plsp)
-        return down and free and known.update and not known.syncing
+        free = not has_grant and record.removing is None
+        return down and free and known.update and not known.syncing and not self.is_update_asked(peer, report.plsp)
 
     def take_removal(self, peer, report):
         zero = not any(report.identifiers)

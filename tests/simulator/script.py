@@ -1,5 +1,7 @@
 """What `pced script` prints for each line, by the plain state."""
 
+from collections import Counter
+
 from . import wire, words
 from .network import address
 from .session import CLOSED, UP, Session
@@ -40,10 +42,15 @@ class Script:
         self.sessions, self.moment = {}, 0
         self.kept, self.rolled = [], 0
         self.answers = {}
+        # of those steps that aren't a drain of nothing
+        self.steps, self.replies = 0, Counter()
 
     def submit(self, event, *rest):
         reply = self.state.apply(event, *rest)
         self.kept.append(f"{event} {reply_text(reply)}")
+        if reply != ["out", ()]:
+            self.steps += 1
+            self.replies[reply[0] if reply[0] != "refused" else f"refused {reply[1]}"] += 1
         return reply
 
     def line(self, text):
@@ -118,6 +125,9 @@ class Script:
             self.submit("up", number, (True, True))
             self.submit("marker", number)
         return [self.reply_to("report", number, report) for report in reports]
+
+    def line_reload(self, *numbers):
+        return [self.reply_to("reload", *map(int, numbers))]
 
     def line_expire(self, peer):
         return [self.reply_to("expire", peer_in(peer))]

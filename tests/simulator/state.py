@@ -16,6 +16,7 @@ from .facts import (
     PEER_UP,
     PENDING,
     SYNCING,
+    UNKNOWN_LINK,
     UNKNOWN_LSP,
     UNKNOWN_PEER,
     Peer,
@@ -32,6 +33,7 @@ class State(Reports, Tickets):
         self.peers, self.paths, self.records = {}, {}, {}
         self.names, self.tickets = [], []
         self.changes = self.last_session = self.last_ticket = self.grants = 0
+        self.last_left = None
 
     # ---- looks
 
@@ -39,7 +41,10 @@ class State(Reports, Tickets):
         return [path for paths in self.paths.values() for path in paths]
 
     def left(self):
-        return sums.Left(self.network, self.all_paths())
+        """Summed anew where something changed."""
+        if self.last_left is None or self.last_left[0] != self.changes:
+            self.last_left = self.changes, sums.Left(self.network, self.all_paths())
+        return self.last_left[1]
 
     def paths_of(self, peer, plsp):
         return [path for path in self.paths.get(peer, ()) if path.plsp == plsp]
@@ -164,6 +169,13 @@ class State(Reports, Tickets):
         self.must_be_up(peer)
         waiting, self.peers[peer].outgoing = self.peers[peer].outgoing, ()
         return ["out", waiting]
+
+    def on_reload(self, number, igp, te, colour, reservable):
+        """A link has other values; no path changes."""
+        need(number < len(self.network.links), UNKNOWN_LINK)
+        link = self.network.links[number]
+        self.network.links[number] = replace(link, igp=igp, te=te, colour=colour, reservable=reservable)
+        self.changes += 1
 
     def on_refused(self, peer, srp):
         self.must_be_up(peer)

@@ -23,8 +23,8 @@ class Left:
         self.network = network
         self.shares = shares(paths, len(network.links))
         self.unreserved = [
-            [link.reservable - sum(held[priority] for held in self.shares[number].values()) for priority in range(8)]
-            for number, link in enumerate(network.links)
+            [link.reservable - sum(held) for held in zip(*of_link.values(), [0] * 8)]
+            for link, of_link in zip(network.links, self.shares)
         ]
 
     def rise(self, tunnel, bandwidth, link, priority):

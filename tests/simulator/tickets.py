@@ -19,6 +19,7 @@ from .facts import (
     Ticket,
     need,
 )
+from .laws import Broken
 
 
 class Tickets:
@@ -129,4 +130,5 @@ class Tickets:
         for link in grant.links:
             for priority in range(asked.setup + 1):
                 fell = after.unreserved[link][priority] < before.unreserved[link][priority]
-                assert not fell or after.unreserved[link][priority] >= 0, (grant, link, priority)
+                if fell and after.unreserved[link][priority] < 0:
+                    raise Broken(f"a grant took what is not there: {grant}, link {link}, priority {priority}")

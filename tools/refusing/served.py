@@ -114,7 +114,7 @@ class Served:
     def end(self):
         """The status, and the last line on standard error that isn't of the log."""
         self.process.stdin.close()
-        said = [line for line in self.process.stderr.read().decode().splitlines() if not line.startswith("[INFO")]
+        said = [line for line in self.process.stderr.read().decode().splitlines() if "pce_server] " not in line]
         return self.process.wait(timeout=SECONDS), said[-1] if said else ""
 
 

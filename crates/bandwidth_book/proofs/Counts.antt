@@ -81,14 +81,6 @@ pub times_with_all : (h : Held) (hs xs : List Held) → times h (with_all hs xs)
 times_with_all h hs [] = omega arith
 times_with_all h hs (x ∷ xs) = let ih = times_with_all h (with_one x hs) xs in let one = times_with_one h x hs in omega (arith, ih, one)
 
-pub without_all_append : (hs a b : List Held) → without_all hs (a ++ b) ≡ without_all (without_all hs a) b
-without_all_append hs [] b = refl
-without_all_append hs (x ∷ a) b = without_all_append (without_one x hs) a b
-
-pub with_all_append : (hs a b : List Held) → with_all hs (a ++ b) ≡ with_all (with_all hs a) b
-with_all_append hs [] b = refl
-with_all_append hs (x ∷ a) b = with_all_append (with_one x hs) a b
-
 pub most_append : (a b : List Held) (p : ℕ) → most (a ++ b) p ≡ max (most a p) (most b p)
 most_append [] b p = omega arith
 most_append (x ∷ a) b p = let ih = most_append a b p in omega (arith, ih)

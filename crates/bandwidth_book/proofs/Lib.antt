@@ -19,3 +19,4 @@ pub mod Runs
 pub mod Pending
 pub mod OwnShares
 pub mod Tables
+pub mod Revalued

@@ -1,18 +1,17 @@
 -- What one change of a list of entries does to the entries by link, and what a path's links take one by one.
-use Rattle.std.proofs.Common.{◌≡◌, ◌<◌, ◌≤◌, ◌+◌, ◌^◌, ℕ, zero, suc, ◌==◌, Bool, true, false, true≢false, List, [], ◌∷◌, ◌++◌, Option, Some, None, length, get_or, slice_get, slice_set, slice_index, insert, remove, drop, refl, sym, ap, subst, ◌∙◌, arith, inl, inr, ◌⊎◌, if◌then◌else◌, nat_lt, add-one, drop-cons, length-append, length-set}
+use Rattle.std.proofs.Common.{◌≡◌, ◌<◌, ◌≤◌, ◌+◌, ◌^◌, ℕ, zero, suc, ◌==◌, Bool, true, false, true≢false, List, [], ◌∷◌, ◌++◌, Option, Some, None, length, get_or, slice_get, slice_set, slice_index, insert, remove, drop, refl, sym, ap, subst, ◌∙◌, arith, inl, inr, if◌then◌else◌, add-one, drop-cons, length-append, length-set}
 use Rattle.std.proofs.lemmas.Bool.{cases_Bool, eqb-true}
-use Rattle.std.proofs.lemmas.Bool.Decides.{nat_tests}
 use Rattle.std.specs.List.{refill}
 use Rattle.bandwidth_book.specs.Held.{Held}
 use Rattle.bandwidth_book.specs.declared.link_entries.LinkEntry.{LinkEntry}
 use Rattle.bandwidth_book.specs.Holdings.{Holdings}
-use Rattle.bandwidth_book.specs.Held.{most, moved_all, room_for}
+use Rattle.bandwidth_book.specs.Held.{most, moved_all, takes_memory}
 use Rattle.bandwidth_book.specs.declared.held.Motion.{Motion}
-use Rattle.bandwidth_book.specs.Entries.{AreRising, IsAt, entry_on, place_on}
+use Rattle.bandwidth_book.specs.Entries.{AreRising, IsAt, IsMoved, entry_on, held_in, place_on}
 use Rattle.bandwidth_book.specs.Tunnels.{held_by_links, sum_at, sum_in}
-use Rattle.bandwidth_book.proofs.Moved.{most_moved, moved_append, room_both}
+use Rattle.bandwidth_book.proofs.Moved.{most_moved, moved_both, moved_part, unmoved}
 use Rattle.bandwidth_book.proofs.Places.{set_related}
-use Rattle.bandwidth_book.proofs.Rising.{entry_insert, entry_remove, entry_set, found_at, none_in_place, number_self, numbers_apart, rising_set}
+use Rattle.bandwidth_book.proofs.Rising.{entry_insert, entry_remove, entry_set, found_at, none_in_place, number_self, numbers_apart, rising_remove, rising_set}
 
 -- ---- one at a place
 
@@ -21,10 +20,6 @@ pub one_at : {A : Type 0} (xs : List A) (i : ℕ) (d : A) → i < length xs → 
 one_at [] i d h = absurd (omega (arith, h))
 one_at (x ∷ xs) zero d h = refl
 one_at (x ∷ xs) (suc i) d h = one_at xs i d (omega (arith, h))
-
--- the one that is got at a place that is there stands there
-pub got_at : (x : LinkEntry) (xs : List LinkEntry) (i : ℕ) → i < length xs → x ≡ get_or xs i x → slice_get xs i ≡ Some x
-got_at x xs i h e = one_at xs i x h ∙ ap (λ (y : LinkEntry). Some y) (sym e)
 
 got : (xs : List LinkEntry) (i : ℕ) (d y : LinkEntry) → slice_get xs i ≡ Some y → get_or xs i d ≡ y
 got [] i d y h = absurd (cc)
@@ -113,7 +108,7 @@ insert_entry_of R y xs none there others l =
       | inr other ↦ rw (put, other) (others (entry_on l xs))
     ]
 
-pub remove_entry : (R : Bool → Option Holdings → Option Holdings → Type 0) (x : LinkEntry) (xs : List LinkEntry) (i : ℕ) → AreRising xs → slice_get xs i ≡ Some x → R true (Some x.entry) None → ((o : Option Holdings) → R false o o) → (l : ℕ) → R (x.link == l) (entry_on l xs) (entry_on l (remove xs i))
+remove_entry : (R : Bool → Option Holdings → Option Holdings → Type 0) (x : LinkEntry) (xs : List LinkEntry) (i : ℕ) → AreRising xs → slice_get xs i ≡ Some x → R true (Some x.entry) None → ((o : Option Holdings) → R false o o) → (l : ℕ) → R (x.link == l) (entry_on l xs) (entry_on l (remove xs i))
 remove_entry R x xs i r at there others l =
     let out = entry_remove l x xs i r at in
     elim (cases_Bool (x.link == l)) [
@@ -124,11 +119,25 @@ remove_entry R x xs i r at there others l =
     ]
 
 -- what is written there goes with it
-pub remove_set : (xs : List LinkEntry) (i : ℕ) (y : LinkEntry) → remove (slice_set xs i y) i ≡ remove xs i
+remove_set : (xs : List LinkEntry) (i : ℕ) (y : LinkEntry) → remove (slice_set xs i y) i ≡ remove xs i
 remove_set [] zero y = refl
 remove_set [] (suc i) y = refl
 remove_set (x ∷ xs) zero y = refl
 remove_set (x ∷ xs) (suc i) y = ap (λ (zs : List LinkEntry). x ∷ zs) (remove_set xs i y)
+
+-- the same through a slice of the list that was lent, and is put back
+taken_out : (x : LinkEntry) (e : Holdings) (xs lent : List LinkEntry) (i : ℕ) → lent ≡ xs → x ≡ get_or lent i x → remove (refill (length xs) xs (slice_set lent i (record { link = (get_or lent i x).link; entry = e }))) i ≡ remove xs i
+taken_out x e xs lent i same got = ap (λ (ys : List LinkEntry). remove ys i) (put_back x e xs lent i same got) ∙ remove_set xs i (record { link = x.link; entry = e })
+
+pub remove_entry_lent : (R : Bool → Option Holdings → Option Holdings → Type 0) (m : ℕ) (x : LinkEntry) (e : Holdings) (xs lent : List LinkEntry) (i : ℕ) → AreRising xs → IsAt m xs i → lent ≡ xs → x ≡ get_or lent i x → R true (Some (get_or lent i x).entry) None → ((o : Option Holdings) → R false o o) → (l : ℕ) → R (m == l) (entry_on l xs) (entry_on l (remove (refill (length xs) xs (slice_set lent i (record { link = (get_or lent i x).link; entry = e }))) i))
+remove_entry_lent R m x e xs lent i r at same got there others l =
+    let here : x ≡ get_or xs i x = subst (λ (ys : List LinkEntry). x ≡ get_or ys i x) same got in
+    subst (λ (ys : List LinkEntry). R (m == l) (entry_on l xs) (entry_on l ys)) (sym (taken_out x e xs lent i same got))
+    (subst (λ (k : ℕ). R (k == l) (entry_on l xs) (entry_on l (remove xs i))) (link_got m x xs i at here)
+    (remove_entry R x xs i r (is_got m x xs i at here) (subst (λ (y : LinkEntry). R true (Some y.entry) None) (sym got) there) others l))
+
+pub rising_removed : (x : LinkEntry) (e : Holdings) (xs lent : List LinkEntry) (i : ℕ) → AreRising xs → lent ≡ xs → x ≡ get_or lent i x → AreRising (remove (refill (length xs) xs (slice_set lent i (record { link = (get_or lent i x).link; entry = e }))) i)
+rising_removed x e xs lent i r same got = subst AreRising (sym (taken_out x e xs lent i same got)) (rising_remove xs i r)
 
 -- ---- a row of sums is written
 
@@ -160,33 +169,24 @@ next_held held l xs i h = rw (add-one, drop-cons xs i 0) refl
 pub next_length : (held : Held) (l : ℕ) (xs : List ℕ) (i : ℕ) → i < length xs → length (held_by_links held l (drop i xs)) ≡ length (if get_or xs i 0 == l then held ∷ [] else []) + length (held_by_links held l (drop (i + 1) xs))
 next_length held l xs i h = ap (λ (hs : List Held). length hs) (next_held held l xs i h) ∙ length-append (if get_or xs i 0 == l then held ∷ [] else []) (held_by_links held l (drop (i + 1) xs))
 
-pub moved_next : (m : Motion) (hs us one rest all end : List Held) → us ≡ moved_all m hs one → all ≡ one ++ rest → moved_all m hs all ≡ end → moved_all m us rest ≡ end
-moved_next m hs us one rest all end e a f = ap (λ (xs : List Held). moved_all m xs rest) e ∙ sym (moved_append m hs one rest) ∙ ap (λ (xs : List Held). moved_all m hs xs) (sym a) ∙ f
+-- one link is moved, and then the rest
+pub next_moved : (m : Motion) (held : Held) (l : ℕ) (xs : List ℕ) (i : ℕ) (o u v : Option Holdings) → i < length xs
+    → IsMoved m (if get_or xs i 0 == l then held ∷ [] else []) o u → IsMoved m (held_by_links held l (drop (i + 1) xs)) u v → IsMoved m (held_by_links held l (drop i xs)) o v
+next_moved m held l xs i o u v h one rest = subst (λ (hs : List Held). IsMoved m hs o v) (sym (next_held held l xs i h)) (moved_both m _ _ o u v one rest)
 
-pub next_room : (m : Motion) (held : Held) (l : ℕ) (xs : List ℕ) (i : ℕ) → i < length xs
-    → room_for m (length (held_by_links held l (drop i xs))) ≡ room_for m (length (if get_or xs i 0 == l then held ∷ [] else [])) + room_for m (length (held_by_links held l (drop (i + 1) xs)))
-next_room m held l xs i h = ap (room_for m) (next_length held l xs i h) ∙ room_both m _ _
+-- one link's promise is refused, and so none is made for the rest
+pub last_moved : (m : Motion) (held : Held) (l : ℕ) (xs : List ℕ) (i : ℕ) (o u : Option Holdings) → i < length xs → takes_memory m ≡ true
+    → IsMoved m (if get_or xs i 0 == l then held ∷ [] else []) o u → IsMoved m (held_by_links held l (drop i xs)) o u
+last_moved m held l xs i o u h t one = subst (λ (hs : List Held). IsMoved m hs o u) (sym (next_held held l xs i h)) (moved_part m _ (held_by_links held l (drop (i + 1) xs)) o u t one)
 
-split : (m n : ℕ) → (m < n) ⊎ (n ≤ m)
-split m n =
-    elim (cases_Bool (nat_lt m n)) [
-      | inl e ↦ inl (let l : m < n = grind (arith, nat_tests) in l)
-      | inr e ↦ inr (let l : n ≤ m = grind (arith, nat_tests) in l)
-    ]
+-- another link's entry stays
+pub elsewhere : (m : Motion) (link l : ℕ) (held : Held) (o : Option Holdings) → (link == l) ≡ false → IsMoved m (if link == l then held ∷ [] else []) o o
+elsewhere m link l held o other = rw other (unmoved m o)
+
+pub kept_elsewhere : (m : Motion) (link l : ℕ) (held : Held) (o u : Option Holdings) → (link == l) ≡ false → IsMoved m (if link == l then held ∷ [] else []) o u → held_in u ≡ held_in o
+kept_elsewhere m link l held o u other x = rw other at x.kept
 
 -- one that is added or dropped leaves the greatest below a bound that it is below itself
-small_moved : (m : Motion) (b : Bool) (h : Held) (hs : List Held) (p : ℕ) → h.bandwidth < 2 ^ 48 → most hs p < 2 ^ 48 → most (moved_all m hs (if b then h ∷ [] else [])) p < 2 ^ 48
-small_moved m true h hs p one old = let all = most_moved m h hs p in omega (arith, one, old, all)
-small_moved m false h hs p one old = old
-
-pub least_moved : (m : Motion) (n count : ℕ) (b : Bool) (h : Held) (hs us : List Held) (p : ℕ) → h.bandwidth < 2 ^ 48
-    → (n < count → us ≡ moved_all m hs (if b then h ∷ [] else [])) → (count ≤ n → us ≡ hs) → most hs p < 2 ^ 48 → most us p < 2 ^ 48
-least_moved m n count b h hs us p one below past old =
-    elim (split n count) [
-      | inl less ↦ rw (below less) (small_moved m b h hs p one old)
-      | inr end ↦ rw (past end) old
-    ]
-
-pub none_long : (hs : List Held) → length hs ≡ 0 → hs ≡ []
-none_long [] n = refl
-none_long (h ∷ hs) n = absurd (omega (arith, n))
+pub small_moved : (m : Motion) (b : Bool) (h : Held) (hs us : List Held) (p : ℕ) → us ≡ moved_all m hs (if b then h ∷ [] else []) → h.bandwidth < 2 ^ 48 → most hs p < 2 ^ 48 → most us p < 2 ^ 48
+small_moved m true h hs us p e one old = let all = most_moved m h hs p in rw e (omega (arith, one, old, all))
+small_moved m false h hs us p e one old = rw e old

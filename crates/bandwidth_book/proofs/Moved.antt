@@ -1,10 +1,16 @@
--- What is added or dropped, whichever it is.
-use Rattle.std.proofs.Common.{◌≡◌, ◌≤◌, ◌+◌, ℕ, nat_le, max, List, [], ◌∷◌, ◌++◌, length, refl, sym, ap, ◌∙◌, arith}
-use Rattle.bandwidth_book.specs.Held.{Held, most, moved_all, moved_one, room_for, with_all, without_all}
+-- What a walk over links does with one entry.
+use Rattle.std.proofs.Common.{◌≡◌, ◌≤◌, ◌<◌, ◌+◌, ◌^◌, ◌==◌, ◌&&◌, ℕ, zero, suc, nat_le, max, Bool, true, false, true≢false, List, [], ◌∷◌, ◌++◌, Option, Some, None, length, length-append, refl, sym, ap, ◌∙◌, arith, if◌then◌else◌}
+use Rattle.bandwidth_book.specs.Entries.{IsMoved, held_in, promised_in}
+use Rattle.lsp_base.specs.declared.tunnel.Tunnel.{Tunnel}
+use Rattle.bandwidth_book.specs.Tunnels.{held_by_path, tunnel_eq}
+use Rattle.bandwidth_book.specs.Held.{Held, most, moved_all, moved_one, promised_after, room_for, takes_memory, with_all, without_all}
+use Rattle.bandwidth_book.specs.Holdings.{Holdings}
 use Rattle.bandwidth_book.specs.declared.held.Motion.{Motion}
-use Rattle.bandwidth_book.specs.declared.held.Motion.TheVariants.{Add, Drop}
+use Rattle.bandwidth_book.specs.declared.held.Motion.TheVariants.{Promise, Add, Drop, Withdraw}
 use Rattle.bandwidth_book.proofs.Sums.{at_most, most-without_one, most_with_one}
-use Rattle.bandwidth_book.proofs.Written.{no_length, without_none}
+use Rattle.bandwidth_book.proofs.Written.{no_length}
+
+-- ---- what is held
 
 pub moved_add : (hs xs : List Held) → moved_all Add hs xs ≡ with_all hs xs
 moved_add hs [] = refl
@@ -14,20 +20,141 @@ pub moved_drop : (hs xs : List Held) → moved_all Drop hs xs ≡ without_all hs
 moved_drop hs [] = refl
 moved_drop hs (x ∷ xs) = moved_drop (moved_one Drop x hs) xs
 
-pub moved_append : (m : Motion) (hs xs ys : List Held) → moved_all m hs (xs ++ ys) ≡ moved_all m (moved_all m hs xs) ys
+pub withdrawn : (hs xs : List Held) → moved_all Withdraw hs xs ≡ hs
+withdrawn hs [] = refl
+withdrawn hs (x ∷ xs) = withdrawn hs xs
+
+pub promised : (m : Motion) → takes_memory m ≡ true → (hs xs : List Held) → moved_all m hs xs ≡ hs
+promised Promise e hs [] = refl
+promised Promise e hs (x ∷ xs) = promised Promise e hs xs
+promised Add e hs xs = absurd (true≢false (sym e))
+promised Drop e hs xs = absurd (true≢false (sym e))
+promised Withdraw e hs xs = absurd (true≢false (sym e))
+
+moved_append : (m : Motion) (hs xs ys : List Held) → moved_all m hs (xs ++ ys) ≡ moved_all m (moved_all m hs xs) ys
 moved_append m hs [] ys = refl
 moved_append m hs (x ∷ xs) ys = moved_append m (moved_one m x hs) xs ys
 
 -- one of them rises no higher than the one that is moved
 pub most_moved : (m : Motion) (h : Held) (hs : List Held) (p : ℕ) → most (moved_one m h hs) p ≤ max h.bandwidth (most hs p)
+most_moved Promise h hs p = omega arith
 most_moved Add h hs p = let m = most_with_one h hs p in let b = at_most (nat_le h.hold p) h.bandwidth in omega (arith, m, b)
 most_moved Drop h hs p = let m = most-without_one h hs p in omega (arith, m)
+most_moved Withdraw h hs p = omega arith
 
-pub room_both : (m : Motion) (a b : ℕ) → room_for m (a + b) ≡ room_for m a + room_for m b
-room_both Add a b = refl
-room_both Drop a b = refl
+-- so a path's part leaves the greatest below a bound that it is below itself
+pub small_by_path : (m : Motion) (own : Tunnel) (h : Held) (l : ℕ) (t : Tunnel) (links : List ℕ) (hs us : List Held) (p : ℕ) → us ≡ moved_all m hs (held_by_path own h l t links)
+    → h.bandwidth < 2 ^ 48 → most hs p < 2 ^ 48 → most us p < 2 ^ 48
+small_by_path m own h l t [] hs us p e small old = rw e old
+small_by_path m own h l t (x ∷ xs) hs us p e small old = go (x == l && tunnel_eq own t) (λ ks f low. small_by_path m own h l t xs ks us p f small low) (e ∙ moved_append m hs (if x == l && tunnel_eq own t then h ∷ [] else []) (held_by_path own h l t xs))
+  where
+    go : (b : Bool) → ((ks : List Held) → us ≡ moved_all m ks (held_by_path own h l t xs) → most ks p < 2 ^ 48 → most us p < 2 ^ 48) → us ≡ moved_all m (moved_all m hs (if b then h ∷ [] else [])) (held_by_path own h l t xs) → most us p < 2 ^ 48
+    go true rest f = rest (moved_one m h hs) f (let one = most_moved m h hs p in omega (arith, small, old, one))
+    go false rest f = rest hs f old
 
--- where no room is left nothing is added, and nothing can be dropped
-pub nothing_moved : (m : Motion) (hs : List Held) → room_for m (length hs) ≤ 0 → [] ≡ moved_all m [] hs
-nothing_moved Add hs none = ap (λ (xs : List Held). moved_all Add [] xs) (sym (no_length hs none))
-nothing_moved Drop hs none = without_none hs ∙ sym (moved_drop [] hs)
+-- ---- what is promised
+
+after_none : (m : Motion) (p : ℕ) → promised_after m 0 p ≡ p
+after_none Promise p = omega arith
+after_none Add p = omega arith
+after_none Drop p = refl
+after_none Withdraw p = refl
+
+pub after_both : (m : Motion) (a b p : ℕ) → promised_after m (a + b) p ≡ promised_after m b (promised_after m a p)
+after_both Promise a b p = omega arith
+after_both Add a b p = omega arith
+after_both Drop a b p = refl
+after_both Withdraw zero b p = ap (λ (n : ℕ). promised_after Withdraw n p) (omega arith)
+after_both Withdraw (suc a) b p = some (suc a + b) p (omega arith) ∙ sym (none b)
+  where
+    some : (n p : ℕ) → 0 < n → promised_after Withdraw n p ≡ 0
+    some zero p h = absurd (omega (arith, h))
+    some (suc n) p h = refl
+
+    none : (n : ℕ) → promised_after Withdraw n 0 ≡ 0
+    none zero = refl
+    none (suc n) = refl
+
+pub after_least : (m : Motion) (n p q : ℕ) → p ≤ q → promised_after m n p ≤ promised_after m n q
+after_least Promise n p q h = omega (arith, h)
+after_least Add n p q h = omega (arith, h)
+after_least Drop n p q h = h
+after_least Withdraw zero p q h = h
+after_least Withdraw (suc n) p q h = omega arith
+
+pub room_next : (m : Motion) (a b p q : ℕ) → room_for m (a + b) ≤ p → promised_after m a p ≤ q → room_for m b ≤ q
+room_next Promise a b p q r h = omega arith
+room_next Add a b p q r h = omega (arith, r, h)
+room_next Drop a b p q r h = omega arith
+room_next Withdraw a b p q r h = omega arith
+
+pub after_next : (m : Motion) (a b p q end : ℕ) → end ≤ promised_after m (a + b) p → promised_after m a p ≤ q → end ≤ promised_after m b q
+after_next m a b p q end e h = let both = after_both m a b p in let least = after_least m b _ q h in omega (arith, e, both, least)
+
+-- a promise needs no room
+pub no_room_for : (m : Motion) (n p : ℕ) → takes_memory m ≡ true → room_for m n ≤ p
+no_room_for Promise n p e = omega arith
+no_room_for Add n p e = absurd (true≢false (sym e))
+no_room_for Drop n p e = omega arith
+no_room_for Withdraw n p e = omega arith
+
+-- ---- an entry
+
+pub unmoved : (m : Motion) (o : Option Holdings) → IsMoved m [] o o
+unmoved m o = record { kept = refl; busy = λ b. b; below = (let e = after_none m (promised_in o) in omega (arith, e)) }
+
+pub unmoved_room : (m : Motion) (o : Option Holdings) → promised_after m 0 (promised_in o) ≤ promised_in o
+unmoved_room m o = let e = after_none m (promised_in o) in omega (arith, e)
+
+-- one motion after another
+pub moved_both : (m : Motion) (a b : List Held) (o u v : Option Holdings) → IsMoved m a o u → IsMoved m b u v → IsMoved m (a ++ b) o v
+moved_both m a b o u v x y = record {
+  kept = y.kept ∙ ap (λ hs. moved_all m hs b) x.kept ∙ sym (moved_append m (held_in o) a b);
+  busy = λ h. y.busy (x.busy h);
+  below = (let below = y.below in
+      let first = after_least m (length b) _ _ x.below in
+      let both = after_both m (length a) (length b) (promised_in o) in
+      let long = ap (λ n. promised_after m n (promised_in o)) (length-append a b) in
+      omega (arith, below, first, both, long));
+}
+
+-- a promise that is refused on the way is none for the rest
+pub moved_part : (m : Motion) (a b : List Held) (o u : Option Holdings) → takes_memory m ≡ true → IsMoved m a o u → IsMoved m (a ++ b) o u
+moved_part Promise a b o u e x = record {
+  kept = x.kept ∙ promised Promise refl (held_in o) a ∙ sym (promised Promise refl (held_in o) (a ++ b));
+  busy = x.busy;
+  below = (let below = x.below in let long = length-append a b in omega (arith, below, long));
+}
+moved_part Add a b o u e x = absurd (true≢false (sym e))
+moved_part Drop a b o u e x = absurd (true≢false (sym e))
+moved_part Withdraw a b o u e x = absurd (true≢false (sym e))
+
+-- a promise that is refused leaves all
+pub refused : (m : Motion) (hs : List Held) (o : Option Holdings) → takes_memory m ≡ true → IsMoved m hs o o
+refused m hs o t = moved_part m [] hs o o t (unmoved m o)
+
+-- an entry that stays, one that goes, one that comes, and none
+pub stays : (m : Motion) (h : Held) (e new : Holdings) → new.held ≡ moved_one m h e.held → new.promised ≤ promised_after m 1 e.promised → (length new.held ≡ 0 → 0 < new.promised) → IsMoved m (h ∷ []) (Some e) (Some new)
+stays m h e new held below busy = record { kept = held; busy = λ b some none. busy (ap (λ (hs : List Held). length hs) none); below = below }
+
+pub goes : (m : Motion) (h : Held) (e new : Holdings) → new.held ≡ moved_one m h e.held → length new.held ≡ 0 → IsMoved m (h ∷ []) (Some e) None
+goes m h e new held none = record { kept = sym (no_length new.held (omega (arith, none))) ∙ held; busy = λ b some. absurd (true≢false (sym some)); below = omega arith }
+
+pub comes : (m : Motion) (h : Held) (e : Holdings) → takes_memory m ≡ true → e.held ≡ moved_one m h [] → e.promised ≡ promised_after m 1 0 → IsMoved m (h ∷ []) None (Some e)
+comes Promise h e t held promised = record { kept = held; busy = λ b some none. omega (arith, promised); below = omega (arith, promised) }
+comes Add h e t held promised = absurd (true≢false (sym t))
+comes Drop h e t held promised = absurd (true≢false (sym t))
+comes Withdraw h e t held promised = absurd (true≢false (sym t))
+
+pub missing : (m : Motion) (hs : List Held) → takes_memory m ≡ false → room_for m (length hs) ≤ 0 → IsMoved m hs None None
+missing m hs t room = record { kept = none m hs t room; busy = λ b. b; below = omega arith }
+  where
+    nothing_dropped : (xs : List Held) → [] ≡ moved_all Drop [] xs
+    nothing_dropped [] = refl
+    nothing_dropped (x ∷ xs) = nothing_dropped xs
+
+    none : (m : Motion) (hs : List Held) → takes_memory m ≡ false → room_for m (length hs) ≤ 0 → [] ≡ moved_all m [] hs
+    none Promise hs t room = absurd (true≢false t)
+    none Add hs t room = ap (λ (xs : List Held). moved_all Add [] xs) (sym (no_length hs room))
+    none Drop hs t room = nothing_dropped hs
+    none Withdraw hs t room = sym (withdrawn [] hs)

@@ -1,52 +1,45 @@
--- Entries without paths, and where they are noted.
-use Rattle.std.proofs.Common.{◌≡◌, ◌<◌, ◌≤◌, ℕ, ◌+◌, ◌==◌, ◌&&◌, Bool, true, false, List, [], ◌∷◌, ◌++◌, refl, ap, arith, length, if◌then◌else◌, add-one, drop, drop-cons, get_or}
+-- Lists of paths, one by one, and the room that is promised for them.
+use Rattle.std.proofs.Common.{◌≡◌, ◌<◌, ◌≤◌, ◌+◌, ℕ, zero, suc, nat_lt, List, ◌∷◌, ◌++◌, Option, length, drop, drop-cons, add-one, get_or, true, sym, ap, subst, ◌∙◌, arith, inl, inr, ◌⊎◌, length-append}
+use Rattle.std.proofs.lemmas.Bool.{cases_Bool}
+use Rattle.std.proofs.lemmas.Bool.Decides.{nat_tests}
+use Rattle.lsp_base.specs.declared.path.Path.{Path}
 use Rattle.lsp_base.specs.declared.tunnel.Tunnel.{Tunnel}
-use Rattle.bandwidth_book.specs.Held.{Held, after_all}
-use Rattle.bandwidth_book.specs.declared.paths.Promise.{Promise}
-use Rattle.bandwidth_book.specs.Held.{with_all, with_one, without_all}
+use Rattle.bandwidth_book.specs.Entries.{IsMoved}
+use Rattle.bandwidth_book.specs.Held.{held_of, promised_after, takes_memory}
+use Rattle.bandwidth_book.specs.Holdings.{Holdings}
+use Rattle.bandwidth_book.specs.declared.held.Motion.{Motion}
+use Rattle.bandwidth_book.specs.declared.held.Motion.TheVariants.{Withdraw}
+use Rattle.bandwidth_book.specs.Paths.{held_by}
 use Rattle.bandwidth_book.specs.Tunnels.{held_by_path}
-use Rattle.bandwidth_book.specs.Paths.{tunnel_eq}
-use Rattle.bandwidth_book.specs.Pending.{noted}
-use Rattle.bandwidth_book.proofs.Order.{length_with_one}
+use Rattle.bandwidth_book.proofs.Moved.{moved_both, moved_part}
 
--- what is held on a path's links is as long, whatever it is
-length_by_path : (own : Tunnel) (g h : Held) (l : ℕ) (t : Tunnel) (links : List ℕ) → length (held_by_path own g l t links) ≡ length (held_by_path own h l t links)
-length_by_path own g h l t [] = refl
-length_by_path own g h l t (x ∷ xs) = by (x == l && tunnel_eq own t) (length_by_path own g h l t xs)
-  where
-    by : (b : Bool) → length (held_by_path own g l t xs) ≡ length (held_by_path own h l t xs) → length ((if b then g ∷ [] else []) ++ held_by_path own g l t xs) ≡ length ((if b then h ∷ [] else []) ++ held_by_path own h l t xs)
-    by true rest = omega (arith, rest)
-    by false rest = rest
+pub split : (m n : ℕ) → (m < n) ⊎ (n ≤ m)
+split m n =
+    elim (cases_Bool (nat_lt m n)) [
+      | inl e ↦ inl (let l : m < n = grind (arith, nat_tests) in l)
+      | inr e ↦ inr (let l : n ≤ m = grind (arith, nat_tests) in l)
+    ]
 
--- a promise more is noted once more on each of its links
-pub noted_push : (xs : List Promise) (x : Promise) (held : Held) (l : ℕ) (t : Tunnel) → noted (xs ++ x ∷ []) l t ≡ noted xs l t + length (held_by_path x.tunnel held l t x.links)
-noted_push [] x held l t = let same = length_by_path x.tunnel (after_all 0) held l t x.links in omega (arith, same)
-noted_push (y ∷ xs) x held l t = let ih = noted_push xs x held l t in omega (arith, ih)
-
--- a promise that is passed was noted itself, and for the others the rest has it
-pub noted_after : (xs : List Promise) (i : ℕ) (x : Promise) (held : Held) (l : ℕ) (t : Tunnel) → i < length xs → x ≡ get_or xs i x → 0 < noted (drop i xs) l t
-    → length (held_by_path x.tunnel held l t x.links) ≡ 0 → 0 < noted (drop (i + 1) xs) l t
-noted_after xs i x held l t less is before none =
+-- what the next path holds, and then the rest
+pub next_path : (l : ℕ) (t : Tunnel) (xs : List Path) (i : ℕ) (x : Path) → i < length xs → x ≡ get_or xs i x → held_by l t (drop i xs) ≡ held_by_path x.tunnel (held_of x) l t x.links ++ held_by l t (drop (i + 1) xs)
+next_path l t xs i x less is =
     let cons = drop-cons xs i x less in
     let next = add-one i in
     let e : drop i xs ≡ x ∷ drop (i + 1) xs = cc in
-    let n : 0 < noted (x ∷ drop (i + 1) xs) l t = rw e at before in
-    let same = length_by_path x.tunnel (after_all 0) held l t x.links in
-    omega (arith, n, same, none)
+    ap (λ (ys : List Path). held_by l t ys) e
 
-length_with_all : (hs xs : List Held) → length hs ≤ length (with_all hs xs)
-length_with_all hs [] = omega arith
-length_with_all hs (x ∷ xs) = let one = length_with_one x hs in let ih = length_with_all (with_one x hs) xs in omega (arith, one, ih)
+pub next_long : (l : ℕ) (t : Tunnel) (xs : List Path) (i : ℕ) (x : Path) → i < length xs → x ≡ get_or xs i x → length (held_by l t (drop i xs)) ≡ length (held_by_path x.tunnel (held_of x) l t x.links) + length (held_by l t (drop (i + 1) xs))
+next_long l t xs i x less is = ap (λ hs. length hs) (next_path l t xs i x less is) ∙ length-append (held_by_path x.tunnel (held_of x) l t x.links) (held_by l t (drop (i + 1) xs))
 
-length_nil : {A : Type 0} (xs : List A) → length xs ≡ 0 → xs ≡ []
-length_nil [] e = refl
-length_nil (x ∷ xs) e = absurd (omega (arith, e))
+pub path_moved : (m : Motion) (l : ℕ) (t : Tunnel) (xs : List Path) (i : ℕ) (x : Path) (o u v : Option Holdings) → i < length xs → x ≡ get_or xs i x
+    → IsMoved m (held_by_path x.tunnel (held_of x) l t x.links) o u → IsMoved m (held_by l t (drop (i + 1) xs)) u v → IsMoved m (held_by l t (drop i xs)) o v
+path_moved m l t xs i x o u v less is one rest = subst (λ hs. IsMoved m hs o v) (sym (next_path l t xs i x less is)) (moved_both m _ _ o u v one rest)
 
--- where nothing is held after a change that drops nothing, nothing was held before
-pub nothing_before : (hs dropped added : List Held) → length dropped ≡ 0 → with_all (without_all hs dropped) added ≡ [] → hs ≡ []
-nothing_before hs dropped added none e =
-    let d : dropped ≡ [] = length_nil dropped none in
-    let e2 : with_all hs added ≡ [] = rw d at e in
-    let b = length_with_all hs added in
-    let n : length (with_all hs added) ≡ 0 = ap length e2 in
-    length_nil hs (omega (arith, b, n))
+pub path_refused : (m : Motion) (l : ℕ) (t : Tunnel) (xs : List Path) (i : ℕ) (x : Path) (o u : Option Holdings) → i < length xs → x ≡ get_or xs i x → takes_memory m ≡ true
+    → IsMoved m (held_by_path x.tunnel (held_of x) l t x.links) o u → IsMoved m (held_by l t (drop i xs)) o u
+path_refused m l t xs i x o u less is promise one = subst (λ hs. IsMoved m hs o u) (sym (next_path l t xs i x less is)) (moved_part m _ (held_by l t (drop (i + 1) xs)) o u promise one)
+
+-- no room is left where no more was promised than is given up
+pub given_up : (n p : ℕ) → p ≤ n → promised_after Withdraw n p ≤ 0
+given_up zero p h = h
+given_up (suc n) p h = omega arith

@@ -195,12 +195,6 @@ rising_insert y (x ∷ xs) r none =
           ])
     ]
 
-pub length_insert : {A : Type 0} (xs : List A) (i : ℕ) (y : A) → length (insert xs i y) ≡ length xs + 1
-length_insert [] zero y = refl
-length_insert [] (suc i) y = refl
-length_insert (x ∷ xs) zero y = omega arith
-length_insert (x ∷ xs) (suc i) y = let ih = length_insert xs i y in omega (arith, ih)
-
 -- ---- one is taken out
 
 pub entry_remove : (l : ℕ) (y : LinkEntry) (xs : List LinkEntry) (i : ℕ) → AreRising xs → slice_get xs i ≡ Some y → entry_on l (remove xs i) ≡ (if y.link == l then None else entry_on l xs)

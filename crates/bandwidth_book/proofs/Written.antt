@@ -1,10 +1,9 @@
 -- The entries of one tunnel are written.
-use Rattle.std.proofs.Common.{◌≡◌, ◌<◌, ◌≤◌, ℕ, ◌+◌, ◌==◌, ◌&&◌, Bool, true, false, cond, List, [], ◌∷◌, ◌++◌, Option, None, length, slice_index, zero, suc, refl, sym, ap, subst, ◌∙◌, arith, inl, inr, if◌then◌else◌}
+use Rattle.std.proofs.Common.{◌≡◌, ◌<◌, ◌≤◌, ℕ, ◌+◌, ◌==◌, ◌&&◌, Bool, true, false, cond, List, [], ◌∷◌, ◌++◌, Option, None, length, drop, slice_index, zero, suc, refl, sym, ap, subst, ◌∙◌, arith, inl, inr, if◌then◌else◌}
 use Rattle.std.specs.Cmp.{IsEquivalence}
 use Rattle.std.specs.Map.{lookup}
 use Rattle.std.proofs.lemmas.Bool.{cases_Bool}
 use Rattle.bandwidth_book.specs.Held.{Held}
-use Rattle.bandwidth_book.specs.Held.{without_all}
 use Rattle.lsp_base.specs.declared.tunnel.Tunnel.{Tunnel}
 use Rattle.bandwidth_book.specs.Tunnels.{held_by_links, held_by_path, tunnel_eq}
 
@@ -61,10 +60,12 @@ pub no_length : {A : Type 0} (xs : List A) → length xs ≤ 0 → xs ≡ []
 no_length [] h = refl
 no_length (x ∷ xs) h = absurd (omega (arith, h))
 
--- where nothing is held nothing can be dropped
-pub without_none : (hs : List Held) → [] ≡ without_all [] hs
-without_none [] = refl
-without_none (h ∷ hs) = without_none hs
+-- nothing is left past the end
+pub no_more : {A : Type 0} (n : ℕ) (xs : List A) → length xs ≤ n → drop n xs ≡ []
+no_more zero [] h = refl
+no_more zero (x ∷ xs) h = absurd (omega (arith, h))
+no_more (suc n) [] h = refl
+no_more (suc n) (x ∷ xs) h = no_more n xs (omega (arith, h))
 
 -- a row of eight zeros
 pub row_of_nothing : (p : ℕ) → p < 8 → slice_index (0 ∷ 0 ∷ 0 ∷ 0 ∷ 0 ∷ 0 ∷ 0 ∷ 0 ∷ []) p ≡ 0

@@ -5,22 +5,22 @@ use Rattle.lsp_base.specs.declared.effect.Change.{Change}
 use Rattle.lsp_base.specs.declared.path.Path.{Path}
 use Rattle.lsp_base.specs.declared.tunnel.Tunnel.{Tunnel}
 use Rattle.te_base.specs.declared.network.Link.{Link}
-use Rattle.te_snapshot.specs.Network.{Network, NetworkState}
+use Rattle.te_snapshot.specs.Network.{Network, NetworkState, with_links}
 use Rattle.bandwidth_book.specs.declared.book.Book.{Book}
 use Rattle.bandwidth_book.specs.Held.{Held}
 use Rattle.bandwidth_book.specs.Ledgers.{count, has_entry_at, held_at, promised_on}
 use Rattle.bandwidth_book.specs.Paths.{IsHeldBy, IsPromised}
 use Rattle.bandwidth_book.specs.Pending.{noted}
 
--- the network
+-- the network, with the links as they are now
 abbrev pub network_of : Book → Network
-network_of book = arc_value book.topology
+network_of book = with_links (arc_value book.topology) book.links.items
 
 -- the links of the network
 abbrev pub links_of : Book → List Link
 links_of book = (network_of book).links
 
--- the snapshot that is given again while no path changes
+-- the snapshot that is given again while no path and no value changes
 abbrev pub kept_by : Book → Option NetworkState
 kept_by book = book.kept
 
@@ -38,7 +38,7 @@ IsReady book change = IsPromised (count book.ledgers) (promised_on book.ledgers)
 
 -- how often a reservation that no change has followed yet notes the tunnel on a link
 abbrev pub pending_on : Book → ℕ → Tunnel → ℕ
-pending_on book = noted book.pending.items
+pending_on book = noted book.pending
 
 -- the tunnel has an entry on the link, and no path in it
 abbrev pub HasEmptyEntry : Book → ℕ → Tunnel → Type 0

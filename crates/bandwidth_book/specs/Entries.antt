@@ -1,7 +1,9 @@
 -- The entries of a tunnel, by link.
-use Rattle.std.specs.Prelude.{⊤, ◌≡◌, ◌<◌, ◌==◌, ℕ, suc, Bool, List, [], ◌∷◌, Option, Some, None, is_some, map, nat_lt, slice_get, if◌then◌else◌}
+use Rattle.std.specs.Prelude.{⊤, ◌≡◌, ◌<◌, ◌≤◌, ◌==◌, ℕ, suc, Bool, true, List, [], ◌∷◌, Option, Some, None, is_some, length, map, nat_lt, slice_get, if◌then◌else◌}
 use Rattle.std.specs.List.{AllByRecursion}
 use Rattle.bandwidth_book.specs.Held.{Held}
+use Rattle.bandwidth_book.specs.Held.{moved_all, promised_after}
+use Rattle.bandwidth_book.specs.declared.held.Motion.{Motion}
 use Rattle.bandwidth_book.specs.declared.link_entries.LinkEntry.{LinkEntry}
 use Rattle.bandwidth_book.specs.Holdings.{Holdings}
 
@@ -14,6 +16,17 @@ held_in (Some e) = e.held
 abbrev pub promised_in : Option Holdings → ℕ
 promised_in None = 0
 promised_in (Some e) = e.promised
+
+-- an entry that is there holds something, or has promised room
+abbrev pub IsBusy : Option Holdings → Type 0
+IsBusy o = is_some o ≡ true → held_in o ≡ [] → 0 < promised_in o
+
+-- an entry that may be missing, before and after a motion for each of these, of which want of memory may have
+-- left some out
+pub record IsMoved (motion : Motion) (hs : List Held) (old new : Option Holdings) : Type 0 where
+  pub kept : held_in new ≡ moved_all motion (held_in old) hs
+  pub busy : IsBusy old → IsBusy new
+  pub below : promised_in new ≤ promised_after motion (length hs) (promised_in old)
 
 -- the entry of a link
 abbrev pub entry_on : ℕ → List LinkEntry → Option Holdings

@@ -1,9 +1,9 @@
 -- What paths of a tunnel hold on a link.
-use Rattle.std.specs.Prelude.{⊤, ◌≡◌, ◌<◌, ℕ, suc, ◌+◌, ◌&&◌, ◌||◌, ◌==◌, nat_le, nat_lt, max, Bool, false, List, [], ◌∷◌, if◌then◌else◌, slice_index}
+use Rattle.std.specs.Prelude.{⊤, ◌≡◌, ◌<◌, ℕ, zero, suc, ◌+◌, ◌-◌, ◌&&◌, ◌||◌, ◌==◌, nat_le, nat_lt, max, Bool, true, false, List, [], ◌∷◌, if◌then◌else◌, slice_index}
 use Rattle.std.specs.List.{AllByRecursion}
 use Rattle.lsp_base.specs.declared.path.Path.{Path}
 use Rattle.bandwidth_book.specs.declared.held.Motion.{Motion}
-use Rattle.bandwidth_book.specs.declared.held.Motion.TheVariants.{Add, Drop}
+use Rattle.bandwidth_book.specs.declared.held.Motion.TheVariants.{Promise, Add, Drop, Withdraw}
 
 -- a holding priority, and a bandwidth in bytes per second
 pub record Held : Type 0 where
@@ -55,20 +55,39 @@ abbrev pub without_all : List Held → List Held → List Held
 without_all hs [] = hs
 without_all hs (x ∷ xs) = without_all (without_one x hs) xs
 
--- with one more, or without the first that is the same
+-- what is held after one motion: a promise, and one that is taken back, leave it
 abbrev pub moved_one : Motion → Held → List Held → List Held
+moved_one Promise h hs = hs
 moved_one Add h hs = with_one h hs
 moved_one Drop h hs = without_one h hs
+moved_one Withdraw h hs = hs
 
--- with one more, or without the first that is the same, for each of them, in turn
+-- after one for each of them, in turn
 abbrev pub moved_all : Motion → List Held → List Held → List Held
 moved_all motion hs [] = hs
 moved_all motion hs (x ∷ xs) = moved_all motion (moved_one motion x hs) xs
 
--- the room that it takes: what is dropped takes none
+-- for how many room must be promised before
 abbrev pub room_for : Motion → ℕ → ℕ
+room_for Promise n = 0
 room_for Add n = n
 room_for Drop n = 0
+room_for Withdraw n = 0
+
+-- for how many room is promised after n of them, where it was for p
+abbrev pub promised_after : Motion → ℕ → ℕ → ℕ
+promised_after Promise n p = p + n
+promised_after Add n p = p - n
+promised_after Drop n p = p
+promised_after Withdraw zero p = p
+promised_after Withdraw (suc n) p = 0
+
+-- whether it takes memory
+abbrev pub takes_memory : Motion → Bool
+takes_memory Promise = true
+takes_memory Add = false
+takes_memory Drop = false
+takes_memory Withdraw = false
 
 -- at each priority, the greatest bandwidth
 abbrev pub AreMaxima : List ℕ → List Held → Type 0

@@ -1,15 +1,13 @@
 -- Where entries without paths may stand.
-use Rattle.std.specs.Prelude.{◌≡◌, ◌<◌, ℕ, ◌+◌, Bool, true, List, [], ◌∷◌, length}
+use Rattle.std.specs.Prelude.{◌<◌, ◌≤◌, ℕ, List, length}
+use Rattle.lsp_base.specs.declared.path.Path.{Path}
 use Rattle.lsp_base.specs.declared.tunnel.Tunnel.{Tunnel}
-use Rattle.bandwidth_book.specs.Held.{Held, after_all}
-use Rattle.bandwidth_book.specs.declared.paths.Promise.{Promise}
-use Rattle.bandwidth_book.specs.Tunnels.{held_by_path}
+use Rattle.bandwidth_book.specs.Paths.{held_by}
 
--- how often the tunnel is noted on a link
-abbrev pub noted : List Promise → ℕ → Tunnel → ℕ
-noted [] l t = 0
-noted (x ∷ xs) l t = length (held_by_path x.tunnel (after_all 0) l t x.links) + noted xs l t
+-- how often these paths have a link for a tunnel
+abbrev pub noted : List Path → ℕ → Tunnel → ℕ
+noted paths l t = length (held_by l t paths)
 
--- on each of n links, a tunnel whose entry has no paths is noted
-abbrev pub AreNoted : ℕ → (ℕ → Tunnel → Bool) → (ℕ → Tunnel → List Held) → List Promise → Type 0
-AreNoted n has_entry held promises = (l : ℕ) (t : Tunnel) → l < n → has_entry l t ≡ true → held l t ≡ [] → 0 < noted promises l t
+-- on each of n links, room is promised to a tunnel for what these paths hold at most
+abbrev pub AreNoted : ℕ → (ℕ → Tunnel → ℕ) → List Path → Type 0
+AreNoted n promised paths = (l : ℕ) (t : Tunnel) → l < n → promised l t ≤ noted paths l t

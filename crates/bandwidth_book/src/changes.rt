@@ -12,6 +12,7 @@ use crate::book::Book;
 use crate::ledgers::Ledgers;
 use crate::paths::{change_paths, give_up_room, promise_paths};
 use lsp_base::Change;
+use sequence::{PlainData, Sequence};
 use std::alloc::{AllocError, Global};
 use std::sync::Arc;
 use te_snapshot::Topology;
@@ -23,13 +24,15 @@ impl Book {
         ensures stands { IfOk result (λ book. StandsFor book []) }
         ensures tidy { IfOk result HasNoEmptyEntry }
     {
-        let count = topology.links().len();
-        let ledgers = Ledgers::new(alloc, count)?;
+        let links = topology.links().to_vec(alloc)?;
+        let ledgers = Ledgers::new(alloc, links.len())?;
         Ok(Book {
             alloc,
+            links,
             topology,
+            is_current: true,
             ledgers,
-            pending: Vec::new(alloc),
+            pending: Sequence::from_vec(Vec::new(alloc)),
             kept: None,
         })
     }
@@ -46,13 +49,9 @@ impl Book {
         ensures pending { (l : ℕ) (t : Tunnel) → pending_on self.new l t ≤ length (held_by l t change.now.added) }
         ensures tidy { (l : ℕ) (t : Tunnel) → l < length (links_of self.old) → HasEmptyEntry self.new l t → 0 < length (held_by l t change.now.added) }
     {
-        give_up_room(&mut self.ledgers, &mut self.pending);
-        promise_paths(
-            self.alloc,
-            &mut self.ledgers,
-            &mut self.pending,
-            change.added.as_slice(),
-        )
+        give_up_room(self.alloc, &mut self.ledgers, &mut self.pending);
+        self.pending = change.added.copy()?;
+        promise_paths(self.alloc, &mut self.ledgers, change.added.as_slice())
     }
 
     /// Carries out a change: the dropped paths go, then the added ones come. It takes no memory, and gives
@@ -73,8 +72,8 @@ impl Book {
         let added = change.added.as_slice();
         if !dropped.is_empty() || !added.is_empty() {
             self.kept = None;
-            change_paths(&mut self.ledgers, dropped, added);
+            change_paths(self.alloc, &mut self.ledgers, dropped, added);
         }
-        give_up_room(&mut self.ledgers, &mut self.pending);
+        give_up_room(self.alloc, &mut self.ledgers, &mut self.pending);
     }
 }

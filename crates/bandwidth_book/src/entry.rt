@@ -1,7 +1,7 @@
 //! What one tunnel holds on one link.
-ghost use Rattle.std.specs.Prelude.{ℕ, ◌≡◌, ◌<◌, ◌≤◌, ◌+◌, [], length, max, nat_le, slice_index, if◌then◌else◌, IsTrue, ◌↔◌, OnOk};
+ghost use Rattle.std.specs.Prelude.{ℕ, ◌≡◌, ◌<◌, ◌≤◌, ◌+◌, [], length, max, nat_le, slice_index, if◌then◌else◌, false, IsTrue, ◌↔◌, IsOk, OnErr, OnOk};
 ghost use Rattle.smallvec.specs.SmallVec.{HasRoomFor};
-ghost use Rattle.bandwidth_book.specs.Held.{most, most_below, AreMaxima, AreInOrder, moved_one, place_in, room_for, with_one, without_one};
+ghost use Rattle.bandwidth_book.specs.Held.{most, most_below, AreMaxima, AreInOrder, moved_one, place_in, promised_after, room_for, takes_memory, with_one, without_one};
 
 use crate::held::{Held, Motion, is_before, is_same_held};
 use smallvec::SmallVec;
@@ -176,6 +176,14 @@ impl Entry {
         self.held.is_empty()
     }
 
+    /// Whether nothing is held and no room is promised.
+    pub fn is_idle(&self) -> bool
+        ensures idle { IsTrue result → (length self.now.held ≡ 0) × (self.now.promised ≡ 0) }
+        ensures busy { result ≡ false → length self.now.held ≡ 0 → 0 < self.now.promised }
+    {
+        self.is_empty() && self.promised == 0
+    }
+
     /// The greatest bandwidth that is held at each priority or a better one.
     pub fn maxima(&self) -> [u64; 8]
         ensures { AreMaxima result self.now.held }
@@ -189,10 +197,10 @@ impl Entry {
     }
 
     /// Promises room for one more.
-    pub fn promise(&mut self) -> Result<(), AllocError>
+    fn promise(&mut self) -> Result<(), AllocError>
         ensures held { self.new.held ≡ self.old.held }
-        ensures more { self.old.promised ≤ self.new.promised }
         ensures ok { OnOk result (self.new.promised ≡ self.old.promised + 1) }
+        ensures err { OnErr result (self.new.promised ≡ self.old.promised) }
     {
         let promised = self.promised.checked_add(1).ok_or(AllocError)?;
         self.held.reserve(promised)?;
@@ -200,8 +208,8 @@ impl Entry {
         Ok(())
     }
 
-    /// Takes the promises back. A list that has become short stands in place again.
-    pub fn withdraw(&mut self)
+    /// Gives the promised room up. A list that has become short stands in place again.
+    fn withdraw(&mut self)
         ensures held { self.new.held ≡ self.old.held }
         ensures promised { self.new.promised ≡ 0 }
     {
@@ -211,19 +219,24 @@ impl Entry {
         }
     }
 
-    /// Adds one, where room was promised, or drops one, if there is one that is the same.
+    /// Promises room for one more, adds one into it, drops one that is the same if there is one, or gives the room up.
     #[tactic(auto, using(crate::proofs::Order::length_with_one, crate::proofs::Sums::length_without_one))]
-    pub fn move_one(&mut self, motion: Motion, held: Held)
+    pub fn move_one(&mut self, motion: Motion, held: Held) -> Result<(), AllocError>
         requires { room_for motion 1 ≤ self.old.promised }
         ensures held { self.new.held ≡ moved_one motion held self.old.held }
-        ensures promised { self.new.promised + room_for motion 1 ≡ self.old.promised }
+        ensures ok { OnOk result (self.new.promised ≡ promised_after motion 1 self.old.promised) }
+        ensures below { self.new.promised ≤ promised_after motion 1 self.old.promised }
+        ensures sure { takes_memory motion ≡ false → IsOk result }
     {
         match motion {
+            Motion::Promise => return self.promise(),
             Motion::Add => {
                 put_held(&mut self.held, held);
                 self.promised -= 1;
             }
             Motion::Drop => take_held(&mut self.held, held),
+            Motion::Withdraw => self.withdraw(),
         }
+        Ok(())
     }
 }

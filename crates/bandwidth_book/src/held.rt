@@ -1,15 +1,33 @@
 //! What one path holds on a link.
 ghost use Rattle.std.specs.Prelude.{◌≡◌, ◌<◌, ◌^◌};
-ghost use Rattle.bandwidth_book.specs.Held.{held_of, is_before, same_held};
+ghost use Rattle.bandwidth_book.specs.Held.{held_of, is_before, same_held, takes_memory};
 
 use lsp_base::Path;
 use std::marker::Model;
 
-/// Whether what a path holds is added or dropped.
+/// What is done with what a path holds on each of its links.
 #[derive(Clone, Copy, Debug)]
 pub enum Motion {
+    /// Room for it is promised. This alone takes memory.
+    Promise,
+    /// It is added, where room was promised.
     Add,
+    /// It is dropped.
     Drop,
+    /// Room that was promised is given up.
+    Withdraw,
+}
+
+impl Motion {
+    /// Whether it takes memory.
+    pub fn takes_memory(self) -> bool
+        ensures { result ≡ takes_memory self }
+    {
+        match self {
+            Motion::Promise => true,
+            _ => false,
+        }
+    }
 }
 
 /// A path's holding priority, from 0 to 7, and its bandwidth in bytes per second, below 2^48, as one number: the

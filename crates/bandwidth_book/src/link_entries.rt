@@ -1,7 +1,7 @@
 //! What one tunnel holds on its links, and how that moves the sums of the links.
-ghost use Rattle.std.specs.Prelude.{◌≡◌, ◌<◌, ◌≤◌, ◌+◌, ◌-◌, ◌^◌, ◌==◌, ◌∷◌, [], ℕ, true, false, length, slice_index, IfSome, IfNone, IsTrue, ◌↔◌, IfOk, OnOk, if◌then◌else◌, None};
-ghost use Rattle.bandwidth_book.specs.Entries.{AreRising, IsAt, entry_on, has_entry, kept, place_on, promised_to};
-ghost use Rattle.bandwidth_book.specs.Held.{most, moved_all, moved_one, room_for};
+ghost use Rattle.std.specs.Prelude.{◌≡◌, ◌<◌, ◌≤◌, ◌+◌, ◌-◌, ◌^◌, ◌==◌, ◌∷◌, [], ℕ, true, false, length, slice_index, IfSome, IfNone, IsTrue, ◌↔◌, IfOk, IsOk, OnErr, OnOk, if◌then◌else◌, None};
+ghost use Rattle.bandwidth_book.specs.Entries.{AreRising, IsAt, IsMoved, entry_on, kept, place_on, promised_to};
+ghost use Rattle.bandwidth_book.specs.Held.{most, moved_one, promised_after, room_for, takes_memory};
 ghost use Rattle.bandwidth_book.specs.Tunnels.{held_by_links, sum_at};
 
 use crate::entry::Entry;
@@ -61,19 +61,27 @@ fn exchange(sums: &mut [u64; 8], before: &[u64; 8], after: &[u64; 8])
     }
 }
 
-/// Adds one to an entry or drops one from it, and moves the sums of its link by what it rises or falls.
-fn move_in(entry: &mut Entry, sums: &mut [u64; 8], motion: Motion, held: Held)
+/// Moves an entry, and the sums of its link by what it rises or falls.
+fn move_in(
+    entry: &mut Entry,
+    sums: &mut [u64; 8],
+    motion: Motion,
+    held: Held,
+) -> Result<(), AllocError>
     requires room { room_for motion 1 ≤ entry.old.promised }
     requires within { (p : ℕ) → p < 8 → most entry.old.held p ≤ slice_index sums.old p }
     requires small { (p : ℕ) → p < 8 → slice_index sums.old p < 2 ^ 63 }
     requires below { held.bandwidth < 2 ^ 48 }
-    ensures moved { (p : ℕ) → p < 8 → slice_index sums.new p + most entry.old.held p ≡ slice_index sums.old p + most entry.new.held p }
+    ensures sums { (p : ℕ) → p < 8 → slice_index sums.new p + most entry.old.held p ≡ slice_index sums.old p + most entry.new.held p }
     ensures held { entry.new.held ≡ moved_one motion held entry.old.held }
-    ensures promised { entry.new.promised + room_for motion 1 ≡ entry.old.promised }
+    ensures ok { OnOk result (entry.new.promised ≡ promised_after motion 1 entry.old.promised) }
+    ensures promised { entry.new.promised ≤ promised_after motion 1 entry.old.promised }
+    ensures sure { takes_memory motion ≡ false → IsOk result }
 {
     let before = entry.maxima();
-    entry.move_one(motion, held);
+    let moved = entry.move_one(motion, held);
     exchange(sums, &before, &entry.maxima());
+    moved
 }
 
 /// Where the entry of a link belongs in the order, by a binary search.
@@ -99,6 +107,7 @@ fn place_of(entries: &[LinkEntry], link: LinkNumber) -> usize
 /// Where the entry of a link is.
 fn find(entries: &[LinkEntry], link: LinkNumber) -> Option<usize>
     requires { AreRising entries.now }
+    ensures within { IfSome result (λ i. i < length entries.now) }
     ensures found { IfSome result (λ i. IsAt link entries.now i) }
     ensures none { IfNone result (entry_on link entries.now ≡ None) }
 {
@@ -111,41 +120,56 @@ fn find(entries: &[LinkEntry], link: LinkNumber) -> Option<usize>
 }
 
 /// Puts an entry with room for one in, for a link that has none.
+#[tactic(auto, using(crate::proofs::Moved::refused))]
 fn put_entry(
     alloc: Global,
     entries: &mut SmallVec<LinkEntry, 4>,
     link: LinkNumber,
+    motion: Motion,
+    held: Held,
 ) -> Result<(), AllocError>
     requires rising { AreRising entries.old.items }
     requires none { entry_on link entries.old.items ≡ None }
+    requires promise { takes_memory motion ≡ true }
     ensures rising { AreRising entries.new.items }
-    ensures longer { length entries.old.items ≤ length entries.new.items }
-    ensures others { (l : ℕ) → (link == l) ≡ false → entry_on l entries.new.items ≡ entry_on l entries.old.items }
-    ensures kept { (l : ℕ) → kept l entries.new.items ≡ kept l entries.old.items }
-    ensures room { (l : ℕ) → promised_to l entries.old.items ≤ promised_to l entries.new.items }
-    ensures ok { OnOk result ((l : ℕ) → promised_to l entries.old.items + (if link == l then 1 else 0) ≤ promised_to l entries.new.items) }
+    ensures moved { (l : ℕ) → IsMoved motion (if link == l then held ∷ [] else []) (entry_on l entries.old.items) (entry_on l entries.new.items) }
+    ensures ok { OnOk result ((l : ℕ) → promised_after motion (length (if link == l then held ∷ [] else [])) (promised_to l entries.old.items) ≤ promised_to l entries.new.items) }
 {
     let mut entry = Entry::new(alloc);
-    entry.promise()?;
+    entry.move_one(motion, held)?;
     let place = place_of(entries.as_slice(), link);
     entries.insert(place, LinkEntry { link, entry })?;
     Ok(())
 }
 
-/// Takes the promises of the entry at a place back, and the entry out if it holds nothing.
-fn take_back(entries: &mut SmallVec<LinkEntry, 4>, place: usize)
+/// Moves a link's entry, which is at a place, and the sums of the link. It goes if it holds nothing and no room is promised.
+fn move_at(
+    entries: &mut SmallVec<LinkEntry, 4>,
+    place: usize,
+    sums: &mut [u64; 8],
+    link: LinkNumber,
+    motion: Motion,
+    held: Held,
+) -> Result<(), AllocError>
     requires rising { AreRising entries.old.items }
     requires within { place < length entries.old.items }
+    requires at { IsAt link entries.old.items place }
+    requires room { room_for motion 1 ≤ promised_to link entries.old.items }
+    requires most { (p : ℕ) → p < 8 → most (kept link entries.old.items) p ≤ slice_index sums.old p }
+    requires small { (p : ℕ) → p < 8 → slice_index sums.old p < 2 ^ 63 }
+    requires below { held.bandwidth < 2 ^ 48 }
     ensures rising { AreRising entries.new.items }
-    ensures entries { (l : ℕ) → has_entry l entries.new.items ≡ true → has_entry l entries.old.items ≡ true }
-    ensures swept { (l : ℕ) → IsAt l entries.old.items place → has_entry l entries.new.items ≡ true → kept l entries.new.items ≡ [] → ⊥ }
-    ensures kept { (l : ℕ) → kept l entries.new.items ≡ kept l entries.old.items }
+    ensures sums { (p : ℕ) → p < 8 → slice_index sums.new p + most (kept link entries.old.items) p ≡ slice_index sums.old p + most (kept link entries.new.items) p }
+    ensures moved { (l : ℕ) → IsMoved motion (if link == l then held ∷ [] else []) (entry_on l entries.old.items) (entry_on l entries.new.items) }
+    ensures ok { OnOk result ((l : ℕ) → promised_after motion (length (if link == l then held ∷ [] else [])) (promised_to l entries.old.items) ≤ promised_to l entries.new.items) }
+    ensures sure { takes_memory motion ≡ false → IsOk result }
 {
     let entry = &mut entries[place].entry;
-    entry.withdraw();
-    if entry.is_empty() {
+    let moved = move_in(entry, sums, motion, held);
+    if entry.is_idle() {
         let _ = entries.remove(place);
     }
+    moved
 }
 
 impl LinkEntries {
@@ -184,141 +208,70 @@ impl LinkEntries {
         }
     }
 
-    /// Adds or drops what a path holds on one link, and moves the link's sums by what its entry rises or falls.
-    fn move_on(&mut self, sums: &mut [u64; 8], link: LinkNumber, motion: Motion, held: Held)
-        requires room { room_for motion 1 ≤ promised_to link self.old }
-        requires within { (p : ℕ) → p < 8 → most (kept link self.old) p ≤ slice_index sums.old p }
-        requires small { (p : ℕ) → p < 8 → slice_index sums.old p < 2 ^ 63 }
-        requires below { held.bandwidth < 2 ^ 48 }
-        ensures moved { (p : ℕ) → p < 8 → slice_index sums.new p + most (kept link self.old) p ≡ slice_index sums.old p + most (kept link self.new) p }
-        ensures length { length self.new ≡ length self.old }
-        ensures entries { (l : ℕ) → has_entry l self.new ≡ has_entry l self.old }
-        ensures kept { (l : ℕ) → kept l self.new ≡ moved_all motion (kept l self.old) (if link == l then held ∷ [] else []) }
-        ensures room { (l : ℕ) → promised_to l self.old ≤ promised_to l self.new + room_for motion (length (if link == l then held ∷ [] else [])) }
-    {
-        if let Some(place) = find(self.entries.as_slice(), link) {
-            move_in(&mut self.entries[place].entry, sums, motion, held);
-        }
-    }
-
-    /// Promises room for one more on one link.
-    fn promise_on(&mut self, alloc: Global, link: LinkNumber) -> Result<(), AllocError>
-        ensures longer { length self.old ≤ length self.new }
-        ensures others { (l : ℕ) → (link == l) ≡ false → entry_on l self.new ≡ entry_on l self.old }
-        ensures kept { (l : ℕ) → kept l self.new ≡ kept l self.old }
-        ensures room { (l : ℕ) → promised_to l self.old ≤ promised_to l self.new }
-        ensures ok { OnOk result ((l : ℕ) → promised_to l self.old + (if link == l then 1 else 0) ≤ promised_to l self.new) }
-    {
-        match find(self.entries.as_slice(), link) {
-            Some(place) => self.entries[place].entry.promise(),
-            None => put_entry(alloc, &mut self.entries, link),
-        }
-    }
-
-    /// Takes the promises of one link back, and its entry out if it holds nothing.
-    pub fn withdraw_on(&mut self, link: LinkNumber)
-        ensures entries { (l : ℕ) → has_entry l self.new ≡ true → has_entry l self.old ≡ true }
-        ensures swept { (l : ℕ) → has_entry l self.new ≡ true → kept l self.new ≡ [] → (link == l) ≡ false }
-        ensures kept { (l : ℕ) → kept l self.new ≡ kept l self.old }
-    {
-        if let Some(place) = find(self.entries.as_slice(), link) {
-            take_back(&mut self.entries, place);
-        }
-    }
-
-    /// Adds or drops what a path holds on a link that may be there.
-    fn move_if_there(&mut self, sums: &mut [[u64; 8]], link: LinkNumber, motion: Motion, held: Held)
+    /// Moves what a path holds on one link, and the sums of the link. A link that isn't there is skipped.
+    fn move_on(
+        &mut self,
+        alloc: Global,
+        sums: &mut [[u64; 8]],
+        link: LinkNumber,
+        motion: Motion,
+        held: Held,
+    ) -> Result<(), AllocError>
         requires room { link < length sums.old → room_for motion 1 ≤ promised_to link self.old }
         requires within { (l p : ℕ) → l < length sums.old → p < 8 → most (kept l self.old) p ≤ sum_at sums.old l p }
         requires small { (l p : ℕ) → l < length sums.old → p < 8 → sum_at sums.old l p < 2 ^ 63 }
         requires below { held.bandwidth < 2 ^ 48 }
         ensures count { length sums.new ≡ length sums.old }
-        ensures moved { (l p : ℕ) → l < length sums.old → p < 8 → sum_at sums.new l p + most (kept l self.old) p ≡ sum_at sums.old l p + most (kept l self.new) p }
-        ensures length { length self.new ≡ length self.old }
-        ensures entries { (l : ℕ) → has_entry l self.new ≡ has_entry l self.old }
-        ensures kept { (l : ℕ) → l < length sums.old → kept l self.new ≡ moved_all motion (kept l self.old) (if link == l then held ∷ [] else []) }
+        ensures sums { (l p : ℕ) → l < length sums.old → p < 8 → sum_at sums.new l p + most (kept l self.old) p ≡ sum_at sums.old l p + most (kept l self.new) p }
+        ensures moved { (l : ℕ) → l < length sums.old → IsMoved motion (if link == l then held ∷ [] else []) (entry_on l self.old) (entry_on l self.new) }
         ensures past { (l : ℕ) → length sums.old ≤ l → kept l self.new ≡ kept l self.old }
-        ensures room { (l : ℕ) → promised_to l self.old ≤ promised_to l self.new + room_for motion (length (if link == l then held ∷ [] else [])) }
+        ensures ok { OnOk result ((l : ℕ) → l < length sums.old → promised_after motion (length (if link == l then held ∷ [] else [])) (promised_to l self.old) ≤ promised_to l self.new) }
+        ensures sure { takes_memory motion ≡ false → IsOk result }
     {
-        if link < sums.len() {
-            self.move_on(&mut sums[link], link, motion, held);
+        if link >= sums.len() {
+            return Ok(());
         }
-    }
-
-    /// Promises room for one more on a link that may be there.
-    fn promise_if_there(
-        &mut self,
-        alloc: Global,
-        count: usize,
-        link: LinkNumber,
-    ) -> Result<(), AllocError>
-        ensures longer { length self.old ≤ length self.new }
-        ensures others { (l : ℕ) → (link == l) ≡ false → entry_on l self.new ≡ entry_on l self.old }
-        ensures kept { (l : ℕ) → kept l self.new ≡ kept l self.old }
-        ensures room { (l : ℕ) → promised_to l self.old ≤ promised_to l self.new }
-        ensures ok { OnOk result ((l : ℕ) → l < count → promised_to l self.old + (if link == l then 1 else 0) ≤ promised_to l self.new) }
-    {
-        if link < count {
-            self.promise_on(alloc, link)
-        } else {
-            Ok(())
+        if let Some(place) = find(self.entries.as_slice(), link) {
+            return move_at(
+                &mut self.entries,
+                place,
+                &mut sums[link],
+                link,
+                motion,
+                held,
+            );
         }
-    }
-
-    /// Adds or drops what a path holds on its links, and moves their sums by what the entries rise or fall. A link that
-    /// isn't there is skipped.
-    pub fn move_links(
-        &mut self,
-        sums: &mut [[u64; 8]],
-        links: &[LinkNumber],
-        motion: Motion,
-        held: Held,
-    )
-        requires room { (l : ℕ) → l < length sums.old → room_for motion (length (held_by_links held l links.now)) ≤ promised_to l self.old }
-        requires within { (l p : ℕ) → l < length sums.old → p < 8 → most (kept l self.old) p ≤ sum_at sums.old l p }
-        requires small { (l p : ℕ) → l < length sums.old → p < 8 → sum_at sums.old l p < most (kept l self.old) p + (2 ^ 63 - 2 ^ 48) }
-        requires least { (l p : ℕ) → most (kept l self.old) p < 2 ^ 48 }
-        requires below { held.bandwidth < 2 ^ 48 }
-        ensures count { length sums.new ≡ length sums.old }
-        ensures moved { (l p : ℕ) → l < length sums.old → p < 8 → sum_at sums.new l p + most (kept l self.old) p ≡ sum_at sums.old l p + most (kept l self.new) p }
-        ensures length { length self.new ≡ length self.old }
-        ensures entries { (l : ℕ) → has_entry l self.new ≡ has_entry l self.old }
-        ensures kept { (l : ℕ) → l < length sums.old → kept l self.new ≡ moved_all motion (kept l self.old) (held_by_links held l links.now) }
-        ensures least { (l p : ℕ) → most (kept l self.new) p < 2 ^ 48 }
-        ensures room { (l : ℕ) → promised_to l self.old ≤ promised_to l self.new + room_for motion (length (held_by_links held l links.now)) }
-    {
-        for link in links {
-            self.move_if_there(sums, *link, motion, held);
-        }
-    }
-
-    /// Promises room for one more on each of a path's links below the count.
-    pub fn promise_links(
-        &mut self,
-        alloc: Global,
-        count: usize,
-        links: &[LinkNumber],
-    ) -> Result<(), AllocError>
-        ensures longer { length self.old ≤ length self.new }
-        ensures others { (l : ℕ) (held : Held) → length (held_by_links held l links.now) ≡ 0 → entry_on l self.new ≡ entry_on l self.old }
-        ensures kept { (l : ℕ) → kept l self.new ≡ kept l self.old }
-        ensures room { (l : ℕ) → promised_to l self.old ≤ promised_to l self.new }
-        ensures ok { OnOk result ((l : ℕ) (held : Held) → l < count → promised_to l self.old + length (held_by_links held l links.now) ≤ promised_to l self.new) }
-    {
-        for link in links {
-            self.promise_if_there(alloc, count, *link)?;
+        if motion.takes_memory() {
+            return put_entry(alloc, &mut self.entries, link, motion, held);
         }
         Ok(())
     }
 
-    /// Takes the promises of a path's links back, and the entries out that hold nothing.
-    pub fn withdraw_links(&mut self, links: &[LinkNumber])
-        ensures entries { (l : ℕ) → has_entry l self.new ≡ true → has_entry l self.old ≡ true }
-        ensures swept { (l : ℕ) (held : Held) → has_entry l self.new ≡ true → kept l self.new ≡ [] → length (held_by_links held l links.now) ≡ 0 }
-        ensures kept { (l : ℕ) → kept l self.new ≡ kept l self.old }
+    /// Walks over the links of a path: moves what it holds on each, and the sums of the link. A link that isn't there is
+    /// skipped. Only a promise is refused, where memory is.
+    pub fn move_links(
+        &mut self,
+        alloc: Global,
+        sums: &mut [[u64; 8]],
+        links: &[LinkNumber],
+        motion: Motion,
+        held: Held,
+    ) -> Result<(), AllocError>
+        requires room { (l : ℕ) → l < length sums.old → room_for motion (length (held_by_links held l links.now)) ≤ promised_to l self.old }
+        requires within { (l p : ℕ) → l < length sums.old → p < 8 → most (kept l self.old) p ≤ sum_at sums.old l p }
+        requires small { (l p : ℕ) → l < length sums.old → p < 8 → sum_at sums.old l p < most (kept l self.old) p + (2 ^ 63 - 2 ^ 48) }
+        requires least { (l p : ℕ) → l < length sums.old → most (kept l self.old) p < 2 ^ 48 }
+        requires below { held.bandwidth < 2 ^ 48 }
+        ensures count { length sums.new ≡ length sums.old }
+        ensures sums { (l p : ℕ) → l < length sums.old → p < 8 → sum_at sums.new l p + most (kept l self.old) p ≡ sum_at sums.old l p + most (kept l self.new) p }
+        ensures moved { (l : ℕ) → l < length sums.old → IsMoved motion (held_by_links held l links.now) (entry_on l self.old) (entry_on l self.new) }
+        ensures past { (l : ℕ) → length sums.old ≤ l → kept l self.new ≡ kept l self.old }
+        ensures ok { OnOk result ((l : ℕ) → l < length sums.old → promised_after motion (length (held_by_links held l links.now)) (promised_to l self.old) ≤ promised_to l self.new) }
+        ensures sure { takes_memory motion ≡ false → IsOk result }
     {
         for link in links {
-            self.withdraw_on(*link);
+            self.move_on(alloc, sums, *link, motion, held)?;
         }
+        Ok(())
     }
 }

@@ -173,14 +173,14 @@ impl Book {
         requires { link < length (links_of self.now) }
         ensures { (paths : List Path) → StandsFor self.now paths → result ≡ unreserved (links_of self.now) paths link priority }
     {
-        unreserved_at(self.topology.links(), &self.ledgers, link, priority)
+        unreserved_at(&self.links, &self.ledgers, link, priority)
     }
 
     /// How many links there are.
     pub fn link_count(&self) -> usize
         ensures { result ≡ length (links_of self.now) }
     {
-        self.topology.links().len()
+        self.links.len()
     }
 
     /// Whether one more path with this setup priority fits: its links are there, and with it none is below
@@ -189,7 +189,7 @@ impl Book {
         ensures { (paths : List Path) → StandsFor self.now paths → result ≡ fits (links_of self.now) paths path.now setup }
     {
         fits_on(
-            self.topology.links(),
+            &self.links,
             &self.ledgers,
             path,
             path.links.as_slice(),

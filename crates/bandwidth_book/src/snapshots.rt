@@ -1,5 +1,6 @@
 //! Snapshots of what is left of every link.
 ghost use Rattle.std.specs.Prelude.{◌≡◌, ◌<◌, ◌^◌, ◌-ℤ◌, pos, Some, ℕ, List, length, slice_index, slice_index_or, IfOk, OnErr};
+ghost use Rattle.std.specs.Arc.{arc_value};
 ghost use Rattle.lsp_base.specs.Shares.{reservable};
 ghost use Rattle.lsp_base.specs.declared.effect.Change.{Change};
 ghost use Rattle.lsp_base.specs.declared.path.Path.{Path};
@@ -19,7 +20,7 @@ use sequence::PlainData;
 use std::alloc::{AllocError, Global};
 use std::sync::Arc;
 use te_base::{Link, LinkNumber};
-use te_snapshot::Snapshot;
+use te_snapshot::{Snapshot, Topology};
 
 /// What is left of an amount beside each of eight sums.
 fn left_of_each(reservable: u64, sums: &[u64; 8]) -> [i64; 8]
@@ -61,9 +62,21 @@ fn table_of(alloc: Global, links: &[Link], ledgers: &Ledgers) -> Result<Vec<[i64
 }
 
 impl Book {
-    /// The network, with what is left of every link at each priority, in bytes per second. Where no path
+    /// The network with the links of now: that of the last snapshot, or a new one where a link has other values since.
+    fn topology_now(&self) -> Result<Arc<Topology, Global>, AllocError>
+        ensures { IfOk result (λ topology. arc_value topology ≡ network_of self.now) }
+    {
+        if self.is_current {
+            return Arc::try_clone(&self.topology);
+        }
+        let topology = self.topology.with_links(self.alloc, &self.links)?;
+        Ok(Arc::new(self.alloc, topology)?)
+    }
+
+    /// The network, with what is left of every link at each priority, in bytes per second. Where no path and no value
     /// changed since the last one it is that one, shared, and takes no memory; else only the numbers are
-    /// made anew. Later changes leave it as it is. Where memory is refused nothing has changed.
+    /// made anew, and the network where a link has other values. Later changes leave it as it is. Where memory is refused
+    /// nothing has changed.
     pub fn snapshot(&mut self) -> Result<Snapshot, AllocError>
         ensures network { IfOk result (λ s. s.network ≡ network_of self.old) }
         ensures whole { IfOk result (λ s. (paths : List Path) → StandsFor self.old paths → s ≡ state_beside (network_of self.old) paths) }
@@ -80,10 +93,12 @@ impl Book {
         if let Some(kept) = &self.kept {
             return kept.copy();
         }
-        let table = table_of(self.alloc, self.topology.links(), &self.ledgers)?;
-        let topology = Arc::try_clone(&self.topology)?;
-        let snapshot = Snapshot::new(self.alloc, topology, table)?;
+        let topology = self.topology_now()?;
+        let table = table_of(self.alloc, &self.links, &self.ledgers)?;
+        let snapshot = Snapshot::new(self.alloc, Arc::try_clone(&topology)?, table)?;
         self.kept = Some(snapshot.copy()?);
+        self.topology = topology;
+        self.is_current = true;
         Ok(snapshot)
     }
 }

@@ -1,13 +1,12 @@
 //! What tunnels hold, by tunnel, and what one path does to it and to the sums of its links. A link that isn't there holds
 //! nothing, and a path's part on it is skipped.
-ghost use Rattle.std.specs.Prelude.{◌≡◌, ◌<◌, ◌≤◌, ◌+◌, ◌-◌, ◌^◌, ◌&&◌, [], ℕ, length, slice_index, None, Some, IsTrue, IfOk, OnOk, true, false, is_some, OnErr, cond};
+ghost use Rattle.std.specs.Prelude.{◌≡◌, ◌<◌, ◌≤◌, ◌+◌, ◌-◌, ◌^◌, ◌&&◌, [], ℕ, length, slice_index, None, Some, IsTrue, IfOk, IsOk, OnOk, true, false, OnErr, cond};
 ghost use Rattle.std.specs.Map.{lookup};
 ghost use Rattle.indexmap.specs.IndexMap.{IsUnique, get, insert_entry};
 ghost use Rattle.lsp_base.specs.declared.tunnel.Tunnel.{Tunnel};
-ghost use Rattle.bandwidth_book.specs.Held.{Held};
-ghost use Rattle.bandwidth_book.specs.Entries.{AreRising, held_in, promised_in};
-ghost use Rattle.bandwidth_book.specs.Held.{most, moved_all, room_for};
-ghost use Rattle.bandwidth_book.specs.Ledgers.{count, has_entry_at, held_at, promised_on};
+ghost use Rattle.bandwidth_book.specs.Entries.{AreRising, IsMoved, held_in, promised_in};
+ghost use Rattle.bandwidth_book.specs.Held.{most, promised_after, room_for, takes_memory};
+ghost use Rattle.bandwidth_book.specs.Ledgers.{count, entry_at, held_at, promised_on};
 ghost use Rattle.bandwidth_book.specs.Tunnels.{AreSums, HasNoEmptyList, entries_in, entry_of, held_by_links, held_by_path, most_on, sum_at, total, tunnel_eq};
 
 use crate::held::{Held, Motion};
@@ -25,35 +24,6 @@ const TUNNEL_LIMIT: usize = 30_000;
 /// The room that is made with the first tunnel: for one of each path, and for 64 that a change adds before it drops others.
 /// So no event moves all tunnels.
 const FIRST_ROOM: usize = 16_448;
-
-/// Adds what a path holds to the entries of its tunnel or drops it from them, and moves the sums.
-pub fn move_in_tunnel(
-    tunnels: &mut IndexMap<Tunnel, LinkEntries>,
-    sums: &mut [[u64; 8]],
-    tunnel: Tunnel,
-    links: &[LinkNumber],
-    motion: Motion,
-    held: Held,
-)
-    requires sums { AreSums sums.old tunnels.old.entries }
-    requires small { (l p : ℕ) → l < length sums.old → p < 8 → sum_at sums.old l p < 2 ^ 63 - 2 ^ 48 }
-    requires least { (l : ℕ) (t : Tunnel) (p : ℕ) → most (held_in (entry_of tunnels.old.entries l t)) p < 2 ^ 48 }
-    requires below { held.bandwidth < 2 ^ 48 }
-    requires room { (l : ℕ) → l < length sums.old → room_for motion (length (held_by_links held l links.now)) ≤ promised_in (entry_of tunnels.old.entries l tunnel) }
-    ensures sums { AreSums sums.new tunnels.new.entries }
-    ensures rows { length sums.new ≡ length sums.old }
-    ensures count { length tunnels.new.entries ≡ length tunnels.old.entries }
-    ensures full { HasNoEmptyList tunnels.old.entries → HasNoEmptyList tunnels.new.entries }
-    ensures least { (l : ℕ) (t : Tunnel) (p : ℕ) → most (held_in (entry_of tunnels.new.entries l t)) p < 2 ^ 48 }
-    ensures entries { (l : ℕ) (t : Tunnel) → is_some (entry_of tunnels.new.entries l t) ≡ is_some (entry_of tunnels.old.entries l t) }
-    ensures kept { (l : ℕ) (t : Tunnel) → l < length sums.old → held_in (entry_of tunnels.new.entries l t) ≡ moved_all motion (held_in (entry_of tunnels.old.entries l t)) (held_by_path tunnel held l t links.now) }
-    ensures room { (l : ℕ) (t : Tunnel) → promised_in (entry_of tunnels.old.entries l t) ≤ promised_in (entry_of tunnels.new.entries l t) + room_for motion (length (held_by_path tunnel held l t links.now)) }
-    ensures unique { IsUnique tunnel_eq tunnels.new }
-{
-    if let Some(entries) = tunnels.get_mut(&tunnel) {
-        entries.move_links(sums, links, motion, held);
-    }
-}
 
 /// Inserts a tunnel that isn't there yet.
 fn insert_tunnel(
@@ -74,100 +44,114 @@ fn insert_tunnel(
 
 /// Puts the first entries of a tunnel in, with room for one on each of a path's links. It is refused where
 /// `TUNNEL_LIMIT` tunnels have entries already.
+#[tactic(auto, using(crate::proofs::Moved::no_room_for, crate::proofs::Moved::refused))]
 fn put_tunnel(
     alloc: Global,
     tunnels: &mut IndexMap<Tunnel, LinkEntries>,
-    count: usize,
+    sums: &mut [[u64; 8]],
     tunnel: Tunnel,
     links: &[LinkNumber],
+    motion: Motion,
+    held: Held,
 ) -> Result<(), AllocError>
-    requires { get tunnel_eq tunnels.old tunnel ≡ None }
-    ensures totals { (l p : ℕ) → total (most_on l p) tunnels.new.entries ≡ total (most_on l p) tunnels.old.entries }
+    requires sums { AreSums sums.old tunnels.old.entries }
+    requires small { (l p : ℕ) → l < length sums.old → p < 8 → sum_at sums.old l p < 2 ^ 63 - 2 ^ 48 }
+    requires least { (l : ℕ) (t : Tunnel) (p : ℕ) → l < length sums.old → most (held_in (entry_of tunnels.old.entries l t)) p < 2 ^ 48 }
+    requires below { held.bandwidth < 2 ^ 48 }
+    requires full { HasNoEmptyList tunnels.old.entries }
+    requires none { get tunnel_eq tunnels.old tunnel ≡ None }
+    requires promise { takes_memory motion ≡ true }
+    ensures sums { AreSums sums.new tunnels.new.entries }
+    ensures rows { length sums.new ≡ length sums.old }
     ensures few { length tunnels.old.entries ≤ 30000 → length tunnels.new.entries ≤ 30000 }
-    ensures full { HasNoEmptyList tunnels.old.entries → HasNoEmptyList tunnels.new.entries }
-    ensures others { (l : ℕ) (t : Tunnel) (held : Held) → length (held_by_path tunnel held l t links.now) ≡ 0 → is_some (entry_of tunnels.new.entries l t) ≡ is_some (entry_of tunnels.old.entries l t) }
-    ensures kept { (l : ℕ) (t : Tunnel) → held_in (entry_of tunnels.new.entries l t) ≡ held_in (entry_of tunnels.old.entries l t) }
-    ensures ok { OnOk result ((l : ℕ) (t : Tunnel) (held : Held) → l < count → promised_in (entry_of tunnels.old.entries l t) + length (held_by_path tunnel held l t links.now) ≤ promised_in (entry_of tunnels.new.entries l t)) }
+    ensures moved { (l : ℕ) (t : Tunnel) → l < length sums.old → IsMoved motion (held_by_path tunnel held l t links.now) (entry_of tunnels.old.entries l t) (entry_of tunnels.new.entries l t) }
+    ensures past { (l : ℕ) (t : Tunnel) → length sums.old ≤ l → held_in (entry_of tunnels.new.entries l t) ≡ held_in (entry_of tunnels.old.entries l t) }
+    ensures ok { OnOk result ((l : ℕ) (t : Tunnel) → l < length sums.old → promised_after motion (length (held_by_path tunnel held l t links.now)) (promised_in (entry_of tunnels.old.entries l t)) ≤ promised_in (entry_of tunnels.new.entries l t)) }
+    ensures full { HasNoEmptyList tunnels.new.entries }
     ensures unique { IsUnique tunnel_eq tunnels.new }
 {
     if tunnels.len() >= TUNNEL_LIMIT {
         return Err(AllocError);
     }
     let mut entries = LinkEntries::with_room(alloc, links.len())?;
-    entries.promise_links(alloc, count, links)?;
+    entries.move_links(alloc, sums, links, motion, held)?;
     if !entries.is_empty() {
         insert_tunnel(tunnels, tunnel, entries)?;
     }
     Ok(())
 }
 
-/// Promises room for one more of a tunnel on each of a path's links.
-pub fn promise_to_tunnel(
+/// Moves what a path holds in the entries of its tunnel, and the sums. Says also whether the tunnel is left with no entry.
+fn move_entries(
     alloc: Global,
     tunnels: &mut IndexMap<Tunnel, LinkEntries>,
-    count: usize,
+    sums: &mut [[u64; 8]],
     tunnel: Tunnel,
     links: &[LinkNumber],
-) -> Result<(), AllocError>
-    ensures totals { (l p : ℕ) → total (most_on l p) tunnels.new.entries ≡ total (most_on l p) tunnels.old.entries }
+    motion: Motion,
+    held: Held,
+) -> (Result<(), AllocError>, bool)
+    requires sums { AreSums sums.old tunnels.old.entries }
+    requires small { (l p : ℕ) → l < length sums.old → p < 8 → sum_at sums.old l p < 2 ^ 63 - 2 ^ 48 }
+    requires least { (l : ℕ) (t : Tunnel) (p : ℕ) → l < length sums.old → most (held_in (entry_of tunnels.old.entries l t)) p < 2 ^ 48 }
+    requires below { held.bandwidth < 2 ^ 48 }
+    requires full { HasNoEmptyList tunnels.old.entries }
+    requires room { (l : ℕ) → l < length sums.old → room_for motion (length (held_by_links held l links.now)) ≤ promised_in (entry_of tunnels.old.entries l tunnel) }
+    ensures sums { AreSums sums.new tunnels.new.entries }
+    ensures rows { length sums.new ≡ length sums.old }
     ensures few { length tunnels.old.entries ≤ 30000 → length tunnels.new.entries ≤ 30000 }
-    ensures full { HasNoEmptyList tunnels.old.entries → HasNoEmptyList tunnels.new.entries }
-    ensures others { (l : ℕ) (t : Tunnel) (held : Held) → length (held_by_path tunnel held l t links.now) ≡ 0 → is_some (entry_of tunnels.new.entries l t) ≡ is_some (entry_of tunnels.old.entries l t) }
-    ensures kept { (l : ℕ) (t : Tunnel) → held_in (entry_of tunnels.new.entries l t) ≡ held_in (entry_of tunnels.old.entries l t) }
-    ensures ok { OnOk result ((l : ℕ) (t : Tunnel) (held : Held) → l < count → promised_in (entry_of tunnels.old.entries l t) + length (held_by_path tunnel held l t links.now) ≤ promised_in (entry_of tunnels.new.entries l t)) }
+    ensures moved { (l : ℕ) (t : Tunnel) → l < length sums.old → IsMoved motion (held_by_path tunnel held l t links.now) (entry_of tunnels.old.entries l t) (entry_of tunnels.new.entries l t) }
+    ensures past { (l : ℕ) (t : Tunnel) → length sums.old ≤ l → held_in (entry_of tunnels.new.entries l t) ≡ held_in (entry_of tunnels.old.entries l t) }
+    ensures ok { OnOk result.0 ((l : ℕ) (t : Tunnel) → l < length sums.old → promised_after motion (length (held_by_path tunnel held l t links.now)) (promised_in (entry_of tunnels.old.entries l t)) ≤ promised_in (entry_of tunnels.new.entries l t)) }
+    ensures sure { takes_memory motion ≡ false → IsOk result.0 }
+    ensures empty { IsTrue result.1 → get tunnel_eq tunnels.new tunnel ≡ Some [] }
+    ensures full { (t : Tunnel) → get tunnel_eq tunnels.new t ≡ Some [] → (result.1 && tunnel_eq tunnel t) ≡ true }
     ensures unique { IsUnique tunnel_eq tunnels.new }
 {
-    match tunnels.get_mut(&tunnel) {
-        Some(entries) => entries.promise_links(alloc, count, links),
-        None => put_tunnel(alloc, tunnels, count, tunnel, links),
+    if let Some(entries) = tunnels.get_mut(&tunnel) {
+        let moved = entries.move_links(alloc, sums, links, motion, held);
+        return (moved, entries.is_empty());
     }
+    if motion.takes_memory() {
+        return (
+            put_tunnel(alloc, tunnels, sums, tunnel, links, motion, held),
+            false,
+        );
+    }
+    (Ok(()), false)
 }
 
-/// Takes the promises to a tunnel on some links back, and its entries there out that hold nothing. Says
-/// whether it is left with none.
-fn take_back(
+/// Moves what a path holds in the entries of its tunnel, and the sums. A tunnel that is left with no entry goes.
+pub fn move_in_tunnel(
+    alloc: Global,
     tunnels: &mut IndexMap<Tunnel, LinkEntries>,
+    sums: &mut [[u64; 8]],
     tunnel: Tunnel,
     links: &[LinkNumber],
-) -> bool
-    requires { HasNoEmptyList tunnels.old.entries }
-    ensures totals { (l p : ℕ) → total (most_on l p) tunnels.new.entries ≡ total (most_on l p) tunnels.old.entries }
-    ensures count { length tunnels.new.entries ≡ length tunnels.old.entries }
-    ensures empty { IsTrue result → get tunnel_eq tunnels.new tunnel ≡ Some [] }
-    ensures full { (t : Tunnel) → get tunnel_eq tunnels.new t ≡ Some [] → (result && tunnel_eq tunnel t) ≡ true }
-    ensures entries { (l : ℕ) (t : Tunnel) → is_some (entry_of tunnels.new.entries l t) ≡ true → is_some (entry_of tunnels.old.entries l t) ≡ true }
-    ensures swept { (l : ℕ) (t : Tunnel) (held : Held) → is_some (entry_of tunnels.new.entries l t) ≡ true → held_in (entry_of tunnels.new.entries l t) ≡ [] → length (held_by_path tunnel held l t links.now) ≡ 0 }
-    ensures kept { (l : ℕ) (t : Tunnel) → held_in (entry_of tunnels.new.entries l t) ≡ held_in (entry_of tunnels.old.entries l t) }
-    ensures unique { IsUnique tunnel_eq tunnels.new }
-{
-    match tunnels.get_mut(&tunnel) {
-        Some(entries) => {
-            entries.withdraw_links(links);
-            entries.is_empty()
-        }
-        None => false,
-    }
-}
-
-/// Takes the promises to a tunnel on some links back, its entries there out that hold nothing, and the tunnel
-/// if none is left.
-pub fn withdraw_from(
-    tunnels: &mut IndexMap<Tunnel, LinkEntries>,
-    tunnel: Tunnel,
-    links: &[LinkNumber],
-)
-    requires { HasNoEmptyList tunnels.old.entries }
-    ensures totals { (l p : ℕ) → total (most_on l p) tunnels.new.entries ≡ total (most_on l p) tunnels.old.entries }
-    ensures count { length tunnels.new.entries ≤ length tunnels.old.entries }
+    motion: Motion,
+    held: Held,
+) -> Result<(), AllocError>
+    requires sums { AreSums sums.old tunnels.old.entries }
+    requires small { (l p : ℕ) → l < length sums.old → p < 8 → sum_at sums.old l p < 2 ^ 63 - 2 ^ 48 }
+    requires least { (l : ℕ) (t : Tunnel) (p : ℕ) → l < length sums.old → most (held_in (entry_of tunnels.old.entries l t)) p < 2 ^ 48 }
+    requires below { held.bandwidth < 2 ^ 48 }
+    requires full { HasNoEmptyList tunnels.old.entries }
+    requires room { (l : ℕ) → l < length sums.old → room_for motion (length (held_by_links held l links.now)) ≤ promised_in (entry_of tunnels.old.entries l tunnel) }
+    ensures sums { AreSums sums.new tunnels.new.entries }
+    ensures rows { length sums.new ≡ length sums.old }
+    ensures few { length tunnels.old.entries ≤ 30000 → length tunnels.new.entries ≤ 30000 }
+    ensures moved { (l : ℕ) (t : Tunnel) → l < length sums.old → IsMoved motion (held_by_path tunnel held l t links.now) (entry_of tunnels.old.entries l t) (entry_of tunnels.new.entries l t) }
+    ensures past { (l : ℕ) (t : Tunnel) → length sums.old ≤ l → held_in (entry_of tunnels.new.entries l t) ≡ held_in (entry_of tunnels.old.entries l t) }
+    ensures ok { OnOk result ((l : ℕ) (t : Tunnel) → l < length sums.old → promised_after motion (length (held_by_path tunnel held l t links.now)) (promised_in (entry_of tunnels.old.entries l t)) ≤ promised_in (entry_of tunnels.new.entries l t)) }
+    ensures sure { takes_memory motion ≡ false → IsOk result }
     ensures full { HasNoEmptyList tunnels.new.entries }
-    ensures entries { (l : ℕ) (t : Tunnel) → is_some (entry_of tunnels.new.entries l t) ≡ true → is_some (entry_of tunnels.old.entries l t) ≡ true }
-    ensures swept { (l : ℕ) (t : Tunnel) (held : Held) → is_some (entry_of tunnels.new.entries l t) ≡ true → held_in (entry_of tunnels.new.entries l t) ≡ [] → length (held_by_path tunnel held l t links.now) ≡ 0 }
-    ensures kept { (l : ℕ) (t : Tunnel) → held_in (entry_of tunnels.new.entries l t) ≡ held_in (entry_of tunnels.old.entries l t) }
     ensures unique { IsUnique tunnel_eq tunnels.new }
 {
-    if take_back(tunnels, tunnel, links) {
+    let (moved, is_empty) = move_entries(alloc, tunnels, sums, tunnel, links, motion, held);
+    if is_empty {
         tunnels.swap_remove(&tunnel);
     }
+    moved
 }
 
 /// `count` rows of sums, each of zeros.
@@ -186,8 +170,7 @@ impl Ledgers {
     /// Ledgers of `links` links, on which nothing is held.
     pub fn new(alloc: Global, links: usize) -> Result<Self, AllocError>
         ensures count { IfOk result (λ ledgers. count ledgers ≡ links) }
-        ensures entries { IfOk result (λ ledgers. (l : ℕ) (t : Tunnel) → has_entry_at ledgers l t ≡ false) }
-        ensures kept { IfOk result (λ ledgers. (l : ℕ) (t : Tunnel) → held_at ledgers l t ≡ []) }
+        ensures entries { IfOk result (λ ledgers. (l : ℕ) (t : Tunnel) → entry_at ledgers l t ≡ None) }
     {
         let sums = empty_sums(alloc, links)?;
         Ok(Ledgers {
@@ -203,49 +186,32 @@ impl Ledgers {
         self.sums.len()
     }
 
-    /// Adds or drops what a path holds on its links.
-    pub fn move_path(&mut self, tunnel: Tunnel, motion: Motion, held: Held, path: &[LinkNumber])
+    /// Moves what a path holds on each of its links. Only a promise is refused, where memory is.
+    pub fn move_path(
+        &mut self,
+        alloc: Global,
+        tunnel: Tunnel,
+        path: &[LinkNumber],
+        motion: Motion,
+        held: Held,
+    ) -> Result<(), AllocError>
         requires small { held.bandwidth < 2 ^ 48 }
         requires room { (l : ℕ) (t : Tunnel) → l < count self.old → room_for motion (length (held_by_path tunnel held l t path.now)) ≤ promised_on self.old l t }
         ensures count { count self.new ≡ count self.old }
-        ensures entries { (l : ℕ) (t : Tunnel) → has_entry_at self.new l t ≡ has_entry_at self.old l t }
-        ensures kept { (l : ℕ) (t : Tunnel) → l < count self.old → held_at self.new l t ≡ moved_all motion (held_at self.old l t) (held_by_path tunnel held l t path.now) }
-        ensures room { (l : ℕ) (t : Tunnel) → promised_on self.old l t ≤ promised_on self.new l t + room_for motion (length (held_by_path tunnel held l t path.now)) }
+        ensures moved { (l : ℕ) (t : Tunnel) → l < count self.old → IsMoved motion (held_by_path tunnel held l t path.now) (entry_at self.old l t) (entry_at self.new l t) }
+        ensures past { (l : ℕ) (t : Tunnel) → count self.old ≤ l → held_at self.new l t ≡ held_at self.old l t }
+        ensures ok { OnOk result ((l : ℕ) (t : Tunnel) → l < count self.old → promised_after motion (length (held_by_path tunnel held l t path.now)) (promised_on self.old l t) ≤ promised_on self.new l t) }
+        ensures sure { takes_memory motion ≡ false → IsOk result }
     {
         move_in_tunnel(
+            alloc,
             &mut self.tunnels,
             &mut self.sums,
             tunnel,
             path,
             motion,
             held,
-        );
-    }
-
-    /// Promises room for one more of the tunnel on each of a path's links.
-    pub fn promise_path(
-        &mut self,
-        alloc: Global,
-        tunnel: Tunnel,
-        path: &[LinkNumber],
-    ) -> Result<(), AllocError>
-        ensures count { count self.new ≡ count self.old }
-        ensures others { (l : ℕ) (t : Tunnel) (held : Held) → length (held_by_path tunnel held l t path.now) ≡ 0 → has_entry_at self.new l t ≡ has_entry_at self.old l t }
-        ensures kept { (l : ℕ) (t : Tunnel) → held_at self.new l t ≡ held_at self.old l t }
-        ensures ok { OnOk result ((l : ℕ) (t : Tunnel) (held : Held) → l < count self.old → promised_on self.old l t + length (held_by_path tunnel held l t path.now) ≤ promised_on self.new l t) }
-    {
-        promise_to_tunnel(alloc, &mut self.tunnels, self.sums.len(), tunnel, path)
-    }
-
-    /// Takes the promises to the tunnel on a path's links back, its entries there out that hold nothing, and the
-    /// tunnel if none is left.
-    pub fn withdraw_path(&mut self, tunnel: Tunnel, path: &[LinkNumber])
-        ensures count { count self.new ≡ count self.old }
-        ensures entries { (l : ℕ) (t : Tunnel) → has_entry_at self.new l t ≡ true → has_entry_at self.old l t ≡ true }
-        ensures swept { (l : ℕ) (t : Tunnel) (held : Held) → has_entry_at self.new l t ≡ true → held_at self.new l t ≡ [] → length (held_by_path tunnel held l t path.now) ≡ 0 }
-        ensures kept { (l : ℕ) (t : Tunnel) → held_at self.new l t ≡ held_at self.old l t }
-    {
-        withdraw_from(&mut self.tunnels, tunnel, path);
+        )
     }
 
     /// The stored sums of a link.

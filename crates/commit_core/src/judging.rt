@@ -119,8 +119,8 @@ fn verdict_of(
 /// for a request), or where an LSP to update isn't delegated any more or awaits a grant or a removal. With an
 /// offer that is admissible and within all bounds `Answer` for a request, else `Grant`, or `GivenUp` where 16,384
 /// paths stand or the next SRP-ID is still in use. With any other offer `Again`, and `GivenUp` at the fourth try.
-/// Without an offer `NoPath`, but `Again` where paths came or went since the ticket was taken, up to the fourth
-/// try.
+/// Without an offer `NoPath`, but `Again` where paths came or went or links were reloaded since the ticket was taken,
+/// up to the fourth try.
 ///
 /// A grant leaves no link below zero at its setup priority or a better one, where it charges it anew. What a search
 /// finds is accepted where nothing changed since.

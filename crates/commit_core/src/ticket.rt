@@ -64,7 +64,7 @@ pub struct Ticket {
     pub constraints: Constraints,
     /// How often it was taken to be searched for, at most `TRY_LIMIT` times.
     pub tries: u32,
-    /// How often paths had come or gone when it was taken last.
+    /// How often paths had come or gone or links been reloaded when it was taken last.
     pub seen: u64,
     /// A search for it is under way.
     pub taken: bool,

@@ -9,7 +9,7 @@ pub struct PeerView {
     pub up: bool,
     /// The peer has not yet reported all of its LSPs (RFC 8231 section 5.6).
     pub syncing: bool,
-    /// How often paths came or went so far, of all peers.
+    /// How often paths came or went so far, of all peers, or links were reloaded.
     pub changes: u64,
     /// A grant or a removal of the peer still has the SRP-ID that is the next.
     pub srp_in_use: bool,

@@ -6,41 +6,38 @@ ghost use Rattle.delegate_rules.specs.Refusals.{has_no_other, record_ended, reco
 use crate::reported::has_no_path;
 use keyed_list::Test;
 use lsp_base::{
-    Effect, GrantAs, Lsp, LspBase, Path, Record, RecordChange, RecordRule, is_path_of_lsp,
-    is_removed_as,
+    Effect, GrantAs, Lsp, LspBase, Path, Record, RecordChange, RecordRule, is_removed_as,
 };
 use pcep_objects::Plsp;
 use sequence::PlainData;
 use std::alloc::{AllocError, Global};
 
-/// The paths of an LSP that stay where the grants of an SRP-ID go.
+/// Tests whether a path stays where the grants of an SRP-ID go.
 #[derive(Drop)]
-struct OtherOf {
+struct Stays {
     peer: u32,
     srp: u32,
-    plsp: Plsp,
 }
 
-impl Test<Path> for OtherOf {
-    ghost use Rattle.std.specs.Prelude.{◌&&◌, not};
-    ghost use Rattle.lsp_base.specs.Base.{is_path_of};
+impl Test<Path> for Stays {
+    ghost use Rattle.std.specs.Prelude.{not};
     ghost use Rattle.lsp_base.specs.Pending.{is_grant_as};
 
-    ghost passes = { λ s x. not (is_grant_as s.peer s.srp x) && is_path_of s.peer s.plsp x };
+    ghost passes = { λ s x. not (is_grant_as s.peer s.srp x) };
 
     fn passes(&self, path: &Path) -> bool {
         let grants = GrantAs {
             peer: self.peer,
             srp: self.srp,
         };
-        !grants.passes(path) && is_path_of_lsp(path, self.peer, self.plsp)
+        !grants.passes(path)
     }
 }
 
 fn has_no_other(base: &LspBase, peer: u32, srp: u32, plsp: Plsp) -> bool
     ensures { result ≡ has_no_other base.now.content.paths peer srp plsp }
 {
-    !base.any_path_of_lsp(peer, plsp, &OtherOf { peer, srp, plsp })
+    !base.any_path_of_lsp(peer, plsp, &Stays { peer, srp })
 }
 
 /// Takes away the records of the LSPs of these grants, which go, where no path of the LSP stays.

@@ -1,5 +1,5 @@
 -- What a call leaves in a store and in a client.
-use Rattle.std.specs.Prelude.{◌≡◌, List, None, Result, Ok, Err}
+use Rattle.std.specs.Prelude.{◌≡◌, ℕ, List, [], Option, None, Some, Result, Ok, Err}
 use Rattle.history_core.specs.declared.fault.Fault.{Fault}
 use Rattle.history_core.specs.declared.fault.Fault.TheVariants.{OutOfMemory, HistoryFull}
 use Rattle.engine_core.specs.Engine.{ending}
@@ -48,3 +48,10 @@ pub record EndsAt {S : Type 0} (moves : S → List Call → S → Type 0) (is_fu
 abbrev pub ServesOrEnds : {X S : Type 0} → Result X Fault → (S → List Call → S → Type 0) → (S → Type 0) → S → S → Client → Client → Plan Client → Type 0
 ServesOrEnds (Ok x) moves is_full old new client after plan = Carries moves old new client after plan (Returns after)
 ServesOrEnds (Err fault) moves is_full old new client after plan = EndsAt moves is_full old new client after plan fault
+
+-- ---- room for more steps
+
+-- the history was full and is rolled, so many steps taken before its base; None: nothing has changed
+abbrev pub MakesRoom : {S : Type 0} → (S → List Call → S → Type 0) → (S → Type 0) → (S → ℕ → S → Type 0) → S → S → Option ℕ → Type 0
+MakesRoom moves is_full rolls old new None = moves old [] new
+MakesRoom moves is_full rolls old new (Some steps) = is_full old × rolls old steps new

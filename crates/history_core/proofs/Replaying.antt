@@ -1,8 +1,10 @@
 -- Histories one after the other: what is legal stays so, and leads on.
-use Rattle.std.proofs.Common.{◌≡◌, ◌≢◌, ℕ, ◌+◌, ◌≤◌, Bool, false, ◌==◌, ◌||◌, List, [], ◌∷◌, ◌++◌, length, refl, sym, ap, ◌∙◌, arith, length-append}
+use Rattle.std.proofs.Common.{◌≡◌, ◌≢◌, ℕ, ◌+◌, ◌≤◌, Bool, false, ◌==◌, ◌||◌, List, [], ◌∷◌, ◌++◌, length, refl, sym, subst, ap, ◌∙◌, arith, length-append}
 use Rattle.std.specs.Prelude.{Result, Ok, if◌then◌else◌}
 use Rattle.std.proofs.lemmas.Bool.Decides.{nat_tests}
 use Rattle.std.proofs.lemmas.Grind.{common_steps}
+use Rattle.te_base.specs.Values.{Values, IsSameNetwork, with_all_values}
+use Rattle.te_base.proofs.Values.{same-length}
 use Rattle.lsp_base.specs.declared.why.Why.{Why}
 use Rattle.step_core.specs.declared.base.Base as known
 use Rattle.step_core.specs.declared.event.Event.{Event}
@@ -11,7 +13,8 @@ use Rattle.step_core.specs.declared.event.Reply.TheVariants.{Refused}
 use Rattle.step_core.specs.Bases.{state_over}
 use Rattle.step_core.specs.States.{State, empty}
 use Rattle.step_core.specs.Steps.{step}
-use Rattle.step_core.proofs.StepLaws.{te_stays, counts_rise, refused_stays}
+use Rattle.step_core.proofs.Reloading.{same_over, state_over-same}
+use Rattle.step_core.proofs.StepLaws.{network_stays, counts_rise, refused_stays}
 use Rattle.history_core.specs.declared.fault.Fault.{Fault}
 use Rattle.history_core.specs.declared.step.Step.{Step}
 use Rattle.history_core.specs.Briefs.{brief_of, is_grant}
@@ -63,19 +66,19 @@ tickets-replay s (y ∷ ys) = omega (arith, tickets-replay (step s y.event).stat
 pub changes_le : (d : Content) → Replays d → d.state.changes ≤ steps_of d
 changes_le d whole =
     let past = whole.past.1 in
-    let start = empty d.base.te in
+    let start = empty d.text in
     omega (arith, ap (λ (s : State). s.changes) whole.kept.leads, changes-replay d.base d.history, ap (λ (s : State). s.changes) past.replays.leads, changes-replay start whole.past.0, past.steps)
 
 pub sessions_le : (d : Content) → Replays d → d.state.last_session ≤ steps_of d
 sessions_le d whole =
     let past = whole.past.1 in
-    let start = empty d.base.te in
+    let start = empty d.text in
     omega (arith, ap (λ (s : State). s.last_session) whole.kept.leads, sessions-replay d.base d.history, ap (λ (s : State). s.last_session) past.replays.leads, sessions-replay start whole.past.0, past.steps)
 
 pub tickets_le : (d : Content) → Replays d → d.state.last_ticket ≤ steps_of d
 tickets_le d whole =
     let past = whole.past.1 in
-    let start = empty d.base.te in
+    let start = empty d.text in
     omega (arith, ap (λ (s : State). s.last_ticket) whole.kept.leads, tickets-replay d.base d.history, ap (λ (s : State). s.last_ticket) past.replays.leads, tickets-replay start whole.past.0, past.steps)
 
 -- ---- a database after one more event
@@ -110,10 +113,18 @@ IsWhole-stepped d n m event reply whole none is counted =
       counted = omega (arith, counted, whole.counted, grants-snoc d.history x);
     }
 
+stays_over : (s t : State) (event : Event) → t ≡ (step s event).state → IsSameNetwork s.te t.te
+stays_over s t event t_is = subst (λ (u : State). IsSameNetwork s.te u.te) (sym t_is) (network_stays s event)
+
 -- the same database, where the new state and history are known by equations
-pub content-stepped : (s t : State) (xs ys : List Step) (base : known.Base) (rolled rolled_grants : ℕ) (event : Event) (reply : Reply)
-    → t ≡ (step s event).state → ys ≡ xs ++ kept_step event reply ∷ [] → content t ys base rolled rolled_grants ≡ stepped (content s xs base rolled rolled_grants) event reply
-content-stepped s t xs ys base rolled rolled_grants event reply t_is ys_is =
-    let same_te : t.te ≡ s.te = ap (λ (u : State). u.te) t_is ∙ te_stays s event in
-    let same_base : state_over t.te base ≡ state_over s.te base = ap (λ te. state_over te base) same_te in
+pub content-stepped : (s t : State) (xs ys : List Step) (base : known.Base) (text : List Values) (rolled rolled_grants : ℕ) (event : Event) (reply : Reply)
+    → length base.values ≡ length s.te.links → length text ≡ length s.te.links → t ≡ (step s event).state → ys ≡ xs ++ kept_step event reply ∷ [] → content t ys base text rolled rolled_grants ≡ stepped (content s xs base text rolled rolled_grants) event reply
+content-stepped s t xs ys base text rolled rolled_grants event reply at_base of_text t_is ys_is =
+    let same = stays_over s t event t_is in
+    let same_base : state_over t.te base ≡ state_over s.te base = sym (state_over-same s.te t.te base same at_base) in
+    let same_text : with_all_values t.te text ≡ with_all_values s.te text = sym (same_over s.te t.te text same of_text) in
     cc
+
+-- a step leaves as many links as there were
+pub links_stay : (s t : State) (event : Event) → t ≡ (step s event).state → length s.te.links ≡ length t.te.links
+links_stay s t event t_is = same-length s.te t.te (stays_over s t event t_is)

@@ -2,6 +2,7 @@
 use Rattle.std.specs.Prelude.{ℕ, ◌≡◌, ◌+◌, ◌^◌, ◌≤◌, Bool, ◌==◌, ◌||◌, List, [], ◌∷◌, ◌++◌, length, Result, Ok, Err, if◌then◌else◌}
 use Rattle.std.specs.List.{count_by}
 use Rattle.te_base.specs.Base.{Base}
+use Rattle.te_base.specs.Values.{Values, with_all_values}
 use Rattle.step_core.specs.declared.event.Event.{Event}
 use Rattle.step_core.specs.declared.event.Reply.{Reply}
 use Rattle.step_core.specs.declared.base.Base as known
@@ -43,11 +44,12 @@ abbrev pub last_step : ℕ
 last_step = 2 ^ 62
 
 -- what a database is seen as: a state, with the kept steps that led to it from the base; before the base so many
--- steps were taken, so many of them grants
+-- steps were taken, so many of them grants; and the network of the link text, from which all steps began
 pub record Content : Type 0 where
   pub state : State
   pub history : List Step
   pub base : State
+  pub text : Base
   pub rolled : ℕ
   pub rolled_grants : ℕ
 
@@ -68,16 +70,17 @@ pub record ReplaysFrom (start : State) (history : List Step) (state : State) : T
   pub legal : IsLegalFrom start history
   pub leads : replay start history ≡ state
 
--- so many steps, so many of them grants, led to the state from a network of which nothing was reported yet
-pub record IsPast (past : List Step) (count granted : ℕ) (state : State) : Type 0 where
+-- so many steps, so many of them grants, led to the state from the network of the link text, of which nothing was
+-- reported yet
+pub record IsPast (text : Base) (past : List Step) (count granted : ℕ) (state : State) : Type 0 where
   pub steps : length past ≡ count
   pub grants : grants_in past ≡ granted
-  pub replays : ReplaysFrom (empty state.te) past state
+  pub replays : ReplaysFrom (empty text) past state
 
 -- the kept steps replay from the base to the state, and the base is where steps of the counted number led
 pub record Replays (d : Content) : Type 0 where
   pub kept : ReplaysFrom d.base d.history d.state
-  pub past : (past : List Step) × IsPast past d.rolled d.rolled_grants d.base
+  pub past : (past : List Step) × IsPast d.text past d.rolled d.rolled_grants d.base
 
 -- what holds of every database: it replays, as many steps are kept and were taken as may be, and its grants are counted
 pub record IsWhole (d : Content) (grants : ℕ) : Type 0 where
@@ -90,12 +93,18 @@ pub record IsWhole (d : Content) (grants : ℕ) : Type 0 where
 abbrev pub IsSound : Content → Type 0
 IsSound d = IsSoundFrom d.base d.history
 
--- a database over the network of its state
-abbrev pub content : State → List Step → known.Base → ℕ → ℕ → Content
-content state history base rolled rolled_grants = record { state = state; history = history; base = state_over state.te base; rolled = rolled; rolled_grants = rolled_grants }
+-- a database over the network of its state, with these values of the link text
+abbrev pub content : State → List Step → known.Base → List Values → ℕ → ℕ → Content
+content state history base text rolled rolled_grants = record { state = state; history = history; base = state_over state.te base; text = with_all_values state.te text; rolled = rolled; rolled_grants = rolled_grants }
+
+-- what is kept makes a whole database, with as many values at the base and of the link text as there are links
+pub record IsKept (state : State) (history : List Step) (base : known.Base) (text : List Values) (rolled rolled_grants grants : ℕ) : Type 0 where
+  pub whole : IsWhole (content state history base text rolled rolled_grants) grants
+  pub at_base : length base.values ≡ length state.te.links
+  pub of_text : length text ≡ length state.te.links
 
 abbrev pub nothing_happened : Base → Content
-nothing_happened te = record { state = empty te; history = []; base = empty te; rolled = 0; rolled_grants = 0 }
+nothing_happened te = record { state = empty te; history = []; base = empty te; text = te; rolled = 0; rolled_grants = 0 }
 
 abbrev pub kept_step : Event → Reply → Step
 kept_step event reply = record { event = event; brief = brief_of reply }
@@ -110,4 +119,4 @@ applied d event = if is_full d then Err HistoryFull else Ok ((step d.state event
 
 -- the state is the base, and no step is kept
 abbrev pub rolled_up : Content → Content
-rolled_up d = record { state = d.state; history = []; base = d.state; rolled = steps_of d; rolled_grants = grants_of d }
+rolled_up d = record { state = d.state; history = []; base = d.state; text = d.text; rolled = steps_of d; rolled_grants = grants_of d }

@@ -1,7 +1,8 @@
 //! A state with its history.
 ghost use Rattle.std.specs.Prelude.{◌≡◌, ◌<◌, ◌≤◌, ◌+◌, ◌^◌, ◌↔◌, if◌then◌else◌, IsTrue, List, [], ◌∷◌, ◌++◌, length, vec_len, vec_capacity, IfOk, OnOk, OnErr, IsNone, IfSome};
 ghost use Rattle.lsp_base.specs.Shares.{unreserved};
-ghost use Rattle.step_core.specs.Bases.{state_over};
+ghost use Rattle.te_base.specs.Values.{values_in};
+ghost use Rattle.step_core.specs.Bases.{known_in, state_over};
 ghost use Rattle.step_core.specs.States.{is_up, is_queued, has_waiting};
 ghost use Rattle.step_core.specs.Steps.{step};
 ghost use Rattle.step_core.specs.Laws.{peer_of, OthersStay};
@@ -11,12 +12,12 @@ ghost use Rattle.history_core.specs.Histories.{Replays, IsSound, IsPast, nothing
 use crate::fault::Fault;
 use crate::step::{Brief, Step, shortened};
 use pcep_word::Priority;
-use sequence::PlainData;
+use sequence::{PlainData, Sequence};
 use std::alloc::{AllocError, Global};
 use std::marker::Model;
 use std::mem;
 use step_core::{Base, Event, Reply, SharedEvent, State};
-use te_base::{LinkNumber, TeBase};
+use te_base::{LinkNumber, LinkValues, TeBase};
 
 /// The greatest number of steps that are kept.
 pub const STEP_LIMIT: usize = 1_048_576;
@@ -26,6 +27,8 @@ pub const LAST_STEP: u64 = 1 << 62;
 
 /// What is known, with the history that led to it from a base.
 pub struct Database {
+    /// The values of all links as the link text has them.
+    text: Sequence<LinkValues>,
     /// What was known before the first of the kept steps.
     base: Base,
     /// How many steps were taken before the base.
@@ -42,6 +45,7 @@ pub struct Database {
 impl Drop for Database {
     fn drop(self) {
         let Database {
+            text,
             base,
             rolled: _,
             rolled_grants: _,
@@ -49,6 +53,7 @@ impl Drop for Database {
             history,
             grants: _,
         } = self;
+        drop(text);
         drop(base);
         drop(state);
         drop(history);
@@ -56,13 +61,13 @@ impl Drop for Database {
 }
 
 impl Model for Database {
-    ghost use Rattle.history_core.specs.Histories.{Content, IsWhole, content};
+    ghost use Rattle.history_core.specs.Histories.{Content, IsKept, content};
 
     ghost Value = { Content };
 
-    ghost view = { λ d. content d.state d.history.items d.base d.rolled d.rolled_grants };
+    ghost view = { λ d. content d.state d.history.items d.base d.text d.rolled d.rolled_grants };
 
-    ghost invariant = { λ d. IsWhole (content d.state d.history.items d.base d.rolled d.rolled_grants) d.grants };
+    ghost invariant = { λ d. IsKept d.state d.history.items d.base d.text d.rolled d.rolled_grants d.grants };
 }
 
 /// For how many more steps room is made where so many are kept: for all that may be, with the first of them, so that no
@@ -94,6 +99,21 @@ fn keep(history: &mut Vec<Step>, grants: &mut u64, event: SharedEvent, reply: &R
     history.push_reserved(Step { event, brief });
 }
 
+/// What is known, and the values of all links once more.
+fn known_at_first(state: &State) -> Result<(Base, Sequence<LinkValues>), AllocError>
+    ensures base { IfOk result (λ known. known.0 ≡ known_in state.now) }
+    ensures text { IfOk result (λ known. known.1 ≡ values_in state.now.te) }
+{
+    let base = state.copy()?;
+    match base.values.copy() {
+        Ok(text) => Ok((base, text)),
+        Err(error) => {
+            drop(base);
+            Err(error)
+        }
+    }
+}
+
 impl Database {
     /// A network of which nothing was reported yet. The links and nodes are dropped where memory is
     /// refused.
@@ -101,8 +121,9 @@ impl Database {
         ensures { IfOk result (λ database. database ≡ nothing_happened te) }
     {
         let state = State::new(alloc, te)?;
-        match state.copy() {
-            Ok(base) => Ok(Database {
+        match known_at_first(&state) {
+            Ok((base, text)) => Ok(Database {
+                text,
                 base,
                 rolled: 0,
                 rolled_grants: 0,
@@ -195,7 +216,7 @@ impl Database {
     }
 
     /// What was known at the last roll, before the first of the kept steps; before the first roll, that
-    /// nothing was reported. Takes no memory.
+    /// nothing was reported of the network of the link text. Takes no memory.
     pub fn base(&self) -> &Base
         ensures { state_over self.now.state.te result.now ≡ self.now.base }
     {

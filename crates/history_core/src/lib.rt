@@ -4,7 +4,7 @@
 //! give these very briefs and lead to its state (`specs/Histories.antt`). So what `unreserved` answers is
 //! what the reports leave of a link. At most 1,048,576 steps are kept; a roll makes the state the base, and
 //! lets go of the steps before it, which stay counted. All steps ever taken, those before the base too, are
-//! one legal and sound history from a network of which nothing was reported (`one_history`).
+//! one legal and sound history from the network of the link text, of which nothing was reported (`one_history`).
 //!
 //! ```text
 //! fn left_after(database: &mut Database, event: Event) -> Result<Option<i64>, Fault>
@@ -25,6 +25,8 @@ mod step;
 
 pub use database::{Database, LAST_STEP, STEP_LIMIT};
 pub use fault::Fault;
-pub use laws::one_history;
+pub use laws::{network_stays, one_history};
 pub use step::{Brief, Step};
-pub use step_core::{Base, Event, Job, LspName, Purpose, Reply, SharedEvent, Ticket, Why};
+pub use step_core::{
+    Base, Event, Job, LinkReload, LspName, Purpose, Reply, SharedEvent, Ticket, Why,
+};

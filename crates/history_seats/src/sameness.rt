@@ -7,7 +7,7 @@ use pcep_messages::StateReport;
 use pcep_objects::{Capabilities, Colours, Hop, Identifiers, MetricType, Operational, Plsp};
 use pcep_word::{Ipv4, Priorities};
 use sequence::Sequence;
-use step_core::Event;
+use step_core::{Event, LinkReload};
 
 /// Plain data, of which two values can be told apart wherever they differ.
 pub(crate) trait SameAs {
@@ -218,6 +218,12 @@ impl SameAs for Purpose {
     }
 }
 
+impl SameAs for LinkReload {
+    fn is_same(&self, other: &LinkReload) -> bool {
+        self.link == other.link && self.values == other.values
+    }
+}
+
 impl SameAs for Event {
     fn is_same(&self, other: &Event) -> bool {
         match (self, other) {
@@ -268,6 +274,7 @@ impl SameAs for Event {
             (Event::Delete { peer: p, plsp: n }, Event::Delete { peer: q, plsp: m }) => {
                 *p == *q && *n == *m
             }
+            (Event::Reload { links: a }, Event::Reload { links: b }) => a.is_same(b),
             _ => false,
         }
     }

@@ -1,11 +1,12 @@
 -- What is an LSP's is in its bucket, and what has a name is in the name's.
-use Rattle.std.proofs.Common.{◌≡◌, ◌⊎◌, inl, inr, ◌&&◌, ℕ, Bool, not, true, false, cond, eqb, List, refl, sym, ◌∙◌, ap}
+use Rattle.std.proofs.Common.{◌≡◌, ◌⊎◌, inl, inr, ◌&&◌, ℕ, Bool, not, true, false, cond, eqb, List, [], ◌∷◌, ◌||◌, refl, sym, ◌∙◌, ap}
 use Rattle.std.proofs.lemmas.Bool.{and_parts, or_cases, eqb-true}
+use Rattle.std.specs.List.{list_any}
 use Rattle.keyed_list.specs.List.{AllIn, AllInTwo}
 use Rattle.lsp_base.specs.Base.{is_path_of, made_stale}
 use Rattle.lsp_base.specs.Same.{same_links, same_path, is_reported}
 use Rattle.lsp_base.specs.Grants.{is_grant_of}
-use Rattle.lsp_base.specs.Tables.{bucket_number, is_named, name_bucket, path_bucket, record_bucket, PicksFrom, PicksOf}
+use Rattle.lsp_base.specs.Tables.{bucket_number, is_named, name_bucket, path_bucket, record_bucket, PicksFrom}
 use Rattle.lsp_base.specs.declared.path.Path.{Path}
 use Rattle.lsp_base.proofs.Removal.{same_links-eq, same_path-eq}
 
@@ -17,8 +18,8 @@ same_lsp a b peer plsp h =
     let parts = and_parts (eqb a peer) (eqb b plsp) h in
     ap (λ (p : ℕ). bucket_number p b) (eqb-true _ _ parts.0) ∙ ap (bucket_number peer) (eqb-true _ _ parts.1)
 
-pub lsp-bucket : (test : Path → Bool) (peer plsp b : ℕ) → b ≡ bucket_number peer plsp → PicksOf test peer plsp → AllIn path_bucket test b
-lsp-bucket test peer plsp b e h = λ x is. same_lsp x.peer x.plsp peer plsp (h.of x is) ∙ sym e
+pub lsp-bucket : (test : Path → Bool) (peer plsp b : ℕ) → b ≡ bucket_number peer plsp → AllIn path_bucket (λ x. test x && is_path_of peer plsp x) b
+lsp-bucket test peer plsp b e = λ x is. same_lsp x.peer x.plsp peer plsp (and_parts (test x) (is_path_of peer plsp x) is).1 ∙ sym e
 
 pub lsp-buckets : (test : Path → Bool) (peer plsp b c : ℕ) → b ≡ bucket_number peer plsp → c ≡ bucket_number peer 0 → PicksFrom test peer plsp → AllInTwo path_bucket test b c
 lsp-buckets test peer plsp b c d e h = λ x is. by x (or_cases (is_path_of peer plsp x) (is_path_of peer 0 x) (h.of x is))
@@ -27,12 +28,16 @@ lsp-buckets test peer plsp b c d e h = λ x is. by x (or_cases (is_path_of peer 
     by x (inl m) = inl (same_lsp x.peer x.plsp peer plsp m ∙ sym d)
     by x (inr m) = inr (same_lsp x.peer x.plsp peer 0 m ∙ sym e)
 
--- the paths of an LSP that stay, and its grants
-pub stays_picked : (test : Path → Bool) (peer plsp : ℕ) → PicksOf (λ x. not (test x) && is_path_of peer plsp x) peer plsp
-stays_picked test peer plsp = record { of = λ x e. (and_parts (not (test x)) (is_path_of peer plsp x) e).1 }
+-- a grant of an LSP is a path of it that is a grant
+and-swapped : (a b : Bool) → (a && b) ≡ (b && a)
+and-swapped true true = refl
+and-swapped true false = refl
+and-swapped false true = refl
+and-swapped false false = refl
 
-pub grant_picked : (peer plsp : ℕ) → PicksOf (is_grant_of peer plsp) peer plsp
-grant_picked peer plsp = record { of = λ x e. (and_parts (is_path_of peer plsp x) (not (is_reported x.part)) e).0 }
+pub grant_picked : (peer plsp : ℕ) (xs : List Path) → list_any (λ x. not (is_reported x.part) && is_path_of peer plsp x) xs ≡ list_any (is_grant_of peer plsp) xs
+grant_picked peer plsp [] = refl
+grant_picked peer plsp (x ∷ xs) = ap (λ b. b || list_any (λ x. not (is_reported x.part) && is_path_of peer plsp x) xs) (and-swapped (not (is_reported x.part)) (is_path_of peer plsp x)) ∙ ap (λ b. is_grant_of peer plsp x || b) (grant_picked peer plsp xs)
 
 -- the records of a name
 pub named_picked : (peer bucket : ℕ) (name : List ℕ) → bucket ≡ name_bucket peer name → AllIn record_bucket (is_named peer name) bucket

@@ -4,5 +4,4 @@ pub mod PathLists
 pub mod RecordEntries
 pub mod Removal
 mod ShareRows
-pub mod SrpNumbers
 pub mod Swapped

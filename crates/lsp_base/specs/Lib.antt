@@ -7,4 +7,3 @@ pub mod Grants
 pub mod Tables
 pub mod Refusals
 pub mod Pending
-pub mod SrpNumbers

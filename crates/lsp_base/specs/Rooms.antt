@@ -5,16 +5,14 @@ use Rattle.lsp_base.specs.declared.effect.Effect.{Effect}
 
 pub record Rooms : Type 0 where
   pub content : Lsps
-  -- for how many paths there is room in all, and for how many more records and SRP-IDs
+  -- for how many paths there is room in all, and for how many more records
   pub path_room : ℕ
   pub record_room : ℕ
-  pub srp_room : ℕ
 
 -- the effect's paths and records find room
 pub record HasRoom (b : Rooms) (e : Effect) : Type 0 where
   pub for_paths : length b.content.paths + length e.change.added ≤ b.path_room
   pub for_records : length e.records ≤ b.record_room
-  pub for_srps : length e.change.added + length e.records ≤ b.srp_room
 
 -- at most 16,384 paths stand after the effect
 abbrev pub IsWithinLimit : Lsps → Effect → Type 0

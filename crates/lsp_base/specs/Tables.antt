@@ -29,10 +29,6 @@ bucket_number peer plsp = (peer * 7919 + plsp) % 16381
 abbrev pub path_bucket : Path → ℕ
 path_bucket x = bucket_number x.peer x.plsp
 
--- whatever passes the test is one of the LSP's paths
-pub record PicksOf (test : Path → Bool) (peer plsp : ℕ) : Type 0 where
-  pub of : (x : Path) → test x ≡ true → is_path_of peer plsp x ≡ true
-
 -- whatever passes the test is one of the LSP's paths, or a grant of the peer that is not bound to an LSP
 pub record PicksFrom (test : Path → Bool) (peer plsp : ℕ) : Type 0 where
   pub of : (x : Path) → test x ≡ true → (is_path_of peer plsp x || is_path_of peer 0 x) ≡ true

@@ -1,7 +1,7 @@
 -- The numbers of refusals.
 use Rattle.std.specs.Prelude.{ℕ}
 use Rattle.lsp_base.specs.declared.why.Why.{Why}
-use Rattle.lsp_base.specs.declared.why.Why.TheVariants.{UnknownPeer, PeerUp, PeerDown, UnknownLsp, NotDelegated, Pending, NoUpdate, NoInitiate, NotCreatedHere, TooManyTickets, TooManyPaths, TooManyPeers, UnknownNode, UnknownTicket, NotTaken, NameInUse, SrpInUse, Syncing, BadReport}
+use Rattle.lsp_base.specs.declared.why.Why.TheVariants.{UnknownPeer, PeerUp, PeerDown, UnknownLsp, NotDelegated, Pending, NoUpdate, NoInitiate, NotCreatedHere, TooManyTickets, TooManyPaths, TooManyPeers, UnknownNode, UnknownTicket, NotTaken, NameInUse, SrpInUse, Syncing, BadReport, UnknownLink}
 
 abbrev pub number_of : Why → ℕ
 number_of UnknownPeer = 1
@@ -23,3 +23,4 @@ number_of NameInUse = 16
 number_of SrpInUse = 17
 number_of Syncing = 18
 number_of BadReport = 19
+number_of UnknownLink = 20

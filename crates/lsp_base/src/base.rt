@@ -1,21 +1,20 @@
 //! The LSP-DB.
-ghost use Rattle.std.specs.Prelude.{◌≡◌, ◌≤◌, ◌+◌, ◌++◌, ◌||◌, length, filter, map, IsPermutation, OnOk, IfOk, option_copied, slice_get};
+ghost use Rattle.std.specs.Prelude.{◌≡◌, ◌≤◌, ◌+◌, ◌++◌, ◌&&◌, ◌||◌, length, filter, map, IsPermutation, OnOk, IfOk, option_copied, slice_get};
 ghost use Rattle.std.specs.List.{list_any};
-ghost use Rattle.lsp_base.specs.Base.{AreDistinct, HasAll, no_lsps, lsp_at, changed, with_stale};
+ghost use Rattle.lsp_base.specs.Base.{AreDistinct, HasAll, is_path_of, no_lsps, lsp_at, changed, with_stale};
 ghost use Rattle.lsp_base.specs.Grants.{has_grant};
 ghost use Rattle.lsp_base.specs.Pending.{is_grant_as, is_removed_as};
 ghost use Rattle.lsp_base.specs.Rooms.{HasRoom, IsWithinLimit};
-ghost use Rattle.lsp_base.specs.Tables.{is_named, PicksFrom, PicksOf};
+ghost use Rattle.lsp_base.specs.Tables.{is_named, PicksFrom};
 
 use crate::effect::{Change, Effect, Record, RecordChange};
-use crate::grants::GrantOf;
+use crate::grants::AnyGrant;
 use crate::lsp::Lsp;
 use crate::passes::{RecordRule, changes_of, paths_passing};
 use crate::path::Path;
-use crate::path_list::{bucket_of_lsp, buckets_of_lsp, change_paths, make_stale};
+use crate::path_list::{any_path_of_lsp, buckets_of_lsp, change_paths, make_stale};
 use crate::pending::{has_grant_as, has_removal_as};
 use crate::record_table::RecordTable;
-use crate::srp_table::SrpTable;
 use keyed_list::{KeyedList, Test};
 use pcep_objects::Plsp;
 use std::alloc::{AllocError, Global};
@@ -34,7 +33,6 @@ const FIRST_ROOM: usize = 32_768;
 pub struct LspBase {
     paths: KeyedList<Path>,
     records: RecordTable,
-    srps: SrpTable,
 }
 
 /// Returns for how many more items room is made, where this many more come.
@@ -47,9 +45,7 @@ fn wanted(count: usize, more: usize) -> usize
 impl Model for LspBase {
     ghost use Rattle.std.specs.Prelude.{◌≤◌, length};
     ghost use Rattle.lsp_base.specs.Base.{AreDistinct};
-    ghost use Rattle.lsp_base.specs.Pending.{is_grant_as, is_removed_as};
     ghost use Rattle.lsp_base.specs.Rooms.{Rooms};
-    ghost use Rattle.lsp_base.specs.SrpNumbers.{NoneAbove};
 
     ghost Value = { Rooms };
 
@@ -57,11 +53,9 @@ impl Model for LspBase {
       content = record { paths = b.paths.items; records = b.records.records };
       path_room = b.paths.room;
       record_room = b.records.room;
-      srp_room = b.srps.room;
     } };
 
-    ghost invariant = { λ b. (length b.paths.items ≤ 16384) × AreDistinct b.records.records
-        × NoneAbove b.srps.numbers is_grant_as b.paths.items × NoneAbove b.srps.numbers is_removed_as b.records.records };
+    ghost invariant = { λ b. (length b.paths.items ≤ 16384) × AreDistinct b.records.records };
 }
 
 impl LspBase {
@@ -72,7 +66,6 @@ impl LspBase {
         LspBase {
             paths: KeyedList::new(alloc),
             records: RecordTable::new(alloc),
-            srps: SrpTable::new(alloc),
         }
     }
 
@@ -86,8 +79,7 @@ impl LspBase {
         let paths = self.paths.as_slice().len();
         self.paths.reserve(wanted(paths, added))?;
         let records = self.records.as_slice().len();
-        self.records.reserve(wanted(records, changed))?;
-        self.srps.reserve(added + changed)
+        self.records.reserve(wanted(records, changed))
     }
 
     /// Carries out an effect on the LSPs of a peer: removes the dropped paths, the last path taking the place of each,
@@ -101,7 +93,6 @@ impl LspBase {
             → IsPermutation (self.old.content.paths ++ effect.change.added) (effect.change.dropped ++ self.new.content.paths) }
         ensures same_path_room { self.new.path_room ≡ self.old.path_room }
         ensures record_room { self.old.record_room ≤ self.new.record_room + length effect.records }
-        ensures srp_room { self.old.srp_room ≤ self.new.srp_room + length effect.change.added + length effect.records }
     {
         let Effect {
             change,
@@ -109,8 +100,6 @@ impl LspBase {
             wants_path: _,
         } = effect;
         let Change { dropped, added } = change;
-        self.srps.raise_for_grants(added.as_slice());
-        self.srps.raise_for_removals(peer, records.as_slice());
         change_paths(&mut self.paths, dropped.as_slice(), added.into_vec());
         self.records.set_all(peer, records.into_vec());
     }
@@ -121,7 +110,6 @@ impl LspBase {
         ensures stale { self.new.content ≡ with_stale self.old.content peer }
         ensures same_path_room { self.new.path_room ≡ self.old.path_room }
         ensures same_record_room { self.new.record_room ≡ self.old.record_room }
-        ensures same_srp_room { self.new.srp_room ≡ self.old.srp_room }
     {
         make_stale(&mut self.paths, peer);
     }
@@ -150,19 +138,18 @@ impl LspBase {
             .filter_in(alloc, buckets_of_lsp(peer, plsp), test)
     }
 
-    /// Tests whether a path passes. All paths that pass are the LSP's. Allocates nothing.
+    /// Tests whether a path of the LSP passes: reported, or a grant that is bound to it. Allocates nothing.
     pub fn any_path_of_lsp<T: Test<Path>>(&self, peer: u32, plsp: Plsp, test: &T) -> bool
-        requires { PicksOf (T.passes test.now) peer plsp }
-        ensures { result ≡ list_any (T.passes test.now) self.now.content.paths }
+        ensures { result ≡ list_any (λ x. T.passes test.now x && is_path_of peer plsp x) self.now.content.paths }
     {
-        self.paths.any(bucket_of_lsp(peer, plsp), test)
+        any_path_of_lsp(&self.paths, peer, plsp, test)
     }
 
     /// Tests whether the LSP has a grant. Allocates nothing.
     pub fn has_grant(&self, peer: u32, plsp: Plsp) -> bool
         ensures { result ≡ has_grant self.now.content.paths peer plsp }
     {
-        self.any_path_of_lsp(peer, plsp, &GrantOf { peer, plsp })
+        self.any_path_of_lsp(peer, plsp, &AnyGrant)
     }
 
     /// Copies the paths that pass, in order, by a pass over all.
@@ -187,15 +174,11 @@ impl LspBase {
         changes_of(alloc, self.records.as_slice(), rule)
     }
 
-    /// Tests whether a grant or an awaited removal of the peer has the SRP-ID. A number above all that the peer ever
-    /// had is free; else by a pass over all. Allocates nothing.
+    /// Tests whether a grant or an awaited removal of the peer has the SRP-ID, by a pass over all. Allocates nothing.
     pub fn has_srp(&self, peer: u32, srp: u32) -> bool
         ensures { result ≡ (list_any (is_grant_as peer srp) self.now.content.paths
             || list_any (is_removed_as peer srp) self.now.content.records) }
     {
-        if srp > self.srps.greatest_of(peer) {
-            return false;
-        }
         has_grant_as(self.paths.as_slice(), peer, srp)
             || has_removal_as(self.records.as_slice(), peer, srp)
     }

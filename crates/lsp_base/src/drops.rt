@@ -19,22 +19,19 @@ pub fn is_path_of_lsp(path: &Path, peer: u32, plsp: Plsp) -> bool
     path.peer == peer && path.plsp == plsp
 }
 
-/// Tests whether a path is one of the LSP's that stays where those that pass `going` go.
+/// Tests whether a path stays where those that pass `going` go.
 #[derive(Drop)]
-struct StaysOf<'a, T: Test<Path>> {
+struct Stays<'a, T: Test<Path>> {
     going: &'a T,
-    peer: u32,
-    plsp: Plsp,
 }
 
-impl<'a, T: Test<Path>> Test<Path> for StaysOf<'a, T> {
-    ghost use Rattle.std.specs.Prelude.{◌&&◌, not};
-    ghost use Rattle.lsp_base.specs.Base.{is_path_of};
+impl<'a, T: Test<Path>> Test<Path> for Stays<'a, T> {
+    ghost use Rattle.std.specs.Prelude.{not};
 
-    ghost passes = { λ s x. not (T.passes s.going.now x) && is_path_of s.peer s.plsp x };
+    ghost passes = { λ s x. not (T.passes s.going.now x) };
 
     fn passes(&self, path: &Path) -> bool {
-        !self.going.passes(path) && is_path_of_lsp(path, self.peer, self.plsp)
+        !self.going.passes(path)
     }
 }
 
@@ -42,7 +39,7 @@ impl<'a, T: Test<Path>> Test<Path> for StaysOf<'a, T> {
 fn keeps_a_path<T: Test<Path>>(base: &LspBase, peer: u32, plsp: Plsp, going: &T) -> bool
     ensures { result ≡ list_any (λ x. not (T.passes going.now x) && is_path_of peer plsp x) base.now.content.paths }
 {
-    base.any_path_of_lsp(peer, plsp, &StaysOf { going, peer, plsp })
+    base.any_path_of_lsp(peer, plsp, &Stays { going })
 }
 
 /// Removes the peer's records of which no path stays where those that pass `going` go.

@@ -41,19 +41,17 @@ pub fn is_unbound(path: &Path, peer: u32, srp: Option<u32>) -> bool
     path.peer == peer && path.plsp.number() == 0 && carries_srp(srp, path.part)
 }
 
-/// Tests whether a path is a grant that is bound to the LSP.
+/// Tests whether a path is a grant.
 #[derive(Drop)]
-pub struct GrantOf {
-    pub peer: u32,
-    pub plsp: Plsp,
-}
+pub struct AnyGrant;
 
-impl Test<Path> for GrantOf {
-    ghost use Rattle.lsp_base.specs.Grants.{is_grant_of};
+impl Test<Path> for AnyGrant {
+    ghost use Rattle.std.specs.Prelude.{not};
+    ghost use Rattle.lsp_base.specs.Same.{is_reported};
 
-    ghost passes = { λ s x. is_grant_of s.peer s.plsp x };
+    ghost passes = { λ s x. not (is_reported x.part) };
 
     fn passes(&self, path: &Path) -> bool {
-        is_grant_of_lsp(path, self.peer, self.plsp)
+        !is_part_reported(path.part)
     }
 }

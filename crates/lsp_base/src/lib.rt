@@ -5,11 +5,11 @@
 //! most one record of an LSP stands, and that at most 16,384 paths ever stand. What paths reserve is defined in
 //! `specs/Shares.antt` (shared explicit reservation, RFC 3209), the lists after a change in `specs/Base.antt`.
 //!
-//! Records stand in an `IndexMap` by LSP, with an index by name; paths in a `KeyedList` by LSP, since an LSP has several;
-//! the greatest SRP-ID of each peer in an `IndexMap`. What concerns a whole peer is a pass over all.
+//! Records stand in an `IndexMap` by LSP, with an index by name; paths in a `KeyedList` by LSP, since an LSP has several.
+//! What concerns a whole peer, and whether an SRP-ID is in use, is a pass over all.
 //!
 //! - `path`, `tunnel`, `lsp`, `effect`, `why`: plain data
-//! - `path_list`, `record_table`, `srp_table`: the tables
+//! - `path_list`, `record_table`: the tables
 //! - `passes`: passes over all paths or all records
 //! - `base`: the LSP-DB
 //! - `grants`, `pending`: what the PCE granted and awaits
@@ -39,7 +39,6 @@ mod path;
 mod path_list;
 mod pending;
 mod record_table;
-mod srp_table;
 mod tunnel;
 mod why;
 

@@ -1,8 +1,10 @@
 //! The paths of the LSP-DB, found by LSP.
-ghost use Rattle.std.specs.Prelude.{◌≡◌, ◌≤◌, ◌+◌, ◌++◌, length, map};
-ghost use Rattle.lsp_base.specs.Base.{made_stale, without, without_path};
+ghost use Rattle.std.specs.Prelude.{◌≡◌, ◌≤◌, ◌+◌, ◌++◌, ◌&&◌, length, map};
+ghost use Rattle.std.specs.List.{list_any};
+ghost use Rattle.lsp_base.specs.Base.{is_path_of, made_stale, without, without_path};
 ghost use Rattle.lsp_base.specs.Tables.{bucket_number};
 
+use crate::drops::is_path_of_lsp;
 use crate::path::{Path, is_same_path};
 use keyed_list::{Edit, Keyed, KeyedList, Test};
 use pcep_objects::Plsp;
@@ -31,6 +33,37 @@ impl Keyed for Path {
     fn bucket(&self) -> u16 {
         bucket_of_lsp(self.peer, self.plsp)
     }
+}
+
+/// Tests whether a path is one of the LSP's that passes a test.
+#[derive(Drop)]
+struct OfLsp<'a, T: Test<Path>> {
+    test: &'a T,
+    peer: u32,
+    plsp: Plsp,
+}
+
+impl<'a, T: Test<Path>> Test<Path> for OfLsp<'a, T> {
+    ghost use Rattle.std.specs.Prelude.{◌&&◌};
+    ghost use Rattle.lsp_base.specs.Base.{is_path_of};
+
+    ghost passes = { λ s x. T.passes s.test.now x && is_path_of s.peer s.plsp x };
+
+    fn passes(&self, path: &Path) -> bool {
+        self.test.passes(path) && is_path_of_lsp(path, self.peer, self.plsp)
+    }
+}
+
+/// Tests whether a path of the LSP passes.
+pub fn any_path_of_lsp<T: Test<Path>>(
+    paths: &KeyedList<Path>,
+    peer: u32,
+    plsp: Plsp,
+    test: &T,
+) -> bool
+    ensures { result ≡ list_any (λ x. T.passes test.now x && is_path_of peer plsp x) paths.now.items }
+{
+    paths.any(bucket_of_lsp(peer, plsp), &OfLsp { test, peer, plsp })
 }
 
 /// Tests whether a path is this one.

@@ -39,13 +39,14 @@ pub enum Why {
     Syncing,
     /// The PLSP-ID is reserved (RFC 8231 section 7.3).
     BadReport,
+    UnknownLink,
 }
 
 impl Why {
-    /// The number of the refusal, from 1 to 19 in the order of the variants.
+    /// The number of the refusal, from 1 to 20 in the order of the variants.
     pub fn number(self) -> u8
         ensures number { result ≡ number_of self }
-        ensures last { result ≤ 19 }
+        ensures last { result ≤ 20 }
     {
         match self {
             Why::UnknownPeer => 1,
@@ -67,6 +68,7 @@ impl Why {
             Why::SrpInUse => 17,
             Why::Syncing => 18,
             Why::BadReport => 19,
+            Why::UnknownLink => 20,
         }
     }
 }

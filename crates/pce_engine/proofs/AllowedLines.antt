@@ -4,10 +4,12 @@ use Rattle.std.proofs.lemmas.Bool.Decides.{nat_tests}
 use Rattle.std.proofs.lemmas.List.{append-nil}
 use Rattle.pce_engine.specs.declared.fault.ScriptFault.{ScriptFault}
 use Rattle.script_lines.specs.Told.{Told}
-use Rattle.pce_engine.specs.Script.{Searches, Cut, cut, cut_at, with_rest, lines_of, Stage, start, line_told, MayFind, Allowed}
+use Rattle.script_lines.specs.Lines.{Cut, cut, cut_at, with_rest, lines_of}
+use Rattle.script_lines.proofs.Cutting.{cut_break, cut_other}
+use Rattle.pce_engine.specs.Script.{Searches, Stage, start, line_told, MayFind, Allowed}
 use Rattle.pce_engine.specs.Machine.{Machine, started, Fed, after_line, fed_on, fed, MayTake, AllowedBytes, Goes}
 use Rattle.pce_engine.specs.Ends.{MayClose}
-use Rattle.pce_engine.proofs.Laws.{cut_on, cut_break, cut_other, took_break, took_other, front_of}
+use Rattle.pce_engine.proofs.Laws.{cut_on, took_break, took_other, front_of}
 
 also_none : {X E : Type 0} (r : Result X E) (P : Type 0) → IfOk r (λ _. P) → IfOk r (λ _. P × Unit {0})
 also_none (Ok x) P h = (h, tt)

@@ -4,18 +4,14 @@ use Rattle.std.proofs.lemmas.List.{append-nil, length-append}
 use Rattle.std.specs.Io.KnownBytes.{Appends}
 use Rattle.pce_engine.specs.declared.fault.ScriptFault.{ScriptFault}
 use Rattle.script_lines.specs.Told.{Told, told, ◌>>=◌}
-use Rattle.pce_engine.specs.Script.{Searches, Cut, cut_at, with_rest, Stage, start, answered, counted, line_told, Outcome, on_told, printed, script, next_number, text_of_lines}
+use Rattle.script_lines.specs.Lines.{Cut, cut_at, with_rest}
+use Rattle.script_lines.proofs.Cutting.{cut_break, cut_other}
+use Rattle.pce_engine.specs.Script.{Searches, Stage, start, answered, counted, line_told, Outcome, on_told, printed, script, next_number, text_of_lines}
 use Rattle.pce_engine.specs.Machine.{Machine, started, Fed, after_line, took, fed_on, fed, Leads, completed}
 
 -- the lines of what was cut, and of the bytes after it
 abbrev pub cut_on : Cut → List ℕ → List (List ℕ)
 cut_on c bytes = with_rest (fold cut_at c bytes).0 (fold cut_at c bytes).1
-
-pub cut_break : (ls : List (List ℕ)) (p : List ℕ) (b : ℕ) → (b == 10) ≡ true → cut_at (ls, p) b ≡ (ls ++ p ∷ [], [])
-cut_break ls p b e = rw e
-
-pub cut_other : (ls : List (List ℕ)) (p : List ℕ) (b : ℕ) → (b == 10) ≡ false → cut_at (ls, p) b ≡ (ls, p ++ b ∷ [])
-cut_other ls p b e = rw e
 
 pub took_break : (answer : Option (List ℕ)) (m : Machine) (b : ℕ) → (b == 10) ≡ true → took answer m b ≡ after_line (line_told answer m.stage m.pending)
 took_break answer m b e = rw e

@@ -3,7 +3,8 @@ use Rattle.std.specs.Prelude.{◌≡◌, ℕ, ◌+◌, ◌≤◌, List, [], ◌�
 use Rattle.std.specs.Io.KnownBytes.{Appends, Consumes}
 use Rattle.pce_engine.specs.declared.fault.ScriptFault.{ScriptFault}
 use Rattle.pce_engine.specs.declared.fault.ScriptFault.TheVariants.{ReadFault, WriteFault, OutOfMemory}
-use Rattle.pce_engine.specs.Script.{Searches, Outcome, Stage, start, cut, lines_of, script, next_number, text_of_lines, line_told, MayFind, Allowed}
+use Rattle.script_lines.specs.Lines.{cut, lines_of}
+use Rattle.pce_engine.specs.Script.{Searches, Outcome, Stage, start, script, next_number, text_of_lines, line_told, MayFind, Allowed}
 use Rattle.pce_engine.specs.Machine.{closed_with}
 
 -- a whole outcome was written

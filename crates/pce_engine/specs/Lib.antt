@@ -1,5 +1,4 @@
 pub mod Faults
-pub mod Answered
 pub mod Talks
 pub mod Sessions
 pub mod Places

@@ -1,5 +1,5 @@
 -- What a script prints: a link text, a line `---`, and lines.
-use Rattle.std.specs.Prelude.{ℕ, ◌+◌, ◌==◌, List, [], ◌∷◌, ◌++◌, length, fold, codes, Option, Some, None, Result, Ok, Err, IfOk, if◌then◌else◌}
+use Rattle.std.specs.Prelude.{ℕ, ◌+◌, List, [], ◌∷◌, ◌++◌, length, codes, Option, Some, None, Result, Ok, Err, IfOk, if◌then◌else◌}
 use Rattle.std.specs.Str.{bytes_eq, is_utf8}
 use Rattle.te_base.specs.declared.fault.TeFault.{TeFault}
 use Rattle.te_base.specs.declared.fault.TeFault.TheVariants.{NotToml}
@@ -7,32 +7,13 @@ use Rattle.te_base.specs.Base.{Base}
 use Rattle.te_base.specs.LinkText.{base_of}
 use Rattle.pce_engine.specs.Faults.{numbered, te_numbered}
 use Rattle.pce_engine.specs.Standing.{at_start, standing_line, MaySearch}
+use Rattle.script_lines.specs.Lines.{cut, lines_of}
 use Rattle.script_lines.specs.Orders.{order_of}
 use Rattle.script_lines.specs.declared.fault.CommandFault.{CommandFault}
 use Rattle.pce_engine.specs.declared.standing.Standing.{Standing}
 use Rattle.pce_engine.specs.declared.fault.ScriptFault.{ScriptFault}
 use Rattle.pce_engine.specs.declared.fault.ScriptFault.TheVariants.{BadLine}
 use Rattle.script_lines.specs.Told.{Told, told, ◌>>=◌}
-
--- ---- lines
-
--- whole lines, and the bytes after the last line break
-abbrev pub Cut : Type 0
-Cut = List (List ℕ) × List ℕ
-
-abbrev pub cut_at : Cut → ℕ → Cut
-cut_at c byte = if byte == 10 then (c.0 ++ c.1 ∷ [], []) else (c.0, c.1 ++ byte ∷ [])
-
-abbrev pub cut : List ℕ → Cut
-cut bytes = fold cut_at ([], []) bytes
-
--- bytes after the last line break are a line too
-abbrev pub with_rest : List (List ℕ) → List ℕ → List (List ℕ)
-with_rest lines [] = lines
-with_rest lines (b ∷ bs) = lines ++ (b ∷ bs) ∷ []
-
-abbrev pub lines_of : List ℕ → List (List ℕ)
-lines_of bytes = with_rest (cut bytes).0 (cut bytes).1
 
 -- ---- one line
 

@@ -13,7 +13,8 @@ use Rattle.script_lines.specs.Submits.{report_line, event_line}
 use Rattle.script_lines.specs.Rolls.{roll_line}
 use Rattle.step_core.specs.Searches.{MayAnswerTo}
 use Rattle.script_lines.specs.Takes.{take_line}
-use Rattle.script_lines.specs.Texts.{book_text, history_text}
+use Rattle.script_lines.specs.Book.{book_text}
+use Rattle.script_lines.specs.Texts.{history_text}
 use Rattle.script_lines.specs.Told.{Told, told, ◌>>=◌, behind, each, Fails}
 use Rattle.script_lines.specs.declared.fault.CommandFault.{CommandFault}
 use Rattle.script_lines.specs.declared.fault.CommandFault.TheVariants.{BadLine}

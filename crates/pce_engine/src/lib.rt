@@ -6,8 +6,7 @@
 //! each search answers: what was written is `script` for answers that the searches may give (`Allowed`). Where
 //! memory runs out or a read fails, whole lines stand (`specs/Ends.antt`). What a line asks for, and what it does
 //! to the database alone, is `script_lines`'s; what it does to sessions is defined in `specs/SessionLines.antt`,
-//! `specs/Talks.antt` and `specs/Standing.antt`. `command` takes an operator's line over any store
-//! (`specs/Commands.antt` of `script_lines`, `specs/Answered.antt`).
+//! `specs/Talks.antt` and `specs/Standing.antt`.
 //!
 //! ```text
 //! fn answers(alloc: Global, text: &[u8]) -> Result<Vec<u8>, ScriptFault>
@@ -22,7 +21,6 @@
 //! ```
 #![tactic(auto)]
 
-mod commands;
 mod fault;
 mod script;
 mod session_lines;
@@ -31,9 +29,8 @@ mod stage;
 mod standing;
 mod talks;
 
-pub use commands::command;
 pub use engine_core::{Call, Client, Lent, Store, hang_up, serve};
 pub use fault::ScriptFault;
 pub use script::run_script;
-pub use script_lines::CommandFault;
+pub use script_lines::{CommandFault, command};
 pub use te_base::TeFault;

@@ -18,10 +18,10 @@ pub(crate) struct Parting {
     pub is_down: bool,
 }
 
-/// Whether anything was due.
+/// What was submitted, if anything was due.
 #[derive(Clone, Copy, PartialEq, Eq, Debug)]
 pub(crate) enum Settled {
-    One,
+    One(Due),
     Nothing,
 }
 
@@ -76,7 +76,7 @@ impl Peers {
         match shared.submit(rt, seat, event_of(due)) {
             Ok(_reply) => {
                 note_settled(&mut expiry, due, watch.now_ms());
-                Ok(Settled::One)
+                Ok(Settled::One(due))
             }
             Err(fault) => {
                 expiry.put_off(due.peer);

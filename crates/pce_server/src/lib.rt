@@ -10,29 +10,37 @@
 //! ```text
 //! fn run<R: Wait + Threads + Clock + Net<Listener = TcpListener, Stream = TcpStream> + AllocGlobal + Log + Sync>(rt: &R, listener: &TcpListener, te: TeBase) -> Result<Audit, RunFault>
 //! {
-//!     let orders = Orders { workers: 2, sessions: Sessions::Endless, keep_seconds: 60 };
-//!     serve_run(rt, listener, te, orders, &mut io::empty(), &mut io::sink())
+//!     let orders = Orders { workers: 2, sessions: Sessions::Endless, keep_seconds: 60, settle_seconds: 0 };
+//!     let routers = Routers { known: &None, settle_for: &[] };
+//!     serve_run(rt, listener, te, orders, routers, &mut io::empty(), &mut io::sink())
 //! }
 //! ```
 //!
-//! The modules, lowest first: `places` (where seats rest), `expiry` (what happens to peers, and when they are
-//! forgotten), `noted` (a store that tells of it), `alarms` (what wakes a connection, and how many an address has), `run`
-//! (whether the run is to end, and why), `floor` (what each thread is lent), `staff` (workers and keeper), `visits` (a
-//! connection's thread), `door` (the acceptor), `server`.
+//! The modules, lowest first: `seat_pool` (where seats rest), `expiry` (what happens to peers, and when they are
+//! forgotten), `noted` (a store that tells of it), `wakers` (what wakes a connection, and how many an address has), `run`
+//! (whether the run is to end, and why), `context` (what each thread is lent), `workers` (workers and keeper),
+//! `connection` (a connection's thread), `acceptor`, `server`.
 #![tactic(auto)]
 
-mod alarms;
-mod door;
+mod acceptor;
+mod connection;
+mod context;
 mod expiry;
-mod floor;
+mod grant_gate;
+mod log_lines;
+mod log_queue;
+mod log_writer;
 mod noted;
-mod places;
+mod overheard;
+mod plan;
 mod run;
+mod seat_pool;
 mod server;
-mod staff;
-mod visits;
+mod wakers;
+mod workers;
 
-pub use alarms::OF_ONE_ADDRESS;
+pub use log_writer::ErrorOutput;
+pub use plan::FilePlan;
 pub use run::RunFault;
-pub use server::{AT_ONCE, Orders, Sessions, serve_run};
+pub use server::{AT_ONCE, Orders, Routers, Sessions, serve_run};
 pub use shared_pce::{Audit, AuditFault, Fault};

@@ -1,22 +1,108 @@
-//! A store that tells when its peer's session comes up.
+//! A store that notes what happens to its peer's session.
+use crate::context::Moments;
 use crate::expiry::Peers;
+use crate::grant_gate::GrantGate;
+use crate::log_lines::LogLine;
+use crate::log_queue::LogQueue;
+use crate::overheard::PeerTimers;
 use engine_core::{Call, Desk, Event, Fault, Reply, Store};
+use pcep_objects::Capabilities;
+use server_talk::Watch;
 use std::alloc::AllocError;
+use std::cell::Cell;
 use std::sync::Wait;
+use std::time::Clock;
 
-/// The store of one session. That the session came up is noted before the list of the call is emptied, and so before
-/// the session's Down.
+/// What a connection's thread notes of its session.
 #[derive(Drop)]
-pub(crate) struct Noted<'a, R: Wait, D: Desk + Drop> {
-    pub rt: &'a R,
+pub(crate) struct Notes<'a, R: Clock> {
+    pub moments: Moments<'a, R>,
+    /// The slot of the connection's seat.
+    pub slot: usize,
     pub peers: &'a Peers,
+    pub log: &'a LogQueue,
+    pub grants: &'a GrantGate,
     pub peer: u32,
-    pub store: D,
+    /// Those of the peer's Open.
+    pub timers: &'a Cell<PeerTimers>,
+    /// When the session came up, in milliseconds.
+    pub up_ms: u64,
+    /// So many reports came since then.
+    pub reports: u64,
+    /// The session was refused, by this number.
+    pub refused: Option<u8>,
 }
 
-/// Whether the call had the session come up.
-fn is_up(call: &Call) -> bool {
-    matches!(call.event.event(), Event::Up { .. }) && matches!(call.reply, Reply::Done)
+impl<'a, R: Wait + Clock> Notes<'a, R> {
+    fn say(&self, line: LogLine) {
+        self.log.say(self.moments.rt, line, self.moments.now_ms());
+    }
+
+    /// Marks the session as one that comes up, which no other connection ends. False where it was ended already.
+    fn may_rise(&self) -> bool {
+        self.moments.wakers.mark(self.moments.rt, self.slot, true)
+    }
+
+    /// The session hasn't come up.
+    fn stay_down(&mut self) {
+        let _has_place = self.moments.wakers.mark(self.moments.rt, self.slot, false);
+    }
+
+    fn rise(&mut self, capabilities: Option<Capabilities>) {
+        self.peers.up(self.moments.rt, self.peer);
+        self.up_ms = self.moments.now_ms();
+        self.say(LogLine::Up {
+            peer: self.peer,
+            timers: self.timers.get(),
+            capabilities,
+        });
+    }
+
+    fn sync(&self) {
+        self.grants.in_sync(self.moments.rt, self.peer);
+        self.say(LogLine::InSync {
+            peer: self.peer,
+            reports: self.reports,
+            after_ms: self.moments.now_ms().saturating_sub(self.up_ms),
+        });
+    }
+
+    fn refuse(&mut self, event: &Event, number: u8) {
+        if matches!(event, Event::Up { .. }) {
+            self.refused = Some(number);
+            self.stay_down();
+        }
+        self.say(LogLine::Refused {
+            peer: self.peer,
+            number,
+        });
+    }
+
+    /// Notes a call.
+    fn note(&mut self, call: &Call) {
+        match (call.event.event(), &call.reply) {
+            (event, Reply::Refused(why)) => self.refuse(event, why.number()),
+            (Event::Up { capabilities, .. }, Reply::Done) => self.rise(*capabilities),
+            (Event::Up { .. }, _) => self.stay_down(),
+            (Event::Report { .. }, _) => self.reports = self.reports.saturating_add(1),
+            (Event::Marker { .. }, _) => self.sync(),
+            _ => {}
+        }
+    }
+
+    fn note_all(&mut self, calls: &[Call]) {
+        for call in calls {
+            self.note(call);
+        }
+    }
+}
+
+/// The store of one session. That the session came up is noted before the list of the call is emptied, and so before
+/// the session's Down. A connection that was ended for another can't come up any more.
+#[derive(Drop)]
+pub(crate) struct Noted<'a, R: Clock, D: Desk + Drop> {
+    pub notes: Notes<'a, R>,
+    pub store: D,
 }
 
 /// Whether a Down is among the calls.
@@ -27,7 +113,7 @@ pub(crate) fn has_down<D: Store>(store: &D) -> bool {
         .any(|call| matches!(call.event.event(), Event::Down { .. }))
 }
 
-impl<'a, R: Wait, D: Desk + Drop> Store for Noted<'a, R, D> {
+impl<'a, R: Wait + Clock, D: Desk + Drop> Store for Noted<'a, R, D> {
     ghost calls = { λ s. D.calls s.store };
 
     ghost moves = { λ old made new. D.moves old.store made new.store };
@@ -45,6 +131,9 @@ impl<'a, R: Wait, D: Desk + Drop> Store for Noted<'a, R, D> {
     ghost moves_add = { λ a b made h. D.moves_add a.store b.store made h };
 
     fn submit(&mut self, event: Event) -> Result<(), Fault> {
+        if matches!(event, Event::Up { .. }) && !self.notes.may_rise() {
+            return Err(Fault::OutOfMemory);
+        }
         self.store.submit(event)
     }
 
@@ -53,9 +142,7 @@ impl<'a, R: Wait, D: Desk + Drop> Store for Noted<'a, R, D> {
     }
 
     fn forget(&mut self) {
-        if self.store.calls().iter().any(is_up) {
-            self.peers.up(self.rt, self.peer);
-        }
+        self.notes.note_all(self.store.calls());
         self.store.forget();
     }
 
@@ -64,8 +151,18 @@ impl<'a, R: Wait, D: Desk + Drop> Store for Noted<'a, R, D> {
     }
 }
 
-impl<'a, R: Wait, D: Desk + Drop> Desk for Noted<'a, R, D> {
+impl<'a, R: Wait + Clock, D: Desk + Drop> Desk for Noted<'a, R, D> {
+    ghost queues = { λ s peer waits. D.queues s.store peer waits };
+
     ghost is_left = { λ s table. D.is_left s.store table };
+
+    fn roll_if_full(&mut self) -> Result<Option<u64>, AllocError> {
+        let rolled = self.store.roll_if_full()?;
+        if let Some(steps) = rolled {
+            self.notes.say(LogLine::Rolled { steps });
+        }
+        Ok(rolled)
+    }
 
     fn queued(&self, peer: u32) -> bool {
         self.store.queued(peer)

@@ -1,32 +1,39 @@
 //! A whole run.
 ghost use Rattle.std.specs.Prelude.{◌≡◌, ◌≤◌, true};
+ghost use Rattle.pce_server.specs.Faults.{closes_run};
 ghost use Rattle.pce_server.specs.Ranges.{AreSessions, AreOrders};
 
-use crate::alarms::Alarms;
-use crate::door::accept_all;
+use crate::acceptor::accept_all;
+use crate::context::Context;
 use crate::expiry::Peers;
-use crate::floor::Floor;
-use crate::places::Places;
+use crate::grant_gate::GrantGate;
+use crate::log_lines::{LogLine, is_debug_wanted};
+use crate::log_queue::LogQueue;
+use crate::log_writer::{ErrorOutput, write_log};
 use crate::run::{Run, RunFault};
-use crate::staff::{keep_time, work};
+use crate::seat_pool::SeatPool;
+use crate::wakers::Wakers;
+use crate::workers::{keep_time, work};
 use history_core::Database;
-use log::Log;
+use log::{Log, warn};
 use place_tokens::{Room, Unopened};
 use seated_store::Seated;
-use server_talk::{bound_accepts, operate};
+use server_rules::Settling;
+use server_talk::{OperatorEnd, Patient, Plan, bound_accepts, operate, peer_of};
 use shared_pce::{Audit, Fault, Seat, Shared};
 use std::alloc::Global;
-use std::io::{Read, Write};
+use std::io::Write;
 use std::marker::Brand;
 use std::net::{Net, TcpListener, TcpStream};
 use std::sync::Wait;
+use std::sync::atomic::AtomicU64;
 use std::sync::ledger::{Blank, Ledger};
 use std::thread;
 use std::thread::Threads;
 use std::time::{Clock, Instant};
 use te_base::TeBase;
 
-/// So many connections live at once, at most.
+/// So many connections have a place, at most.
 pub const AT_ONCE: usize = 64;
 
 /// How many connections a run accepts.
@@ -46,9 +53,21 @@ pub struct Orders {
     pub sessions: Sessions,
     /// So long a peer whose session ended is kept, in seconds (the State Timeout of RFC 8231 section 5.6).
     pub keep_seconds: u64,
+    /// No ticket is taken before so many seconds have passed since the start, or each router that is to be waited for is
+    /// in sync.
+    pub settle_seconds: u64,
 }
 
-/// How many connections live at once, at most.
+/// Which routers are heard, and which are waited for.
+#[derive(Clone, Copy)]
+pub struct Routers<'a> {
+    /// Only routers whose address a node of this network owns are heard; all, where there is none.
+    pub known: &'a Option<TeBase>,
+    /// Addresses of routers that are waited for before tickets are taken.
+    pub settle_for: &'a [u32],
+}
+
+/// How many connections have a place, at most.
 fn live_of(sessions: Sessions) -> u64
     requires { AreSessions sessions }
     ensures { (1 ≤ result) × (result ≤ 64) }
@@ -60,16 +79,18 @@ fn live_of(sessions: Sessions) -> u64
 }
 
 /// Serves routers and operator over a network of which nothing was reported yet, until both have ended, and closes
-/// the database. Each session's end is logged, at level info. At most 64 connections live at once; more wait to be
-/// accepted.
+/// the database. What happens is logged by a thread of its own, so that no other waits for whoever reads the log. At most
+/// 64 connections have a place. Where all are taken, who comes has one that isn't up yet ended, or is let go.
 ///
-/// After a fault that ends the run, sessions are closed and connections accepted no more, but a read of the
-/// operator's lines can't be broken off: the run ends once it returns.
-pub fn serve_run<R, I: Read, O: Write>(
+/// After a fault that ends the run, sessions are closed and connections accepted no more. Where the writer fails, the run
+/// goes on without an operator.
+pub fn serve_run<R, I: Patient, O: Write, P: Plan>(
     rt: &R,
     listener: &TcpListener,
     te: TeBase,
+    plan: &P,
     orders: Orders,
+    routers: Routers<'_>,
     reader: &mut I,
     writer: &mut O,
 ) -> Result<Audit, RunFault>
@@ -83,11 +104,11 @@ where
         + Sync,
     requires orders { AreOrders orders }
 {
-    let seats = live_of(orders.sessions) + orders.workers + 2;
+    let seats = 2 * live_of(orders.sessions) + orders.workers + 2;
     let (steps, grants) = (Blank::new(seats), Blank::new(seats));
     let room = Unopened::new(rt.alloc(), seats)?;
-    seated_run::<Brand, Brand, Brand, R, I, O>(
-        rt, listener, te, orders, seats, reader, writer, steps, grants, room,
+    seated_run::<Brand, Brand, Brand, R, I, O, P>(
+        rt, listener, te, orders, routers, seats, reader, writer, plan, steps, grants, room,
     )
 }
 
@@ -96,16 +117,19 @@ fn seated_run<
     G: Ledger + Send + Sync,
     B: Room + Send + Sync,
     R,
-    I: Read,
+    I: Patient,
     O: Write,
+    P: Plan,
 >(
     rt: &R,
     listener: &TcpListener,
     te: TeBase,
     orders: Orders,
+    routers: Routers<'_>,
     seats: u64,
     reader: &mut I,
     writer: &mut O,
+    plan: &P,
     steps: Blank,
     grants: Blank,
     room: Unopened,
@@ -125,13 +149,30 @@ where
     requires room { (room.table ≡ B.table) × (room.seats ≡ B.seats) × (room.seats ≡ seats) }
 {
     let alloc = rt.alloc();
+    let listening = listening_line(listener, &te);
     let database = Database::new(alloc, te)?;
     let (shared, all) = Shared::<S, G, B>::new(alloc, database, seats, steps, grants, room)?;
-    let places = Places::new(alloc, all)?;
+    let pool = SeatPool::new(alloc, all)?;
+    let log = LogQueue::new(alloc, is_debug_wanted(rt))?;
+    log.say(rt, listening, 0);
     serve_all(
-        rt, alloc, &shared, &places, listener, orders, reader, writer,
+        rt, alloc, &shared, &pool, &log, listener, orders, routers, reader, writer, plan,
     )?;
-    close(shared, places.into_seats(alloc)?)
+    close(shared, pool.into_seats(alloc)?)
+}
+
+/// Where routers may connect, and to how large a network.
+fn listening_line(listener: &TcpListener, te: &TeBase) -> LogLine {
+    let (address, port) = match listener.local_addr() {
+        Ok(local) => (peer_of(local), local.port()),
+        Err(_) => (0, 0),
+    };
+    LogLine::Listening {
+        address,
+        port,
+        nodes: te.node_count(),
+        links: te.link_count(),
+    }
 }
 
 /// Closes the database with all seats.
@@ -145,23 +186,27 @@ fn close<S: Ledger, G: Ledger, B: Room>(
     }
 }
 
-/// Serves all until the end. All seats rest in their places then.
+/// Serves all until the end. All seats rest in the pool then.
 fn serve_all<
     S: Ledger + Send + Sync,
     G: Ledger + Send + Sync,
     B: Room + Send + Sync,
     R,
-    I: Read,
+    I: Patient,
     O: Write,
+    P: Plan,
 >(
     rt: &R,
     alloc: Global,
     shared: &Shared<S, G, B>,
-    places: &Places<S, G, B>,
+    pool: &SeatPool<S, G, B>,
+    log: &LogQueue,
     listener: &TcpListener,
     orders: Orders,
+    routers: Routers<'_>,
     reader: &mut I,
     writer: &mut O,
+    plan: &P,
 ) -> Result<(), RunFault>
 where
     R: Wait
@@ -179,20 +224,31 @@ where
     let run = Run::new();
     let peers = Peers::new(alloc);
     let live = live_of(orders.sessions) as usize;
-    let alarms = Alarms::new(alloc, live)?;
-    let floor = Floor {
+    let wakers = Wakers::new(alloc, live)?;
+    let settling = Settling::new(alloc, routers.settle_for, orders.settle_seconds * 1000)?;
+    let grants = GrantGate::new(settling);
+    let strangers = AtomicU64::new(0);
+    let context = Context {
         rt,
         alloc,
         shared,
-        places,
+        pool,
         peers: &peers,
         run: &run,
-        alarms: &alarms,
+        wakers: &wakers,
+        log,
+        grants: &grants,
+        known: routers.known,
+        strangers: &strangers,
         start: Instant::now(rt).ok(),
         keep_ms: orders.keep_seconds * 1000,
-        live,
+        seats: 2 * live,
     };
-    staff(&floor, listener, orders, reader, writer);
+    let output = ErrorOutput::new(rt, alloc)?;
+    let lines = log.room(alloc)?;
+    run_threads(
+        &context, output, lines, listener, orders, reader, writer, plan,
+    );
     if peers.owes_a_down(rt) {
         run.cut(rt, RunFault::Store(Fault::OutOfMemory));
     }
@@ -203,20 +259,24 @@ where
 }
 
 /// Starts the threads, hears the operator, and joins them in order: the acceptor first, for workers are needed as
-/// long as connections live. Places: of connections, then of workers, of the keeper of time, of the operator.
-fn staff<
+/// long as connections live, and the log last. Slots: of connections, then of workers, of the keeper of time, of the operator.
+fn run_threads<
     S: Ledger + Send + Sync,
     G: Ledger + Send + Sync,
     B: Room + Send + Sync,
     R,
-    I: Read,
+    I: Patient,
     O: Write,
+    P: Plan,
 >(
-    floor: &Floor<'_, R, S, G, B>,
+    context: &Context<'_, R, S, G, B>,
+    output: ErrorOutput,
+    lines: Vec<LogLine>,
     listener: &TcpListener,
     orders: Orders,
     reader: &mut I,
     writer: &mut O,
+    plan: &P,
 )
 where
     R: Wait
@@ -228,48 +288,91 @@ where
         + Sync,
     requires orders { AreOrders orders }
 {
-    let rt = floor.rt;
-    let first = floor.live;
+    let rt = context.rt;
+    let first = context.seats;
     let keeper_at = first.saturating_add(orders.workers as usize);
     let operator_at = keeper_at.saturating_add(1);
     thread::scope(thread::scope_env(), rt, |scope| {
+        let log = scope.spawn(move || write_log(context, output, lines));
         let mut has_worker = false;
         for worker in 0..orders.workers as usize {
             let at = first.saturating_add(worker);
-            has_worker |= scope.spawn(move || work(floor, at)).is_ok();
+            has_worker |= scope.spawn(move || work(context, at)).is_ok();
         }
-        let keeper = scope.spawn(move || keep_time(floor, keeper_at));
+        let keeper = scope.spawn(move || keep_time(context, keeper_at));
         let sessions = orders.sessions;
-        let acceptor = scope.spawn(move || accept_all(floor, listener, sessions));
-        if !has_worker || keeper.is_err() || acceptor.is_err() {
-            floor.cut(RunFault::Device);
+        let acceptor = scope.spawn(move || accept_all(context, listener, sessions));
+        if log.is_err() || !has_worker || keeper.is_err() || acceptor.is_err() {
+            context.cut(RunFault::Device);
         }
-        hear_operator(floor, operator_at, reader, writer);
-        if sessions == Sessions::Endless {
-            floor.close();
+        if let Some(end) = hear_operator(context, operator_at, reader, writer, plan) {
+            end_with(context, end, sessions);
         }
         if let Ok(acceptor) = acceptor {
             acceptor.join(rt);
         }
-        floor.shared.finish(rt);
+        context.shared.finish(rt);
+        if let Ok(keeper) = keeper {
+            keeper.join(rt);
+        }
+        context.log.end(rt);
     });
 }
 
-/// Answers the operator's lines from the seat of this place.
-fn hear_operator<S: Ledger, G: Ledger, B: Room, R: Wait + Clock, I: Read, O: Write>(
-    floor: &Floor<'_, R, S, G, B>,
+/// Whether the run is to end with its operator's part: where a line asked for it, and where the lines of an endless run
+/// have ended. A writer that fails ends the operator's part alone.
+fn closes_run(end: OperatorEnd, sessions: Sessions) -> bool
+    ensures { result ≡ closes_run end sessions }
+{
+    match end {
+        OperatorEnd::EndAsked => true,
+        OperatorEnd::InputEnded => sessions == Sessions::Endless,
+        OperatorEnd::RunEnding | OperatorEnd::ReadFault | OperatorEnd::WriteFault => false,
+    }
+}
+
+/// Ends the run, where it is to end with its operator's part, and by a fault where standard input failed.
+fn end_with<S: Ledger, G: Ledger, B: Room, R: Wait + Clock>(
+    context: &Context<'_, R, S, G, B>,
+    end: OperatorEnd,
+    sessions: Sessions,
+) {
+    if closes_run(end, sessions) {
+        context.close();
+    }
+    match end {
+        OperatorEnd::ReadFault => context.cut(RunFault::Device),
+        OperatorEnd::WriteFault => context.say(LogLine::OperatorGone),
+        OperatorEnd::InputEnded | OperatorEnd::EndAsked | OperatorEnd::RunEnding => {}
+    }
+}
+
+/// Answers the operator's lines from the seat of this slot, and gives why no more are heard.
+fn hear_operator<S: Ledger, G: Ledger, B: Room, R: Wait + Clock, I: Patient, O: Write, P: Plan>(
+    context: &Context<'_, R, S, G, B>,
     at: usize,
     reader: &mut I,
     writer: &mut O,
-) {
-    let Some(mut seat) = floor.places.take(floor.rt, at) else {
-        return;
-    };
-    let mut store = Seated::new(floor.rt, floor.alloc, floor.shared, &mut seat);
-    let heard = operate(floor.alloc, reader, writer, &floor.moments(), &mut store);
+    plan: &P,
+) -> Option<OperatorEnd> {
+    let mut seat = context.pool.take(context.rt, at)?;
+    let mut store = Seated::new(context.rt, context.alloc, context.shared, &mut seat);
+    let heard = operate(
+        context.rt,
+        context.alloc,
+        reader,
+        writer,
+        &context.moments(),
+        plan,
+        &mut store,
+    );
     drop(store);
-    if let Err(fault) = heard {
-        floor.cut(RunFault::from(fault));
+    context.pool.put(context.rt, at, seat);
+    match heard {
+        Ok(end) => Some(end),
+        Err(error) => {
+            context.cut(RunFault::from(error));
+            None
+        }
     }
-    floor.places.put(floor.rt, at, seat);
 }

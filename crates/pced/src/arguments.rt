@@ -1,6 +1,7 @@
 //! What the words of the command line ask for.
 use clap::{Arg, ArgAction, ArgMatches, Command, Error, value_parser};
 use pce_server::{Orders, Sessions};
+use pcep_word::Ipv4;
 use std::alloc::{AllocError, Global};
 
 /// The lines of a script, in short.
@@ -37,17 +38,23 @@ Standard input has an operator's lines, each answered on standard output:
 PEER is a number or a dotted address. docs/OPERATING.md tells how to run it.";
 
 /// What `serve` is told.
-#[derive(Clone, Copy)]
+#[derive(Drop)]
 pub struct ServeWords<'a> {
     /// The path of the link text.
     pub file: &'a str,
     /// Where to listen, as `ADDR:PORT`.
     pub listen: &'a str,
+    /// The most verbose level that is logged.
+    pub log: &'a str,
+    /// Only routers whose address a node of the network owns are heard.
+    pub only_known: bool,
+    /// The routers that are waited for before paths are granted. `None` where one is no address.
+    pub settle_for: Option<Vec<u32>>,
     pub orders: Orders,
 }
 
 /// What the words ask for.
-#[derive(Clone, Copy)]
+#[derive(Drop)]
 pub enum Task<'a> {
     Script,
     Serve(ServeWords<'a>),
@@ -115,6 +122,40 @@ fn endless_arg<'a>(alloc: Global) -> Result<Arg<'a>, AllocError> {
         .conflicts_with("sessions")
 }
 
+fn settle_arg<'a>(alloc: Global) -> Arg<'a> {
+    Arg::new(alloc, "settle")
+        .long("settle")
+        .value_name("SECONDS")
+        .action(ArgAction::Set)
+        .value_parser(value_parser!(u64).range(0..=3600))
+        .default_value("0")
+        .help("How long no path is granted after the start, 0 to 3600")
+}
+
+fn settle_for_arg<'a>(alloc: Global) -> Arg<'a> {
+    Arg::new(alloc, "settle-for")
+        .long("settle-for")
+        .value_name("ADDR")
+        .action(ArgAction::Append)
+        .help("A router to wait for: once all are in sync, paths are granted earlier")
+}
+
+fn only_known_arg<'a>(alloc: Global) -> Arg<'a> {
+    Arg::new(alloc, "only-known")
+        .long("only-known")
+        .action(ArgAction::SetTrue)
+        .help("Only routers whose address a node of the link text owns are heard")
+}
+
+fn log_arg<'a>(alloc: Global) -> Arg<'a> {
+    Arg::new(alloc, "log")
+        .long("log")
+        .value_name("LEVEL")
+        .action(ArgAction::Set)
+        .default_value("info")
+        .help("What is logged on standard error: off, error, warn, info, debug or trace")
+}
+
 fn serve_command<'a>(alloc: Global) -> Result<Command<'a>, AllocError> {
     Command::new(alloc, "serve")
         .about("Serves routers over TCP, and an operator's lines from standard input")
@@ -124,6 +165,10 @@ fn serve_command<'a>(alloc: Global) -> Result<Command<'a>, AllocError> {
         .arg(workers_arg(alloc))?
         .arg(sessions_arg(alloc))?
         .arg(keep_arg(alloc))?
+        .arg(settle_arg(alloc))?
+        .arg(settle_for_arg(alloc))?
+        .arg(only_known_arg(alloc))?
+        .arg(log_arg(alloc))?
         .arg(endless_arg(alloc)?)
 }
 
@@ -143,11 +188,24 @@ fn sessions_in(matches: &ArgMatches<'_>) -> Sessions {
     Sessions::Count(matches.get_one::<u64>("sessions").unwrap_or(1))
 }
 
+/// The addresses of these words. `None` where one is none.
+fn addresses_in(alloc: Global, words: &[&str]) -> Result<Option<Vec<u32>>, AllocError> {
+    let mut addresses = Vec::new(alloc);
+    for word in words {
+        let Some(address) = Ipv4::parse(word) else {
+            return Ok(None);
+        };
+        addresses.push(address.0)?;
+    }
+    Ok(Some(addresses))
+}
+
 fn orders_in(matches: &ArgMatches<'_>) -> Orders {
     Orders {
         workers: matches.get_one::<u64>("workers").unwrap_or(2),
         sessions: sessions_in(matches),
         keep_seconds: matches.get_one::<u64>("keep").unwrap_or(60),
+        settle_seconds: matches.get_one::<u64>("settle").unwrap_or(0),
     }
 }
 
@@ -160,6 +218,9 @@ pub fn parse<'a>(alloc: Global, words: &'a [String]) -> Result<Task<'a>, Error> 
     Ok(Task::Serve(ServeWords {
         file: matches.get_str("te").unwrap_or(""),
         listen: matches.get_str("listen").unwrap_or(""),
+        log: matches.get_str("log").unwrap_or("info"),
+        only_known: matches.get_flag("only-known"),
+        settle_for: addresses_in(alloc, matches.get_strs("settle-for").unwrap_or(&[]))?,
         orders: orders_in(matches),
     }))
 }

@@ -8,6 +8,7 @@
 
 mod arguments;
 mod serve;
+mod stamped;
 mod status;
 
 ghost use Rattle.std.specs.Prelude.{◌≡◌, IfOk, IsOk};
@@ -19,6 +20,7 @@ use clap::Error;
 use clap::error::ErrorKind;
 use log::Log;
 use pce_engine::{ScriptFault, run_script};
+use pce_server::ErrorOutput;
 use serve::{ServeFault, serve};
 use status::{failed, refused, serve_status, status};
 use std::alloc::Global;
@@ -28,6 +30,7 @@ use std::process::ExitCode;
 use std::rt::Runtime;
 use std::sync::Wait;
 use std::thread::Threads;
+use std::time::Duration;
 
 /// Help goes to standard output, a refusal of the words to standard error.
 fn refuse<R: Print + Eprint>(rt: &R, error: Error) -> io::Result<u8>
@@ -57,15 +60,28 @@ fn end<R: Eprint>(rt: &R, outcome: Result<(), ScriptFault>) -> io::Result<u8>
     }
 }
 
-/// How a server ended, likewise.
-fn end_serving<R: Eprint>(rt: &R, outcome: Result<(), ServeFault>) -> io::Result<u8>
+/// Whether standard error takes a text at once, or is read within a second.
+fn is_error_read<R: AllocGlobal + Net>(rt: &R) -> bool {
+    match ErrorOutput::new(rt, rt.alloc()) {
+        Ok(mut output) => output.is_ready(Duration::from_secs(1)),
+        Err(_) => true,
+    }
+}
+
+/// How a server ended, likewise. The text is left out where nobody reads standard error, so that the program ends.
+fn end_serving<R: Eprint + AllocGlobal + Net>(
+    rt: &R,
+    outcome: Result<(), ServeFault>,
+) -> io::Result<u8>
     ensures status { IfOk result (λ given. given ≡ ended_serve_status outcome) }
     ensures nothing_to_write { IsOk outcome → IsOk result }
 {
     let Err(fault) = outcome else {
         return Ok(0);
     };
-    eprintln!(rt; "{fault}")?;
+    if is_error_read(rt) {
+        eprintln!(rt; "{fault}")?;
+    }
     Ok(serve_status(fault))
 }
 
@@ -82,7 +98,7 @@ fn run<
     match parse(alloc, &words) {
         Err(error) => refuse(rt, error),
         Ok(Task::Script) => end(rt, run_script(alloc, &mut rt.reader(), &mut io::writer(rt))),
-        Ok(Task::Serve(words)) => end_serving(rt, serve(rt, words)),
+        Ok(Task::Serve(words)) => end_serving(rt, serve(rt, &words)),
     }
 }
 

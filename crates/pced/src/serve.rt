@@ -3,13 +3,16 @@ ghost use Rattle.std.specs.Prelude.{◌≤◌};
 ghost use Rattle.pce_server.specs.Ranges.{AreSessions, AreOrders};
 
 use crate::arguments::ServeWords;
-use log::Log;
+use crate::stamped::Stamped;
+use log::{LevelFilter, Log, Logged};
 use pce_engine::TeFault;
-use pce_server::{Fault, Orders, RunFault, Sessions, serve_run};
+use pce_server::{Fault, FilePlan, Orders, Routers, RunFault, Sessions, serve_run};
 use pcep_word::Ipv4;
+use server_talk::PolledInput;
 use std::alloc::Global;
 use std::net::{Ipv4Addr, Net, SocketAddr, TcpListener, TcpStream};
 use std::rt::Runtime;
+use std::str::FromStr;
 use std::sync::Wait;
 use std::thread::Threads;
 use std::{error, fmt, fs, io};
@@ -18,7 +21,7 @@ use te_base::TeBase;
 /// Why a server did not run to its end. `Display` gives the text for standard error.
 #[derive(Clone, Copy, Debug, PartialEq, Eq)]
 pub enum ServeFault {
-    /// What is to be listened on is no `ADDR:PORT`.
+    /// What is to be listened on is no `ADDR:PORT`, a router is no address, or there is no such level of the log.
     BadArgument,
     /// The file can't be read, or the listener can't be made.
     Device,
@@ -72,6 +75,14 @@ fn base_in(alloc: Global, text: &[u8]) -> Result<TeBase, ServeFault> {
     }
 }
 
+/// The network that only known routers are of, where others aren't to be heard.
+fn known_in(alloc: Global, text: &[u8], only_known: bool) -> Result<Option<TeBase>, ServeFault> {
+    if !only_known {
+        return Ok(None);
+    }
+    Ok(Some(base_in(alloc, text)?))
+}
+
 /// The fault of a file or a listener.
 fn device_fault(error: &io::Error) -> ServeFault {
     match error.kind() {
@@ -80,9 +91,9 @@ fn device_fault(error: &io::Error) -> ServeFault {
     }
 }
 
-fn read_base<R: Runtime<A = Global>>(rt: &R, file: &str) -> Result<TeBase, ServeFault> {
+fn read_text<R: Runtime<A = Global>>(rt: &R, file: &str) -> Result<Vec<u8>, ServeFault> {
     match fs::read(rt, file) {
-        Ok(text) => base_in(rt.alloc(), &text),
+        Ok(text) => Ok(text),
         Err(error) => Err(device_fault(&error)),
     }
 }
@@ -128,6 +139,7 @@ fn orders_within(orders: Orders) -> Orders
         workers: within(1, orders.workers, 16),
         sessions: sessions_within(orders.sessions),
         keep_seconds: within(0, orders.keep_seconds, 3600),
+        settle_seconds: within(0, orders.settle_seconds, 3600),
     }
 }
 
@@ -139,16 +151,48 @@ pub fn serve<
         + Threads
         + Log
         + Sync,
->(rt: &R, words: ServeWords<'_>) -> Result<(), ServeFault> {
+>(rt: &R, words: &ServeWords<'_>) -> Result<(), ServeFault> {
     let Some(place) = place_in(words.listen) else {
         return Err(ServeFault::BadArgument);
     };
-    let base = read_base(rt, words.file)?;
+    let Ok(level) = LevelFilter::from_str(words.log) else {
+        return Err(ServeFault::BadArgument);
+    };
+    let Some(settle_for) = &words.settle_for else {
+        return Err(ServeFault::BadArgument);
+    };
+    let text = read_text(rt, words.file)?;
+    let base = base_in(rt.alloc(), &text)?;
+    let second = base_in(rt.alloc(), &text)?;
+    let known = known_in(rt.alloc(), &text, words.only_known)?;
     let listener = listen(rt, place)?;
-    let mut reader = rt.reader();
+    let mut input = rt.reader();
+    let mut reader = match PolledInput::new(rt, rt.alloc(), &mut input) {
+        Ok(reader) => reader,
+        Err(error) => return Err(device_fault(&error)),
+    };
     let mut writer = io::writer(rt);
     let orders = orders_within(words.orders);
-    match serve_run(rt, &listener, base, orders, &mut reader, &mut writer) {
+    let logged = Logged::new(rt, level, Stamped::new(rt));
+    let routers = Routers {
+        known: &known,
+        settle_for,
+    };
+    let plan = FilePlan {
+        rt,
+        file: words.file,
+        te: &second,
+    };
+    match serve_run(
+        &logged,
+        &listener,
+        base,
+        &plan,
+        orders,
+        routers,
+        &mut reader,
+        &mut writer,
+    ) {
         Ok(_audit) => Ok(()),
         Err(fault) => Err(ServeFault::Run(fault)),
     }

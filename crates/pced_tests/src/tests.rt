@@ -9,6 +9,7 @@ use std::test::Fail;
 use te_base::TeBase;
 
 mod book;
+mod buffers;
 mod ends;
 mod fakes;
 mod lines;

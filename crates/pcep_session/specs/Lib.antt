@@ -2,6 +2,7 @@ pub mod Faults
 pub mod Table
 pub mod Framing
 pub mod Turns
+pub mod Timers
 pub mod Changes
 pub mod Calls
 pub mod Runs

@@ -7,8 +7,9 @@
 //! that after `most_turns` turns nothing is left to handle.
 //!
 //! The definitions stand in `specs/`: `Table` has the reaction to what comes, state by state, and the timers;
-//! `Framing` tells a whole message, a bad header and a part of a message apart; `Turns` is `next`, `Calls` are
-//! the other calls, `Runs` lists of calls, `Cuts` the law of pieces, `Ends` that the turns end.
+//! `Framing` tells a whole message, a bad header and a part of a message apart; `Turns` is `next`, `Timers` says
+//! when a timer is due, `Calls` are the other calls, `Runs` lists of calls, `Cuts` the law of pieces, `Ends` that
+//! the turns end.
 //!
 //! ```
 //! // All inputs of a piece, and the bytes to be sent.
@@ -26,7 +27,7 @@
 //! ```
 //!
 //! The modules, lowest first: `bytes`, `fault`, `table`, `contents`, `framing`, `reactions`, `arrivals`,
-//! `turns`, `calls`, `session`, `laws`.
+//! `turns`, `timers`, `calls`, `session`, `laws`.
 #![tactic(auto)]
 
 mod arrivals;
@@ -39,6 +40,7 @@ mod laws;
 mod reactions;
 mod session;
 mod table;
+mod timers;
 mod turns;
 
 pub use contents::Contents;

@@ -2,6 +2,7 @@
 
 ghost use Rattle.std.specs.Prelude.{◌≡◌, ◌≤◌, ◌*◌, [], length, true, false, None, IsOk, IfOk, IfErr, OnErr, is_some};
 ghost use Rattle.pcep_session.specs.Turns.{is_closed, next, IsTurn};
+ghost use Rattle.pcep_session.specs.Timers.{IsNextDue};
 ghost use Rattle.pcep_session.specs.Ends.{most_turns};
 ghost use Rattle.pcep_session.specs.Calls.{begun, ticked, fed_by, sent, error_reported, ended_by, output_taken, Does};
 ghost use Rattle.pcep_session.specs.declared.fault.SessionFault.TheVariants.{OutOfMemory};
@@ -9,7 +10,7 @@ ghost use Rattle.pcep_session.specs.declared.fault.SessionFault.TheVariants.{Out
 use crate::contents::Contents;
 use crate::fault::SessionFault;
 use crate::table::{Input, State};
-use crate::{calls, turns};
+use crate::{calls, timers, turns};
 use pcep_messages::{Message, PcError};
 use std::alloc::Global;
 use std::marker::Model;
@@ -120,6 +121,15 @@ impl Session {
         ensures { result ≡ most_turns self.now }
     {
         self.contents.bytes.as_slice().len() + 2
+    }
+
+    /// The moment from which on a timer is due, if nothing is fed or sent until then: that of the session's Keepalive or
+    /// of the peer's DeadTimer, or of the end of a wait for its Open or Keepalive. `None` where none ever is, as once
+    /// the session has ended.
+    pub fn next_due_ms(&self) -> Option<u64>
+        ensures { IsNextDue result self.now }
+    {
+        timers::next_due_ms(&self.contents)
     }
 
     /// How many received bytes the session keeps: those that wait to be handled, and handled ones that it hasn't

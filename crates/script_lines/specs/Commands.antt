@@ -1,8 +1,10 @@
 -- The lines of an operator, each of which names one event.
-use Rattle.std.specs.Prelude.{ℕ, List, Option, Some, None, option_and_then, codes, if◌then◌else◌}
+use Rattle.std.specs.Prelude.{ℕ, List, [], ◌∷◌, Option, Some, None, option_map, option_and_then, codes, if◌then◌else◌}
 use Rattle.std.specs.Str.{bytes_eq}
 use Rattle.step_core.specs.declared.event.Event.{Event}
-use Rattle.step_core.specs.declared.event.Event.TheVariants.{Expire, Return, Ask, Delete, Commit}
+use Rattle.step_core.specs.declared.event.Event.TheVariants.{Expire, Return, Ask, Delete, Commit, Reload}
+use Rattle.step_core.specs.declared.reload.LinkReload.{LinkReload}
+use Rattle.te_base.specs.Values.{Values, checked_values}
 use Rattle.commit_core.specs.declared.ticket.Purpose.TheVariants.{Update, Initiate}
 use Rattle.lsp_base.specs.declared.lsp.Constraints.{Constraints}
 use Rattle.pcep_objects.specs.declared.object.MetricType.TheVariants.{Te}
@@ -87,27 +89,69 @@ initiate_event line = do
   name ← name_in named.0
   Some (Ask peer (Initiate name constraints))
 
--- the events that take memory: `commit N LINKS` and `initiate PEER NAME FROM TO BW SETUP HOLD`
-unfoldable pub long_event_with : List ℕ → List ℕ → Option Event
-long_event_with word rest =
-    if bytes_eq word (codes "commit") then commit_event rest
+-- what a server's operator may ask for: `return PEER PLSP`, `update PEER PLSP`, `delete PEER PLSP` and
+-- `initiate PEER NAME FROM TO BW SETUP HOLD`
+unfoldable pub operator_event_with : List ℕ → List ℕ → Option Event
+operator_event_with word rest =
+    if bytes_eq word (codes "return") then lsp_event (λ peer plsp. Return peer plsp) (lsp_in rest)
+    else if bytes_eq word (codes "update") then lsp_event (λ peer plsp. Ask peer (Update plsp)) (lsp_in rest)
+    else if bytes_eq word (codes "delete") then lsp_event (λ peer plsp. Delete peer plsp) (lsp_in rest)
     else if bytes_eq word (codes "initiate") then initiate_event rest
     else None
 
--- `expire PEER`, `return PEER PLSP`, `update PEER PLSP`, `delete PEER PLSP`
+-- `IGP TE COLOUR RESERVABLE`, each in the range that a link text gives it
+unfoldable pub link_values_in : List ℕ → Option Values
+link_values_in line = do
+  metrics ← cut_at_space line
+  igp ← long_number_in metrics.0
+  rest ← cut_at_space metrics.1
+  te ← long_number_in rest.0
+  last ← cut_at_space rest.1
+  colour ← long_number_in last.0
+  reservable ← long_number_in last.1
+  checked_values igp te colour reservable
+
+-- `N IGP TE COLOUR RESERVABLE`: the number of a link that is there or not, and its values
+unfoldable pub link_reload_in : List ℕ → Option LinkReload
+link_reload_in line = do
+  words ← cut_at_space line
+  link ← long_number_in words.0
+  values ← link_values_in words.1
+  Some (record { link = link; values = values })
+
+unfoldable pub reload_event : List ℕ → Option Event
+reload_event line = do
+  entry ← link_reload_in line
+  Some (Reload (entry ∷ []))
+
+-- and what a script may: also `expire PEER`, `commit N LINKS` and `reload N IGP TE COLOUR RESERVABLE`
 unfoldable pub event_with : List ℕ → List ℕ → Option Event
 event_with word rest =
     if bytes_eq word (codes "expire") then expire_event rest
-    else if bytes_eq word (codes "return") then lsp_event (λ peer plsp. Return peer plsp) (lsp_in rest)
-    else if bytes_eq word (codes "update") then lsp_event (λ peer plsp. Ask peer (Update plsp)) (lsp_in rest)
-    else if bytes_eq word (codes "delete") then lsp_event (λ peer plsp. Delete peer plsp) (lsp_in rest)
-    else long_event_with word rest
+    else if bytes_eq word (codes "commit") then commit_event rest
+    else if bytes_eq word (codes "reload") then reload_event rest
+    else operator_event_with word rest
 
 -- None for a bad line
+unfoldable pub operator_event_in : List ℕ → Option Event
+operator_event_in line = do
+  words ← cut_at_space line
+  operator_event_with words.0 words.1
+
 unfoldable pub event_in : List ℕ → Option Event
 event_in line = do
   words ← cut_at_space line
   event_with words.0 words.1
+
+-- ---- what a line asks of a store
+
+pub data Command : Type 0 where
+  Roll : Command
+  Submit : Event → Command
+
+-- None for a bad line
+unfoldable pub command_in : List ℕ → Option Command
+command_in line = if bytes_eq line (codes "roll") then Some Roll else option_map Submit (event_in line)
 
 abbrev pub fault_number : CommandFault → ℕ
 fault_number BadLine = 1

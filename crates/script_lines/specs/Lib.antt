@@ -2,7 +2,10 @@ pub mod Words
 pub mod Commands
 pub mod Orders
 pub mod Texts
+pub mod Book
+pub mod Lines
 pub mod Told
 pub mod Submits
 pub mod Takes
 pub mod Rolls
+pub mod Answered

@@ -7,8 +7,8 @@ use Rattle.script_lines.specs.declared.fault.CommandFault.{CommandFault}
 
 -- how many steps were taken before the base, from now on
 abbrev pub rolled_text : ℕ → List ℕ
-rolled_text steps = codes "rolled " ++ decimal steps ++ codes "\n"
+rolled_text steps = codes "rolled " ++ decimal steps
 
 -- `roll`
 unfoldable pub roll_line : Content → Result (Told Content) CommandFault
-roll_line d = Ok (told (rolled_text (steps_of d)) (rolled_up d))
+roll_line d = Ok (told (rolled_text (steps_of d) ++ codes "\n") (rolled_up d))

@@ -1,11 +1,8 @@
 -- What a line prints.
-use Rattle.std.specs.Prelude.{ℕ, ◌+◌, ℤ, Bool, true, false, List, [], ◌∷◌, ◌++◌, length, codes, Option, Some, None}
-use Rattle.std.specs.Fmt.{decimal, signed_decimal}
-use Rattle.te_base.specs.declared.network.Link.{Link}
+use Rattle.std.specs.Prelude.{ℕ, ◌+◌, Bool, true, false, List, [], ◌∷◌, ◌++◌, length, codes, Option, Some, None}
+use Rattle.std.specs.Fmt.{decimal}
 use Rattle.lsp_base.specs.Whys.{number_of}
 use Rattle.lsp_base.specs.declared.why.Why.{Why}
-use Rattle.lsp_base.specs.Shares.{unreserved}
-use Rattle.step_core.specs.States.{State}
 use Rattle.step_core.specs.declared.event.Event.{Event}
 use Rattle.step_core.specs.declared.event.Event.TheVariants as event
 use Rattle.step_core.specs.declared.event.Reply.{Reply}
@@ -92,6 +89,7 @@ event_text (event.Drain peer) = codes "drain"
 event_text (event.Refused peer srp) = codes "refused"
 event_text (event.Return peer plsp) = codes "return"
 event_text (event.Delete peer plsp) = codes "delete"
+event_text (event.Reload entries) = codes "reload"
 
 abbrev pub step_line : ℕ → Step → List ℕ
 step_line number step = codes "step " ++ decimal number ++ codes " " ++ event_text step.event ++ codes " " ++ brief_text step.brief ++ codes "\n"
@@ -103,21 +101,6 @@ steps_from number (step ∷ steps) = step_line number step ++ steps_from (number
 
 abbrev pub history_text : Content → List ℕ
 history_text d = steps_from d.rolled d.history
-
--- what is unreserved on a link at a priority
-abbrev pub left_at : State → ℕ → ℕ → ℤ
-left_at s link priority = unreserved s.te.links s.base.paths link priority
-
-abbrev pub amounts_text : State → ℕ → List ℕ → List ℕ
-amounts_text s link [] = []
-amounts_text s link (priority ∷ priorities) = codes " " ++ signed_decimal (left_at s link priority) ++ amounts_text s link priorities
-
--- the eight priorities, the best first
-abbrev pub priorities : List ℕ
-priorities = 0 ∷ 1 ∷ 2 ∷ 3 ∷ 4 ∷ 5 ∷ 6 ∷ 7 ∷ []
-
-abbrev pub link_line : State → ℕ → List ℕ
-link_line s link = codes "link " ++ decimal link ++ amounts_text s link priorities ++ codes "\n"
 
 -- link numbers, each behind a comma
 abbrev pub more_links : List ℕ → List ℕ
@@ -133,11 +116,3 @@ path_text (link ∷ links) = decimal link ++ more_links links
 abbrev pub answer_text : Option (List ℕ) → List ℕ
 answer_text None = codes "none"
 answer_text (Some links) = path_text links
-
--- a line for each link, from the one with this number on
-abbrev pub book_from : State → ℕ → List Link → List ℕ
-book_from s number [] = []
-book_from s number (link ∷ links) = link_line s number ++ book_from s (number + 1) links
-
-abbrev pub book_text : State → List ℕ
-book_text s = book_from s 0 (s.te).links

@@ -1,18 +1,21 @@
-//! The events that an operator's lines name.
+//! The events that lines name.
 
 ghost use Rattle.std.specs.Prelude.{◌≡◌, Some, IfOk, IfErr, IsSome};
 ghost use Rattle.step_core.specs.declared.event.Event.TheVariants.{Return, Ask, Delete};
 ghost use Rattle.commit_core.specs.declared.ticket.Purpose.TheVariants.{Update};
-ghost use Rattle.script_lines.specs.Commands.{expire_event, lsp_in, lsp_event, commit_event, priorities_in, plain_constraints, constraints_in, initiate_event, long_event_with, event_with, event_in};
+ghost use Rattle.script_lines.specs.Commands.{expire_event, lsp_in, lsp_event, commit_event, priorities_in, plain_constraints, constraints_in, initiate_event, link_values_in, link_reload_in, reload_event, operator_event_with, event_with, operator_event_in, event_in};
 
 use crate::words::{
-    bandwidth_in, cut_at_space, long_number_in, name_in, offer_in, peer_in, plsp_in, priority_in,
+    bandwidth_in, cut_at_space, link_in, long_number_in, name_in, offer_in, peer_in, plsp_in,
+    priority_in,
 };
-use history_core::{Event, Purpose};
+use history_core::{Event, LinkReload, Purpose};
 use lsp_base::{Constraints, OtherBounds};
 use pcep_objects::{Colours, MetricType, Plsp};
 use pcep_word::{Bandwidth, Ipv4, Priorities};
+use sequence::Sequence;
 use std::alloc::{AllocError, Global};
+use te_base::LinkValues;
 
 #[tactic(auto, unfolding(crate::specs::Commands::expire_event))]
 fn expire_event(line: &str) -> Option<Event>
@@ -164,21 +167,64 @@ fn initiate_event(alloc: Global, line: &str) -> Result<Option<Event>, AllocError
     }
 }
 
-#[tactic(auto, unfolding(crate::specs::Commands::long_event_with))]
-fn long_event_with(alloc: Global, word: &str, rest: &str) -> Result<Option<Event>, AllocError>
-    ensures event { IfOk result (λ event. event ≡ long_event_with word.now rest.now) }
-    ensures good { IfErr result (λ _. IsSome (long_event_with word.now rest.now)) }
+/// Two metrics, a colour and a bandwidth, each in its range.
+#[tactic(auto, unfolding(crate::specs::Commands::link_values_in))]
+fn link_values_in(line: &str) -> Option<LinkValues>
+    ensures { result ≡ link_values_in line.now }
 {
-    if word == "commit" {
-        return commit_event(alloc, rest);
-    }
-    if word == "initiate" {
-        return initiate_event(alloc, rest);
-    }
-    Ok(None)
+    let (igp, rest) = cut_at_space(line)?;
+    let igp = long_number_in(igp)?;
+    let (te, rest) = cut_at_space(rest)?;
+    let te = long_number_in(te)?;
+    let (colour, reservable) = cut_at_space(rest)?;
+    let colour = long_number_in(colour)?;
+    let reservable = long_number_in(reservable)?;
+    LinkValues::new(igp, te, colour, reservable)
 }
 
-/// The event that an operator's line names by its first word and its rest. Memory is asked for only for a line that
+/// The number of a link, and its values.
+#[tactic(auto, unfolding(crate::specs::Commands::link_reload_in))]
+fn link_reload_in(line: &str) -> Option<LinkReload>
+    ensures { result ≡ link_reload_in line.now }
+{
+    let (link, values) = cut_at_space(line)?;
+    let link = link_in(link)?;
+    let values = link_values_in(values)?;
+    Some(LinkReload { link, values })
+}
+
+/// One link that has other values. Memory is asked for only for a line that names it and them.
+#[tactic(auto, unfolding(crate::specs::Commands::reload_event))]
+fn reload_event(alloc: Global, line: &str) -> Result<Option<Event>, AllocError>
+    ensures event { IfOk result (λ event. event ≡ reload_event line.now) }
+    ensures good { IfErr result (λ _. IsSome (reload_event line.now)) }
+{
+    let Some(entry) = link_reload_in(line) else {
+        return Ok(None);
+    };
+    let links = vec![in alloc; entry]?;
+    Ok(Some(Event::Reload {
+        links: Sequence::from_vec(links),
+    }))
+}
+
+/// The event that a server's operator may ask for, by a line's first word and its rest. Memory is asked for only for a
+/// line that names one.
+#[tactic(auto, unfolding(crate::specs::Commands::operator_event_with))]
+fn operator_event_with(alloc: Global, word: &str, rest: &str) -> Result<Option<Event>, AllocError>
+    ensures event { IfOk result (λ event. event ≡ operator_event_with word.now rest.now) }
+    ensures good { IfErr result (λ _. IsSome (operator_event_with word.now rest.now)) }
+{
+    match word {
+        "return" => Ok(return_event(rest)),
+        "update" => Ok(update_event(rest)),
+        "delete" => Ok(delete_event(rest)),
+        "initiate" => initiate_event(alloc, rest),
+        _ => Ok(None),
+    }
+}
+
+/// The event that a script may submit, by a line's first word and its rest. Memory is asked for only for a line that
 /// names one.
 #[tactic(auto, unfolding(crate::specs::Commands::event_with))]
 pub(crate) fn event_with(alloc: Global, word: &str, rest: &str) -> Result<Option<Event>, AllocError>
@@ -187,17 +233,28 @@ pub(crate) fn event_with(alloc: Global, word: &str, rest: &str) -> Result<Option
 {
     match word {
         "expire" => Ok(expire_event(rest)),
-        "return" => Ok(return_event(rest)),
-        "update" => Ok(update_event(rest)),
-        "delete" => Ok(delete_event(rest)),
-        _ => long_event_with(alloc, word, rest),
+        "commit" => commit_event(alloc, rest),
+        "reload" => reload_event(alloc, rest),
+        _ => operator_event_with(alloc, word, rest),
     }
 }
 
-/// The event that an operator's line names, or None for a bad line. Memory is asked for only for a line that names
-/// one.
+/// The event that the line of a server's operator names, or None for a bad line. Memory is asked for only for a line
+/// that names one.
+#[tactic(auto, unfolding(crate::specs::Commands::operator_event_in))]
+pub fn operator_event_in(alloc: Global, line: &str) -> Result<Option<Event>, AllocError>
+    ensures event { IfOk result (λ event. event ≡ operator_event_in line.now) }
+    ensures good { IfErr result (λ _. IsSome (operator_event_in line.now)) }
+{
+    match cut_at_space(line) {
+        Some((word, rest)) => operator_event_with(alloc, word, rest),
+        None => Ok(None),
+    }
+}
+
+/// The event that a script's line names, or None for a bad line. Memory is asked for only for a line that names one.
 #[tactic(auto, unfolding(crate::specs::Commands::event_in))]
-pub fn event_in(alloc: Global, line: &str) -> Result<Option<Event>, AllocError>
+pub(crate) fn event_in(alloc: Global, line: &str) -> Result<Option<Event>, AllocError>
     ensures event { IfOk result (λ event. event ≡ event_in line.now) }
     ensures good { IfErr result (λ _. IsSome (event_in line.now)) }
 {

@@ -1,6 +1,6 @@
 //! The line `roll`: the history is rolled.
 
-ghost use Rattle.std.specs.Prelude.{◌≡◌, IfOk, string_bytes};
+ghost use Rattle.std.specs.Prelude.{◌≡◌, ◌++◌, IfOk, codes, string_bytes};
 ghost use Rattle.script_lines.specs.Rolls.{roll_line, rolled_text};
 ghost use Rattle.script_lines.specs.Told.{Tells};
 
@@ -9,8 +9,8 @@ use history_core::Database;
 use std::alloc::{AllocError, Global};
 use std::fmt::Write;
 
-fn rolled_text(alloc: Global, steps: u64) -> Result<String, AllocError>
-    ensures { IfOk result (λ text. string_bytes text ≡ rolled_text steps) }
+fn rolled_line(alloc: Global, steps: u64) -> Result<String, AllocError>
+    ensures { IfOk result (λ text. string_bytes text ≡ rolled_text steps ++ codes "\n") }
 {
     let mut text = String::new(alloc);
     write!(text, "rolled {steps}\n")?;
@@ -23,7 +23,7 @@ fn rolled_text(alloc: Global, steps: u64) -> Result<String, AllocError>
 pub fn roll_line(alloc: Global, database: &mut Database) -> Result<String, CommandFault>
     ensures { Tells string_bytes result (roll_line database.old) database.new }
 {
-    let text = rolled_text(alloc, database.steps())?;
+    let text = rolled_line(alloc, database.steps())?;
     database.roll()?;
     Ok(text)
 }

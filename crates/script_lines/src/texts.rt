@@ -1,11 +1,10 @@
 //! What lines print.
 
-ghost use Rattle.std.specs.Prelude.{option_map, ◌≡◌, ◌++◌, ◌+◌, ◌^◌, ◌<◌, ◌≤◌, IfOk, OnOk, IsOk, All, length, decimal, string_bytes, string_len, string_capacity};
-ghost use Rattle.script_lines.specs.Texts.{more_links, path_text, answer_text, word_bound, reply_room, booked_text, out_text, refused_text, reply_text, brief_text, event_text, step_line, steps_from, history_text, left_at, amounts_text, link_line, book_text};
+ghost use Rattle.std.specs.Prelude.{option_map, ◌≡◌, ◌++◌, ◌+◌, ◌^◌, ◌<◌, ◌≤◌, IfOk, OnOk, IsOk, length, decimal, string_bytes, string_len, string_capacity};
+ghost use Rattle.script_lines.specs.Texts.{more_links, path_text, answer_text, word_bound, reply_room, booked_text, out_text, refused_text, reply_text, brief_text, event_text, step_line, steps_from, history_text};
 
 use history_core::{Brief, Database, Event, Reply, Step, Why};
 use itoa::Buffer;
-use pcep_word::Priority;
 use std::alloc::{AllocError, Global};
 use std::fmt::Write;
 use te_base::LinkNumber;
@@ -136,6 +135,7 @@ fn event_word(event: &Event) -> &'static str
         Event::Refused { .. } => "refused",
         Event::Return { .. } => "return",
         Event::Delete { .. } => "delete",
+        Event::Reload { .. } => "reload",
     }
 }
 
@@ -165,53 +165,5 @@ pub fn history_text(alloc: Global, database: &Database) -> Result<String, AllocE
 {
     let mut text = String::new(alloc);
     add_steps(&mut text, database.rolled(), database.history())?;
-    Ok(text)
-}
-
-fn left_on(database: &Database, link: LinkNumber, priority: u8) -> i64
-    requires link { link < length database.now.state.te.links }
-    requires priority { priority ≤ 7 }
-    ensures { result ≡ left_at database.now.state link priority }
-{
-    database
-        .unreserved(link, Priority::capped(priority))
-        .unwrap()
-}
-
-fn add_amounts(
-    text: &mut String,
-    database: &Database,
-    link: LinkNumber,
-    priorities: &[u8],
-) -> Result<(), AllocError>
-    requires link { link < length database.now.state.te.links }
-    requires priorities { All (λ p. p ≤ 7) priorities.now }
-    ensures { OnOk result (string_bytes text.new ≡ string_bytes text.old ++ amounts_text database.now.state link priorities.now) }
-{
-    for priority in priorities {
-        let left = left_on(database, link, *priority);
-        write!(text, " {left}")?;
-    }
-    Ok(())
-}
-
-fn add_link(text: &mut String, database: &Database, link: LinkNumber) -> Result<(), AllocError>
-    requires { link < length database.now.state.te.links }
-    ensures { OnOk result (string_bytes text.new ≡ string_bytes text.old ++ link_line database.now.state link) }
-{
-    write!(text, "link {link}")?;
-    add_amounts(text, database, link, &[0, 1, 2, 3, 4, 5, 6, 7])?;
-    text.push_str("\n")
-}
-
-/// A line for each link, with what is unreserved at each priority.
-pub fn book_text(alloc: Global, database: &Database) -> Result<String, AllocError>
-    ensures { IfOk result (λ s. string_bytes s ≡ book_text database.now.state) }
-{
-    let links = database.te_base().links();
-    let mut text = String::new(alloc);
-    for (number, _link) in links.iter().enumerate() {
-        add_link(&mut text, database, number)?;
-    }
     Ok(text)
 }

@@ -161,7 +161,8 @@ pub(crate) fn bandwidth_in(word: &str) -> Option<Bandwidth>
     }
 }
 
-fn link_in(word: &str) -> Option<LinkNumber>
+/// The number of a link, that is there or not: a decimal number below 2^64.
+pub(crate) fn link_in(word: &str) -> Option<LinkNumber>
     ensures { result ≡ long_number_in word.now }
 {
     match long_number_in(word) {

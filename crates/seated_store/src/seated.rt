@@ -11,7 +11,6 @@ use shared_pce::{Event, Fault, Seat, Shared, SharedEvent};
 use std::alloc::{AllocError, Global};
 use std::sync::Wait;
 use std::sync::ledger::Ledger;
-use std::time::{Clock, Duration};
 
 /// A seat of a shared database, with the calls that were made with it.
 #[derive(Drop)]
@@ -71,15 +70,6 @@ impl<'a, R: Wait, S: Ledger, G: Ledger, B: Room> Seated<'a, R, S, G, B> {
     }
 }
 
-impl<'a, R: Wait + Clock, S: Ledger, G: Ledger, B: Room> Seated<'a, R, S, G, B> {
-    /// Waits until messages wait for the peer or the time is up, and says whether they do.
-    pub fn await_queued(&self, peer: u32, most: Duration) -> bool
-        ensures { (d : Content) × Replays d × (result ≡ is_queued d.state peer) }
-    {
-        self.shared.await_queued(self.rt, peer, most)
-    }
-}
-
 impl<'a, R: Wait, S: Ledger, G: Ledger, B: Room> Store for Seated<'a, R, S, G, B> {
     ghost use Rattle.seated_store.specs.Seating.{SeatedMoves, SeatedRolls, SameSeat, WasFull};
     ghost use Rattle.seated_store.specs.SeatingLaws.{moves_nowhere, moves_on};
@@ -129,12 +119,19 @@ impl<'a, R: Wait, S: Ledger, G: Ledger, B: Room> Store for Seated<'a, R, S, G, B
     }
 }
 
-impl<'a, R: Wait + Clock, S: Ledger, G: Ledger, B: Room> Desk for Seated<'a, R, S, G, B> {
+impl<'a, R: Wait, S: Ledger, G: Ledger, B: Room> Desk for Seated<'a, R, S, G, B> {
     ghost use Rattle.std.specs.Prelude.{◌≡◌};
     ghost use Rattle.history_core.specs.Histories.{Content, Replays};
+    ghost use Rattle.step_core.specs.States.{is_queued};
     ghost use Rattle.te_snapshot.specs.Left.{all_left};
 
+    ghost queues = { λ _ peer waits. (d : Content) × Replays d × (waits ≡ is_queued d.state peer) };
+
     ghost is_left = { λ _ table. (d : Content) × Replays d × (table ≡ all_left d.state.te.links d.state.base.paths) };
+
+    fn roll_if_full(&mut self) -> Result<Option<u64>, AllocError> {
+        self.shared.roll_if_full(self.rt)
+    }
 
     fn queued(&self, peer: u32) -> bool {
         Seated::queued(self, peer)

@@ -1,2 +1,5 @@
 pub mod Failures
+pub mod Lines
+pub mod Places
 pub mod Peers
+pub mod Settled

@@ -1,5 +1,5 @@
 //! Runs of the rules, whose answers were counted by hand.
-use crate::{Due, Expiry, Owing};
+use crate::{Due, Entrance, Expiry, LineRate, Owing, Settling, Taken, admit};
 use std::alloc::{AllocError, Global};
 use std::test::Fail;
 
@@ -61,5 +61,83 @@ fn an_owed_down_comes_first(rt: HostRuntime) -> Result<(), Fail> {
         what: Owing::Down,
     };
     assert_eq!(rt; due, [Some(down), None, expire(PEER)]);
+    Ok(())
+}
+
+const fn taken(address: u32, is_up: bool) -> Taken {
+    Taken { address, is_up }
+}
+
+/// Whoever comes to four places, of which one session is up.
+fn admitted() -> [Entrance; 4] {
+    let full = [
+        taken(1, true),
+        taken(2, false),
+        taken(3, false),
+        taken(3, false),
+    ];
+    let up = [
+        taken(1, true),
+        taken(2, true),
+        taken(3, true),
+        taken(4, true),
+    ];
+    let told = [taken(1, true), taken(1, false)];
+    [
+        admit(&full, 4, 4),
+        admit(&up, 5, 4),
+        admit(&told, 1, 4),
+        admit(&told, 2, 4),
+    ]
+}
+
+#[test]
+fn places_are_taken(rt: HostRuntime) {
+    let answers = admitted();
+    assert_eq!(rt;
+        answers,
+        [
+            Entrance::InsteadOf(2),
+            Entrance::Refused,
+            Entrance::Refused,
+            Entrance::Free
+        ]
+    );
+}
+
+/// Twelve lines at once, one a second later, and one more.
+fn lines() -> [Option<u64>; 4] {
+    let mut rate = LineRate::new();
+    for _line in 0..10 {
+        let _said = rate.offer(5);
+    }
+    let eleventh = rate.offer(6);
+    let twelfth = rate.offer(1004);
+    [eleventh, twelfth, rate.offer(1005), rate.rest(1005)]
+}
+
+#[test]
+fn lines_are_withheld(rt: HostRuntime) {
+    let answers = lines();
+    assert_eq!(rt; answers, [None, None, Some(2), None]);
+}
+
+/// Two routers are waited for, for ten seconds at most; the one comes in sync twice, then the other.
+fn settled(alloc: Global) -> Result<[bool; 4], AllocError> {
+    let mut settling = Settling::new(alloc, &[1, 2], 10_000)?;
+    settling.in_sync(1);
+    settling.in_sync(1);
+    let by_one = settling.has_settled(9_999);
+    let in_time = settling.has_settled(10_000);
+    settling.in_sync(2);
+    let by_both = settling.has_settled(0);
+    let unnamed = Settling::new(alloc, &[], 10_000)?;
+    Ok([by_one, in_time, by_both, unnamed.has_settled(9_999)])
+}
+
+#[test]
+fn a_server_settles(rt: HostRuntime) -> Result<(), Fail> {
+    let answers = settled(rt.alloc())?;
+    assert_eq!(rt; answers, [false, true, true, false]);
     Ok(())
 }

@@ -1,12 +1,14 @@
 -- Bytes that are written one after the other.
-use Rattle.std.proofs.Common.{◌≡◌, ℕ, ◌+◌, ◌-◌, Bool, true, false, List, [], ◌++◌, length, take, drop, Option, Some, None, sym, ◌∙◌, ap, subst, append_assoc, take-append-drop}
+use Rattle.std.proofs.Common.{◌≡◌, ◌<◌, ℕ, ◌+◌, ◌-◌, Bool, true, false, List, [], ◌++◌, length, take, drop, Option, Some, None, sym, ◌∙◌, ap, subst, append_assoc, take-append-drop, length-append, arith}
+use Rattle.std.specs.Prelude.{◌==◌}
+use Rattle.std.proofs.lemmas.Bool.Decides.{nat_tests}
 use Rattle.std.proofs.lemmas.List.{append-nil, drop-drop, length-drop}
 use Rattle.std.proofs.Math.Seq.{take-add, take-append-add, take-append_seam, take-length}
 use Rattle.std.specs.Io.KnownBytes.{Appends, Keeps}
 use Rattle.history_core.specs.declared.fault.Fault.{Fault}
 use Rattle.server_talk.specs.declared.talk.Ended.{Ended}
 use Rattle.server_talk.specs.declared.talk.Ended.TheVariants.{PeerClosed, SessionEnded, ReadFault, WriteFault, StoreFault}
-use Rattle.server_talk.specs.Visits.{TakesSome, Takes, GoesOut}
+use Rattle.server_talk.specs.Visits.{TakesSome, Takes, TakesPart, GoesOut}
 
 pub appends_none : (a : Option (List ℕ)) → Appends a a []
 appends_none None = tt
@@ -29,12 +31,21 @@ pub some_behind : (a b c : Option (List ℕ)) (x y : List ℕ) → Appends a b x
 some_behind a b c x y h k =
     (length x + k.0, subst (λ (bytes : List ℕ). Appends a c bytes) (sym (take-append-add x y k.0)) (appends_on a b c x (take k.0 y) h k.1))
 
+-- a part of the bytes behind others
+pub part_behind : (a b c : Option (List ℕ)) (x y : List ℕ) → Appends a b x → TakesPart b c y → TakesPart a c (x ++ y)
+part_behind a b c x y h k =
+    let few : k.0 < length y = k.1 in (
+      length x + k.0,
+      omega (arith, length-append x y, few),
+      subst (λ (bytes : List ℕ). Appends a c bytes) (sym (take-append-add x y k.0)) (appends_on a b c x (take k.0 y) h k.2),
+    )
+
 pub goes_out_behind : (end : Option Ended) (a b c : Option (List ℕ)) (x y : List ℕ) → Appends a b x → GoesOut end b c y → GoesOut end a c (x ++ y)
 goes_out_behind None a b c x y h k = appends_on a b c x y h k
 goes_out_behind (Some PeerClosed) a b c x y h k = appends_on a b c x y h k
 goes_out_behind (Some SessionEnded) a b c x y h k = appends_on a b c x y h k
 goes_out_behind (Some ReadFault) a b c x y h k = appends_on a b c x y h k
-goes_out_behind (Some WriteFault) a b c x y h k = some_behind a b c x y h k
+goes_out_behind (Some WriteFault) a b c x y h k = part_behind a b c x y h k
 goes_out_behind (Some (StoreFault fault)) a b c x y h k = some_behind a b c x y h k
 
 -- all of the bytes are some of them
@@ -47,13 +58,26 @@ out_at_fault None a b x fault h = all_are_some a b x h
 out_at_fault (Some PeerClosed) a b x fault h = all_are_some a b x h
 out_at_fault (Some SessionEnded) a b x fault h = all_are_some a b x h
 out_at_fault (Some ReadFault) a b x fault h = all_are_some a b x h
-out_at_fault (Some WriteFault) a b x fault h = h
+out_at_fault (Some WriteFault) a b x fault h = (h.0, h.2)
 out_at_fault (Some (StoreFault other)) a b x fault h = h
 
 -- some more of the bytes
 pub some_more : (a b c : Option (List ℕ)) (bytes rest : List ℕ) (n k : ℕ) → rest ≡ drop n bytes → Appends a b (take n bytes) → Appends b c (take k rest) → Appends a c (take (n + k) bytes)
 some_more a b c bytes rest n k is h e =
     subst (λ (x : List ℕ). Appends a c x) (sym (take-add n k bytes)) (appends_on a b c (take n bytes) (take k (drop n bytes)) h (subst (λ (l : List ℕ). Appends b c (take k l)) is e))
+
+pub not_none : (n : ℕ) → false ≡ (n == 0) → 0 < n
+not_none n h = grind (arith, nat_tests)
+
+-- a rest that isn't empty begins before the end
+pub few_so_far : (bytes rest : List ℕ) (n : ℕ) → rest ≡ drop n bytes → 0 < length rest → n < length bytes
+few_so_far bytes rest n is some =
+    let left : length rest ≡ length bytes - n = ap length is ∙ length-drop n bytes in
+    omega (arith, left, some)
+
+-- a write that failed leaves what was taken, which isn't all
+pub kept_part : (a b c : Option (List ℕ)) (bytes rest : List ℕ) (n : ℕ) → rest ≡ drop n bytes → Appends a b (take n bytes) → 0 < length rest → Keeps b c → TakesPart a c bytes
+kept_part a b c bytes rest n is h some kept = (n, few_so_far bytes rest n is some, appends_kept a b c (take n bytes) h kept)
 
 -- the rest of the bytes behind these
 pub rest_on : (bytes rest : List ℕ) (n k : ℕ) → rest ≡ drop n bytes → take (length rest - k) (drop k rest) ≡ drop (n + k) bytes

@@ -1,88 +1,137 @@
 -- An operator, line by line.
-use Rattle.std.proofs.Common.{◌≡◌, ◌≢◌, inl, inr, ℕ, ◌+◌, ◌-◌, ◌^◌, ◌<◌, ◌≤◌, min, ℤ, Bool, true, false, List, [], ◌∷◌, ◌++◌, length, codes, Option, Result, Ok, Err, refl, sym, ◌∙◌, ap, subst, append_assoc, append-nil, take}
+use Rattle.std.proofs.Common.{◌≡◌, ◌≢◌, inl, inr, ℕ, ◌+◌, ◌-◌, ◌^◌, ◌<◌, ◌≤◌, min, ℤ, Bool, true, false, List, [], ◌∷◌, ◌++◌, length, codes, string_bytes, Option, Some, None, IsSome, Result, Ok, Err, refl, sym, ◌∙◌, ap, subst, append_assoc, append-nil, take, drop, get_or, take-append-drop, drop-cons, add-one, arith}
+use Rattle.std.proofs.lemmas.List.{length_push, take_more}
 use Rattle.std.proofs.lemmas.List.Elements.{All-nil, All-append, All-push}
 use Rattle.std.proofs.KnownBytes.{Consumes-trans}
-use Rattle.std.specs.Io.KnownBytes.{Consumes, IsAtEnd, Keeps}
+use Rattle.std.specs.Io.KnownBytes.{Consumes, IsAtEnd}
+use Rattle.std.specs.declared.io.ErrorKind.{ErrorKind}
 use Rattle.history_core.specs.Faults.{fault_text}
 use Rattle.history_core.specs.declared.fault.Fault.TheVariants.{OutOfMemory, HistoryFull}
+use Rattle.step_core.specs.declared.event.Event.{Event}
+use Rattle.step_core.specs.declared.event.Event.TheVariants as event
+use Rattle.step_core.specs.declared.reload.LinkReload.{LinkReload}
 use Rattle.engine_core.specs.Calls.{called}
 use Rattle.engine_core.specs.declared.store.Call.{Call}
-use Rattle.script_lines.specs.Texts.{reply_text}
+use Rattle.script_lines.specs.Answered.{Replied, NotTaken}
+use Rattle.script_lines.specs.Book.{table_text}
+use Rattle.script_lines.specs.Lines.{Cut, cut, lines_of}
 use Rattle.script_lines.specs.declared.fault.CommandFault.{CommandFault}
 use Rattle.script_lines.specs.declared.fault.CommandFault.TheVariants.{BadLine, Store}
-use Rattle.server_talk.specs.declared.operator.Pending.{Pending}
-use Rattle.server_talk.specs.Book.{table_text}
-use Rattle.server_talk.specs.Goings.{Goes}
+use Rattle.script_lines.proofs.Cutting.{break_cut, byte_cut, front_of, ended_lines, unended_lines}
+use Rattle.server_talk.specs.declared.commands.Answer.{Answer}
+use Rattle.server_talk.specs.declared.commands.Answer.TheVariants as answers
+use Rattle.server_talk.specs.declared.operator.OperatorEnd.{OperatorEnd}
+use Rattle.server_talk.specs.declared.operator.OperatorEnd.TheVariants.{InputEnded, EndAsked, RunEnding, ReadFault, WriteFault}
+use Rattle.server_talk.specs.declared.pending.Pending.{Pending}
+use Rattle.server_talk.specs.declared.plan.PlanFault.{PlanFault}
+use Rattle.server_talk.specs.declared.requests.Request.TheVariants.{Book, End, Reload, Submit}
+use Rattle.server_talk.specs.Goings.{Goes, ways}
 use Rattle.server_talk.specs.Goings.Goes.{Stays, Moves, Empties, Rolls}
-use Rattle.server_talk.specs.Listening.{Obeys, said_of, Answered, Told, IsKept, SoFar, Stopped, Finished}
-use Rattle.server_talk.specs.Operators.{is_operators, line_limit, book_line, bad_line, number_behind, IsAnswered, Listens, AreOperators, AreLines, Operated}
-use Rattle.server_talk.specs.Operators.IsAnswered.{Obeyed, Shown, Refused, Failed}
+use Rattle.server_talk.specs.Listening.{said_of, Comes, Answered, Answers, Told, TakesLine, IsKept, SoFar, StopsAt, Stopped, HearsOn, Turns}
+use Rattle.server_talk.specs.Operators.{bad_line, unread_line, number_behind, AreOperators, IsAnswered, Listens, is_out, FailsAs, IsOver, Operated}
+use Rattle.server_talk.specs.Operators.IsAnswered.{Obeyed, Shown, Reloaded, Unread, Refused, Starved, StillFull}
 use Rattle.server_talk.specs.Operators.Listens.{Begins, Hears, Waits}
-use Rattle.server_talk.specs.Operators.AreCut.{Broken, Unbroken}
+use Rattle.server_talk.specs.Requests.{is_operators, request_of}
 use Rattle.server_talk.specs.Visits.{Takes}
-use Rattle.server_talk.proofs.Flowing.{appends_none, takes_behind, takes_kept, all_are_some}
-use Rattle.server_talk.proofs.Going.{goes_nowhere}
-use Rattle.server_talk.proofs.Lines.{no_lines, longer_rest, ended_line, empty_line, next_number}
+use Rattle.server_talk.proofs.Flowing.{appends_none, takes_behind}
+use Rattle.server_talk.proofs.Requesting.{operators_alone}
 
 abbrev IsOperators : Call → Type 0
 IsOperators call = is_operators call.event ≡ true
 
-module _ {S : Type 0} (moves : S → List Call → S → Type 0) (same_but_calls : S → S → Type 0) (rolls : S → ℕ → S → Type 0) (is_full : S → Type 0) (is_left : S → List (List ℤ) → Type 0) where
-  abbrev Heard : S → List (List ℕ) → List Call → List ℕ → S → Type 0
-  Heard start lines calls said now = Listens moves same_but_calls rolls is_full is_left start lines calls said now
+-- the next line has the next number
+next_number : (number : ℕ) (lines : List (List ℕ)) (line : List ℕ) → number ≡ number_behind lines → min (number + 1) (2 ^ 64 - 1) ≡ number_behind (lines ++ line ∷ [])
+next_number number lines line is = let more = length_push lines line in omega arith
 
-  abbrev Answers : S → List (List ℕ) → List ℕ → S → Type 0
-  Answers start lines said now = Answered moves same_but_calls rolls is_full is_left start lines said now
+-- the bytes of a piece up to one, that one, and those behind it
+pub whole_piece : (heard piece : List ℕ) (i : ℕ) → i < length piece → ((heard ++ take i piece) ++ get_or piece i 0 ∷ []) ++ drop (i + 1) piece ≡ heard ++ piece
+whole_piece heard piece i h =
+    let byte = get_or piece i 0 in
+    let rest : take i piece ++ drop i piece ≡ take i piece ++ (byte ∷ drop (i + 1) piece) = rw (add-one, drop-cons piece i 0) in
+    append_assoc (heard ++ take i piece) (byte ∷ []) (drop (i + 1) piece) ∙ append_assoc heard (take i piece) (byte ∷ drop (i + 1) piece)
+    ∙ ap (λ (all : List ℕ). heard ++ all) (sym rest ∙ take-append-drop i piece)
+
+-- and the bytes up to one, with that one
+pub longer_front : (heard piece : List ℕ) (i : ℕ) → i < length piece → (heard ++ take i piece) ++ get_or piece i 0 ∷ [] ≡ heard ++ take (i + 1) piece
+longer_front heard piece i h = append_assoc heard (take i piece) (get_or piece i 0 ∷ []) ∙ ap (λ (front : List ℕ). heard ++ front) (sym (take_more piece i 0 h))
+
+module _ {S : Type 0} (moves : S → List Call → S → Type 0) (same_but_calls : S → S → Type 0) (rolls : S → ℕ → S → Type 0) (is_full : S → Type 0) (is_left : S → List (List ℤ) → Type 0) (reads : Result (List LinkReload) PlanFault → Type 0) where
+  abbrev Heard : S → List (List ℕ) → List Call → List ℕ → S → Type 0
+  Heard start lines calls said now = Listens moves same_but_calls rolls is_full is_left reads start lines calls said now
+
+  abbrev IsDone : ℕ → List ℕ → S → List Call → List ℕ → S → Type 0
+  IsDone number line old made text new = IsAnswered moves rolls is_full is_left reads number line old made text new
+
+  abbrev Came : Result Answer CommandFault → ℕ → List ℕ → S → S → Type 0
+  Came r number line old new = Comes moves same_but_calls rolls is_full is_left reads r number line old new
+
+  abbrev Stands : S → List (List ℕ) → List ℕ → S → Type 0
+  Stands start lines said now = Answered moves same_but_calls rolls is_full is_left reads start lines said now
+
+  abbrev Answering : Result Answer CommandFault → S → List (List ℕ) → List ℕ → List ℕ → S → Type 0
+  Answering r start lines said line now = Answers moves same_but_calls rolls is_full is_left reads r start lines said line now
 
   abbrev Tells : S → List (List ℕ) → Option (List ℕ) → Bool → S → Option (List ℕ) → Type 0
-  Tells start lines blank is_out now written = Told moves same_but_calls rolls is_full is_left start lines blank is_out now written
+  Tells start lines blank goes_out now written = Told moves same_but_calls rolls is_full is_left reads start lines blank goes_out now written
 
-  abbrev Stands : S → Option (List ℕ) → List ℕ → Pending → S → Option (List ℕ) → Type 0
-  Stands start blank heard pending now written = SoFar moves same_but_calls rolls is_full is_left start blank heard pending now written
+  abbrev Line : Option OperatorEnd → S → List (List ℕ) → Option (List ℕ) → List ℕ → S → Option (List ℕ) → Type 0
+  Line end start lines blank line now written = TakesLine moves same_but_calls rolls is_full is_left reads end start lines blank line now written
 
-  abbrev Stops : S → Option (List ℕ) → List ℕ → S → Option (List ℕ) → Type 0
-  Stops start blank heard now written = Stopped moves same_but_calls rolls is_full is_left start blank heard now written
+  abbrev Keeps : S → Option (List ℕ) → List ℕ → Pending → S → Option (List ℕ) → Type 0
+  Keeps start blank heard pending now written = SoFar moves same_but_calls rolls is_full is_left reads start blank heard pending now written
 
-  abbrev Finishes : S → Option (List ℕ) → List ℕ → Bool → S → Option (List ℕ) → Type 0
-  Finishes start blank heard is_out now written = Finished moves same_but_calls rolls is_full is_left start blank heard is_out now written
+  abbrev Stops : OperatorEnd → S → Option (List ℕ) → List ℕ → S → Option (List ℕ) → Type 0
+  Stops end start blank heard now written = Stopped moves same_but_calls rolls is_full is_left reads end start blank heard now written
 
-  abbrev Ends : S → Option (List ℕ) → Option (List ℕ) → Bool → Type 0 → S → Option (List ℕ) → Option (List ℕ) → Type 0
-  Ends start unread blank is_well may_close now left written = Operated moves same_but_calls rolls is_full is_left start unread blank is_well may_close now left written
+  abbrev Hearing : Option OperatorEnd → S → Option (List ℕ) → List ℕ → Pending → S → Option (List ℕ) → Type 0
+  Hearing end start blank heard pending now written = HearsOn moves same_but_calls rolls is_full is_left reads end start blank heard pending now written
 
-  -- any calls that lead to the one store lead to the other
-  abbrev GoesOn : S → S → Type 0
-  GoesOn a b = (first : S) (calls : List Call) → Goes moves same_but_calls rolls first calls a → Goes moves same_but_calls rolls first calls b
+  abbrev Ends : S → Option (List ℕ) → Option (List ℕ) → OperatorEnd → Type 0 → S → Option (List ℕ) → Option (List ℕ) → Type 0
+  Ends start unread blank end may_close now left written = Operated moves same_but_calls rolls is_full is_left reads start unread blank end may_close now left written
+
+  abbrev Goings : S → List Call → S → Type 0
+  Goings start calls now = Goes (ways moves same_but_calls is_full rolls) start calls now
 
   -- ---- the calls of all lines
 
   -- a store that went on from where another way had come to
-  goes_behind : (start a b : S) (first more : List Call) → Goes moves same_but_calls rolls start first a → Goes moves same_but_calls rolls a more b → Goes moves same_but_calls rolls start (first ++ more) b
-  goes_behind start a b first more went Stays = subst (λ (all : List Call). Goes moves same_but_calls rolls start all a) (sym (append-nil first)) went
+  goes_behind : (start a b : S) (first more : List Call) → Goings start first a → Goings a more b → Goings start (first ++ more) b
+  goes_behind start a b first more went Stays = subst (λ (all : List Call). Goings start all a) (sym (append-nil first)) went
   goes_behind start a b first more went (Moves before made c d way h) =
-      subst (λ (all : List Call). Goes moves same_but_calls rolls start all d) (append_assoc first before made) (Moves (first ++ before) made c d (goes_behind start a c first before went way) h)
+      subst (λ (all : List Call). Goings start all d) (append_assoc first before made) (Moves (first ++ before) made c d (goes_behind start a c first before went way) h)
   goes_behind start a b first more went (Empties before c d way h) = Empties (first ++ before) c d (goes_behind start a c first before went way) h
-  goes_behind start a b first more went (Rolls before steps c d way h) = Rolls (first ++ before) steps c d (goes_behind start a c first before went way) h
+  goes_behind start a b first more went (Rolls before steps c d way full h) = Rolls (first ++ before) steps c d (goes_behind start a c first before went way) full h
+
+  -- a full history took nothing and was rolled
+  rolled : (steps : ℕ) (a b c : S) → moves a [] b → is_full b → rolls b steps c → Goings a [] c
+  rolled steps a b c h full k = Rolls [] steps b c (Moves [] [] a b Stays h) full k
 
   -- by a line's call the store goes on
-  answer_goes : (number : ℕ) (line : List ℕ) (a b : S) (made : List Call) (text : List ℕ) → IsAnswered moves is_full is_left number line a made text b → Goes moves same_but_calls rolls a made b
-  answer_goes number line a b made text (Obeyed event reply new short names h) = Moves [] (called event reply ∷ []) a new Stays h
-  answer_goes number line a b made text (Shown table is left) = Stays
-  answer_goes number line a b made text (Refused other bad) = Stays
-  answer_goes number line a b made text (Failed fault asks may) = Stays
+  answer_goes : (number : ℕ) (line : List ℕ) (a b : S) (made : List Call) (text : List ℕ) → IsDone number line a made text b → Goings a made b
+  answer_goes number line a b made text (Obeyed of reply new asks h) = Moves [] (called of reply ∷ []) a new Stays h
+  answer_goes number line a b made text (Shown table asks left) = Stays
+  answer_goes number line a b made text (Reloaded links reply new asks given h) = Moves [] (called (event.Reload links) reply ∷ []) a new Stays h
+  answer_goes number line a b made text (Unread fault asks given) = Stays
+  answer_goes number line a b made text (Refused bad) = Stays
+  answer_goes number line a b made text (Starved new asks h) = Moves [] [] a new Stays h
+  answer_goes number line a b made text (StillFull steps c d new asks h full k m again) = Moves [] [] d new (rolled steps a c d h full k) m
 
-  answer_operators : (number : ℕ) (line : List ℕ) (a b : S) (made : List Call) (text : List ℕ) → IsAnswered moves is_full is_left number line a made text b → AreOperators made
-  answer_operators number line a b made text (Obeyed event reply new short names h) = All-push IsOperators [] (called event reply) (All-nil IsOperators) names.2
-  answer_operators number line a b made text (Shown table is left) = All-nil IsOperators
-  answer_operators number line a b made text (Refused other bad) = All-nil IsOperators
-  answer_operators number line a b made text (Failed fault asks may) = All-nil IsOperators
+  answer_operators : (number : ℕ) (line : List ℕ) (a b : S) (made : List Call) (text : List ℕ) → IsDone number line a made text b → AreOperators made
+  answer_operators number line a b made text (Obeyed of reply new asks h) = All-push IsOperators [] (called of reply) (All-nil IsOperators) (operators_alone line of asks)
+  answer_operators number line a b made text (Shown table asks left) = All-nil IsOperators
+  answer_operators number line a b made text (Reloaded links reply new asks given h) = All-push IsOperators [] (called (event.Reload links) reply) (All-nil IsOperators) refl
+  answer_operators number line a b made text (Unread fault asks given) = All-nil IsOperators
+  answer_operators number line a b made text (Refused bad) = All-nil IsOperators
+  answer_operators number line a b made text (Starved new asks h) = All-nil IsOperators
+  answer_operators number line a b made text (StillFull steps c d new asks h full k m again) = All-nil IsOperators
 
   -- by the calls of all lines the store goes on
-  pub listens_goes : (start now : S) (lines : List (List ℕ)) (calls : List Call) (said : List ℕ) → Heard start lines calls said now → Goes moves same_but_calls rolls start calls now
+  pub listens_goes : (start now : S) (lines : List (List ℕ)) (calls : List Call) (said : List ℕ) → Heard start lines calls said now → Goings start calls now
   listens_goes start now lines calls said Begins = Stays
   listens_goes start now lines calls said (Hears before first made told text line a b h answer) =
       goes_behind start a b first made (listens_goes start a before first told h) (answer_goes (number_behind before) line a b made text answer)
   listens_goes start now lines calls said (Waits before first told a b h way) =
-      subst (λ (all : List Call). Goes moves same_but_calls rolls start all b) (append-nil first) (goes_behind start a b first [] (listens_goes start a before first told h) way)
+      subst (λ (all : List Call). Goings start all b) (append-nil first) (goes_behind start a b first [] (listens_goes start a before first told h) way)
 
   -- and each is an operator's event
   pub listens_operators : (start now : S) (lines : List (List ℕ)) (calls : List Call) (said : List ℕ) → Heard start lines calls said now → AreOperators calls
@@ -91,150 +140,194 @@ module _ {S : Type 0} (moves : S → List Call → S → Type 0) (same_but_calls
       All-append IsOperators first made (listens_operators start a before first told h) (answer_operators (number_behind before) line a b made text answer)
   listens_operators start now lines calls said (Waits before first told a b h way) = listens_operators start a before first told h
 
+  -- ---- what a line comes to
+
+  pub came_reply : (number : ℕ) (line : List ℕ) (a b : S) (of : Event) (text : List ℕ) → request_of line ≡ Some (Submit of) → Replied moves of text a b → (calls : List Call) × IsDone number line a calls (text ++ codes "\n") b
+  came_reply number line a b of text asks h = (
+    called of h.0 ∷ [],
+    subst (λ (t : List ℕ). IsDone number line a (called of h.0 ∷ []) (t ++ codes "\n") b) (sym h.2) (Obeyed of h.0 b asks h.1),
+  )
+
+  pub came_table : (number : ℕ) (line : List ℕ) (a : S) (text : List ℕ) (table : List (List ℤ)) → request_of line ≡ Some Book → is_left a table → text ≡ table_text 0 table → (calls : List Call) × IsDone number line a calls text a
+  came_table number line a text table asks left is = ([], subst (λ (t : List ℕ). IsDone number line a [] t a) (sym is) (Shown table asks left))
+
+  pub came_starved : (number : ℕ) (line : List ℕ) (a b : S) → IsSome (request_of line) → moves a [] b → Came (Err (Store OutOfMemory)) number line a b
+  came_starved number line a b asks h = ([], Starved b asks h)
+
+  pub came_reloaded : (number : ℕ) (line : List ℕ) (a b : S) (links : List LinkReload) (text : List ℕ) → request_of line ≡ Some Reload → reads (Ok links) → Replied moves (event.Reload links) text a b → (calls : List Call) × IsDone number line a calls (text ++ codes "\n") b
+  came_reloaded number line a b links text asks given h = (
+    called (event.Reload links) h.0 ∷ [],
+    subst (λ (t : List ℕ). IsDone number line a (called (event.Reload links) h.0 ∷ []) (t ++ codes "\n") b) (sym h.2) (Reloaded links h.0 b asks given h.1),
+  )
+
+  pub came_unread : (number : ℕ) (line : List ℕ) (a : S) (fault : PlanFault) → request_of line ≡ Some Reload → reads (Err fault) → (calls : List Call) × IsDone number line a calls (unread_line fault) a
+  came_unread number line a fault asks given = ([], Unread fault asks given)
+
+  pub came_fault : (fault : CommandFault) (number : ℕ) (line : List ℕ) (a b : S) → IsSome (request_of line) → NotTaken moves is_full fault a b → Came (Err fault) number line a b
+  came_fault BadLine number line a b asks h = absurd h
+  came_fault (Store OutOfMemory) number line a b asks h = came_starved number line a b asks h
+  came_fault (Store HistoryFull) number line a b asks h = (asks, h.0, h.1)
+
+  -- the history was full
+  pub was_full : (r : Result Answer CommandFault) (number : ℕ) (line : List ℕ) (a b : S) → r ≡ Err (Store HistoryFull) → Came r number line a b → Came (Err (Store HistoryFull)) number line a b
+  was_full r number line a b is h = subst (λ (answer : Result Answer CommandFault). Came answer number line a b) is h
+
   -- ---- what a line leads to
 
   -- the store went on without a call
-  pub waited : (start a b : S) (lines : List (List ℕ)) (said : List ℕ) → GoesOn a b → Answers start lines said a → Answers start lines said b
-  waited start a b lines said on s = record {
-    calls = s.calls;
-    listens = Waits lines s.calls said a b s.listens (on a [] Stays);
-  }
+  pub waited : (start a b : S) (lines : List (List ℕ)) (said : List ℕ) → Goings a [] b → Stands start lines said a → Stands start lines said b
+  waited start a b lines said went s = record { calls = s.calls; listens = Waits lines s.calls said a b s.listens went }
 
-  -- nothing was done
-  idle : (start a : S) (lines : List (List ℕ)) (said text line : List ℕ) → IsAnswered moves is_full is_left (number_behind lines) line a [] text a → Answers start lines said a → Answers start (lines ++ line ∷ []) (said ++ text) a
-  idle start a lines said text line answer s = record {
-    calls = s.calls ++ [];
-    listens = Hears lines s.calls [] said text line a a s.listens answer;
-  }
+  -- one line more
+  heard_line : (start a b : S) (lines : List (List ℕ)) (said text line : List ℕ) (made : List Call) → IsDone (number_behind lines) line a made text b → Stands start lines said a → Stands start (lines ++ line ∷ []) (said ++ text) b
+  heard_line start a b lines said text line made done s = record { calls = s.calls ++ made; listens = Hears lines s.calls made said text line a b s.listens done }
 
-  -- a line that isn't too long was obeyed, or why it wasn't is said
-  pub obeyed : {X : Type 0} (view : X → List ℕ) (r : Result X CommandFault) (start a b : S) (lines : List (List ℕ)) (said line : List ℕ) → length line ≤ line_limit → line ≢ book_line → Obeys view moves is_full r line a b
-      → Answers start lines said a → Answers start (lines ++ line ∷ []) (said ++ said_of view (number_behind lines) r) b
-  obeyed view (Ok text) start a b lines said line short other h s =
-      let made : List Call = called h.0 h.1 ∷ [] in
-      let says : reply_text h.1 ++ codes "\n" ≡ view text ++ codes "\n" = ap (λ (t : List ℕ). t ++ codes "\n") (sym h.4) in
-      record {
-        calls = s.calls ++ made;
-        listens = subst (λ (t : List ℕ). Heard start (lines ++ line ∷ []) (s.calls ++ made) (said ++ t) b) says
-            (Hears lines s.calls made said (reply_text h.1 ++ codes "\n") line a b s.listens (Obeyed h.0 h.1 b short h.2 h.3));
-      }
-  obeyed view (Err BadLine) start a b lines said line short other h s =
-      idle start b lines said (bad_line (number_behind lines)) line (Refused other (inr h.1))
-      (waited start a b lines said (λ first calls went. goes_nowhere moves same_but_calls rolls first a b calls h.0 went) s)
-  obeyed view (Err (Store fault)) start a b lines said line short other h s =
-      idle start b lines said (fault_text fault ++ codes "\n") line (Failed fault (inr (short, h.2)) h.1)
-      (waited start a b lines said (λ first calls went. goes_nowhere moves same_but_calls rolls first a b calls h.0 went) s)
+  -- it came to its answer at once
+  pub answered_at_once : (r : Result Answer CommandFault) (start a b : S) (lines : List (List ℕ)) (said line : List ℕ) → r ≢ Err (Store HistoryFull) → Came r (number_behind lines) line a b → Stands start lines said a → Answering r start lines said line b
+  answered_at_once (Ok (answers.Reply text)) start a b lines said line other h s = heard_line start a b lines said (string_bytes text ++ codes "\n") line h.0 h.1 s
+  answered_at_once (Ok (answers.Table text)) start a b lines said line other h s = heard_line start a b lines said (string_bytes text) line h.0 h.1 s
+  answered_at_once (Ok (answers.Unread fault)) start a b lines said line other h s = heard_line start a b lines said (unread_line fault) line h.0 h.1 s
+  answered_at_once (Ok answers.End) start a b lines said line other h s = (h.0, subst (λ (now : S). Stands start lines said now) (sym h.1) s)
+  answered_at_once (Err BadLine) start a b lines said line other h s = heard_line start a b lines said (bad_line (number_behind lines)) line h.0 h.1 s
+  answered_at_once (Err (Store OutOfMemory)) start a b lines said line other h s = heard_line start a b lines said (fault_text OutOfMemory ++ codes "\n") line h.0 h.1 s
+  answered_at_once (Err (Store HistoryFull)) start a b lines said line other h s = absurd (other refl)
 
-  -- a full history took nothing
-  took_nothing : {X : Type 0} (view : X → List ℕ) (r : Result X CommandFault) (a b : S) (line : List ℕ) → r ≡ Err (Store HistoryFull) → Obeys view moves is_full r line a b → moves a [] b
-  took_nothing view (Ok text) a b line full h = cc
-  took_nothing view (Err BadLine) a b line full h = h.0
-  took_nothing view (Err (Store fault)) a b line full h = h.0
+  abbrev Full : ℕ → List ℕ → S → S → Type 0
+  Full number line a b = Came (Err (Store HistoryFull)) number line a b
 
-  -- it was rolled, and the line was obeyed once more
-  pub obeyed_again : {X : Type 0} (view : X → List ℕ) (first r : Result X CommandFault) (start a b c d : S) (lines : List (List ℕ)) (said line : List ℕ) → first ≡ Err (Store HistoryFull) → Obeys view moves is_full first line a b → GoesOn b c
-      → length line ≤ line_limit → line ≢ book_line → Obeys view moves is_full r line c d → Answers start lines said a → Answers start (lines ++ line ∷ []) (said ++ said_of view (number_behind lines) r) d
-  obeyed_again view first r start a b c d lines said line full h on short other k s =
-      let nothing = took_nothing view first a b line full h in
-      obeyed view r start c d lines said line short other k (waited start a c lines said (λ from calls went. on from calls (goes_nowhere moves same_but_calls rolls from a b calls nothing went)) s)
+  -- the history was full, and was rolled
+  pub answered_after_roll : (r : Result Answer CommandFault) (steps : ℕ) (start a b c d : S) (lines : List (List ℕ)) (said line : List ℕ) → Full (number_behind lines) line a b → rolls b steps c → Came r (number_behind lines) line c d
+      → Stands start lines said a → Answering r start lines said line d
+  answered_after_roll (Ok answer) steps start a b c d lines said line full k h s =
+      answered_at_once (Ok answer) start c d lines said line (λ e. cc) h (waited start a c lines said (rolled steps a b c full.1 full.2 k) s)
+  answered_after_roll (Err BadLine) steps start a b c d lines said line full k h s =
+      answered_at_once (Err BadLine) start c d lines said line (λ e. cc) h (waited start a c lines said (rolled steps a b c full.1 full.2 k) s)
+  answered_after_roll (Err (Store OutOfMemory)) steps start a b c d lines said line full k h s =
+      answered_at_once (Err (Store OutOfMemory)) start c d lines said line (λ e. cc) h (waited start a c lines said (rolled steps a b c full.1 full.2 k) s)
+  answered_after_roll (Err (Store HistoryFull)) steps start a b c d lines said line full k h s =
+      heard_line start a d lines said (fault_text HistoryFull ++ codes "\n") line [] (StillFull steps b c d full.0 full.1 full.2 k h.1 h.2) s
 
-  -- a line is too long
-  pub refused_long : (start a : S) (lines : List (List ℕ)) (said line : List ℕ) → line_limit < length line → line ≢ book_line
-      → Answers start lines said a → Answers start (lines ++ line ∷ []) (said ++ bad_line (number_behind lines)) a
-  refused_long start a lines said line long other s = idle start a lines said (bad_line (number_behind lines)) line (Refused other (inl long)) s
-
-  -- the book was shown, or memory was refused to it
-  pub shown : (start a : S) (lines : List (List ℕ)) (said text : List ℕ) (table : List (List ℤ)) → is_left a table → text ≡ table_text 0 table
-      → Answers start lines said a → Answers start (lines ++ book_line ∷ []) (said ++ text) a
-  shown start a lines said text table left is s =
-      subst (λ (t : List ℕ). Answers start (lines ++ book_line ∷ []) (said ++ t) a) (sym is) (idle start a lines said (table_text 0 table) book_line (Shown table refl left) s)
-
-  pub not_shown : (start a : S) (lines : List (List ℕ)) (said : List ℕ) → Answers start lines said a → Answers start (lines ++ book_line ∷ []) (said ++ (fault_text OutOfMemory ++ codes "\n")) a
-  not_shown start a lines said s = idle start a lines said (fault_text OutOfMemory ++ codes "\n") book_line (Failed OutOfMemory (inl refl) tt) s
+  -- and memory was refused to that
+  pub answered_starved : (start a b c : S) (lines : List (List ℕ)) (said line : List ℕ) → Full (number_behind lines) line a b → moves b [] c → Stands start lines said a → Answering (Err (Store OutOfMemory)) start lines said line c
+  answered_starved start a b c lines said line full k s =
+      heard_line start b c lines said (fault_text OutOfMemory ++ codes "\n") line [] (Starved c full.0 k) (waited start a b lines said (Moves [] [] a b Stays full.1) s)
 
   -- ---- what is written
 
-  -- it was written what a line was answered
-  pub told_on : (start a b : S) (lines more : List (List ℕ)) (blank old new : Option (List ℕ)) (is_out : Bool) (text : List ℕ) → ((said : List ℕ) → Answers start lines said a → Answers start more (said ++ text) b)
-      → Takes is_out old new text → Tells start lines blank true a old → Tells start more blank is_out b new
-  told_on start a b lines more blank old new is_out text answer out t = record {
-    said = t.said ++ text;
-    answered = answer t.said t.answered;
-    out = takes_behind is_out blank old new t.said text t.out out;
-  }
+  -- the line was answered, and that was written
+  pub said_of_line : (r : Result Answer CommandFault) (goes_out : Bool) (start now : S) (lines : List (List ℕ)) (blank old new : Option (List ℕ)) (said line : List ℕ) → r ≢ Ok answers.End → Answering r start lines said line now → Takes true blank old said
+      → Takes goes_out old new (said_of (number_behind lines) r) → Tells start (lines ++ line ∷ []) blank goes_out now new
+  said_of_line (Ok (answers.Reply text)) goes_out start now lines blank old new said line other a was out = record { said = said ++ said_of (number_behind lines) (Ok (answers.Reply text)); answered = a; out = takes_behind goes_out blank old new said (said_of (number_behind lines) (Ok (answers.Reply text))) was out }
+  said_of_line (Ok (answers.Table text)) goes_out start now lines blank old new said line other a was out = record { said = said ++ said_of (number_behind lines) (Ok (answers.Table text)); answered = a; out = takes_behind goes_out blank old new said (said_of (number_behind lines) (Ok (answers.Table text))) was out }
+  said_of_line (Ok (answers.Unread fault)) goes_out start now lines blank old new said line other a was out = record { said = said ++ said_of (number_behind lines) (Ok (answers.Unread fault)); answered = a; out = takes_behind goes_out blank old new said (said_of (number_behind lines) (Ok (answers.Unread fault))) was out }
+  said_of_line (Ok answers.End) goes_out start now lines blank old new said line other a was out = absurd (other refl)
+  said_of_line (Err BadLine) goes_out start now lines blank old new said line other a was out = record { said = said ++ said_of (number_behind lines) (Err BadLine); answered = a; out = takes_behind goes_out blank old new said (said_of (number_behind lines) (Err BadLine)) was out }
+  said_of_line (Err (Store fault)) goes_out start now lines blank old new said line other a was out = record { said = said ++ said_of (number_behind lines) (Err (Store fault)); answered = a; out = takes_behind goes_out blank old new said (said_of (number_behind lines) (Err (Store fault))) was out }
 
-  -- what was written was handed on, or that failed
-  pub handed_on : (start now : S) (lines : List (List ℕ)) (blank old new : Option (List ℕ)) (is_out : Bool) → Keeps old new → Tells start lines blank true now old → Tells start lines blank is_out now new
-  handed_on start now lines blank old new is_out keeps t = record {
-    said = t.said;
-    answered = t.answered;
-    out = takes_kept is_out blank old new t.said t.out keeps;
-  }
+  -- the line asks for the end
+  pub end_of_line : (r : Result Answer CommandFault) (start now : S) (lines : List (List ℕ)) (blank old : Option (List ℕ)) (said line : List ℕ) → r ≡ Ok answers.End → Answering r start lines said line now → Takes true blank old said
+      → (request_of line ≡ Some End) × Tells start lines blank true now old
+  end_of_line (Ok answers.End) start now lines blank old said line is a was = (a.0, record { said = said; answered = a.1; out = was })
+  end_of_line (Ok (answers.Reply text)) start now lines blank old said line is a was = cc
+  end_of_line (Ok (answers.Table text)) start now lines blank old said line is a was = cc
+  end_of_line (Ok (answers.Unread fault)) start now lines blank old said line is a was = cc
+  end_of_line (Err fault) start now lines blank old said line is a was = cc
+
+  -- the store's list was emptied
+  pub answer_emptied : (r : Result Answer CommandFault) (start a b : S) (lines : List (List ℕ)) (said line : List ℕ) → same_but_calls a b → Answering r start lines said line a → Answering r start lines said line b
+  answer_emptied (Ok (answers.Reply text)) start a b lines said line h s = waited start a b (lines ++ line ∷ []) (said ++ said_of (number_behind lines) (Ok (answers.Reply text))) (Empties [] a b Stays h) s
+  answer_emptied (Ok (answers.Table text)) start a b lines said line h s = waited start a b (lines ++ line ∷ []) (said ++ said_of (number_behind lines) (Ok (answers.Table text))) (Empties [] a b Stays h) s
+  answer_emptied (Ok (answers.Unread fault)) start a b lines said line h s = waited start a b (lines ++ line ∷ []) (said ++ said_of (number_behind lines) (Ok (answers.Unread fault))) (Empties [] a b Stays h) s
+  answer_emptied (Ok answers.End) start a b lines said line h s = (s.0, waited start a b lines said (Empties [] a b Stays h) s.1)
+  answer_emptied (Err BadLine) start a b lines said line h s = waited start a b (lines ++ line ∷ []) (said ++ said_of (number_behind lines) (Err BadLine)) (Empties [] a b Stays h) s
+  answer_emptied (Err (Store fault)) start a b lines said line h s = waited start a b (lines ++ line ∷ []) (said ++ said_of (number_behind lines) (Err (Store fault))) (Empties [] a b Stays h) s
+
+  -- both of a line that was answered, and of one that asks for the end
+  pub line_taken : (r : Result Answer CommandFault) (goes_out : Bool) (number : ℕ) (start now a b : S) (lines : List (List ℕ)) (blank old new : Option (List ℕ)) (line : List ℕ) → r ≢ Ok answers.End → number ≡ number_behind lines
+      → ((said : List ℕ) → Stands start lines said now → Answering r start lines said line a) → same_but_calls a b → Takes goes_out old new (said_of number r) → Tells start lines blank true now old → Tells start (lines ++ line ∷ []) blank goes_out b new
+  line_taken r goes_out number start now a b lines blank old new line other counted answer same out t =
+      said_of_line r goes_out start b lines blank old new t.said line other (answer_emptied r start a b lines t.said line same (answer t.said t.answered)) t.out
+      (subst (λ (n : ℕ). Takes goes_out old new (said_of n r)) counted out)
+
+  pub end_taken : (r : Result Answer CommandFault) (start now a b : S) (lines : List (List ℕ)) (blank old : Option (List ℕ)) (line : List ℕ) → r ≡ Ok answers.End
+      → ((said : List ℕ) → Stands start lines said now → Answering r start lines said line a) → same_but_calls a b → Tells start lines blank true now old → (request_of line ≡ Some End) × Tells start lines blank true b old
+  end_taken r start now a b lines blank old line is answer same t =
+      end_of_line r start b lines blank old t.said line is (answer_emptied r start a b lines t.said line same (answer t.said t.answered)) t.out
 
   -- ---- byte by byte
 
   -- nothing was heard yet
-  pub begun : (start : S) (blank : Option (List ℕ)) (pending : Pending) → IsKept pending [] → pending.number ≡ 1 → Stands start blank [] pending start blank
+  pub begun : (start : S) (blank : Option (List ℕ)) (pending : Pending) → IsKept pending [] → pending.number ≡ 1 → Keeps start blank [] pending start blank
   begun start blank pending kept first = record {
-    lines = [];
-    rest = [];
-    told = record {
-      said = [];
-      answered = record { calls = []; listens = Begins };
-      out = appends_none blank;
-    };
-    cut = no_lines;
-    one_line = empty_line;
+    told = record { said = []; answered = record { calls = []; listens = Begins }; out = appends_none blank };
     kept = kept;
     number = first;
   }
 
-  -- a line break, and the line before it was answered
-  pub line_answered : (start a b : S) (blank old new : Option (List ℕ)) (heard : List ℕ) (byte : ℕ) (pending next : Pending) → byte ≡ 10 → next.number ≡ min (pending.number + 1) (2 ^ 64 - 1) → ((line : List ℕ) → IsKept pending line → IsKept next [])
-      → (s : Stands start blank heard pending a old) → Tells start (s.lines ++ s.rest ∷ []) blank true b new → Stands start blank (heard ++ byte ∷ []) next b new
-  line_answered start a b blank old new heard byte pending next ends counted keeps s t = record {
-    lines = s.lines ++ s.rest ∷ [];
-    rest = [];
-    told = t;
-    cut = subst (λ (last : ℕ). AreLines (heard ++ last ∷ []) (s.lines ++ s.rest ∷ []) []) (sym ends) (ended_line heard s.lines s.rest s.cut s.one_line);
-    one_line = empty_line;
-    kept = keeps s.rest s.kept;
-    number = counted ∙ next_number pending.number s.lines s.rest s.number;
-  }
+  -- a byte of a line
+  pub byte_heard : (start now : S) (blank written : Option (List ℕ)) (heard : List ℕ) (byte : ℕ) (pending next : Pending) → byte ≢ 10 → next.number ≡ pending.number → ((line : List ℕ) → IsKept pending line → IsKept next (line ++ byte ∷ []))
+      → Keeps start blank heard pending now written → Keeps start blank (heard ++ byte ∷ []) next now written
+  byte_heard start now blank written heard byte pending next other same keeps s =
+      let more = byte_cut heard byte other in
+      record {
+        told = subst (λ (c : Cut). Tells start c.0 blank true now written) (sym more) s.told;
+        kept = subst (λ (c : Cut). IsKept next c.1) (sym more) (keeps (cut heard).1 s.kept);
+        number = same ∙ subst (λ (c : Cut). pending.number ≡ number_behind c.0) (sym more) s.number;
+      }
 
-  -- the same, but the writer failed
-  pub stopped_at : (start a b : S) (blank old new : Option (List ℕ)) (heard : List ℕ) (byte : ℕ) (pending : Pending) → byte ≡ 10 → (s : Stands start blank heard pending a old) → Tells start (s.lines ++ s.rest ∷ []) blank false b new
-      → Stops start blank (heard ++ byte ∷ []) b new
-  stopped_at start a b blank old new heard byte pending ends s t = record {
-    lines = s.lines ++ s.rest ∷ [];
-    rest = [];
-    told = t;
-    cut = subst (λ (last : ℕ). AreLines (heard ++ last ∷ []) (s.lines ++ s.rest ∷ []) []) (sym ends) (ended_line heard s.lines s.rest s.cut s.one_line);
-  }
+  -- a line break, and the line before it was answered
+  pub break_heard : (start now : S) (blank written : Option (List ℕ)) (heard : List ℕ) (byte : ℕ) (pending next : Pending) → byte ≡ 10 → next.number ≡ min (pending.number + 1) (2 ^ 64 - 1) → ((line : List ℕ) → IsKept pending line → IsKept next [])
+      → IsKept pending (cut heard).1 → pending.number ≡ number_behind (cut heard).0 → Tells start ((cut heard).0 ++ (cut heard).1 ∷ []) blank true now written → Keeps start blank (heard ++ byte ∷ []) next now written
+  break_heard start now blank written heard byte pending next ends counted keeps kept number t =
+      let more = break_cut heard byte ends in
+      record {
+        told = subst (λ (c : Cut). Tells start c.0 blank true now written) (sym more) t;
+        kept = subst (λ (c : Cut). IsKept next c.1) (sym more) (keeps (cut heard).1 kept);
+        number = subst (λ (c : Cut). next.number ≡ number_behind c.0) (sym more) (counted ∙ next_number pending.number (cut heard).0 (cut heard).1 number);
+      }
+
+  -- the line before it is the last that is heard
+  pub break_stops : (end : OperatorEnd) (start now : S) (blank written : Option (List ℕ)) (heard : List ℕ) (byte : ℕ) → byte ≡ 10 → Line (Some end) start (cut heard).0 blank (cut heard).1 now written → Stops end start blank (heard ++ byte ∷ []) now written
+  break_stops EndAsked start now blank written heard byte ends t =
+      let f = front_of heard in
+      record {
+        front = f.front;
+        rest = (cut heard).1 ++ byte ∷ [];
+        whole = ap (λ (all : List ℕ). all ++ byte ∷ []) f.whole ∙ append_assoc f.front (cut heard).1 (byte ∷ []);
+        ended = ap (λ (c : Cut). c.1) f.ended;
+        told = subst (λ (c : Cut). Tells start c.0 blank true now written) (sym f.ended) t.1;
+        cause = ((cut heard).1, t.0, [], ap (λ (last : ℕ). (cut heard).1 ++ last ∷ []) ends);
+      }
+  break_stops WriteFault start now blank written heard byte ends t =
+      let more = break_cut heard byte ends in
+      record {
+        front = heard ++ byte ∷ [];
+        rest = [];
+        whole = sym (append-nil (heard ++ byte ∷ []));
+        ended = ap (λ (c : Cut). c.1) more;
+        told = subst (λ (c : Cut). Tells start c.0 blank false now written) (sym more) t;
+        cause = tt;
+      }
+  break_stops InputEnded start now blank written heard byte ends t = absurd t
+  break_stops RunEnding start now blank written heard byte ends t = absurd t
+  break_stops ReadFault start now blank written heard byte ends t = absurd t
+
+  stops_at_more : (end : OperatorEnd) (rest more : List ℕ) → StopsAt moves same_but_calls rolls is_full is_left reads end rest → StopsAt moves same_but_calls rolls is_full is_left reads end (rest ++ more)
+  stops_at_more EndAsked rest more h = (h.0, h.1, h.2 ++ more, ap (λ (all : List ℕ). all ++ more) h.3 ∙ append_assoc h.0 (10 ∷ h.2) more)
+  stops_at_more WriteFault rest more h = tt
+  stops_at_more InputEnded rest more h = absurd h
+  stops_at_more RunEnding rest more h = absurd h
+  stops_at_more ReadFault rest more h = absurd h
 
   -- more bytes were read, which are not looked at
-  pub stopped_before : (start now : S) (blank written : Option (List ℕ)) (heard more : List ℕ) → Stops start blank heard now written → Stops start blank (heard ++ more) now written
-  stopped_before start now blank written heard more s = record {
-    lines = s.lines;
+  pub stopped_before : (end : OperatorEnd) (start now : S) (blank written : Option (List ℕ)) (heard more : List ℕ) → Stops end start blank heard now written → Stops end start blank (heard ++ more) now written
+  stopped_before end start now blank written heard more s = record {
+    front = s.front;
     rest = s.rest ++ more;
+    whole = ap (λ (all : List ℕ). all ++ more) s.whole ∙ append_assoc s.front s.rest more;
+    ended = s.ended;
     told = s.told;
-    cut = longer_rest heard s.lines s.rest more s.cut;
-  }
-
-  -- the last line was answered
-  pub last_answered : (start a b : S) (blank old new : Option (List ℕ)) (heard : List ℕ) (pending : Pending) (is_out : Bool) → (s : Stands start blank heard pending a old) → s.rest ≢ [] → Tells start (s.lines ++ s.rest ∷ []) blank is_out b new → Finishes start blank heard is_out b new
-  last_answered start a b blank old new heard pending is_out s some t = record {
-    lines = s.lines ++ s.rest ∷ [];
-    told = t;
-    cut = Unbroken s.lines s.rest s.cut s.one_line some;
-  }
-
-  -- there is none
-  pub none_left : (start now : S) (blank written : Option (List ℕ)) (heard : List ℕ) (pending : Pending) → (s : Stands start blank heard pending now written) → s.rest ≡ [] → Finishes start blank heard true now written
-  none_left start now blank written heard pending s none = record {
-    lines = s.lines;
-    told = s.told;
-    cut = Broken s.lines [] (subst (λ (rest : List ℕ). AreLines heard s.lines rest) none s.cut);
+    cause = stops_at_more end s.rest more s.cause;
   }
 
   -- ---- the end
@@ -244,78 +337,115 @@ module _ {S : Type 0} (moves : S → List Call → S → Type 0) (same_but_calls
   consumed_none a b c heard buffer count none h k =
       subst (λ (bytes : List ℕ). Consumes a c bytes) (ap (λ (n : ℕ). heard ++ take n buffer) none ∙ append-nil heard) (Consumes-trans a b c heard (take count buffer) h k)
 
-  -- the reader has ended, and so has its last line
-  pub ended_well : (start now : S) (unread blank left written : Option (List ℕ)) (may_close : Type 0) (heard : List ℕ) → Consumes unread left heard → IsAtEnd left → Finishes start blank heard true now written → Ends start unread blank true may_close now left written
-  ended_well start now unread blank left written may_close heard read at_end f = record {
-    heard = heard;
-    lines = f.lines;
-    rest = [];
-    calls = f.told.answered.calls;
-    said = f.told.said;
-    read = read;
-    cut = f.cut;
-    listens = f.told.answered.listens;
-    out = f.told.out;
-    over = inl (at_end, refl);
-  }
+  cause_over : (end : OperatorEnd) (may_close : Type 0) (left : Option (List ℕ)) (rest : List ℕ) → StopsAt moves same_but_calls rolls is_full is_left reads end rest → IsOver end may_close left rest
+  cause_over EndAsked may_close left rest h = (h.0, h.1, inl (h.2, h.3))
+  cause_over WriteFault may_close left rest h = tt
+  cause_over InputEnded may_close left rest h = absurd h
+  cause_over RunEnding may_close left rest h = absurd h
+  cause_over ReadFault may_close left rest h = absurd h
 
-  -- the writer failed at the last line
-  pub ended_badly : (start now : S) (unread blank left written : Option (List ℕ)) (may_close : Type 0) (heard : List ℕ) → Consumes unread left heard → Finishes start blank heard false now written → Ends start unread blank false may_close now left written
-  ended_badly start now unread blank left written may_close heard read f = record {
-    heard = heard;
-    lines = f.lines;
-    rest = [];
-    calls = f.told.answered.calls;
-    said = f.told.said;
-    read = read;
-    cut = f.cut;
-    listens = f.told.answered.listens;
-    out = f.told.out;
-    over = tt;
-  }
-
-  -- or at one before
-  pub broke_off : (start now : S) (unread blank left written : Option (List ℕ)) (may_close : Type 0) (heard : List ℕ) → Consumes unread left heard → Stops start blank heard now written → Ends start unread blank false may_close now left written
-  broke_off start now unread blank left written may_close heard read s = record {
-    heard = heard;
-    lines = s.lines;
+  -- a line was the last that is heard
+  pub stopped : (end : OperatorEnd) (start now : S) (unread blank left written : Option (List ℕ)) (may_close : Type 0) (heard : List ℕ) → Consumes unread left heard → Stops end start blank heard now written → Ends start unread blank end may_close now left written
+  stopped end start now unread blank left written may_close heard read s = record {
+    front = s.front;
     rest = s.rest;
     calls = s.told.answered.calls;
     said = s.told.said;
-    read = read;
-    cut = Broken s.lines s.rest s.cut;
-    listens = s.told.answered.listens;
+    read = subst (λ (all : List ℕ). Consumes unread left all) s.whole read;
+    whole = inl s.ended;
+    listens = subst (λ (lines : List (List ℕ)). Heard start lines s.told.answered.calls s.told.said now) (sym (ended_lines s.front s.ended)) s.told.answered.listens;
     out = s.told.out;
-    over = tt;
+    over = cause_over end may_close left s.rest s.cause;
   }
 
-  -- the reader failed
-  pub read_failed : (start now : S) (unread blank left written : Option (List ℕ)) (may_close : Type 0) (heard : List ℕ) (pending : Pending) → Consumes unread left heard → Stands start blank heard pending now written → Ends start unread blank false may_close now left written
-  read_failed start now unread blank left written may_close heard pending read s = record {
-    heard = heard;
-    lines = s.lines;
-    rest = s.rest;
-    calls = s.told.answered.calls;
-    said = s.told.said;
-    read = read;
-    cut = Broken s.lines s.rest s.cut;
-    listens = s.told.answered.listens;
-    out = all_are_some blank written s.told.said s.told.out;
-    over = tt;
+  -- what is behind the last line break is left, and more that was read
+  pub left_there : (end : OperatorEnd) (start now : S) (unread blank left written : Option (List ℕ)) (may_close : Type 0) (heard more : List ℕ) (pending : Pending) → is_out end ≡ true → Consumes unread left (heard ++ more) → ((rest : List ℕ) → IsOver end may_close left rest)
+      → Keeps start blank heard pending now written → Ends start unread blank end may_close now left written
+  left_there end start now unread blank left written may_close heard more pending out read over s =
+      let f = front_of heard in
+      let ended : (cut f.front).1 ≡ [] = ap (λ (c : Cut). c.1) f.ended in
+      let lines : (cut heard).0 ≡ lines_of f.front = sym (ended_lines f.front ended ∙ ap (λ (c : Cut). c.0) f.ended) in
+      record {
+        front = f.front;
+        rest = (cut heard).1 ++ more;
+        calls = s.told.answered.calls;
+        said = s.told.said;
+        read = subst (λ (all : List ℕ). Consumes unread left all) (ap (λ (all : List ℕ). all ++ more) f.whole ∙ append_assoc f.front (cut heard).1 more) read;
+        whole = inl ended;
+        listens = subst (λ (lines : List (List ℕ)). Heard start lines s.told.answered.calls s.told.said now) lines s.told.answered.listens;
+        out = subst (λ (goes_out : Bool). Takes goes_out blank written s.told.said) (sym out) s.told.out;
+        over = over ((cut heard).1 ++ more);
+      }
+
+  -- a read failed
+  pub failed : (r : Option OperatorEnd) (kind : ErrorKind) (start now : S) (unread blank left written : Option (List ℕ)) (may_close : Type 0) (heard : List ℕ) (pending : Pending) → FailsAs r kind may_close → Consumes unread left heard
+      → Keeps start blank heard pending now written → Turns moves same_but_calls rolls is_full is_left reads r start unread blank may_close pending now left written
+  failed None kind start now unread blank left written may_close heard pending why read s = (heard, read, s)
+  failed (Some ReadFault) kind start now unread blank left written may_close heard pending why read s =
+      left_there ReadFault start now unread blank left written may_close heard [] pending refl (subst (λ (all : List ℕ). Consumes unread left all) (sym (append-nil heard)) read) (λ rest. tt) s
+  failed (Some RunEnding) kind start now unread blank left written may_close heard pending why read s =
+      left_there RunEnding start now unread blank left written may_close heard [] pending refl (subst (λ (all : List ℕ). Consumes unread left all) (sym (append-nil heard)) read) (λ rest. why) s
+  failed (Some InputEnded) kind start now unread blank left written may_close heard pending why read s = absurd why
+  failed (Some EndAsked) kind start now unread blank left written may_close heard pending why read s = absurd why
+  failed (Some WriteFault) kind start now unread blank left written may_close heard pending why read s = absurd why
+
+  -- bytes were taken up to the end, or all of them
+  pub taken : (r : Option OperatorEnd) (start now : S) (unread blank left written : Option (List ℕ)) (may_close : Type 0) (heard : List ℕ) (pending : Pending) → Consumes unread left heard → Hearing r start blank heard pending now written
+      → Turns moves same_but_calls rolls is_full is_left reads r start unread blank may_close pending now left written
+  taken None start now unread blank left written may_close heard pending read s = (heard, read, s)
+  taken (Some end) start now unread blank left written may_close heard pending read s = stopped end start now unread blank left written may_close heard read s
+
+  -- all lines of what the reader gave are answered
+  all_lines : (end : OperatorEnd) (start now : S) (unread blank left written : Option (List ℕ)) (may_close : Type 0) (heard : List ℕ) → Consumes unread left heard → IsAtEnd left → IsOver end may_close left [] → Tells start (lines_of heard) blank (is_out end) now written
+      → Ends start unread blank end may_close now left written
+  all_lines end start now unread blank left written may_close heard read at_end over t = record {
+    front = heard;
+    rest = [];
+    calls = t.answered.calls;
+    said = t.said;
+    read = subst (λ (all : List ℕ). Consumes unread left all) (sym (append-nil heard)) read;
+    whole = inr (at_end, refl);
+    listens = t.answered.listens;
+    out = t.out;
+    over = over;
   }
 
-  -- the run is to end, and the bytes that came last are left
-  pub closed : (start now : S) (unread blank left after written : Option (List ℕ)) (may_close : Type 0) (heard more : List ℕ) (pending : Pending) → Consumes unread left heard → Consumes left after more → may_close → Stands start blank heard pending now written
-      → Ends start unread blank true may_close now after written
-  closed start now unread blank left after written may_close heard more pending read gave may s = record {
-    heard = heard ++ more;
-    lines = s.lines;
-    rest = s.rest ++ more;
-    calls = s.told.answered.calls;
-    said = s.told.said;
-    read = Consumes-trans unread left after heard more read gave;
-    cut = Broken s.lines (s.rest ++ more) (longer_rest heard s.lines s.rest more s.cut);
-    listens = s.told.answered.listens;
-    out = s.told.out;
-    over = inr may;
-  }
+  -- no line is left behind the last line break
+  pub none_left : (start now : S) (unread blank left written : Option (List ℕ)) (may_close : Type 0) (heard : List ℕ) (pending : Pending) → Consumes unread left heard → IsAtEnd left → (cut heard).1 ≡ [] → Keeps start blank heard pending now written
+      → Ends start unread blank InputEnded may_close now left written
+  none_left start now unread blank left written may_close heard pending read at_end none s =
+      all_lines InputEnded start now unread blank left written may_close heard read at_end (at_end, refl) (subst (λ (lines : List (List ℕ)). Tells start lines blank true now written) (sym (ended_lines heard none)) s.told)
+
+  -- or it is answered too
+  pub last_answered : (start now : S) (unread blank left written : Option (List ℕ)) (may_close : Type 0) (heard : List ℕ) → Consumes unread left heard → IsAtEnd left → (cut heard).1 ≢ [] → Line None start (cut heard).0 blank (cut heard).1 now written
+      → Ends start unread blank InputEnded may_close now left written
+  last_answered start now unread blank left written may_close heard read at_end some t =
+      all_lines InputEnded start now unread blank left written may_close heard read at_end (at_end, refl) (subst (λ (lines : List (List ℕ)). Tells start lines blank true now written) (sym (unended_lines heard some)) t)
+
+  pub last_stops : (end : OperatorEnd) (start now : S) (unread blank left written : Option (List ℕ)) (may_close : Type 0) (heard : List ℕ) → Consumes unread left heard → IsAtEnd left → (cut heard).1 ≢ [] → Line (Some end) start (cut heard).0 blank (cut heard).1 now written
+      → Ends start unread blank end may_close now left written
+  last_stops EndAsked start now unread blank left written may_close heard read at_end some t =
+      let f = front_of heard in
+      let ended : (cut f.front).1 ≡ [] = ap (λ (c : Cut). c.1) f.ended in
+      let lines : (cut heard).0 ≡ lines_of f.front = sym (ended_lines f.front ended ∙ ap (λ (c : Cut). c.0) f.ended) in
+      record {
+        front = f.front;
+        rest = (cut heard).1;
+        calls = t.1.answered.calls;
+        said = t.1.said;
+        read = subst (λ (all : List ℕ). Consumes unread left all) f.whole read;
+        whole = inl ended;
+        listens = subst (λ (lines : List (List ℕ)). Heard start lines t.1.answered.calls t.1.said now) lines t.1.answered.listens;
+        out = t.1.out;
+        over = ((cut heard).1, t.0, inr (at_end, refl));
+      }
+  last_stops WriteFault start now unread blank left written may_close heard read at_end some t =
+      all_lines WriteFault start now unread blank left written may_close heard read at_end tt (subst (λ (lines : List (List ℕ)). Tells start lines blank false now written) (sym (unended_lines heard some)) t)
+  last_stops InputEnded start now unread blank left written may_close heard read at_end some t = absurd t
+  last_stops RunEnding start now unread blank left written may_close heard read at_end some t = absurd t
+  last_stops ReadFault start now unread blank left written may_close heard read at_end some t = absurd t
+
+  -- the calls of an operator that ended
+  pub calls_of : (start now : S) (unread blank left written : Option (List ℕ)) (end : OperatorEnd) (may_close : Type 0) → Ends start unread blank end may_close now left written → (calls : List Call) × AreOperators calls × Goings start calls now
+  calls_of start now unread blank left written end may_close o =
+      (o.calls, listens_operators start now (lines_of o.front) o.calls o.said o.listens, listens_goes start now (lines_of o.front) o.calls o.said o.listens)

@@ -16,26 +16,26 @@ use Rattle.engine_core.specs.declared.client.Client.{Client}
 use Rattle.engine_core.specs.declared.store.Call.{Call}
 use Rattle.server_talk.specs.declared.talk.Ended.{Ended}
 use Rattle.server_talk.specs.declared.talk.Ended.TheVariants.{PeerClosed, SessionEnded, ReadFault, WriteFault, StoreFault}
-use Rattle.server_talk.specs.Goings.{Goes}
+use Rattle.server_talk.specs.Goings.{Goes, Ways}
 use Rattle.server_talk.specs.Goings.Goes.{Stays, Moves}
-use Rattle.server_talk.specs.Visits.{Talks, SoFar, GoesOut, IsToldOf, spoken, IsDown, owes_down, Lasts, Visited}
+use Rattle.server_talk.specs.Visits.{Talks, SoFar, GoesOut, IsToldOf, IsUnexplained, spoken, IsDown, owes_down, Lasts, Visited}
 use Rattle.server_talk.specs.Visits.Talks.{Begins, Serves, Breaks, Says, Closes}
 use Rattle.server_talk.proofs.Flowing.{appends_none, goes_out_behind, out_at_fault}
 use Rattle.server_talk.proofs.Leaving.{joined_on, is_down}
 
 -- a store that goes on by any calls up to one goes on by them up to the other
-abbrev pub LeadsOn : {S : Type 0} → (S → List Call → S → Type 0) → (S → S → Type 0) → (S → ℕ → S → Type 0) → S → S → S → Type 0
-LeadsOn moves same_but_calls rolls start a b = (calls : List Call) → Goes moves same_but_calls rolls start calls a → Goes moves same_but_calls rolls start calls b
+abbrev pub LeadsOn : {S : Type 0} → Ways S → S → S → S → Type 0
+LeadsOn w start a b = (calls : List Call) → Goes w start calls a → Goes w start calls b
 
 -- it begins
-pub begun : {S : Type 0} (moves : S → List Call → S → Type 0) (same_but_calls : S → S → Type 0) (rolls : S → ℕ → S → Type 0) (peer : ℕ) (store : S) (unread blank : Option (List ℕ)) (now_ms : ℕ) (c : Client)
-    → c ≡ new_client now_ms → SoFar moves same_but_calls rolls peer store unread blank None store unread blank c
-begun moves same_but_calls rolls peer store unread blank now_ms c is =
-    subst (λ (w : Client). SoFar moves same_but_calls rolls peer store unread blank None store unread blank w) (sym is) (record {
+pub begun : {S : Type 0} (w : Ways S) (tells : ℕ → Type 0) (may_close : Type 0) (peer : ℕ) (store : S) (unread blank : Option (List ℕ)) (now_ms : ℕ) (c : Client)
+    → c ≡ new_client now_ms → tells now_ms → SoFar w tells may_close peer store unread blank None store unread blank c
+begun w tells may_close peer store unread blank now_ms c is told =
+    subst (λ (k : Client). SoFar w tells may_close peer store unread blank None store unread blank k) (sym is) (record {
       heard = [];
       said = [];
       calls = [];
-      talks = Begins now_ms;
+      talks = Begins now_ms told;
       joined = refl;
       goes = Stays;
       read = Consumes-nil unread;
@@ -44,28 +44,28 @@ begun moves same_but_calls rolls peer store unread blank now_ms c is =
     })
 
 -- bytes were served
-pub heeded : {X S : Type 0} (moves : S → List Call → S → Type 0) (is_full : S → Type 0) (same_but_calls : S → S → Type 0) (rolls : S → ℕ → S → Type 0) (r : Result X Fault) (peer : ℕ) (start old mid new : S) (unread blank left read written : Option (List ℕ)) (piece : List ℕ) (now_ms : ℕ) (c d : Client)
-    → ServesOrEnds r moves is_full old mid c d (served peer piece now_ms c) → LeadsOn moves same_but_calls rolls start mid new
-    → SoFar moves same_but_calls rolls peer start unread blank None old left written c → Consumes left read piece
-    → SoFar moves same_but_calls rolls peer start unread blank None new read written d
-heeded moves is_full same_but_calls rolls (Ok x) peer start old mid new unread blank left read written piece now_ms c d h on s k = record {
+pub heeded : {X S : Type 0} (w : Ways S) (tells : ℕ → Type 0) (may_close : Type 0) (r : Result X Fault) (peer : ℕ) (start old mid new : S) (unread blank left read written : Option (List ℕ)) (piece : List ℕ) (now_ms : ℕ) (c d : Client)
+    → tells now_ms → ServesOrEnds r w.moves w.is_full old mid c d (served peer piece now_ms c) → LeadsOn w start mid new
+    → SoFar w tells may_close peer start unread blank None old left written c → Consumes left read piece
+    → SoFar w tells may_close peer start unread blank None new read written d
+heeded w tells may_close (Ok x) peer start old mid new unread blank left read written piece now_ms c d told h on s k = record {
   heard = s.heard ++ piece;
   said = s.said;
   calls = s.calls ++ h.calls;
-  talks = Serves s.heard s.said piece s.calls h.calls now_ms c d s.talks h.leads;
+  talks = Serves s.heard s.said piece s.calls h.calls now_ms c d told s.talks h.leads;
   joined = h.joined ∙ ap (λ (is : Bool). joined_after is h.calls) s.joined ∙ sym (joined_on false s.calls h.calls);
   goes = on (s.calls ++ h.calls) (Moves s.calls h.calls old mid s.goes h.made);
   read = Consumes-trans unread left read s.heard piece s.read k;
   out = s.out;
   told = tt;
 }
-heeded moves is_full same_but_calls rolls (Err fault) peer start old mid new unread blank left read written piece now_ms c d h on s k =
+heeded w tells may_close (Err fault) peer start old mid new unread blank left read written piece now_ms c d told h on s k =
     let b = h.broke_off.carried in
-    subst (λ (w : Client). SoFar moves same_but_calls rolls peer start unread blank None new read written w) (sym h.ended) (record {
+    subst (λ (k : Client). SoFar w tells may_close peer start unread blank None new read written k) (sym h.ended) (record {
       heard = s.heard ++ piece;
       said = s.said;
       calls = s.calls ++ b.calls;
-      talks = Breaks s.heard s.said piece s.calls b.calls now_ms c h.reached h.broke_off.rest s.talks b.leads;
+      talks = Breaks s.heard s.said piece s.calls b.calls now_ms c h.reached h.broke_off.rest told s.talks b.leads;
       joined = b.joined ∙ ap (λ (is : Bool). joined_after is b.calls) s.joined ∙ sym (joined_on false s.calls b.calls);
       goes = on (s.calls ++ b.calls) (Moves s.calls b.calls old mid s.goes b.made);
       read = Consumes-trans unread left read s.heard piece s.read k;
@@ -74,15 +74,15 @@ heeded moves is_full same_but_calls rolls (Err fault) peer start old mid new unr
     })
 
 -- what there was to say was said
-pub said : {S : Type 0} (moves : S → List Call → S → Type 0) (same_but_calls : S → S → Type 0) (rolls : S → ℕ → S → Type 0) (peer : ℕ) (start now : S) (unread blank left written after : Option (List ℕ)) (end : Option Ended) (c d : Client)
+pub said : {S : Type 0} (w : Ways S) (tells : ℕ → Type 0) (may_close : Type 0) (peer : ℕ) (start now : S) (unread blank left written after : Option (List ℕ)) (end : Option Ended) (c d : Client)
     → d ≡ spoken c → GoesOut end written after c.session.output → IsToldOf end left d
-    → SoFar moves same_but_calls rolls peer start unread blank None now left written c → SoFar moves same_but_calls rolls peer start unread blank end now left after d
-said moves same_but_calls rolls peer start now unread blank left written after end c d is out told s = record {
+    → SoFar w tells may_close peer start unread blank None now left written c → SoFar w tells may_close peer start unread blank end now left after d
+said w tells may_close peer start now unread blank left written after end c d is out told s = record {
   heard = s.heard;
   said = s.said ++ c.session.output;
   calls = s.calls;
-  talks = subst (λ (w : Client). Talks peer s.heard s.calls (s.said ++ c.session.output) w) (sym is) (Says s.heard s.said s.calls c s.talks);
-  joined = ap (λ (w : Client). w.joined) is ∙ s.joined;
+  talks = subst (λ (k : Client). Talks tells may_close peer s.heard s.calls (s.said ++ c.session.output) k) (sym is) (Says s.heard s.said s.calls c s.talks);
+  joined = ap (λ (k : Client). k.joined) is ∙ s.joined;
   goes = s.goes;
   read = s.read;
   out = goes_out_behind end blank written after s.said c.session.output s.out out;
@@ -90,15 +90,15 @@ said moves same_but_calls rolls peer start now unread blank left written after e
 }
 
 -- the session was closed from this side
-pub closed : {S : Type 0} (moves : S → List Call → S → Type 0) (same_but_calls : S → S → Type 0) (rolls : S → ℕ → S → Type 0) (peer : ℕ) (start now : S) (unread blank left written : Option (List ℕ)) (c d : Client)
-    → (reason : Option ℕ) × (d ≡ ending None reason c)
-    → SoFar moves same_but_calls rolls peer start unread blank None now left written c → SoFar moves same_but_calls rolls peer start unread blank None now left written d
-closed moves same_but_calls rolls peer start now unread blank left written c d h s = record {
+pub closed : {S : Type 0} (w : Ways S) (tells : ℕ → Type 0) (may_close : Type 0) (peer : ℕ) (start now : S) (unread blank left written : Option (List ℕ)) (c d : Client)
+    → may_close → (reason : Option ℕ) × IsUnexplained reason × (d ≡ ending None reason c)
+    → SoFar w tells may_close peer start unread blank None now left written c → SoFar w tells may_close peer start unread blank None now left written d
+closed w tells may_close peer start now unread blank left written c d may h s = record {
   heard = s.heard;
   said = s.said;
   calls = s.calls;
-  talks = subst (λ (w : Client). Talks peer s.heard s.calls s.said w) (sym h.1) (Closes s.heard s.said s.calls c h.0 s.talks);
-  joined = ap (λ (w : Client). w.joined) h.1 ∙ s.joined;
+  talks = subst (λ (k : Client). Talks tells may_close peer s.heard s.calls s.said k) (sym h.2) (Closes s.heard s.said s.calls c h.0 may h.1 s.talks);
+  joined = ap (λ (k : Client). k.joined) h.2 ∙ s.joined;
   goes = s.goes;
   read = s.read;
   out = s.out;
@@ -121,11 +121,11 @@ lasts_at WriteFault listed peer joined new last here h k = (h, k)
 lasts_at (StoreFault fault) listed peer joined new last here h k = cc
 
 -- a visit is over, and its Down was submitted where its peer was joined
-pub over : {S : Type 0} (listed : S → List Call) (moves : S → List Call → S → Type 0) (same_but_calls : S → S → Type 0) (rolls : S → ℕ → S → Type 0) (peer : ℕ) (start mid new : S) (unread blank left written : Option (List ℕ)) (ended : Ended) (c : Client)
-    → (s : SoFar moves same_but_calls rolls peer start unread blank (Some ended) mid left written c) → c.session.output ≡ []
-    → (last : List Call) × IsDown peer c.joined last × Goes moves same_but_calls rolls start (s.calls ++ last) new × (listed new ≡ last)
-    → Visited listed moves same_but_calls rolls peer start unread blank ended new left written
-over listed moves same_but_calls rolls peer start mid new unread blank left written ended c s silent h =
+pub over : {S : Type 0} (w : Ways S) (tells : ℕ → Type 0) (may_close : Type 0) (listed : S → List Call) (peer : ℕ) (start mid new : S) (unread blank left written : Option (List ℕ)) (ended : Ended) (c : Client)
+    → (s : SoFar w tells may_close peer start unread blank (Some ended) mid left written c) → c.session.output ≡ []
+    → (last : List Call) × IsDown peer c.joined last × Goes w start (s.calls ++ last) new × (listed new ≡ last)
+    → Visited w tells may_close listed peer start unread blank ended new left written
+over w tells may_close listed peer start mid new unread blank left written ended c s silent h =
     let down : IsDown peer (joined_after false s.calls) h.0 = subst (λ (is : Bool). IsDown peer is h.0) s.joined h.1 in
     record {
       heard = s.heard;
@@ -144,11 +144,11 @@ over listed moves same_but_calls rolls peer start mid new unread blank left writ
     }
 
 -- a visit is over, and its peer is left joined
-pub left_joined : {S : Type 0} (listed : S → List Call) (moves : S → List Call → S → Type 0) (same_but_calls : S → S → Type 0) (rolls : S → ℕ → S → Type 0) (peer : ℕ) (start mid new : S) (unread blank left written : Option (List ℕ)) (ended : Ended) (fault : Fault) (c : Client)
-    → (s : SoFar moves same_but_calls rolls peer start unread blank (Some ended) mid left written c) → c.session.output ≡ []
-    → (c.joined ≡ true) × Goes moves same_but_calls rolls start s.calls new
-    → Visited listed moves same_but_calls rolls peer start unread blank (StoreFault fault) new left written
-left_joined listed moves same_but_calls rolls peer start mid new unread blank left written ended fault c s silent h = record {
+pub left_joined : {S : Type 0} (w : Ways S) (tells : ℕ → Type 0) (may_close : Type 0) (listed : S → List Call) (peer : ℕ) (start mid new : S) (unread blank left written : Option (List ℕ)) (ended : Ended) (fault : Fault) (c : Client)
+    → (s : SoFar w tells may_close peer start unread blank (Some ended) mid left written c) → c.session.output ≡ []
+    → (c.joined ≡ true) × Goes w start s.calls new
+    → Visited w tells may_close listed peer start unread blank (StoreFault fault) new left written
+left_joined w tells may_close listed peer start mid new unread blank left written ended fault c s silent h = record {
   heard = s.heard;
   said = s.said;
   calls = s.calls;
@@ -156,7 +156,7 @@ left_joined listed moves same_but_calls rolls peer start mid new unread blank le
   client = c;
   talks = s.talks;
   silent = silent;
-  goes = subst (λ (all : List Call). Goes moves same_but_calls rolls start all new) (sym (append-nil s.calls)) h.1;
+  goes = subst (λ (all : List Call). Goes w start all new) (sym (append-nil s.calls)) h.1;
   down = joined_on false s.calls [] ∙ sym s.joined ∙ h.0;
   lasts = refl;
   read = s.read;

@@ -2,10 +2,21 @@
 use Rattle.std.specs.Prelude.{ℕ, List, [], ◌++◌}
 use Rattle.engine_core.specs.declared.store.Call.{Call}
 
--- From its start a store goes on: calls are made, its list is emptied, its history is rolled. All calls that were made
--- stand here, in their order, though the list of the store lost them.
-pub data Goes {S : Type 0} (moves : S → List Call → S → Type 0) (same_but_calls : S → S → Type 0) (rolls : S → ℕ → S → Type 0) (start : S) : List Call → S → Type 0 where
-  Stays : Goes moves same_but_calls rolls start [] start
-  Moves : (before made : List Call) (a b : S) → Goes moves same_but_calls rolls start before a → moves a made b → Goes moves same_but_calls rolls start (before ++ made) b
-  Empties : (before : List Call) (a b : S) → Goes moves same_but_calls rolls start before a → same_but_calls a b → Goes moves same_but_calls rolls start before b
-  Rolls : (before : List Call) (steps : ℕ) (a b : S) → Goes moves same_but_calls rolls start before a → rolls a steps b → Goes moves same_but_calls rolls start before b
+-- a store by the members of its trait: where calls lead, what stays while its list is emptied, when its history is full,
+-- and what a roll leaves
+pub record Ways (S : Type 0) : Type 1 where
+  pub moves : S → List Call → S → Type 0
+  pub same_but_calls : S → S → Type 0
+  pub is_full : S → Type 0
+  pub rolls : S → ℕ → S → Type 0
+
+abbrev pub ways : {S : Type 0} → (S → List Call → S → Type 0) → (S → S → Type 0) → (S → Type 0) → (S → ℕ → S → Type 0) → Ways S
+ways moves same_but_calls is_full rolls = record { moves = moves; same_but_calls = same_but_calls; is_full = is_full; rolls = rolls }
+
+-- From its start a store goes on: calls are made, its list is emptied, and where its history is full that is rolled. All
+-- calls that were made stand here, in their order, though the list of the store lost them.
+pub data Goes {S : Type 0} (w : Ways S) (start : S) : List Call → S → Type 0 where
+  Stays : Goes w start [] start
+  Moves : (before made : List Call) (a b : S) → Goes w start before a → w.moves a made b → Goes w start (before ++ made) b
+  Empties : (before : List Call) (a b : S) → Goes w start before a → w.same_but_calls a b → Goes w start before b
+  Rolls : (before : List Call) (steps : ℕ) (a b : S) → Goes w start before a → w.is_full a → w.rolls a steps b → Goes w start before b

@@ -1,6 +1,10 @@
 -- What a turn's read gives.
-use Rattle.std.specs.Prelude.{ℕ, ◌≤◌, List, [], length, take, ⊤, Option}
+use Rattle.std.specs.Prelude.{◌≡◌, ℕ, ◌≤◌, ◌-◌, min, Bool, ◌||◌, List, [], length, take, ⊤, Option, None, Some}
+use Rattle.std.specs.declared.io.ErrorKind.{ErrorKind}
+use Rattle.std.specs.declared.io.ErrorKind.TheVariants.{WouldBlock, TimedOut, Interrupted}
 use Rattle.std.specs.Io.KnownBytes.{Consumes, Keeps, IsAtEnd}
+use Rattle.pcep_session.specs.Timers.{is_due_at}
+use Rattle.pcep_session.specs.declared.contents.Contents.{Contents}
 use Rattle.server_talk.specs.declared.talk.Heard.{Heard}
 use Rattle.server_talk.specs.declared.talk.Heard.TheVariants.{Bytes, Nothing, Ended}
 use Rattle.server_talk.specs.declared.talk.Ended.TheVariants.{PeerClosed, ReadFault}
@@ -18,3 +22,29 @@ Hears Nothing old new buffer = Keeps old new
 Hears (Ended PeerClosed) old new buffer = Consumes old new [] × IsAtEnd new
 Hears (Ended ReadFault) old new buffer = Keeps old new
 Hears (Ended end) old new buffer = ⊥
+
+-- the longest wait, in milliseconds
+abbrev pub longest_wait_ms : ℕ
+longest_wait_ms = 10000
+
+-- how long it may be waited for bytes: until the session's next timer is due, and no longer than the longest wait
+abbrev pub wait_until : Option ℕ → ℕ → ℕ
+wait_until None now_ms = longest_wait_ms
+wait_until (Some due_ms) now_ms = min (due_ms - now_ms) longest_wait_ms
+
+-- a read that failed for want of bytes, or that was interrupted, is tried again
+abbrev pub heard_of_fault : ErrorKind → Heard
+heard_of_fault WouldBlock = Nothing
+heard_of_fault TimedOut = Nothing
+heard_of_fault Interrupted = Nothing
+heard_of_fault kind = Ended ReadFault
+
+-- a write that was interrupted took nothing; None: it failed
+abbrev pub taken_of_fault : ErrorKind → Option ℕ
+taken_of_fault Interrupted = Some 0
+taken_of_fault kind = None
+
+-- A session is served though no bytes came where it is told that messages wait for its peer, or a timer is due at a moment
+-- that is told.
+abbrev pub IsDue : (Bool → Type 0) → (ℕ → Type 0) → Contents → Bool → Type 0
+IsDue queues tells c due = (is_queued : Bool) × (now_ms : ℕ) × queues is_queued × tells now_ms × (due ≡ (is_queued || is_due_at now_ms c))

@@ -1,44 +1,26 @@
 -- An operator's lines, step by step.
-use Rattle.std.specs.Prelude.{◌≡◌, ℕ, ◌<◌, ◌≤◌, ℤ, Bool, true, false, List, [], ◌∷◌, ◌++◌, length, codes, vec_capacity, Option, IsSome, Result, Ok, Err}
+use Rattle.std.specs.Prelude.{◌≡◌, ℕ, ◌<◌, ◌≤◌, ℤ, Bool, true, false, List, [], ◌∷◌, ◌++◌, length, codes, string_bytes, vec_capacity, Option, Some, None, IsSome, Result, Ok, Err, ⊤}
 use Rattle.std.specs.Io.KnownBytes.{Consumes}
-use Rattle.step_core.specs.declared.event.Event.{Event}
-use Rattle.step_core.specs.declared.event.Reply.{Reply}
+use Rattle.step_core.specs.declared.reload.LinkReload.{LinkReload}
 use Rattle.history_core.specs.Faults.{fault_text}
-use Rattle.engine_core.specs.Calls.{called}
+use Rattle.history_core.specs.declared.fault.Fault.TheVariants.{HistoryFull}
 use Rattle.engine_core.specs.declared.store.Call.{Call}
-use Rattle.script_lines.specs.Commands.{event_in}
-use Rattle.script_lines.specs.Texts.{reply_text}
+use Rattle.script_lines.specs.Lines.{cut}
 use Rattle.script_lines.specs.declared.fault.CommandFault.{CommandFault}
 use Rattle.script_lines.specs.declared.fault.CommandFault.TheVariants.{BadLine, Store}
-use Rattle.server_talk.specs.declared.operator.Pending.{Pending}
-use Rattle.server_talk.specs.declared.operator.Turn.{Turn}
-use Rattle.server_talk.specs.declared.operator.Turn.TheVariants.{More, Ended, Failed}
-use Rattle.server_talk.specs.Operators.{Names, IsBad, MayFail, bad_line, line_limit, number_behind, Listens, IsOneLine, AreLines, AreCut, Operated}
+use Rattle.server_talk.specs.declared.commands.Answer.{Answer}
+use Rattle.server_talk.specs.declared.commands.Answer.TheVariants as answers
+use Rattle.server_talk.specs.declared.operator.OperatorEnd.{OperatorEnd}
+use Rattle.server_talk.specs.declared.operator.OperatorEnd.TheVariants.{EndAsked, WriteFault}
+use Rattle.server_talk.specs.declared.pending.Pending.{Pending}
+use Rattle.server_talk.specs.declared.plan.PlanFault.{PlanFault}
+use Rattle.server_talk.specs.declared.requests.Request.{Request}
+use Rattle.server_talk.specs.declared.requests.Request.TheVariants.{End}
+use Rattle.server_talk.specs.Operators.{IsAnswered, Listens, Operated, bad_line, is_out, number_behind, unread_line}
+use Rattle.server_talk.specs.Requests.{line_limit, request_of}
 use Rattle.server_talk.specs.Visits.{Takes}
 
--- What a line that is no longer than it may be leaves in a store: the event that it names was submitted, once, and this
--- is the text of its reply; or nothing was.
-abbrev pub Obeys : {X S : Type 0} → (X → List ℕ) → (S → List Call → S → Type 0) → (S → Type 0) → Result X CommandFault → List ℕ → S → S → Type 0
-Obeys view moves is_full (Ok text) line old new = (event : Event) × (reply : Reply) × Names line event × moves old (called event reply ∷ []) new × (view text ≡ reply_text reply)
-Obeys view moves is_full (Err BadLine) line old new = moves old [] new × IsBad line
-Obeys view moves is_full (Err (Store fault)) line old new = moves old [] new × MayFail is_full new fault × IsSome (event_in line)
-
--- what is said of that to the line with this number
-abbrev pub said_of : {X : Type 0} → (X → List ℕ) → ℕ → Result X CommandFault → List ℕ
-said_of view number (Ok text) = view text ++ codes "\n"
-said_of view number (Err BadLine) = bad_line number
-said_of view number (Err (Store fault)) = fault_text fault ++ codes "\n"
-
--- these lines were answered so far, and this is said to them
-pub record Answered {S : Type 0} (moves : S → List Call → S → Type 0) (same_but_calls : S → S → Type 0) (rolls : S → ℕ → S → Type 0) (is_full : S → Type 0) (is_left : S → List (List ℤ) → Type 0) (start : S) (lines : List (List ℕ)) (said : List ℕ) (now : S) : Type 0 where
-  pub calls : List Call
-  pub listens : Listens moves same_but_calls rolls is_full is_left start lines calls said now
-
--- and it went out, or some of it did
-pub record Told {S : Type 0} (moves : S → List Call → S → Type 0) (same_but_calls : S → S → Type 0) (rolls : S → ℕ → S → Type 0) (is_full : S → Type 0) (is_left : S → List (List ℤ) → Type 0) (start : S) (lines : List (List ℕ)) (blank : Option (List ℕ)) (is_out : Bool) (now : S) (written : Option (List ℕ)) : Type 0 where
-  pub said : List ℕ
-  pub answered : Answered moves same_but_calls rolls is_full is_left start lines said now
-  pub out : Takes is_out blank written said
+-- ---- a line that has ended
 
 -- what is kept of a line: its bytes, or that there are too many of them
 abbrev pub AreKept : Bool → List ℕ → List ℕ → Type 0
@@ -50,37 +32,80 @@ pub record IsKept (pending : Pending) (line : List ℕ) : Type 0 where
   pub room : line_limit ≤ vec_capacity pending.bytes
   pub kept : AreKept pending.is_long pending.bytes.items line
 
--- All lines of the bytes that were heard are answered; what is behind the last line break is kept.
-pub record SoFar {S : Type 0} (moves : S → List Call → S → Type 0) (same_but_calls : S → S → Type 0) (rolls : S → ℕ → S → Type 0) (is_full : S → Type 0) (is_left : S → List (List ℤ) → Type 0) (start : S) (blank : Option (List ℕ)) (heard : List ℕ) (pending : Pending) (now : S) (written : Option (List ℕ)) : Type 0 where
-  pub lines : List (List ℕ)
-  pub rest : List ℕ
-  pub told : Told moves same_but_calls rolls is_full is_left start lines blank true now written
-  pub cut : AreLines heard lines rest
-  pub one_line : IsOneLine rest
-  pub kept : IsKept pending rest
-  pub number : pending.number ≡ number_behind lines
+-- what the line asks for; memory is refused only to one that asks for something
+abbrev pub Asks : {E : Type 0} → Result (Option Request) E → Option Request → Type 0
+Asks (Ok request) asked = request ≡ asked
+Asks (Err fault) None = ⊥
+Asks (Err fault) (Some request) = ⊤
 
--- The writer failed at a line, and the rest is not looked at.
-pub record Stopped {S : Type 0} (moves : S → List Call → S → Type 0) (same_but_calls : S → S → Type 0) (rolls : S → ℕ → S → Type 0) (is_full : S → Type 0) (is_left : S → List (List ℤ) → Type 0) (start : S) (blank : Option (List ℕ)) (heard : List ℕ) (now : S) (written : Option (List ℕ)) : Type 0 where
-  pub lines : List (List ℕ)
-  pub rest : List ℕ
-  pub told : Told moves same_but_calls rolls is_full is_left start lines blank false now written
-  pub cut : AreLines heard lines rest
+-- what is said of an answer to the line with this number
+abbrev pub said_of : ℕ → Result Answer CommandFault → List ℕ
+said_of number (Ok (answers.Reply text)) = string_bytes text ++ codes "\n"
+said_of number (Ok (answers.Table text)) = string_bytes text
+said_of number (Ok (answers.Unread fault)) = unread_line fault
+said_of number (Ok answers.End) = []
+said_of number (Err BadLine) = bad_line number
+said_of number (Err (Store fault)) = fault_text fault ++ codes "\n"
 
--- the one or the other, by whether the writer took all
-abbrev pub HearsOn : {S : Type 0} → Bool → (S → List Call → S → Type 0) → (S → S → Type 0) → (S → ℕ → S → Type 0) → (S → Type 0) → (S → List (List ℤ) → Type 0) → S → Option (List ℕ) → List ℕ → Pending → S → Option (List ℕ) → Type 0
-HearsOn true moves same_but_calls rolls is_full is_left start blank heard pending now written = SoFar moves same_but_calls rolls is_full is_left start blank heard pending now written
-HearsOn false moves same_but_calls rolls is_full is_left start blank heard pending now written = Stopped moves same_but_calls rolls is_full is_left start blank heard now written
+module _ {S : Type 0} (moves : S → List Call → S → Type 0) (same_but_calls : S → S → Type 0) (rolls : S → ℕ → S → Type 0) (is_full : S → Type 0) (is_left : S → List (List ℤ) → Type 0) (reads : Result (List LinkReload) PlanFault → Type 0) where
+  -- What a line comes to at once: it is answered, it asks for the end, or a full history takes nothing.
+  abbrev pub Comes : Result Answer CommandFault → ℕ → List ℕ → S → S → Type 0
+  Comes (Ok answers.End) number line old new = (request_of line ≡ Some End) × (new ≡ old)
+  Comes (Err (Store HistoryFull)) number line old new = IsSome (request_of line) × moves old [] new × is_full new
+  Comes answer number line old new = (calls : List Call) × IsAnswered moves rolls is_full is_left reads number line old calls (said_of number answer) new
 
--- the last line is answered too
-pub record Finished {S : Type 0} (moves : S → List Call → S → Type 0) (same_but_calls : S → S → Type 0) (rolls : S → ℕ → S → Type 0) (is_full : S → Type 0) (is_left : S → List (List ℤ) → Type 0) (start : S) (blank : Option (List ℕ)) (heard : List ℕ) (is_out : Bool) (now : S) (written : Option (List ℕ)) : Type 0 where
-  pub lines : List (List ℕ)
-  pub told : Told moves same_but_calls rolls is_full is_left start lines blank is_out now written
-  pub cut : AreCut heard lines []
+  -- these lines were answered so far, and this is said to them
+  pub record Answered (start : S) (lines : List (List ℕ)) (said : List ℕ) (now : S) : Type 0 where
+    pub calls : List Call
+    pub listens : Listens moves same_but_calls rolls is_full is_left reads start lines calls said now
 
--- What a turn leaves that began with all lines answered which had been heard.
-abbrev pub Turns : {S : Type 0} → Turn → (S → List Call → S → Type 0) → (S → S → Type 0) → (S → ℕ → S → Type 0) → (S → Type 0) → (S → List (List ℤ) → Type 0) → S → Option (List ℕ) → Option (List ℕ) → Type 0 → Pending → S → Option (List ℕ) → Option (List ℕ) → Type 0
-Turns More moves same_but_calls rolls is_full is_left start unread blank may_close pending now left written =
-    (heard : List ℕ) × Consumes unread left heard × SoFar moves same_but_calls rolls is_full is_left start blank heard pending now written
-Turns Ended moves same_but_calls rolls is_full is_left start unread blank may_close pending now left written = Operated moves same_but_calls rolls is_full is_left start unread blank true may_close now left written
-Turns Failed moves same_but_calls rolls is_full is_left start unread blank may_close pending now left written = Operated moves same_but_calls rolls is_full is_left start unread blank false may_close now left written
+  -- and it went out, or some of it did
+  pub record Told (start : S) (lines : List (List ℕ)) (blank : Option (List ℕ)) (goes_out : Bool) (now : S) (written : Option (List ℕ)) : Type 0 where
+    pub said : List ℕ
+    pub answered : Answered start lines said now
+    pub out : Takes goes_out blank written said
+
+  -- one line more is answered, or it asks for the end
+  abbrev pub Answers : Result Answer CommandFault → S → List (List ℕ) → List ℕ → List ℕ → S → Type 0
+  Answers (Ok answers.End) start lines said line now = (request_of line ≡ Some End) × Answered start lines said now
+  Answers answer start lines said line now = Answered start (lines ++ line ∷ []) (said ++ said_of (number_behind lines) answer) now
+
+  -- and more may be heard, or not
+  abbrev pub TakesLine : Option OperatorEnd → S → List (List ℕ) → Option (List ℕ) → List ℕ → S → Option (List ℕ) → Type 0
+  TakesLine None start lines blank line now written = Told start (lines ++ line ∷ []) blank true now written
+  TakesLine (Some EndAsked) start lines blank line now written = (request_of line ≡ Some End) × Told start lines blank true now written
+  TakesLine (Some WriteFault) start lines blank line now written = Told start (lines ++ line ∷ []) blank false now written
+  TakesLine (Some end) start lines blank line now written = ⊥
+
+  -- ---- bytes
+
+  -- All lines of the bytes that were heard are answered; what is behind the last line break is kept.
+  pub record SoFar (start : S) (blank : Option (List ℕ)) (heard : List ℕ) (pending : Pending) (now : S) (written : Option (List ℕ)) : Type 0 where
+    pub told : Told start (cut heard).0 blank true now written
+    pub kept : IsKept pending (cut heard).1
+    pub number : pending.number ≡ number_behind (cut heard).0
+
+  -- the first line of the rest asks for the end, or the writer failed
+  abbrev pub StopsAt : OperatorEnd → List ℕ → Type 0
+  StopsAt EndAsked rest = (line : List ℕ) × (request_of line ≡ Some End) × (more : List ℕ) × (rest ≡ line ++ 10 ∷ more)
+  StopsAt WriteFault rest = ⊤
+  StopsAt end rest = ⊥
+
+  -- the lines of a front are answered, and the rest is not looked at
+  pub record Stopped (end : OperatorEnd) (start : S) (blank : Option (List ℕ)) (heard : List ℕ) (now : S) (written : Option (List ℕ)) : Type 0 where
+    pub front : List ℕ
+    pub rest : List ℕ
+    pub whole : heard ≡ front ++ rest
+    pub ended : (cut front).1 ≡ []
+    pub told : Told start (cut front).0 blank (is_out end) now written
+    pub cause : StopsAt end rest
+
+  -- the one or the other
+  abbrev pub HearsOn : Option OperatorEnd → S → Option (List ℕ) → List ℕ → Pending → S → Option (List ℕ) → Type 0
+  HearsOn None start blank heard pending now written = SoFar start blank heard pending now written
+  HearsOn (Some end) start blank heard pending now written = Stopped end start blank heard now written
+
+  -- What a turn leaves that began with all lines answered which had been heard.
+  abbrev pub Turns : Option OperatorEnd → S → Option (List ℕ) → Option (List ℕ) → Type 0 → Pending → S → Option (List ℕ) → Option (List ℕ) → Type 0
+  Turns None start unread blank may_close pending now left written = (heard : List ℕ) × Consumes unread left heard × SoFar start blank heard pending now written
+  Turns (Some end) start unread blank may_close pending now left written = Operated moves same_but_calls rolls is_full is_left reads start unread blank end may_close now left written

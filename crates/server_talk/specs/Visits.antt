@@ -1,5 +1,5 @@
 -- A visit of a peer: what its session hears and says, what it does to the store, and how it ends.
-use Rattle.std.specs.Prelude.{◌≡◌, ℕ, Bool, true, false, List, [], ◌∷◌, ◌++◌, take, ⊤, Option, Some, None, Result, Ok, Err}
+use Rattle.std.specs.Prelude.{◌≡◌, ◌<◌, ◌⊎◌, ℕ, Bool, true, false, List, [], ◌∷◌, ◌++◌, length, take, ⊤, Option, Some, None, Result, Ok, Err}
 use Rattle.std.specs.Io.KnownBytes.{Appends, Consumes, IsAtEnd}
 use Rattle.pcep_session.specs.Calls.{output_taken}
 use Rattle.pcep_session.specs.Turns.{is_closed}
@@ -13,8 +13,8 @@ use Rattle.engine_core.specs.Plans.{Plan, Returns, Reaches, LeadsTo}
 use Rattle.engine_core.specs.declared.client.Client.{Client}
 use Rattle.engine_core.specs.declared.store.Call.{Call}
 use Rattle.server_talk.specs.declared.talk.Ended.{Ended}
-use Rattle.server_talk.specs.declared.talk.Ended.TheVariants.{PeerClosed, SessionEnded, WriteFault, StoreFault}
-use Rattle.server_talk.specs.Goings.{Goes}
+use Rattle.server_talk.specs.declared.talk.Ended.TheVariants.{PeerClosed, SessionEnded, ReadFault, WriteFault, StoreFault}
+use Rattle.server_talk.specs.Goings.{Goes, Ways}
 
 -- ---- the session of a visit
 
@@ -22,23 +22,28 @@ use Rattle.server_talk.specs.Goings.{Goes}
 abbrev pub spoken : Client → Client
 spoken c = client_with (output_taken c.session) c
 
+-- no explanation, reason 1, or no Close
+abbrev pub IsUnexplained : Option ℕ → Type 0
+IsUnexplained reason = (reason ≡ Some 1) ⊎ (reason ≡ None)
+
 -- A session of a peer so far: the bytes that it heard, the calls that it led to, the bytes that it said, and what it has
--- come to.
-pub data Talks (peer : ℕ) : List ℕ → List Call → List ℕ → Client → Type 0 where
-  -- it begins
-  Begins : (now_ms : ℕ) → Talks peer [] [] [] (new_client now_ms)
-  -- it is served with bytes at a moment, as the engine's table says
-  Serves : (heard said piece : List ℕ) (before made : List Call) (now_ms : ℕ) (c d : Client)
-      → Talks peer heard before said c → LeadsTo (served peer piece now_ms c) made (Returns d) → Talks peer (heard ++ piece) (before ++ made) said d
+-- come to. Of the watch it is known which moments it tells, and whether the run may be told to end.
+pub data Talks (tells : ℕ → Type 0) (may_close : Type 0) (peer : ℕ) : List ℕ → List Call → List ℕ → Client → Type 0 where
+  -- it begins at a moment that the watch tells
+  Begins : (now_ms : ℕ) → tells now_ms → Talks tells may_close peer [] [] [] (new_client now_ms)
+  -- it is served with bytes at a moment that the watch tells, as the engine's table says
+  Serves : (heard said piece : List ℕ) (before made : List Call) (now_ms : ℕ) (c d : Client) → tells now_ms
+      → Talks tells may_close peer heard before said c → LeadsTo (served peer piece now_ms c) made (Returns d) → Talks tells may_close peer (heard ++ piece) (before ++ made) said d
   -- the same up to a fault, which ends it
-  Breaks : (heard said piece : List ℕ) (before made : List Call) (now_ms : ℕ) (c d : Client) (rest : Plan Client)
-      → Talks peer heard before said c → LeadsTo (served peer piece now_ms c) made (Reaches d rest) → Talks peer (heard ++ piece) (before ++ made) said (ending None None d)
+  Breaks : (heard said piece : List ℕ) (before made : List Call) (now_ms : ℕ) (c d : Client) (rest : Plan Client) → tells now_ms
+      → Talks tells may_close peer heard before said c → LeadsTo (served peer piece now_ms c) made (Reaches d rest) → Talks tells may_close peer (heard ++ piece) (before ++ made) said (ending None None d)
   -- it says what it has to say
   Says : (heard said : List ℕ) (before : List Call) (c : Client)
-      → Talks peer heard before said c → Talks peer heard before (said ++ c.session.output) (spoken c)
-  -- it is closed from this side, with a Close that explains nothing, or without one
-  Closes : (heard said : List ℕ) (before : List Call) (c : Client) (reason : Option ℕ)
-      → Talks peer heard before said c → Talks peer heard before said (ending None reason c)
+      → Talks tells may_close peer heard before said c → Talks tells may_close peer heard before (said ++ c.session.output) (spoken c)
+  -- it is closed from this side where the run may be told to end: with a Close that explains nothing (RFC 5440 section 7.17), or
+  -- without one
+  Closes : (heard said : List ℕ) (before : List Call) (c : Client) (reason : Option ℕ) → may_close → IsUnexplained reason
+      → Talks tells may_close peer heard before said c → Talks tells may_close peer heard before said (ending None reason c)
 
 -- ---- what is read and written
 
@@ -51,10 +56,19 @@ abbrev pub Takes : Bool → Option (List ℕ) → Option (List ℕ) → List ℕ
 Takes true old new bytes = Appends old new bytes
 Takes false old new bytes = TakesSome old new bytes
 
--- All that the session said went out, unless a write failed: then some of it did. A fault of the store is told in place
+-- the peer took some of these bytes, from the first on, and not all
+abbrev pub TakesPart : Option (List ℕ) → Option (List ℕ) → List ℕ → Type 0
+TakesPart old new bytes = (count : ℕ) × (count < length bytes) × Appends old new (take count bytes)
+
+-- what a peer took that was sent all of these bytes
+abbrev pub TakesAll : Bool → Option (List ℕ) → Option (List ℕ) → List ℕ → Type 0
+TakesAll true old new bytes = Appends old new bytes
+TakesAll false old new bytes = TakesPart old new bytes
+
+-- All that the session said went out, unless a write failed: then a part of it did. A fault of the store is told in place
 -- of one of a write.
 abbrev pub GoesOut : Option Ended → Option (List ℕ) → Option (List ℕ) → List ℕ → Type 0
-GoesOut (Some WriteFault) old new said = TakesSome old new said
+GoesOut (Some WriteFault) old new said = TakesPart old new said
 GoesOut (Some (StoreFault fault)) old new said = TakesSome old new said
 GoesOut end old new said = Appends old new said
 
@@ -63,10 +77,11 @@ abbrev pub owes_down : Ended → Bool
 owes_down (StoreFault fault) = true
 owes_down ended = false
 
--- The peer closed where the reader has no more, and the session has ended where that is told.
+-- The peer closed where the reader has no more, the session has ended where that is told, and it hasn't where a read failed.
 abbrev pub IsTold : Ended → Option (List ℕ) → Client → Type 0
 IsTold PeerClosed left c = IsAtEnd left
 IsTold SessionEnded left c = is_closed c.session.state ≡ true
+IsTold ReadFault left c = is_closed c.session.state ≡ false
 IsTold ended left c = ⊤
 
 -- the same of a visit that may go on, before its Down is submitted
@@ -78,13 +93,13 @@ IsToldOf (Some ended) left c = IsTold ended left c × (owes_down ended ≡ false
 
 -- From `start` on, in a visit that goes on or has come to this end, but for the Down of its peer. Of the reader and the
 -- writer the known bytes are meant, at the visit's start and now.
-pub record SoFar {S : Type 0} (moves : S → List Call → S → Type 0) (same_but_calls : S → S → Type 0) (rolls : S → ℕ → S → Type 0) (peer : ℕ) (start : S) (unread blank : Option (List ℕ)) (end : Option Ended) (now : S) (left written : Option (List ℕ)) (client : Client) : Type 0 where
+pub record SoFar {S : Type 0} (w : Ways S) (tells : ℕ → Type 0) (may_close : Type 0) (peer : ℕ) (start : S) (unread blank : Option (List ℕ)) (end : Option Ended) (now : S) (left written : Option (List ℕ)) (client : Client) : Type 0 where
   pub heard : List ℕ
   pub said : List ℕ
   pub calls : List Call
-  pub talks : Talks peer heard calls said client
+  pub talks : Talks tells may_close peer heard calls said client
   pub joined : client.joined ≡ joined_after false calls
-  pub goes : Goes moves same_but_calls rolls start calls now
+  pub goes : Goes w start calls now
   pub read : Consumes unread left heard
   pub out : GoesOut end blank written said
   pub told : IsToldOf end left client
@@ -97,10 +112,10 @@ IsDown peer true calls = (reply : Reply) × (calls ≡ called (Down peer) reply 
 IsDown peer false calls = calls ≡ []
 
 -- What the end of a visit leaves: the Down is submitted and the list has it alone, or it could not be submitted.
-abbrev pub Leaves : {X S : Type 0} → Result X Fault → (S → List Call) → (S → List Call → S → Type 0) → (S → S → Type 0) → (S → ℕ → S → Type 0) → ℕ → Bool → S → List Call → S → Type 0
-Leaves (Ok x) listed moves same_but_calls rolls peer joined start calls new =
-    (last : List Call) × IsDown peer joined last × Goes moves same_but_calls rolls start (calls ++ last) new × (listed new ≡ last)
-Leaves (Err fault) listed moves same_but_calls rolls peer joined start calls new = (joined ≡ true) × Goes moves same_but_calls rolls start calls new
+abbrev pub Leaves : {X S : Type 0} → Result X Fault → Ways S → (S → List Call) → ℕ → Bool → S → List Call → S → Type 0
+Leaves (Ok x) w listed peer joined start calls new =
+    (last : List Call) × IsDown peer joined last × Goes w start (calls ++ last) new × (listed new ≡ last)
+Leaves (Err fault) w listed peer joined start calls new = (joined ≡ true) × Goes w start calls new
 
 -- the last calls: the Down of a peer that is joined, and the list of the store has nothing else; none after a fault of
 -- the store
@@ -110,15 +125,15 @@ Lasts ended listed peer joined new last = IsDown peer joined last × (listed new
 
 -- A whole visit, and what it is told to have ended by. Its calls are those of its session and the last ones, and the
 -- peer is left joined only where its Down could not be submitted.
-pub record Visited {S : Type 0} (listed : S → List Call) (moves : S → List Call → S → Type 0) (same_but_calls : S → S → Type 0) (rolls : S → ℕ → S → Type 0) (peer : ℕ) (start : S) (unread blank : Option (List ℕ)) (ended : Ended) (now : S) (left written : Option (List ℕ)) : Type 0 where
+pub record Visited {S : Type 0} (w : Ways S) (tells : ℕ → Type 0) (may_close : Type 0) (listed : S → List Call) (peer : ℕ) (start : S) (unread blank : Option (List ℕ)) (ended : Ended) (now : S) (left written : Option (List ℕ)) : Type 0 where
   pub heard : List ℕ
   pub said : List ℕ
   pub calls : List Call
   pub last : List Call
   pub client : Client
-  pub talks : Talks peer heard calls said client
+  pub talks : Talks tells may_close peer heard calls said client
   pub silent : client.session.output ≡ []
-  pub goes : Goes moves same_but_calls rolls start (calls ++ last) now
+  pub goes : Goes w start (calls ++ last) now
   pub down : joined_after false (calls ++ last) ≡ owes_down ended
   pub lasts : Lasts ended listed peer (joined_after false calls) now last
   pub read : Consumes unread left heard

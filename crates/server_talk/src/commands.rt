@@ -1,57 +1,35 @@
-//! One line of an operator: what it names, and what comes of it in a store.
-ghost use Rattle.std.specs.Prelude.{◌≡◌, ◌≢◌, ◌≤◌, ◌+◌, ◌∷◌, ◌++◌, [], ℕ, ℤ, List, IfOk, length, string_bytes, string_len, string_capacity, true, Err};
+//! What comes of an operator's line in a store.
+ghost use Rattle.std.specs.Prelude.{◌≡◌, ◌≢◌, ℕ, ℤ, List, IfOk, string_bytes, true, false, Some, Ok, Err};
 ghost use Rattle.history_core.specs.declared.fault.Fault.TheVariants.{HistoryFull};
+ghost use Rattle.script_lines.specs.Answered.{AnswersEvent};
+ghost use Rattle.script_lines.specs.Book.{table_text};
 ghost use Rattle.script_lines.specs.declared.fault.CommandFault.TheVariants.{Store};
-ghost use Rattle.script_lines.specs.Texts.{reply_room, reply_text};
-ghost use Rattle.server_talk.specs.Book.{table_text};
-ghost use Rattle.server_talk.specs.Listening.{Answered, Obeys, said_of};
-ghost use Rattle.server_talk.specs.Operators.{IsNamed, book_line, is_operators, line_limit, number_behind};
+ghost use Rattle.server_talk.specs.declared.commands.Answer.TheVariants.{End};
+ghost use Rattle.server_talk.specs.Listening.{Answered, Answers, Comes, IsKept};
+ghost use Rattle.server_talk.specs.Requests.{request_of};
+ghost use Rattle.server_talk.specs.declared.requests.Request.TheVariants.{Book, Reload, Submit};
 
-use crate::book::table_text;
-use crate::talk::make_room;
+use crate::pending::Pending;
+use crate::plan::{Plan, PlanFault};
+use crate::requests::Request;
 use crate::traits::Watch;
-use engine_core::{Desk, Event, Fault, Reply, last_reply};
-use script_lines::{CommandFault, REPLY_ROOM, add_reply, event_in};
+use engine_core::{Desk, Event, Fault};
+use script_lines::{CommandFault, answer_event, table_text};
+use sequence::Sequence;
 use std::alloc::{AllocError, Global};
+use step_core::LinkReload;
 
-/// Whether a running server takes the event from its operator. Tickets are its workers', and peers are forgotten
-/// by its clock.
-fn is_operators(event: &Event) -> bool
-    ensures { result ≡ is_operators event.now }
-{
-    matches!(
-        event,
-        Event::Ask { .. } | Event::Return { .. } | Event::Delete { .. }
-    )
-}
-
-/// The event that the line names, if it is one for a running server.
-fn named(alloc: Global, line: &[u8]) -> Result<Event, CommandFault>
-    ensures { IsNamed result line.now }
-{
-    let Ok(text) = str::from_utf8(line) else {
-        return Err(CommandFault::BadLine);
-    };
-    match event_in(alloc, text)? {
-        Some(event) if is_operators(&event) => Ok(event),
-        _ => Err(CommandFault::BadLine),
-    }
-}
-
-/// Adds the text of a reply, in room that is there.
-fn put_reply(text: &mut String, reply: &Reply)
-    requires { string_len text.old + reply_room ≤ string_capacity text.old }
-    ensures { string_bytes text.new ≡ string_bytes text.old ++ reply_text reply.now }
-{
-    let added = add_reply(text, reply);
-    prove!(added.is_ok());
-}
-
-/// Has the connection of the router that an event concerns look for what it has to say.
-fn ring_for<W: Watch>(peer: Option<u32>, watch: &W) {
-    if let Some(peer) = peer {
-        watch.ring(peer);
-    }
+/// What comes of a line.
+#[derive(Drop)]
+pub(crate) enum Answer {
+    /// The text of a reply.
+    Reply(String),
+    /// A line for each link.
+    Table(String),
+    /// The link text gave no values.
+    Unread(PlanFault),
+    /// The run is to end.
+    End,
 }
 
 /// The router that an operator's event concerns.
@@ -64,55 +42,143 @@ fn peer_of(event: &Event) -> Option<u32> {
     }
 }
 
-/// Submits what the line names, and gives the text of the reply. The connection of its router is rung for. After a
-/// fault nothing was submitted.
+/// Has the connection of the router that an event concerns look for what it has to say.
+fn ring_for<W: Watch>(peer: Option<u32>, watch: &W) {
+    if let Some(peer) = peer {
+        watch.ring(peer);
+    }
+}
+
+/// Submits an event, rings for its router, and gives the text of the reply.
 fn obey<D: Desk, W: Watch>(
     alloc: Global,
-    line: &[u8],
+    event: Event,
     watch: &W,
     store: &mut D,
 ) -> Result<String, CommandFault>
-    ensures { Obeys string_bytes D.moves D.is_full result line.now store.old store.new }
+    ensures { AnswersEvent string_bytes D.moves D.is_full event result store.old store.new }
 {
-    let event = named(alloc, line)?;
     let peer = peer_of(&event);
-    let mut text = String::with_capacity(alloc, REPLY_ROOM)?;
-    store.submit(event)?;
-    put_reply(&mut text, last_reply(store));
+    let text = answer_event(alloc, event, store)?;
     ring_for(peer, watch);
     Ok(text)
 }
 
-/// Whether the history was full.
-fn is_full(told: &Result<String, CommandFault>) -> bool
-    ensures { result ≡ true → told.now ≡ Err (Store HistoryFull) }
-{
-    matches!(told, Err(CommandFault::Store(Fault::HistoryFull)))
-}
-
-/// The same, and once more where the history was full.
-pub(crate) fn obey_or_roll<D: Desk, W: Watch>(
-    alloc: Global,
-    line: &[u8],
-    watch: &W,
-    store: &mut D,
-) -> Result<String, CommandFault>
-    ensures { (start : D) (lines : List (List ℕ)) (said : List ℕ) → length line.now ≤ line_limit → line.now ≢ book_line
-        → Answered D.moves D.same_but_calls D.rolls D.is_full D.is_left start lines said store.old
-        → Answered D.moves D.same_but_calls D.rolls D.is_full D.is_left start (lines ++ line.now ∷ []) (said ++ said_of string_bytes (number_behind lines) result) store.new }
-{
-    let told = obey(alloc, line, watch, store);
-    if !is_full(&told) {
-        return told;
-    }
-    make_room(Fault::HistoryFull, store);
-    obey(alloc, line, watch, store)
-}
-
 /// A line for each link, with what is left of it at each priority.
-pub(crate) fn book_of<D: Desk>(alloc: Global, store: &D) -> Result<String, AllocError>
+fn book_of<D: Desk>(alloc: Global, store: &D) -> Result<String, AllocError>
     ensures { IfOk result (λ text. (table : List (List ℤ)) × D.is_left store.now table × (string_bytes text ≡ table_text 0 table)) }
 {
     let table = store.left()?;
     table_text(alloc, &table)
+}
+
+/// Submits an event, unless the history is full.
+fn submit<D: Desk, W: Watch, P: Plan>(
+    alloc: Global,
+    event: Event,
+    watch: &W,
+    _plan: &P,
+    store: &mut D,
+) -> Result<Answer, CommandFault>
+    ensures { (number : ℕ) (text : List ℕ) → request_of text ≡ Some (Submit event) → Comes D.moves D.same_but_calls D.rolls D.is_full D.is_left (P.reads _plan.now) result number text store.old store.new }
+{
+    match obey(alloc, event, watch, store) {
+        Ok(text) => Ok(Answer::Reply(text)),
+        Err(fault) => Err(fault),
+    }
+}
+
+/// Shows what is left of each link.
+fn show_book<D: Desk, P: Plan>(alloc: Global, _plan: &P, store: &D) -> Result<Answer, CommandFault>
+    ensures { (number : ℕ) (text : List ℕ) → request_of text ≡ Some Book → Comes D.moves D.same_but_calls D.rolls D.is_full D.is_left (P.reads _plan.now) result number text store.now store.now }
+{
+    match book_of(alloc, store) {
+        Ok(text) => Ok(Answer::Table(text)),
+        Err(_) => Err(CommandFault::Store(Fault::OutOfMemory)),
+    }
+}
+
+/// Submits the values of links, which the link text gave, unless the history is full.
+fn submit_links<D: Desk, P: Plan>(
+    alloc: Global,
+    links: Sequence<LinkReload>,
+    _plan: &P,
+    store: &mut D,
+) -> Result<Answer, CommandFault>
+    ensures { (number : ℕ) (text : List ℕ) → request_of text ≡ Some Reload → P.reads _plan.now (Ok links) → Comes D.moves D.same_but_calls D.rolls D.is_full D.is_left (P.reads _plan.now) result number text store.old store.new }
+{
+    match answer_event(alloc, Event::Reload { links }, store) {
+        Ok(text) => Ok(Answer::Reply(text)),
+        Err(fault) => Err(fault),
+    }
+}
+
+/// Reads the link text again and submits the values that it gives, unless the history is full.
+fn reload<D: Desk, P: Plan>(alloc: Global, plan: &P, store: &mut D) -> Result<Answer, CommandFault>
+    ensures { (number : ℕ) (text : List ℕ) → request_of text ≡ Some Reload → Comes D.moves D.same_but_calls D.rolls D.is_full D.is_left (P.reads plan.now) result number text store.old store.new }
+{
+    match plan.read() {
+        Ok(links) => submit_links(alloc, links, plan, store),
+        Err(fault) => Ok(Answer::Unread(fault)),
+    }
+}
+
+/// Does what a line asks for, unless the history is full.
+fn answer_once<D: Desk, W: Watch, P: Plan>(
+    alloc: Global,
+    line: &Pending,
+    watch: &W,
+    plan: &P,
+    store: &mut D,
+) -> Result<Answer, CommandFault>
+    ensures { (number : ℕ) (text : List ℕ) → IsKept line.now text → Comes D.moves D.same_but_calls D.rolls D.is_full D.is_left (P.reads plan.now) result number text store.old store.new }
+{
+    let request = match line.request(alloc) {
+        Ok(request) => request,
+        Err(_) => return Err(CommandFault::Store(Fault::OutOfMemory)),
+    };
+    match request {
+        None => Err(CommandFault::BadLine),
+        Some(Request::Submit(event)) => submit(alloc, event, watch, plan, store),
+        Some(Request::Book) => show_book(alloc, plan, store),
+        Some(Request::End) => Ok(Answer::End),
+        Some(Request::Reload) => reload(alloc, plan, store),
+    }
+}
+
+fn is_full(answer: &Result<Answer, CommandFault>) -> bool
+    ensures full { result ≡ true → answer.now ≡ Err (Store HistoryFull) }
+    ensures other { result ≡ false → answer.now ≢ Err (Store HistoryFull) }
+{
+    matches!(answer, Err(CommandFault::Store(Fault::HistoryFull)))
+}
+
+/// Whether a line asked for the end of the run.
+pub(crate) fn asks_end(answer: &Result<Answer, CommandFault>) -> bool
+    ensures end { result ≡ true → answer.now ≡ Ok End }
+    ensures other { result ≡ false → answer.now ≢ Ok End }
+{
+    matches!(answer, Ok(Answer::End))
+}
+
+/// Does what a line asks for. A history that is full is rolled first.
+pub(crate) fn answer_line<D: Desk, W: Watch, P: Plan>(
+    alloc: Global,
+    line: &Pending,
+    watch: &W,
+    plan: &P,
+    store: &mut D,
+) -> Result<Answer, CommandFault>
+    ensures { (start : D) (lines : List (List ℕ)) (said text : List ℕ) → IsKept line.now text
+        → Answered D.moves D.same_but_calls D.rolls D.is_full D.is_left (P.reads plan.now) start lines said store.old
+        → Answers D.moves D.same_but_calls D.rolls D.is_full D.is_left (P.reads plan.now) result start lines said text store.new }
+{
+    let first = answer_once(alloc, line, watch, plan, store);
+    if !is_full(&first) {
+        return first;
+    }
+    match store.roll() {
+        Ok(_) => answer_once(alloc, line, watch, plan, store),
+        Err(_) => Err(CommandFault::Store(Fault::OutOfMemory)),
+    }
 }

@@ -1,104 +1,53 @@
 //! The operator: lines from a reader, each answered on a writer: `book` by a line for each link, others by one.
-ghost use Rattle.std.specs.Prelude.{◌≡◌, ◌≢◌, ◌<◌, ◌≤◌, ◌+◌, ◌-◌, ◌^◌, min, ◌∷◌, ◌++◌, [], ℕ, List, Option, true, false, length, codes, vec_capacity, string_bytes};
-ghost use Rattle.std.specs.Io.KnownBytes.{Consumes};
-ghost use Rattle.std.specs.Str.{bytes_eq};
+ghost use Rattle.std.specs.Prelude.{◌≡◌, ◌<◌, ◌∷◌, ◌++◌, [], ℕ, List, Option, true, length, codes};
+ghost use Rattle.std.specs.Fmt.{decimal};
+ghost use Rattle.std.specs.Io.KnownBytes.{Consumes, IsAtEnd};
 ghost use Rattle.history_core.specs.Faults.{fault_text};
 ghost use Rattle.engine_core.specs.declared.store.Call.{Call};
-ghost use Rattle.server_talk.specs.Goings.{Goes};
-ghost use Rattle.server_talk.specs.Listening.{Answered, Told, IsKept, SoFar, HearsOn, Finished, Turns, said_of};
-ghost use Rattle.server_talk.specs.Operators.{AreOperators, Operated, EndsAs, bad_line, book_line, line_limit, number_behind};
+ghost use Rattle.server_talk.specs.Goings.{Goes, ways};
+ghost use Rattle.server_talk.specs.Listening.{Told, TakesLine, IsKept, SoFar, HearsOn, Turns, said_of};
+ghost use Rattle.server_talk.specs.Operators.{AreOperators, FailsAs, Operated, EndsAs, is_quiet, te_line, unread_line, number_behind};
 ghost use Rattle.server_talk.specs.Visits.{Takes};
 
-use crate::commands::{book_of, obey_or_roll};
+use crate::commands::{Answer, answer_line, asks_end};
+use crate::pending::Pending;
+use crate::plan::{Plan, PlanFault};
+use crate::requests::LINE_LIMIT;
 use crate::talk::{INTERRUPTS, write_once};
-use crate::traits::Watch;
+use crate::traits::{Patient, Watch};
 use engine_core::{Desk, Fault};
 use itoa::Buffer;
 use script_lines::CommandFault;
-use std::alloc::Global;
-use std::io::{Read, Write};
-
-/// A line has so many bytes at most. A longer one is bad.
-pub const LINE_LIMIT: usize = 4096;
+use std::alloc::{AllocError, Global};
+use std::io::{ErrorKind, Write};
+use std::sync::Wait;
+use std::time::Duration;
+use te_base::TeFault;
 
 /// So many bytes are read at once.
 const PIECE: usize = 4096;
 
-/// Why an operator's lines are answered no more.
+/// A read waits so long at most, in milliseconds, before it is looked whether the run is to end.
+const PATIENCE_MS: u64 = 250;
+
+/// Why an operator is heard no more.
 #[derive(Clone, Copy, PartialEq, Eq, Debug)]
-pub enum OperatorFault {
-    /// The reader or the writer failed.
-    Device,
-    /// Memory was refused before the first read.
-    Store(Fault),
+pub enum OperatorEnd {
+    /// The reader has no more.
+    InputEnded,
+    /// The line `end` asks for the end of the run.
+    EndAsked,
+    /// The run is to end.
+    RunEnding,
+    /// A read failed.
+    ReadFault,
+    /// The writer didn't take what was said. The run goes on without an operator.
+    WriteFault,
 }
 
-/// What a read came to.
-#[derive(Clone, Copy)]
-enum Turn {
-    /// There were bytes, and their lines were answered.
-    More,
-    /// The reader has ended, or the run is to end.
-    Ended,
-    /// The reader or the writer failed.
-    Failed,
-}
-
-/// A line that hasn't ended, and its number from 1.
-#[derive(Drop)]
-struct Pending {
-    number: u64,
-    bytes: Vec<u8>,
-    is_long: bool,
-}
-
-impl Pending {
-    /// Adds a byte, or notes that the line is too long. Takes no memory.
-    fn add(&mut self, byte: u8)
-        ensures number { self.new.number ≡ self.old.number }
-        ensures kept { (line : List ℕ) → IsKept self.old line → IsKept self.new (line ++ byte ∷ []) }
-    {
-        if self.bytes.len() < LINE_LIMIT && self.bytes.push(byte).is_ok() {
-            return;
-        }
-        self.is_long = true;
-    }
-
-    /// The next line begins.
-    fn end(&mut self)
-        ensures number { self.new.number ≡ min (self.old.number + 1) (2 ^ 64 - 1) }
-        ensures kept { (line : List ℕ) → IsKept self.old line → IsKept self.new [] }
-    {
-        self.bytes.clear();
-        self.is_long = false;
-        self.number = self.number.saturating_add(1);
-    }
-
-    fn is_empty(&self) -> bool
-        ensures empty { result ≡ true → (line : List ℕ) → IsKept self.now line → line ≡ [] }
-        ensures begun { result ≡ false → (line : List ℕ) → IsKept self.now line → line ≢ [] }
-    {
-        self.bytes.is_empty() && !self.is_long
-    }
-
-    /// Whether the line asks for the book.
-    fn is_book(&self) -> bool
-        ensures book { result ≡ true → (line : List ℕ) → IsKept self.now line → line ≡ book_line }
-        ensures other { result ≡ false → (line : List ℕ) → IsKept self.now line → line ≢ book_line }
-    {
-        !self.is_long && asks_for_book(&self.bytes)
-    }
-}
-
-fn asks_for_book(line: &[u8]) -> bool
-    ensures { result ≡ bytes_eq line.now (codes "book") }
-{
-    line == b"book".as_slice()
-}
-
-/// Writes all of the bytes, in one call but where a write takes a part of them alone. Says whether the writer took
+/// Writes all of the bytes, in one call but where a write takes a part of them alone. Gives whether the writer took
 /// all.
-fn is_written<O: Write>(writer: &mut O, bytes: &[u8]) -> bool
+fn write<O: Write>(writer: &mut O, bytes: &[u8]) -> bool
     ensures { Takes result (O.contents writer.old) (O.contents writer.new) bytes.now }
 {
     if bytes.is_empty() {
@@ -118,25 +67,45 @@ fn is_written<O: Write>(writer: &mut O, bytes: &[u8]) -> bool
 }
 
 /// Writes a text with a line break.
-fn is_line_written<O: Write>(writer: &mut O, text: &str) -> bool
+fn write_line<O: Write>(writer: &mut O, text: &str) -> bool
     ensures { Takes result (O.contents writer.old) (O.contents writer.new) (text.now ++ codes "\n") }
 {
-    if !is_written(writer, text.as_bytes()) {
+    if !write(writer, text.as_bytes()) {
         return false;
     }
-    is_written(writer, b"\n")
+    write(writer, b"\n")
 }
 
-/// Tells a bad line its number.
-fn is_bad_line_told<O: Write>(writer: &mut O, number: u64) -> bool
-    ensures { Takes result (O.contents writer.old) (O.contents writer.new) (bad_line number) }
+/// Writes a word, and a number with a line break.
+fn write_numbered<O: Write>(writer: &mut O, word: &str, number: u64) -> bool
+    ensures { Takes result (O.contents writer.old) (O.contents writer.new) (word.now ++ (decimal number ++ codes "\n")) }
 {
     let mut buffer = Buffer::new();
     let digits = buffer.format(number);
-    if !is_written(writer, b"bad line ") {
+    if !write(writer, word.as_bytes()) {
         return false;
     }
-    is_line_written(writer, digits)
+    write_line(writer, digits)
+}
+
+/// Writes the fault of a link text.
+fn write_te_fault<O: Write>(writer: &mut O, fault: TeFault) -> bool
+    ensures { Takes result (O.contents writer.old) (O.contents writer.new) (te_line fault) }
+{
+    match fault {
+        TeFault::OutOfMemory => write(writer, b"out of memory\n"),
+        fault => write_numbered(writer, "te fault ", u64::from(fault.number())),
+    }
+}
+
+/// Writes why a link text gave no values.
+fn write_unread<O: Write>(writer: &mut O, fault: PlanFault) -> bool
+    ensures { Takes result (O.contents writer.old) (O.contents writer.new) (unread_line fault) }
+{
+    match fault {
+        PlanFault::Device => write(writer, b"device fault\n"),
+        PlanFault::Te(fault) => write_te_fault(writer, fault),
+    }
 }
 
 fn fault_text(fault: Fault) -> &'static str
@@ -148,244 +117,225 @@ fn fault_text(fault: Fault) -> &'static str
     }
 }
 
-/// Tells the line with this number what came of it. Says whether the writer took all.
-fn is_told<O: Write>(writer: &mut O, number: u64, told: &Result<String, CommandFault>) -> bool
-    ensures { Takes result (O.contents writer.old) (O.contents writer.new) (said_of string_bytes number told.now) }
+/// Writes what came of the line with this number.
+fn say<O: Write>(writer: &mut O, number: u64, answer: &Result<Answer, CommandFault>) -> bool
+    ensures { Takes result (O.contents writer.old) (O.contents writer.new) (said_of number answer.now) }
 {
-    match told {
-        Ok(text) => is_line_written(writer, text.as_str()),
-        Err(CommandFault::BadLine) => is_bad_line_told(writer, number),
-        Err(CommandFault::Store(fault)) => is_line_written(writer, fault_text(*fault)),
+    match answer {
+        Ok(Answer::Reply(text)) => write_line(writer, text.as_str()),
+        Ok(Answer::Table(text)) => write(writer, text.as_bytes()),
+        Ok(Answer::Unread(fault)) => write_unread(writer, *fault),
+        Ok(Answer::End) => true,
+        Err(CommandFault::BadLine) => write_numbered(writer, "bad line ", number),
+        Err(CommandFault::Store(fault)) => write_line(writer, fault_text(*fault)),
     }
-}
-
-/// Obeys a line that has ended. One that is too long is bad.
-fn obey_pending<D: Desk, W: Watch>(
-    alloc: Global,
-    pending: &Pending,
-    watch: &W,
-    store: &mut D,
-) -> Result<String, CommandFault>
-    ensures { (start : D) (lines : List (List ℕ)) (said line : List ℕ) → IsKept pending.now line → line ≢ book_line
-        → Answered D.moves D.same_but_calls D.rolls D.is_full D.is_left start lines said store.old
-        → Answered D.moves D.same_but_calls D.rolls D.is_full D.is_left start (lines ++ line ∷ []) (said ++ said_of string_bytes (number_behind lines) result) store.new }
-{
-    if pending.is_long {
-        return Err(CommandFault::BadLine);
-    }
-    obey_or_roll(alloc, &pending.bytes, watch, store)
-}
-
-/// Obeys a line that has ended, and tells what came of it in one line. The store's list is emptied. Says whether the
-/// writer took all.
-fn is_obeyed<D: Desk, O: Write, W: Watch>(
-    alloc: Global,
-    pending: &Pending,
-    watch: &W,
-    store: &mut D,
-    writer: &mut O,
-) -> bool
-    ensures empty { D.calls store.new ≡ [] }
-    ensures told { (start : D) (lines : List (List ℕ)) (blank : Option (List ℕ)) (line : List ℕ) → IsKept pending.now line → pending.now.number ≡ number_behind lines → line ≢ book_line
-        → Told D.moves D.same_but_calls D.rolls D.is_full D.is_left start lines blank true store.old (O.contents writer.old)
-        → Told D.moves D.same_but_calls D.rolls D.is_full D.is_left start (lines ++ line ∷ []) blank result store.new (O.contents writer.new) }
-{
-    let told = obey_pending(alloc, pending, watch, store);
-    store.forget();
-    is_told(writer, pending.number, &told)
-}
-
-/// Shows the book, or that memory was refused. Says whether the writer took all.
-fn is_book_shown<D: Desk, O: Write>(alloc: Global, store: &D, writer: &mut O) -> bool
-    ensures { (start : D) (lines : List (List ℕ)) (blank : Option (List ℕ))
-        → Told D.moves D.same_but_calls D.rolls D.is_full D.is_left start lines blank true store.now (O.contents writer.old)
-        → Told D.moves D.same_but_calls D.rolls D.is_full D.is_left start (lines ++ book_line ∷ []) blank result store.now (O.contents writer.new) }
-{
-    match book_of(alloc, store) {
-        Ok(text) => is_written(writer, text.as_bytes()),
-        Err(_) => is_line_written(writer, fault_text(Fault::OutOfMemory)),
-    }
-}
-
-/// Tells a line that has ended what comes of it. Says whether the writer took all.
-fn is_said<D: Desk, O: Write, W: Watch>(
-    alloc: Global,
-    pending: &Pending,
-    watch: &W,
-    store: &mut D,
-    writer: &mut O,
-) -> bool
-    ensures empty { D.calls store.old ≡ [] → D.calls store.new ≡ [] }
-    ensures told { (start : D) (lines : List (List ℕ)) (blank : Option (List ℕ)) (line : List ℕ) → IsKept pending.now line → pending.now.number ≡ number_behind lines
-        → Told D.moves D.same_but_calls D.rolls D.is_full D.is_left start lines blank true store.old (O.contents writer.old)
-        → Told D.moves D.same_but_calls D.rolls D.is_full D.is_left start (lines ++ line ∷ []) blank result store.new (O.contents writer.new) }
-{
-    if pending.is_book() {
-        return is_book_shown(alloc, store, writer);
-    }
-    is_obeyed(alloc, pending, watch, store, writer)
 }
 
 /// The same, and hands on what was written.
-fn is_answered<D: Desk, O: Write, W: Watch>(
-    alloc: Global,
-    pending: &Pending,
-    watch: &W,
-    store: &mut D,
-    writer: &mut O,
-) -> bool
-    ensures empty { D.calls store.old ≡ [] → D.calls store.new ≡ [] }
-    ensures told { (start : D) (lines : List (List ℕ)) (blank : Option (List ℕ)) (line : List ℕ) → IsKept pending.now line → pending.now.number ≡ number_behind lines
-        → Told D.moves D.same_but_calls D.rolls D.is_full D.is_left start lines blank true store.old (O.contents writer.old)
-        → Told D.moves D.same_but_calls D.rolls D.is_full D.is_left start (lines ++ line ∷ []) blank result store.new (O.contents writer.new) }
+fn say_at_once<O: Write>(writer: &mut O, number: u64, answer: &Result<Answer, CommandFault>) -> bool
+    ensures { Takes result (O.contents writer.old) (O.contents writer.new) (said_of number answer.now) }
 {
-    if !is_said(alloc, pending, watch, store, writer) {
+    if !say(writer, number, answer) {
         return false;
     }
     writer.flush().is_ok()
 }
 
-/// Takes a byte: a line break ends a line, which is answered. Says whether the writer took all.
-fn is_byte_taken<D: Desk, O: Write, W: Watch>(
+/// Answers a line that has ended. The store's list is emptied. Gives the end, where that has come.
+fn take_line<D: Desk, O: Write, W: Watch, P: Plan>(
+    alloc: Global,
+    line: &Pending,
+    watch: &W,
+    plan: &P,
+    store: &mut D,
+    writer: &mut O,
+) -> Option<OperatorEnd>
+    ensures empty { D.calls store.new ≡ [] }
+    ensures taken { (start : D) (lines : List (List ℕ)) (blank : Option (List ℕ)) (text : List ℕ) → IsKept line.now text → line.now.number ≡ number_behind lines
+        → Told D.moves D.same_but_calls D.rolls D.is_full D.is_left (P.reads plan.now) start lines blank true store.old (O.contents writer.old)
+        → TakesLine D.moves D.same_but_calls D.rolls D.is_full D.is_left (P.reads plan.now) result start lines blank text store.new (O.contents writer.new) }
+{
+    let came = answer_line(alloc, line, watch, plan, store);
+    store.forget();
+    if asks_end(&came) {
+        return Some(OperatorEnd::EndAsked);
+    }
+    if say_at_once(writer, line.number, &came) {
+        return None;
+    }
+    Some(OperatorEnd::WriteFault)
+}
+
+/// Takes a byte: a line break ends a line, which is answered. Gives the end, where that has come.
+fn take_byte<D: Desk, O: Write, W: Watch, P: Plan>(
     alloc: Global,
     pending: &mut Pending,
     byte: u8,
     watch: &W,
+    plan: &P,
     store: &mut D,
     writer: &mut O,
-) -> bool
+) -> Option<OperatorEnd>
     ensures empty { D.calls store.old ≡ [] → D.calls store.new ≡ [] }
     ensures taken { (start : D) (blank : Option (List ℕ)) (heard : List ℕ)
-        → SoFar D.moves D.same_but_calls D.rolls D.is_full D.is_left start blank heard pending.old store.old (O.contents writer.old)
-        → HearsOn result D.moves D.same_but_calls D.rolls D.is_full D.is_left start blank (heard ++ byte ∷ []) pending.new store.new (O.contents writer.new) }
+        → SoFar D.moves D.same_but_calls D.rolls D.is_full D.is_left (P.reads plan.now) start blank heard pending.old store.old (O.contents writer.old)
+        → HearsOn D.moves D.same_but_calls D.rolls D.is_full D.is_left (P.reads plan.now) result start blank (heard ++ byte ∷ []) pending.new store.new (O.contents writer.new) }
 {
     if byte != b'\n' {
         pending.add(byte);
-        return true;
+        return None;
     }
-    if !is_answered(alloc, pending, watch, store, writer) {
-        return false;
+    match take_line(alloc, pending, watch, plan, store, writer) {
+        Some(end) => Some(end),
+        None => {
+            pending.end();
+            None
+        }
     }
-    pending.end();
-    true
 }
 
-/// Takes bytes, up to where the writer fails. Says whether it took all.
-fn is_piece_taken<D: Desk, O: Write, W: Watch>(
+/// Takes bytes, up to the end, and gives that, where it has come.
+fn take_piece<D: Desk, O: Write, W: Watch, P: Plan>(
     alloc: Global,
     pending: &mut Pending,
     piece: &[u8],
     watch: &W,
+    plan: &P,
     store: &mut D,
     writer: &mut O,
-) -> bool
+) -> Option<OperatorEnd>
     ensures empty { D.calls store.old ≡ [] → D.calls store.new ≡ [] }
     ensures taken { (start : D) (blank : Option (List ℕ)) (heard : List ℕ)
-        → SoFar D.moves D.same_but_calls D.rolls D.is_full D.is_left start blank heard pending.old store.old (O.contents writer.old)
-        → HearsOn result D.moves D.same_but_calls D.rolls D.is_full D.is_left start blank (heard ++ piece.now) pending.new store.new (O.contents writer.new) }
+        → SoFar D.moves D.same_but_calls D.rolls D.is_full D.is_left (P.reads plan.now) start blank heard pending.old store.old (O.contents writer.old)
+        → HearsOn D.moves D.same_but_calls D.rolls D.is_full D.is_left (P.reads plan.now) result start blank (heard ++ piece.now) pending.new store.new (O.contents writer.new) }
 {
     for byte in piece {
-        if !is_byte_taken(alloc, pending, *byte, watch, store, writer) {
-            return false;
+        match take_byte(alloc, pending, *byte, watch, plan, store, writer) {
+            Some(end) => return Some(end),
+            None => {}
         }
     }
-    true
+    None
 }
 
-/// Answers the last line, where no line break ends it. Says whether the writer took all.
-fn is_finished<D: Desk, O: Write, W: Watch>(
+/// Answers the last line, where no line break ends it.
+fn finish<D: Desk, O: Write, W: Watch, P: Plan>(
     alloc: Global,
     pending: &Pending,
     watch: &W,
+    plan: &P,
     store: &mut D,
     writer: &mut O,
-) -> bool
+) -> OperatorEnd
     ensures empty { D.calls store.old ≡ [] → D.calls store.new ≡ [] }
-    ensures finished { (start : D) (blank : Option (List ℕ)) (heard : List ℕ)
-        → SoFar D.moves D.same_but_calls D.rolls D.is_full D.is_left start blank heard pending.now store.old (O.contents writer.old)
-        → Finished D.moves D.same_but_calls D.rolls D.is_full D.is_left start blank heard result store.new (O.contents writer.new) }
+    ensures finished { (start : D) (unread blank left : Option (List ℕ)) (heard : List ℕ) → Consumes unread left heard → IsAtEnd left
+        → SoFar D.moves D.same_but_calls D.rolls D.is_full D.is_left (P.reads plan.now) start blank heard pending.now store.old (O.contents writer.old)
+        → Operated D.moves D.same_but_calls D.rolls D.is_full D.is_left (P.reads plan.now) start unread blank result (W.may_close watch.now) store.new left (O.contents writer.new) }
 {
     if pending.is_empty() {
-        return true;
+        return OperatorEnd::InputEnded;
     }
-    is_answered(alloc, pending, watch, store, writer)
+    match take_line(alloc, pending, watch, plan, store, writer) {
+        Some(end) => end,
+        None => OperatorEnd::InputEnded,
+    }
 }
 
-/// Reads once, and answers the lines that came; where the reader has ended, the last line.
-fn take_turn<D: Desk, I: Read, O: Write, W: Watch>(
+/// Whether a read that failed so gave nothing, and may be made again.
+fn is_quiet(kind: ErrorKind) -> bool
+    ensures { result ≡ is_quiet kind }
+{
+    matches!(
+        kind,
+        ErrorKind::Interrupted | ErrorKind::WouldBlock | ErrorKind::TimedOut
+    )
+}
+
+/// What comes of a read that failed: the next, unless the run is to end, or the fault isn't a quiet one.
+fn after_fault<W: Watch>(kind: ErrorKind, watch: &W) -> Option<OperatorEnd>
+    ensures { FailsAs result kind (W.may_close watch.now) }
+{
+    if !is_quiet(kind) {
+        return Some(OperatorEnd::ReadFault);
+    }
+    if watch.is_closing() {
+        return Some(OperatorEnd::RunEnding);
+    }
+    None
+}
+
+/// Reads once, and answers the lines that came; where the reader has ended, the last line. Gives the end, where that
+/// has come.
+fn turn<D: Desk, I: Patient, O: Write, W: Watch, P: Plan>(
     alloc: Global,
     pending: &mut Pending,
     piece: &mut [u8],
     reader: &mut I,
     writer: &mut O,
     watch: &W,
+    plan: &P,
     store: &mut D,
-) -> Turn
+) -> Option<OperatorEnd>
     requires room { 0 < length piece.old }
     ensures empty { D.calls store.old ≡ [] → D.calls store.new ≡ [] }
     ensures turned { (start : D) (unread blank : Option (List ℕ)) (heard : List ℕ) → Consumes unread (I.remaining reader.old) heard
-        → SoFar D.moves D.same_but_calls D.rolls D.is_full D.is_left start blank heard pending.old store.old (O.contents writer.old)
-        → Turns result D.moves D.same_but_calls D.rolls D.is_full D.is_left start unread blank (W.may_close watch.now) pending.new store.new (I.remaining reader.new) (O.contents writer.new) }
+        → SoFar D.moves D.same_but_calls D.rolls D.is_full D.is_left (P.reads plan.now) start blank heard pending.old store.old (O.contents writer.old)
+        → Turns D.moves D.same_but_calls D.rolls D.is_full D.is_left (P.reads plan.now) result start unread blank (W.may_close watch.now) pending.new store.new (I.remaining reader.new) (O.contents writer.new) }
 {
-    let Ok(count) = reader.read(piece) else {
-        return Turn::Failed;
+    let count = match reader.read(piece) {
+        Ok(count) => count,
+        Err(error) => return after_fault(error.kind(), watch),
     };
     if count == 0 {
-        if is_finished(alloc, pending, watch, store, writer) {
-            return Turn::Ended;
-        }
-        return Turn::Failed;
+        return Some(finish(alloc, pending, watch, plan, store, writer));
     }
     if watch.is_closing() {
-        return Turn::Ended;
+        return Some(OperatorEnd::RunEnding);
     }
-    if is_piece_taken(alloc, pending, &piece[..count], watch, store, writer) {
-        return Turn::More;
-    }
-    Turn::Failed
+    take_piece(alloc, pending, &piece[..count], watch, plan, store, writer)
 }
 
-/// Answers an operator's lines until the reader has ended, or the run is to end when bytes were read: those, and a
-/// line that hasn't ended, are left then. A line that names an operator's event is obeyed, once, and told the reply;
-/// `book` is answered by a line for each link, with what is left of it at each priority, in bytes per second. A bad
-/// line is answered `bad line N`, want of memory `out of memory`, and the next line is read. `Device` where the reader
-/// or the writer fails; the only other fault is want of memory before the first read.
-pub fn operate<D: Desk, I: Read, O: Write, W: Watch>(
+/// Answers an operator's lines until no more is to be heard, and gives why. A line that asks for an event submits it,
+/// once, and is told the reply; `book` is told what is left of each link at each priority, in bytes per second; `end`
+/// asks for the end of the run. A bad line is answered `bad line N`, want of memory `out of memory`, and the next line
+/// is read. Where the run is to end, what was read last is left. The only fault is want of memory before the first
+/// read.
+pub fn operate<R: Wait, D: Desk, I: Patient, O: Write, W: Watch, P: Plan>(
+    rt: &R,
     alloc: Global,
     reader: &mut I,
     writer: &mut O,
     watch: &W,
+    plan: &P,
     store: &mut D,
-) -> Result<(), OperatorFault>
-    ensures by_operators { (calls : List Call) × AreOperators calls × Goes D.moves D.same_but_calls D.rolls store.old calls store.new }
+) -> Result<OperatorEnd, AllocError>
+    ensures by_operators { (calls : List Call) × AreOperators calls × Goes (ways D.moves D.same_but_calls D.is_full D.rolls) store.old calls store.new }
     ensures empty { D.calls store.old ≡ [] → D.calls store.new ≡ [] }
     ensures operated { EndsAs result
-        (λ is_well. Operated D.moves D.same_but_calls D.rolls D.is_full D.is_left store.old (I.remaining reader.old) (O.contents writer.old) is_well (W.may_close watch.now) store.new (I.remaining reader.new) (O.contents writer.new))
+        (λ end. Operated D.moves D.same_but_calls D.rolls D.is_full D.is_left (P.reads plan.now) store.old (I.remaining reader.old) (O.contents writer.old) end (W.may_close watch.now) store.new (I.remaining reader.new) (O.contents writer.new))
         ((store.new ≡ store.old) × (reader.new ≡ reader.old) × (writer.new ≡ writer.old)) }
 {
-    let Ok(bytes) = Vec::with_capacity(alloc, LINE_LIMIT) else {
-        return Err(OperatorFault::Store(Fault::OutOfMemory));
-    };
     let mut pending = Pending {
         number: 1,
-        bytes,
+        bytes: Vec::with_capacity(alloc, LINE_LIMIT)?,
         is_long: false,
     };
     let mut piece = [0u8; PIECE];
-    for _read in 0..u64::MAX {
-        match take_turn(
+    reader.set_patience(Duration::from_millis(PATIENCE_MS));
+    for _ in rt.forever() {
+        match turn(
             alloc,
             &mut pending,
             &mut piece,
             reader,
             writer,
             watch,
+            plan,
             store,
         ) {
-            Turn::More => {}
-            Turn::Ended => return Ok(()),
-            Turn::Failed => return Err(OperatorFault::Device),
+            Some(end) => return Ok(end),
+            None => {}
         }
     }
-    Err(OperatorFault::Device)
+    unreachable!()
 }

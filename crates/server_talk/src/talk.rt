@@ -1,12 +1,14 @@
 //! One connection: its reads, its writes and its end, over any reader, writer and store.
-ghost use Rattle.std.specs.Prelude.{◌≡◌, ◌<◌, ◌≤◌, ◌-◌, ◌⊎◌, if◌then◌else◌, ℕ, true, false, [], List, length, take, Option, None, Some, MatchOption};
+ghost use Rattle.std.specs.Prelude.{◌≡◌, ◌<◌, ◌≤◌, ◌⊎◌, ℕ, true, false, [], List, length, take, ⊤, Option, None, Some, MatchOption};
 ghost use Rattle.std.specs.Io.KnownBytes.{Consumes, Appends, Keeps};
+ghost use Rattle.pcep_session.specs.Timers.{IsNextDue, is_due_at};
+ghost use Rattle.pcep_session.specs.Turns.{is_closed};
 ghost use Rattle.engine_core.specs.Engine.{ending};
 ghost use Rattle.engine_core.specs.Joining.{joined_after};
 ghost use Rattle.engine_core.specs.declared.store.Call.{Call};
-ghost use Rattle.server_talk.specs.Goings.{Goes};
-ghost use Rattle.server_talk.specs.Heard.{IsWithin, Hears};
-ghost use Rattle.server_talk.specs.Visits.{SoFar, Takes, GoesOut, IsToldOf, spoken, Leaves, owes_down, Visited, IsNoVisit};
+ghost use Rattle.server_talk.specs.Goings.{Goes, ways};
+ghost use Rattle.server_talk.specs.Heard.{IsWithin, Hears, IsDue, wait_until, heard_of_fault, taken_of_fault};
+ghost use Rattle.server_talk.specs.Visits.{SoFar, TakesAll, GoesOut, IsToldOf, IsUnexplained, spoken, Leaves, owes_down, Visited, IsNoVisit};
 
 use crate::traits::{Patient, Watch};
 use engine_core::{Client, Desk, Fault, hang_up, serve};
@@ -18,11 +20,8 @@ use std::time::Duration;
 /// A turn reads so many bytes at most.
 pub const PIECE: usize = 4096;
 
-/// A session is served so often at least, in milliseconds, so that its timers run (RFC 5440 section 4.2.1).
-const SERVED_EVERY_MS: u64 = 10_000;
-
-/// And so often where memory was refused to it.
-const RETRIED_EVERY_MS: u64 = 50;
+/// A session waits for bytes so long at most, in milliseconds, until it looks what it has to say.
+const LONGEST_WAIT_MS: u64 = 10_000;
 
 /// A peer takes a turn's bytes within so many milliseconds, or its connection ends.
 pub const TAKEN_WITHIN_MS: u64 = 10_000;
@@ -64,10 +63,6 @@ enum Heard {
 struct Talk {
     peer: u32,
     client: Client,
-    /// When it was last served, in milliseconds.
-    served_ms: u64,
-    /// It was served, but for what memory was refused to.
-    is_behind: bool,
 }
 
 /// Serves one peer until its end. Every call that the store gets is one that the engine's table names for this peer and
@@ -83,20 +78,14 @@ pub fn connection<R: Wait, I: Patient, O: Write, W: Watch, D: Desk>(
     watch: &W,
     store: &mut D,
 ) -> Ended
-    ensures down { (calls : List Call) × Goes D.moves D.same_but_calls D.rolls store.old calls store.new × (joined_after false calls ≡ owes_down result) }
+    ensures down { (calls : List Call) × Goes (ways D.moves D.same_but_calls D.is_full D.rolls) store.old calls store.new × (joined_after false calls ≡ owes_down result) }
     ensures visited { IsNoVisit result store.old store.new reader.old reader.new writer.old writer.new
-        ⊎ Visited D.calls D.moves D.same_but_calls D.rolls peer store.old (I.remaining reader.old) (O.contents writer.old) result store.new (I.remaining reader.new) (O.contents writer.new) }
+        ⊎ Visited (ways D.moves D.same_but_calls D.is_full D.rolls) (W.tells watch.now) (W.may_close watch.now) D.calls peer store.old (I.remaining reader.old) (O.contents writer.old) result store.new (I.remaining reader.new) (O.contents writer.new) }
 {
-    let now_ms = watch.now_ms();
-    let Ok(client) = Client::new(alloc, now_ms) else {
+    let Ok(client) = Client::new(alloc, watch.now_ms()) else {
         return Ended::SessionEnded;
     };
-    let mut talk = Talk {
-        peer,
-        client,
-        served_ms: now_ms,
-        is_behind: false,
-    };
+    let mut talk = Talk { peer, client };
     let ended = talk_on(rt, &mut talk, reader, writer, watch, store);
     match leave(&mut talk, store) {
         Ok(()) => ended,
@@ -104,19 +93,19 @@ pub fn connection<R: Wait, I: Patient, O: Write, W: Watch, D: Desk>(
     }
 }
 
-/// A history that is full is rolled, so that the next call finds room.
+/// A history that is full is rolled, unless another thread has rolled it, so that the next call finds room.
 pub(crate) fn make_room<D: Desk>(fault: Fault, store: &mut D)
-    ensures { (start : D) (calls : List Call) → Goes D.moves D.same_but_calls D.rolls start calls store.old → Goes D.moves D.same_but_calls D.rolls start calls store.new }
+    ensures { (start : D) (calls : List Call) → Goes (ways D.moves D.same_but_calls D.is_full D.rolls) start calls store.old → Goes (ways D.moves D.same_but_calls D.is_full D.rolls) start calls store.new }
 {
     if fault == Fault::HistoryFull {
-        let _rolled = store.roll();
+        let _rolled = store.roll_if_full();
     }
 }
 
 /// Hangs up, and again after a fault. The list of the store has the calls of that alone.
 fn leave<D: Desk>(talk: &mut Talk, store: &mut D) -> Result<(), Fault>
-    ensures { (start : D) (calls : List Call) → Goes D.moves D.same_but_calls D.rolls start calls store.old
-        → Leaves result D.calls D.moves D.same_but_calls D.rolls talk.old.peer talk.old.client.joined start calls store.new }
+    ensures { (start : D) (calls : List Call) → Goes (ways D.moves D.same_but_calls D.is_full D.rolls) start calls store.old
+        → Leaves result (ways D.moves D.same_but_calls D.is_full D.rolls) D.calls talk.old.peer talk.old.client.joined start calls store.new }
 {
     let mut last = Fault::OutOfMemory;
     for _try in 0..HANG_UPS {
@@ -143,12 +132,11 @@ fn talk_on<R: Wait, I: Patient, O: Write, W: Watch, D: Desk>(
     ensures silent { talk.new.client.session.output ≡ [] }
     ensures peer { talk.new.peer ≡ talk.old.peer }
     ensures ended { (start : D) (unread blank : Option (List ℕ))
-        → SoFar D.moves D.same_but_calls D.rolls talk.old.peer start unread blank None store.old (I.remaining reader.old) (O.contents writer.old) talk.old.client
-        → SoFar D.moves D.same_but_calls D.rolls talk.old.peer start unread blank (Some result) store.new (I.remaining reader.new) (O.contents writer.new) talk.new.client }
+        → SoFar (ways D.moves D.same_but_calls D.is_full D.rolls) (W.tells watch.now) (W.may_close watch.now) talk.old.peer start unread blank None store.old (I.remaining reader.old) (O.contents writer.old) talk.old.client
+        → SoFar (ways D.moves D.same_but_calls D.is_full D.rolls) (W.tells watch.now) (W.may_close watch.now) talk.old.peer start unread blank (Some result) store.new (I.remaining reader.new) (O.contents writer.new) talk.new.client }
 {
     let mut buffer = [0u8; PIECE];
-    let now_ms = watch.now_ms();
-    if let Some(ended) = answer(talk, &[], now_ms, writer, watch, store) {
+    if let Some(ended) = answer(talk, &[], writer, watch, store) {
         return ended;
     }
     for _ in rt.forever() {
@@ -169,11 +157,13 @@ fn turn<I: Patient, O: Write, W: Watch, D: Desk>(
     store: &mut D,
 ) -> Option<Ended>
     requires room { 0 < length buffer.old }
+    requires open { is_closed talk.old.client.session.state ≡ false }
+    ensures open { result ≡ None → is_closed talk.new.client.session.state ≡ false }
     ensures silent { talk.old.client.session.output ≡ [] → talk.new.client.session.output ≡ [] }
     ensures peer { talk.new.peer ≡ talk.old.peer }
     ensures turned { (start : D) (unread blank : Option (List ℕ))
-        → SoFar D.moves D.same_but_calls D.rolls talk.old.peer start unread blank None store.old (I.remaining reader.old) (O.contents writer.old) talk.old.client
-        → SoFar D.moves D.same_but_calls D.rolls talk.old.peer start unread blank result store.new (I.remaining reader.new) (O.contents writer.new) talk.new.client }
+        → SoFar (ways D.moves D.same_but_calls D.is_full D.rolls) (W.tells watch.now) (W.may_close watch.now) talk.old.peer start unread blank None store.old (I.remaining reader.old) (O.contents writer.old) talk.old.client
+        → SoFar (ways D.moves D.same_but_calls D.is_full D.rolls) (W.tells watch.now) (W.may_close watch.now) talk.old.peer start unread blank result store.new (I.remaining reader.new) (O.contents writer.new) talk.new.client }
 {
     if watch.is_closing() {
         close(talk);
@@ -182,37 +172,53 @@ fn turn<I: Patient, O: Write, W: Watch, D: Desk>(
     let most = Duration::from_millis(patience_ms(talk, watch.now_ms()));
     reader.set_patience(most);
     let heard = hear(reader, buffer);
-    let now_ms = watch.now_ms();
     match heard {
         Heard::Ended(ended) => Some(ended),
-        Heard::Bytes(count) => answer(talk, &buffer[..count], now_ms, writer, watch, store),
-        Heard::Nothing if is_due(talk, now_ms, store) => answer(
-            talk,
-            &[],
-            now_ms,
-            writer,
-            watch,
-            store,
-        ),
+        Heard::Bytes(count) => answer(talk, &buffer[..count], writer, watch, store),
+        Heard::Nothing if is_due(talk, watch, store) => answer(talk, &[], writer, watch, store),
         Heard::Nothing => None,
     }
 }
 
-/// How long the session may wait until it is to be served, in milliseconds.
+/// How long the session may wait for bytes, in milliseconds: until its next timer is due.
 fn patience_ms(talk: &Talk, now_ms: u64) -> u64
-    ensures { result ≡ (if talk.now.is_behind then 50 else 10000) - (now_ms - talk.now.served_ms) }
+    ensures { (next : Option ℕ) × IsNextDue next talk.now.client.session × (result ≡ wait_until next now_ms) }
 {
-    let every_ms = if talk.is_behind {
-        RETRIED_EVERY_MS
-    } else {
-        SERVED_EVERY_MS
-    };
-    every_ms.saturating_sub(now_ms.saturating_sub(talk.served_ms))
+    match talk.client.session.next_due_ms() {
+        Some(due_ms) => due_ms.saturating_sub(now_ms).min(LONGEST_WAIT_MS),
+        None => LONGEST_WAIT_MS,
+    }
 }
 
-/// Whether the session is to be served though no bytes came: messages wait, or it was served too long ago.
-fn is_due<D: Desk>(talk: &Talk, now_ms: u64, store: &D) -> bool {
-    store.queued(talk.peer) || patience_ms(talk, now_ms) == 0
+/// Whether a timer of the session is due (RFC 5440 section 4.2.1).
+fn is_timer_due(talk: &Talk, now_ms: u64) -> bool
+    ensures { result ≡ is_due_at now_ms talk.now.client.session }
+{
+    match talk.client.session.next_due_ms() {
+        Some(due_ms) => now_ms >= due_ms,
+        None => false,
+    }
+}
+
+/// Whether the session is to be served though no bytes came: messages wait for the peer, or a timer is due.
+fn is_due<W: Watch, D: Desk>(talk: &Talk, watch: &W, store: &D) -> bool
+    ensures { IsDue (D.queues store.now talk.now.peer) (W.tells watch.now) talk.now.client.session result }
+{
+    let is_queued = store.queued(talk.peer);
+    let now_ms = watch.now_ms();
+    is_queued || is_timer_due(talk, now_ms)
+}
+
+/// What a read that failed means: where nothing came in time, or the wait was interrupted, it is tried again.
+fn heard_of_fault(kind: ErrorKind) -> Heard
+    ensures table { result ≡ heard_of_fault kind }
+    ensures within { (buffer : List ℕ) → IsWithin result buffer }
+    ensures heard { (old new : Option (List ℕ)) (buffer : List ℕ) → Keeps old new → Hears result old new buffer }
+{
+    match kind {
+        ErrorKind::WouldBlock | ErrorKind::TimedOut | ErrorKind::Interrupted => Heard::Nothing,
+        _ => Heard::Ended(Ended::ReadFault),
+    }
 }
 
 /// Reads once. What came stands at the front of the buffer.
@@ -224,24 +230,20 @@ fn hear<I: Patient>(reader: &mut I, buffer: &mut [u8]) -> Heard
     match reader.read(buffer) {
         Ok(0) => Heard::Ended(Ended::PeerClosed),
         Ok(count) => Heard::Bytes(count),
-        Err(error) => match error.kind() {
-            ErrorKind::WouldBlock | ErrorKind::TimedOut | ErrorKind::Interrupted => Heard::Nothing,
-            _ => Heard::Ended(Ended::ReadFault),
-        },
+        Err(error) => heard_of_fault(error.kind()),
     }
 }
 
-/// Serves a piece.
-fn heed<D: Desk>(talk: &mut Talk, piece: &[u8], now_ms: u64, store: &mut D)
+/// Serves a piece at the moment that it is.
+fn heed<W: Watch, D: Desk>(talk: &mut Talk, piece: &[u8], watch: &W, store: &mut D)
     ensures peer { talk.new.peer ≡ talk.old.peer }
     ensures heeded { (start : D) (unread blank left read written : Option (List ℕ))
-        → SoFar D.moves D.same_but_calls D.rolls talk.old.peer start unread blank None store.old left written talk.old.client → Consumes left read piece.now
-        → SoFar D.moves D.same_but_calls D.rolls talk.old.peer start unread blank None store.new read written talk.new.client }
+        → SoFar (ways D.moves D.same_but_calls D.is_full D.rolls) (W.tells watch.now) (W.may_close watch.now) talk.old.peer start unread blank None store.old left written talk.old.client → Consumes left read piece.now
+        → SoFar (ways D.moves D.same_but_calls D.is_full D.rolls) (W.tells watch.now) (W.may_close watch.now) talk.old.peer start unread blank None store.new read written talk.new.client }
 {
-    talk.served_ms = now_ms;
+    let now_ms = watch.now_ms();
     let served = serve(&mut talk.client, talk.peer, piece, now_ms, store);
     store.forget();
-    talk.is_behind = served.is_err();
     if let Err(fault) = served {
         make_room(fault, store);
     }
@@ -251,18 +253,18 @@ fn heed<D: Desk>(talk: &mut Talk, piece: &[u8], now_ms: u64, store: &mut D)
 fn answer<O: Write, W: Watch, D: Desk>(
     talk: &mut Talk,
     piece: &[u8],
-    now_ms: u64,
     writer: &mut O,
     watch: &W,
     store: &mut D,
 ) -> Option<Ended>
+    ensures open { result ≡ None → is_closed talk.new.client.session.state ≡ false }
     ensures silent { talk.new.client.session.output ≡ [] }
     ensures peer { talk.new.peer ≡ talk.old.peer }
     ensures answered { (start : D) (unread blank left read : Option (List ℕ))
-        → SoFar D.moves D.same_but_calls D.rolls talk.old.peer start unread blank None store.old left (O.contents writer.old) talk.old.client → Consumes left read piece.now
-        → SoFar D.moves D.same_but_calls D.rolls talk.old.peer start unread blank result store.new read (O.contents writer.new) talk.new.client }
+        → SoFar (ways D.moves D.same_but_calls D.is_full D.rolls) (W.tells watch.now) (W.may_close watch.now) talk.old.peer start unread blank None store.old left (O.contents writer.old) talk.old.client → Consumes left read piece.now
+        → SoFar (ways D.moves D.same_but_calls D.is_full D.rolls) (W.tells watch.now) (W.may_close watch.now) talk.old.peer start unread blank result store.new read (O.contents writer.new) talk.new.client }
 {
-    heed(talk, piece, now_ms, store);
+    heed(talk, piece, watch, store);
     say(talk, writer, watch)
 }
 
@@ -272,6 +274,7 @@ fn say<O: Write, W: Watch>(talk: &mut Talk, writer: &mut O, watch: &W) -> Option
     ensures spoken { talk.new.client ≡ spoken talk.old.client }
     ensures out { GoesOut result (O.contents writer.old) (O.contents writer.new) talk.old.client.session.output }
     ensures told { (left : Option (List ℕ)) → IsToldOf result left talk.new.client }
+    ensures open { result ≡ None → is_closed talk.new.client.session.state ≡ false }
 {
     let output = talk.client.session.take_output();
     if !is_taken(writer, watch, &output) {
@@ -283,6 +286,17 @@ fn say<O: Write, W: Watch>(talk: &mut Talk, writer: &mut O, watch: &W) -> Option
     None
 }
 
+/// How many bytes a write that failed took: none where it was interrupted.
+fn taken_of_fault(kind: ErrorKind) -> Option<usize>
+    ensures table { result ≡ taken_of_fault kind }
+    ensures none { MatchOption result ⊤ (λ count. count ≡ 0) }
+{
+    match kind {
+        ErrorKind::Interrupted => Some(0),
+        _ => None,
+    }
+}
+
 /// Writes once, and says how many bytes were taken: none where the write was interrupted. `None` where it failed.
 pub(crate) fn write_once<O: Write>(writer: &mut O, bytes: &[u8]) -> Option<usize>
     ensures { MatchOption result (Keeps (O.contents writer.old) (O.contents writer.new))
@@ -290,15 +304,14 @@ pub(crate) fn write_once<O: Write>(writer: &mut O, bytes: &[u8]) -> Option<usize
 {
     match writer.write(bytes) {
         Ok(count) => Some(count),
-        Err(error) if error.kind() == ErrorKind::Interrupted => Some(0),
-        Err(_) => None,
+        Err(error) => taken_of_fault(error.kind()),
     }
 }
 
 /// Writes bytes, in one call but where a write takes a part of them alone. Says whether the peer took all of them
 /// in time. A write that waited for its time has used it up, though a part was taken meanwhile.
 fn is_taken<O: Write, W: Watch>(writer: &mut O, watch: &W, bytes: &[u8]) -> bool
-    ensures { Takes result (O.contents writer.old) (O.contents writer.new) bytes.now }
+    ensures { TakesAll result (O.contents writer.old) (O.contents writer.new) bytes.now }
 {
     if bytes.is_empty() {
         return true;
@@ -323,7 +336,7 @@ fn is_taken<O: Write, W: Watch>(writer: &mut O, watch: &W, bytes: &[u8]) -> bool
 /// Ends the session from this side, with a Close where there is memory for it.
 fn close(talk: &mut Talk)
     ensures peer { talk.new.peer ≡ talk.old.peer }
-    ensures closed { (reason : Option ℕ) × (talk.new.client ≡ ending None reason talk.old.client) }
+    ensures closed { (reason : Option ℕ) × IsUnexplained reason × (talk.new.client ≡ ending None reason talk.old.client) }
 {
     let session = &mut talk.client.session;
     if session.end(None, Some(NO_EXPLANATION)).is_err() {

@@ -14,13 +14,17 @@ pub trait Patient: Read {
 
 /// What a connection knows of the run that it is part of.
 pub trait Watch {
-    ghost use Rattle.std.specs.Prelude.{◌≡◌, true, ⊤};
+    ghost use Rattle.std.specs.Prelude.{◌≡◌, ℕ, true, ⊤};
 
     /// The run may be told to end.
     ghost may_close: { Self → Type 0 } = { λ _. ⊤ };
 
+    /// The moments that it may tell.
+    ghost tells: { Self → ℕ → Type 0 } = { λ _ _. ⊤ };
+
     /// The moment, in milliseconds since the run began.
-    fn now_ms(&self) -> u64;
+    fn now_ms(&self) -> u64
+        ensures { tells self.now result };
 
     /// Whether the run is to end, so that each session is to be closed.
     fn is_closing(&self) -> bool

@@ -1,14 +1,14 @@
 //! The lock, what is done under it, and the waits for what it holds.
-ghost use Rattle.std.specs.Prelude.{◌≡◌, ◌≤◌, [], true, length, IfOk, IfErr, OnErr, replicate};
+ghost use Rattle.std.specs.Prelude.{◌≡◌, ◌≤◌, [], true, not, nat_lt, length, IfOk, IfErr, OnErr, replicate};
 ghost use Rattle.step_core.specs.States.{has_waiting, is_queued};
 ghost use Rattle.te_snapshot.specs.Left.{all_left};
 ghost use Rattle.history_core.specs.Histories.{Content, Replays, IsSound, is_full, steps_of, grants_of};
 ghost use Rattle.history_seats.specs.Receipts.{new_seat, tidy};
 ghost use Rattle.history_seats.specs.Audits.{IsAudited, Fails};
-ghost use Rattle.shared_pce.specs.Turns.{Takes, Told, Commits, Works, Pauses};
+ghost use Rattle.shared_pce.specs.Turns.{Takes, Told, Commits, Works, Pauses, RollsIf};
 
 use crate::audit::{Audit, AuditRefused};
-use crate::bells::Bells;
+use crate::bell::Bell;
 use crate::looks::left_on_each;
 use crate::work::{Gate, Worked};
 use history_core::{Database, Event, Fault, Job, Reply, SharedEvent};
@@ -24,7 +24,7 @@ use std::time::{Clock, Duration};
 pub struct Shared<S: Ledger, G: Ledger, B: Room> {
     alloc: Global,
     held: Mutex<Held<S, G, B>>,
-    bells: Bells,
+    bell: Bell,
 }
 
 /// Drops each part. A derived drop would be proved anew for each owner.
@@ -33,22 +33,10 @@ impl<S: Ledger, G: Ledger, B: Room> Drop for Shared<S, G, B> {
         let Shared {
             alloc: _,
             held,
-            bells,
+            bell,
         } = self;
         drop(held);
-        drop(bells);
-    }
-}
-
-/// The peer to which an event may leave messages: its own.
-fn peer_in(event: &Event) -> Option<u32> {
-    match event {
-        Event::Report { peer, .. }
-        | Event::Ask { peer, .. }
-        | Event::Refused { peer, .. }
-        | Event::Return { peer, .. }
-        | Event::Delete { peer, .. } => Some(*peer),
-        _ => None,
+        drop(bell);
     }
 }
 
@@ -71,21 +59,12 @@ impl<S: Ledger, G: Ledger, B: Room> Shared<S, G, B> {
         ensures { IfOk result (λ made. made.1.items ≡ replicate seats new_seat) }
     {
         let (held, seats) = Held::new(alloc, database, seats, steps, grants, room)?;
-        match Bells::new(alloc) {
-            Ok(bells) => Ok((
-                Shared {
-                    alloc,
-                    held: Mutex::new(held),
-                    bells,
-                },
-                seats,
-            )),
-            Err(error) => {
-                drop(held);
-                drop(seats);
-                Err(error)
-            }
-        }
+        let shared = Shared {
+            alloc,
+            held: Mutex::new(held),
+            bell: Bell::new(),
+        };
+        Ok((shared, seats))
     }
 
     /// One event, as one step under the lock, with its receipt to the seat. After a fault the seat is as before,
@@ -116,16 +95,12 @@ impl<S: Ledger, G: Ledger, B: Room> Shared<S, G, B> {
         ensures unchanged_on_fault { OnErr result (seat.new ≡ seat.old) }
         ensures full { result ≡ Err Fault.HistoryFull → (d : Content) × Replays d × (is_full d ≡ true) }
     {
-        let peer = peer_in(event.event());
         let mut held = self.held.lock(rt);
         let (reply, let_go) = held.step_and_fold(seat, event)?;
         let waits = held.database().waiting();
         drop(held);
         if waits {
-            self.bells.ring_work();
-        }
-        if let Some(peer) = peer {
-            self.bells.ring_peer(peer);
+            self.bell.ring();
         }
         drop(let_go);
         Ok(reply)
@@ -159,9 +134,7 @@ impl<S: Ledger, G: Ledger, B: Room> Shared<S, G, B> {
             ticket: job.ticket.id,
             offer,
         };
-        let reply = self.submit(rt, seat, event)?;
-        self.bells.ring_peer(job.ticket.peer);
-        Ok(reply)
+        self.submit(rt, seat, event)
     }
 
     /// One turn of a worker: the job in the seat's hand, or else a ticket that waits, is searched for and
@@ -242,6 +215,40 @@ impl<S: Ledger, G: Ledger, B: Room> Shared<S, G, B> {
         Ok(steps)
     }
 
+    /// Rolls the history where at least so many steps are kept, and gives how many were taken before its new base. `None`
+    /// where fewer are kept, as where another thread has rolled it: the test and the roll are under one lock. Where
+    /// memory is refused nothing has changed.
+    pub fn roll_if<R: Wait>(&self, rt: &R, at_least: u64) -> Result<Option<u64>, AllocError>
+        ensures { IfOk result (λ rolled. (d : Content) × Replays d × RollsIf (not (nat_lt (length d.history) at_least)) d rolled) }
+    {
+        let mut held = self.held.lock(rt);
+        if (held.database().history().len() as u64) < at_least {
+            return Ok(None);
+        }
+        let let_go = held.take_rolled()?;
+        let steps = held.database().rolled();
+        drop(held);
+        drop(let_go);
+        Ok(Some(steps))
+    }
+
+    /// The same where no further step can be kept.
+    pub fn roll_if_full<R: Wait>(&self, rt: &R) -> Result<Option<u64>, AllocError>
+        ensures { IfOk result (λ rolled. (d : Content) × Replays d × RollsIf (is_full d) d rolled) }
+    {
+        let mut held = self.held.lock(rt);
+        // for the proof alone: the history replays
+        let _replays = held.database().history();
+        if !held.database().is_full() {
+            return Ok(None);
+        }
+        let let_go = held.take_rolled()?;
+        let steps = held.database().rolled();
+        drop(held);
+        drop(let_go);
+        Ok(Some(steps))
+    }
+
     /// Lets a seat that waits keep its receipts of rolled places no longer; they stay counted. It is no step.
     pub fn fold<R: Wait>(&self, rt: &R, seat: &mut Seat<S, G, B>)
         ensures { (d : Content) × Replays d × (seat.new ≡ tidy d.rolled seat.old) }
@@ -258,41 +265,24 @@ impl<S: Ledger, G: Ledger, B: Room> Shared<S, G, B> {
     pub fn await_work<R: Wait + Clock>(&self, rt: &R, most: Duration) -> bool
         ensures { (d : Content) × Replays d × (result ≡ has_waiting d.state) }
     {
-        let bells = &self.bells;
+        let bell = &self.bell;
         let held = self.held.lock(rt);
-        let (held, _timeout) = bells.work.wait_timeout_while(rt, held, most, |held| {
-            !held.database().waiting() && !bells.is_over()
+        let (held, _timeout) = bell.work.wait_timeout_while(rt, held, most, |held| {
+            !held.database().waiting() && !bell.is_over()
         });
         held.database().waiting()
-    }
-
-    /// Waits until messages wait for the peer or the time is up, and says whether they do.
-    pub fn await_queued<R: Wait + Clock>(&self, rt: &R, peer: u32, most: Duration) -> bool
-        ensures { (d : Content) × Replays d × (result ≡ is_queued d.state peer) }
-    {
-        let held = self.held.lock(rt);
-        let Some(bell) = self.bells.of_peer(peer) else {
-            return held.database().queued(peer);
-        };
-        let (held, _timeout) = bell.wait_timeout_while(
-            rt,
-            held,
-            most,
-            |held| !held.database().queued(peer),
-        );
-        held.database().queued(peer)
     }
 
     /// Tells the workers that the end has come.
     pub fn finish<R: Wait>(&self, rt: &R) {
         let held = self.held.lock(rt);
-        self.bells.ring_out();
+        self.bell.ring_out();
         drop(held);
     }
 
     /// Whether the end was told.
     pub fn is_over(&self) -> bool {
-        self.bells.is_over()
+        self.bell.is_over()
     }
 
     /// Takes the database from behind the lock and audits all of its seats. Where the audit fails everything is
@@ -305,7 +295,7 @@ impl<S: Ledger, G: Ledger, B: Room> Shared<S, G, B> {
         ensures handed_back { IfErr result (λ refused. refused.seats.items ≡ seats.items) }
         ensures refused { IfErr result (λ refused. (d : Content) × Replays d × Fails S.parts d seats.items refused.fault) }
     {
-        let Shared { alloc, held, bells } = self;
+        let Shared { alloc, held, bell } = self;
         let mut held = held.into_inner();
         // for the proof alone: the history replays
         let _replays = held.database().history();
@@ -315,7 +305,7 @@ impl<S: Ledger, G: Ledger, B: Room> Shared<S, G, B> {
                 shared: Shared {
                     alloc,
                     held: Mutex::new(held),
-                    bells,
+                    bell,
                 },
                 seats,
                 fault,

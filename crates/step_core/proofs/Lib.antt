@@ -6,6 +6,7 @@ pub mod Effects
 pub mod Dropped
 pub mod Returned
 pub mod Booked
+pub mod Reloading
 mod Rows
 pub mod StepLaws
 pub mod SoundSteps
@@ -13,3 +14,12 @@ pub mod Concluded
 pub mod AskTests
 pub mod NameEntries
 pub mod TicketEntries
+pub mod Counts
+pub mod RecordCounts
+pub mod NameCounts
+pub mod PeerCounts
+pub mod Plain
+pub mod Kept
+pub mod KeptReports
+pub mod Consistent
+pub mod ConsistentSteps

@@ -25,12 +25,13 @@ use Rattle.initiate_rules.specs.Checks.{may_be_deleted}
 use Rattle.step_core.specs.Asks.{asked_with, may_be_asked, must_have_ends, may_have_one_more, with_ticket, new_ticket}
 use Rattle.step_core.specs.Grants.{committed, granted, judged, path_of, taken, verdict_on, view_of}
 use Rattle.step_core.specs.Outcomes.{Outcome, decided, done, must_be_up, must_be_down, must_be_known, must_take_updates, must_take_initiations, must_have_a_number}
+use Rattle.step_core.specs.Reloads.{must_have_links, after_reload}
 use Rattle.step_core.specs.Sound.{IsCovered, IsSoundGrant}
 use Rattle.step_core.specs.States.{State}
 use Rattle.step_core.specs.Steps.{booked, step, may_be_known, after_up, after_marker, after_down, after_expire, drained, after_refused, after_return, deleted}
 use Rattle.step_core.specs.Tickets.{constraints_for, first_waiting, is_ticket, ticket_at}
 use Rattle.step_core.specs.declared.event.Event.{Event}
-use Rattle.step_core.specs.declared.event.Event.TheVariants.{Up, Report, Marker, Down, Expire, Drain, Refused as PeerRefused, Return, Delete, Ask, Take, Commit}
+use Rattle.step_core.specs.declared.event.Event.TheVariants.{Up, Report, Marker, Down, Expire, Drain, Refused as PeerRefused, Return, Delete, Ask, Take, Commit, Reload}
 use Rattle.step_core.specs.declared.event.Reply.{Reply}
 use Rattle.step_core.specs.declared.event.Reply.TheVariants.{Granted}
 use Rattle.step_core.proofs.OtherTickets.{found_passes}
@@ -125,6 +126,7 @@ granted_is_sound s (Delete n plsp) srp is = sound_by s (Delete n plsp) (must_tak
 granted_is_sound s (Ask n purpose) srp is = sound_by s (Ask n purpose) (may_be_asked s n purpose) (asked_with s n purpose (constraints_for s.base.records n purpose)) srp (sound_ask s n purpose (constraints_for s.base.records n purpose) srp) is
 granted_is_sound s Take srp is = sound_take s (first_waiting s.tickets) srp is
 granted_is_sound s (Commit id offer) srp is = sound_commit s id offer (ticket_at s.tickets id) srp refl is
+granted_is_sound s (Reload entries) srp is = sound_by s (Reload entries) (must_have_links s.te entries) (done (after_reload s entries)) srp (λ no. absurd (cc (no))) is
 
 -- ---- the same of a call that takes the step, or leaves the state where memory is refused
 

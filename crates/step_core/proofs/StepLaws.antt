@@ -4,6 +4,8 @@ use Rattle.std.specs.Prelude.{◌==◌, [], Option, Some, None, IfSome, Result, 
 use Rattle.std.proofs.lemmas.List.Sorted.{IsPermutation-refl}
 use Rattle.std.specs.declared.alloc.AllocError.{AllocError}
 use Rattle.pcep_objects.specs.declared.object.Capabilities.{Capabilities}
+use Rattle.te_base.specs.Values.{IsSameNetwork}
+use Rattle.te_base.proofs.Values.{same-refl}
 use Rattle.lsp_base.specs.Base.{Lsps, AreDistinct, changed, lsp_at}
 use Rattle.lsp_base.specs.Refusals.{◌⨟◌}
 use Rattle.lsp_base.specs.declared.effect.Effect.{Effect}
@@ -23,38 +25,41 @@ use Rattle.commit_core.specs.declared.verdict.Verdict.TheVariants as verdicts
 use Rattle.lsp_base.specs.declared.lsp.Constraints.{Constraints}
 use Rattle.pcep_messages.specs.declared.message.Message.{Message}
 use Rattle.step_core.specs.declared.event.Event.{Event}
-use Rattle.step_core.specs.declared.event.Event.TheVariants.{Up, Report, Marker, Down, Expire, Drain, Refused as PeerRefused, Return, Delete, Ask, Take, Commit}
+use Rattle.step_core.specs.declared.event.Event.TheVariants.{Up, Report, Marker, Down, Expire, Drain, Refused as PeerRefused, Return, Delete, Ask, Take, Commit, Reload}
 use Rattle.step_core.specs.declared.event.Reply.{Reply}
 use Rattle.step_core.specs.declared.event.Reply.TheVariants.{Refused}
 use Rattle.step_core.specs.States.{State, affected, moves_paths, peer_at, in_session, synchronized, out_of_session, emptied, asked, told, next_number}
 use Rattle.step_core.specs.Outcomes.{Outcome, decided, done, must_be_up, must_be_down, must_be_known, must_take_updates, must_take_initiations, must_have_a_number}
 use Rattle.step_core.specs.Asks.{may_be_asked, must_have_ends, may_have_one_more, with_ticket, new_ticket, asked_with}
 use Rattle.step_core.specs.Grants.{asking, telling, ended, granting, granted, told_in_vain, judged, committed, taken, path_of, message_of, name_of_grant, verdict_on}
+use Rattle.step_core.specs.Reloads.{must_have_links, after_reload}
+use Rattle.step_core.specs.declared.reload.LinkReload.{LinkReload}
 use Rattle.step_core.specs.Steps.{step, booked, may_be_known, after_up, after_marker, after_down, after_expire, drained, after_refused, after_return, removal_asked, after_delete, deleted}
 use Rattle.step_core.specs.Tickets.{constraints_for, first_waiting, is_ticket, is_waiting, put_back, searched_for, ticket_at, waiting_again, without_ticket}
 use Rattle.step_core.specs.Laws.{peer_of, peer_of_ticket, OthersStay, CountsRise}
 use Rattle.step_core.specs.declared.peer.Peer.{Peer}
 use Rattle.step_core.proofs.Others.{IsOwn, same_number, other_paths, other_records, other_peers, changed-paths, changed-records, changed-known, with_stale-paths, with_stale-records, peer_at-number, put_peer-others, forget-others}
 use Rattle.step_core.proofs.Effects.{up-own, marker-own, down-own, expire-own, report-own, refused-own, return-own, removal_asked-own, granting-own}
+use Rattle.step_core.proofs.Reloading.{with_entries-same}
 use Rattle.step_core.proofs.OtherTickets.{other_names, other_tickets, names_without-others, same_others, with_name-others, with_ticket-others, edit-others, drop-others, only_own, found_by_own}
 
 -- what holds of the state, and of what follows where no test fails, holds after
-decided-has : (P : State → Type 0) (s : State) (whys : Option Why) (o : Outcome) → P s → P o.state → P (decided s whys o).state
+pub decided-has : (P : State → Type 0) (s : State) (whys : Option Why) (o : Outcome) → P s → P o.state → P (decided s whys o).state
 decided-has P s (Some why) o here there = here
 decided-has P s None o here there = there
 
 -- what holds of the state, and after any effect that a report may have, holds after the report
-booked-has : (P : State → Type 0) (s : State) (n plsp : ℕ) (result : Result Effect Why) → P s → ((e : Effect) → result ≡ Ok e → P (affected s n e)) → P (booked s n plsp result).state
+pub booked-has : (P : State → Type 0) (s : State) (n plsp : ℕ) (result : Result Effect Why) → P s → ((e : Effect) → result ≡ Ok e → P (affected s n e)) → P (booked s n plsp result).state
 booked-has P s n plsp (Err why) here there = here
 booked-has P s n plsp (Ok e) here there = there e refl
 
 -- what holds of the state, and with one more ticket of the peer, holds after an ask
-asked-has : (P : State → Type 0) (s : State) (n : ℕ) (purpose : Purpose) (c : Option Constraints) → P s → ((t : Ticket) → t.peer ≡ n → t.id ≡ s.last_ticket + 1 → P (with_ticket s t).state) → P (asked_with s n purpose c).state
+pub asked-has : (P : State → Type 0) (s : State) (n : ℕ) (purpose : Purpose) (c : Option Constraints) → P s → ((t : Ticket) → t.peer ≡ n → t.id ≡ s.last_ticket + 1 → P (with_ticket s t).state) → P (asked_with s n purpose c).state
 asked-has P s n purpose None here there = here
 asked-has P s n purpose (Some c) here there = decided-has P s (must_have_ends s.te c ⨟ may_have_one_more s.tickets) (with_ticket s (new_ticket s n purpose c)) here (there (new_ticket s n purpose c) refl refl)
 
 -- what holds of a state to which messages are told holds after a ticket that ended in vain
-in_vain-has : (P : State → Type 0) (s : State) (n : ℕ) (purpose : Purpose) → P s → ((m : Message) → P (telling s n m)) → P (told_in_vain s n purpose)
+pub in_vain-has : (P : State → Type 0) (s : State) (n : ℕ) (purpose : Purpose) → P s → ((m : Message) → P (telling s n m)) → P (told_in_vain s n purpose)
 in_vain-has P s n (purposes.Update plsp) here there = here
 in_vain-has P s n (purposes.Initiate name constraints) here there = here
 in_vain-has P s n (purposes.Answer request plsp constraints) here there = there _
@@ -75,30 +80,31 @@ return_tests s n plsp = must_take_updates s.peers n ⨟ must_be_held s.base n pl
 abbrev deletion_tests : State → ℕ → ℕ → Option Why
 deletion_tests s n plsp = must_take_initiations s.peers n ⨟ may_be_deleted s.base n plsp ⨟ must_have_a_number s n
 
--- ---- the network stays
+-- ---- nodes, owners, and ends and addresses of links stay
 
-commit_te : (s : State) (offer : Option (List ℕ)) (o : Option Ticket) → (committed s offer o).state.te ≡ s.te
-commit_te s offer None = refl
-commit_te s offer (Some t) = decided-has (λ u. u.te ≡ s.te) s _ _ refl (judged-has (λ u. u.te ≡ s.te) s t (unwrap_or offer []) (verdict_on s t offer) refl refl refl (λ m. refl))
+commit_network : (s : State) (offer : Option (List ℕ)) (o : Option Ticket) → IsSameNetwork s.te (committed s offer o).state.te
+commit_network s offer None = same-refl s.te
+commit_network s offer (Some t) = decided-has (λ u. IsSameNetwork s.te u.te) s _ _ (same-refl s.te) (judged-has (λ u. IsSameNetwork s.te u.te) s t (unwrap_or offer []) (verdict_on s t offer) (same-refl s.te) (same-refl s.te) (same-refl s.te) (λ m. same-refl s.te))
 
-take_te : (s : State) (o : Option Ticket) → (taken s o).state.te ≡ s.te
-take_te s None = refl
-take_te s (Some t) = refl
+take_network : (s : State) (o : Option Ticket) → IsSameNetwork s.te (taken s o).state.te
+take_network s None = same-refl s.te
+take_network s (Some t) = same-refl s.te
 
-pub te_stays : (s : State) (event : Event) → (step s event).state.te ≡ s.te
+pub network_stays : (s : State) (event : Event) → IsSameNetwork s.te (step s event).state.te
 unfolding step
-te_stays s (Up n sent) = decided-has (λ t. t.te ≡ s.te) s (must_be_down s.peers n ⨟ may_be_known s.peers n) (done (after_up s n sent)) refl refl
-te_stays s (Report n r) = decided-has (λ t. t.te ≡ s.te) s (must_be_up s.peers n) (booked s n r.plsp (report_result s.base s.te n r)) refl (booked-has (λ t. t.te ≡ s.te) s n r.plsp (report_result s.base s.te n r) refl (λ e is. refl))
-te_stays s (Marker n) = decided-has (λ t. t.te ≡ s.te) s (must_be_up s.peers n) (done (after_marker s n)) refl refl
-te_stays s (Down n) = decided-has (λ t. t.te ≡ s.te) s (must_be_up s.peers n) (done (after_down s n)) refl refl
-te_stays s (Expire n) = decided-has (λ t. t.te ≡ s.te) s (must_be_known s.peers n ⨟ must_be_down s.peers n) (done (after_expire s n)) refl refl
-te_stays s (Drain n) = decided-has (λ t. t.te ≡ s.te) s (must_be_up s.peers n) (drained s n) refl refl
-te_stays s (PeerRefused n srp) = decided-has (λ t. t.te ≡ s.te) s (must_be_up s.peers n) (done (after_refused s n srp)) refl refl
-te_stays s (Return n plsp) = decided-has (λ t. t.te ≡ s.te) s (return_tests s n plsp) (done (after_return s n plsp)) refl refl
-te_stays s (Delete n plsp) = decided-has (λ t. t.te ≡ s.te) s (deletion_tests s n plsp) (deleted s n plsp) refl refl
-te_stays s (Ask n purpose) = decided-has (λ t. t.te ≡ s.te) s (may_be_asked s n purpose) _ refl (asked-has (λ t. t.te ≡ s.te) s n purpose (constraints_for s.base.records n purpose) refl (λ t own next. refl))
-te_stays s Take = take_te s (first_waiting s.tickets)
-te_stays s (Commit id offer) = commit_te s offer (ticket_at s.tickets id)
+network_stays s (Up n sent) = decided-has (λ t. IsSameNetwork s.te t.te) s (must_be_down s.peers n ⨟ may_be_known s.peers n) (done (after_up s n sent)) (same-refl s.te) (same-refl s.te)
+network_stays s (Report n r) = decided-has (λ t. IsSameNetwork s.te t.te) s (must_be_up s.peers n) (booked s n r.plsp (report_result s.base s.te n r)) (same-refl s.te) (booked-has (λ t. IsSameNetwork s.te t.te) s n r.plsp (report_result s.base s.te n r) (same-refl s.te) (λ e is. same-refl s.te))
+network_stays s (Marker n) = decided-has (λ t. IsSameNetwork s.te t.te) s (must_be_up s.peers n) (done (after_marker s n)) (same-refl s.te) (same-refl s.te)
+network_stays s (Down n) = decided-has (λ t. IsSameNetwork s.te t.te) s (must_be_up s.peers n) (done (after_down s n)) (same-refl s.te) (same-refl s.te)
+network_stays s (Expire n) = decided-has (λ t. IsSameNetwork s.te t.te) s (must_be_known s.peers n ⨟ must_be_down s.peers n) (done (after_expire s n)) (same-refl s.te) (same-refl s.te)
+network_stays s (Drain n) = decided-has (λ t. IsSameNetwork s.te t.te) s (must_be_up s.peers n) (drained s n) (same-refl s.te) (same-refl s.te)
+network_stays s (PeerRefused n srp) = decided-has (λ t. IsSameNetwork s.te t.te) s (must_be_up s.peers n) (done (after_refused s n srp)) (same-refl s.te) (same-refl s.te)
+network_stays s (Return n plsp) = decided-has (λ t. IsSameNetwork s.te t.te) s (return_tests s n plsp) (done (after_return s n plsp)) (same-refl s.te) (same-refl s.te)
+network_stays s (Delete n plsp) = decided-has (λ t. IsSameNetwork s.te t.te) s (deletion_tests s n plsp) (deleted s n plsp) (same-refl s.te) (same-refl s.te)
+network_stays s (Ask n purpose) = decided-has (λ t. IsSameNetwork s.te t.te) s (may_be_asked s n purpose) _ (same-refl s.te) (asked-has (λ t. IsSameNetwork s.te t.te) s n purpose (constraints_for s.base.records n purpose) (same-refl s.te) (λ t own next. same-refl s.te))
+network_stays s Take = take_network s (first_waiting s.tickets)
+network_stays s (Commit id offer) = commit_network s offer (ticket_at s.tickets id)
+network_stays s (Reload entries) = decided-has (λ t. IsSameNetwork s.te t.te) s (must_have_links s.te entries) (done (after_reload s entries)) (same-refl s.te) (with_entries-same s.te entries)
 
 -- ---- counts rise by one at most, and never fall
 
@@ -136,6 +142,9 @@ session_rise s t e changes sessions tickets =
 ticket_rise : (s t : State) → t.changes ≡ s.changes → t.last_session ≡ s.last_session → t.last_ticket ≡ s.last_ticket + 1 → CountsRise s t
 ticket_rise s t changes sessions tickets = rise_by s t (omega arith, omega arith) (omega arith, omega arith) (one_more s.last_ticket t.last_ticket tickets)
 
+reload_rise : (s : State) (entries : List LinkReload) → CountsRise s (after_reload s entries)
+reload_rise s entries = rise_by s (after_reload s entries) (one_more s.changes (s.changes + 1) refl) (same_count s.last_session) (same_count s.last_ticket)
+
 take_rise : (s : State) (o : Option Ticket) → CountsRise s (taken s o).state
 take_rise s None = stays s
 take_rise s (Some t) = no_rise s _ refl refl refl
@@ -161,6 +170,7 @@ counts_rise s (Delete n plsp) = decided-has (CountsRise s) s (deletion_tests s n
 counts_rise s (Ask n purpose) = decided-has (CountsRise s) s (may_be_asked s n purpose) _ (stays s) (asked-has (CountsRise s) s n purpose (constraints_for s.base.records n purpose) (stays s) (λ t own next. ticket_rise s _ refl refl next))
 counts_rise s Take = take_rise s (first_waiting s.tickets)
 counts_rise s (Commit id offer) = commit_rise s offer (ticket_at s.tickets id)
+counts_rise s (Reload entries) = decided-has (CountsRise s) s (must_have_links s.te entries) (done (after_reload s entries)) (stays s) (reload_rise s entries)
 
 -- ---- an event changes what is of its own peer alone
 
@@ -264,6 +274,9 @@ commit_others s offer (Some t) distinct is = decided-has (OthersStay (Some t.pee
     (kept_others t.peer s _ refl refl refl (ended_tickets s t is))
     (λ m. kept_others t.peer s _ refl (put_peer-others t.peer (told (peer_at s.peers t.peer) m) s.peers (peer_at-number t.peer s.peers)) refl (ended_tickets s t is)))
 
+reload_others : (s : State) (entries : List LinkReload) → OthersStay None s (after_reload s entries)
+reload_others s entries = record { paths = IsPermutation-refl _; records = IsPermutation-refl _; known = λ m plsp other. refl; peers = refl; names = IsPermutation-refl _; tickets = refl }
+
 found_by_number : (s : State) (id : ℕ) (o : Option Ticket) → ticket_at s.tickets id ≡ o → IfSome o (λ t. ticket_at s.tickets t.id ≡ Some t)
 found_by_number s id None is = tt
 found_by_number s id (Some t) is = found_by_own id s.tickets t is
@@ -282,6 +295,7 @@ others_stay s (Delete n plsp) d = decided-has (OthersStay (Some n) s) s (deletio
 others_stay s (Ask n purpose) d = decided-has (OthersStay (Some n) s) s (may_be_asked s n purpose) _ (all_stay (Some n) s) (asked-has (OthersStay (Some n) s) s n purpose (constraints_for s.base.records n purpose) (all_stay (Some n) s) (λ t own next. ask_others n s t own))
 others_stay s Take d = take_others s (first_waiting s.tickets) refl
 others_stay s (Commit id offer) d = commit_others s offer (ticket_at s.tickets id) d (found_by_number s id (ticket_at s.tickets id) refl)
+others_stay s (Reload entries) d = decided-has (OthersStay None s) s (must_have_links s.te entries) (done (after_reload s entries)) (all_stay None s) (reload_others s entries)
 
 -- ---- a refused event changes nothing
 
@@ -327,10 +341,11 @@ refused_stays s (Delete n plsp) why is = refused_tests s (deletion_tests s n pls
 refused_stays s (Ask n purpose) why is = refused_tests s (may_be_asked s n purpose) _ why (refused_ask s n purpose (constraints_for s.base.records n purpose) why) is
 refused_stays s Take why is = refused_take s (first_waiting s.tickets) why is
 refused_stays s (Commit id offer) why is = refused_commit s offer (ticket_at s.tickets id) why is
+refused_stays s (Reload entries) why is = refused_tests s (must_have_links s.te entries) (done (after_reload s entries)) why (λ no. absurd (cc (no))) is
 
 -- ---- the same of a call that takes the step, or leaves the state where memory is refused
 
-by_step : (P : State → Type 0) (s t : State) (event : Event) (result : Result Reply AllocError) → P s → P (step s event).state → OnOk result (t ≡ (step s event).state) → OnErr result (t ≡ s) → P t
+pub by_step : (P : State → Type 0) (s t : State) (event : Event) (result : Result Reply AllocError) → P s → P (step s event).state → OnOk result (t ≡ (step s event).state) → OnErr result (t ≡ s) → P t
 by_step P s t event (Ok reply) here there ok err = subst P (sym ok) there
 by_step P s t event (Err e) here there ok err = subst P (sym err) here
 

@@ -1,11 +1,13 @@
 -- What was known at one moment over a network, in plain lists.
 use Rattle.te_base.specs.Base as network
+use Rattle.te_base.specs.Values.{values_in, with_all_values}
 use Rattle.step_core.specs.declared.base.Base.{Base}
 use Rattle.step_core.specs.States.{State}
 
--- what a state knows beside its network
+-- what a state knows, where nodes, owners, and ends and addresses of links are told: all else of it
 abbrev pub known_in : State → Base
 known_in s = record {
+  values = values_in s.te;
   paths = s.base.paths;
   records = s.base.records;
   names = s.names;
@@ -16,10 +18,10 @@ known_in s = record {
   last_ticket = s.last_ticket;
 }
 
--- the state over a network in which this is known
+-- the state over a network of these nodes and links in which this is known
 abbrev pub state_over : network.Base → Base → State
 state_over te b = record {
-  te = te;
+  te = with_all_values te b.values;
   base = record { paths = b.paths; records = b.records };
   names = b.names;
   peers = b.peers;

@@ -1,16 +1,19 @@
 -- What holds of every step.
-use Rattle.std.specs.Prelude.{ℕ, ◌≡◌, ◌+◌, ◌≤◌, Bool, true, ◌==◌, not, filter, Option, Some, None, option_map, IsPermutation}
+use Rattle.std.specs.Prelude.{ℕ, ◌≡◌, ◌≢◌, ◌+◌, ◌≤◌, pos, ◌+ℤ◌, ◌-ℤ◌, Bool, true, ◌==◌, not, filter, Option, Some, None, option_map, IsPermutation}
 use Rattle.lsp_base.specs.Base.{lsp_at}
+use Rattle.lsp_base.specs.Shares.{reservable, unreserved}
 use Rattle.step_core.specs.declared.event.Event.{Event}
-use Rattle.step_core.specs.declared.event.Event.TheVariants.{Up, Report, Marker, Down, Expire, Drain, Refused, Return, Delete, Ask, Take, Commit}
+use Rattle.step_core.specs.declared.event.Event.TheVariants.{Up, Report, Marker, Down, Expire, Drain, Refused, Return, Delete, Ask, Take, Commit, Reload}
 use Rattle.commit_core.specs.declared.ticket.Ticket.{Ticket}
+use Rattle.step_core.specs.declared.reload.LinkReload.{LinkReload}
 use Rattle.step_core.specs.States.{State}
 use Rattle.step_core.specs.Tickets.{first_waiting, ticket_at}
 
 abbrev pub peer_of_ticket : Option Ticket → Option ℕ
 peer_of_ticket ticket = option_map (λ t. t.peer) ticket
 
--- the peer that an event is of, in a state: that of a ticket is the ticket's, and where there is no ticket it is of none
+-- the peer that an event is of, in a state: that of a ticket is the ticket's; where there is no ticket it is of none, and so
+-- is a reload of links
 abbrev pub peer_of : State → Event → Option ℕ
 peer_of s (Up n sent) = Some n
 peer_of s (Report n r) = Some n
@@ -24,6 +27,7 @@ peer_of s (Delete n plsp) = Some n
 peer_of s (Ask n purpose) = Some n
 peer_of s Take = peer_of_ticket (first_waiting s.tickets)
 peer_of s (Commit id offer) = peer_of_ticket (ticket_at s.tickets id)
+peer_of s (Reload entries) = None
 
 -- the number is another peer's; where an event is of no peer, each number is
 abbrev pub is_other : Option ℕ → ℕ → Bool
@@ -49,3 +53,9 @@ pub record CountsRise (old new : State) : Type 0 where
   pub sessions_rise : new.last_session ≤ old.last_session + 1
   pub tickets_kept : old.last_ticket ≤ new.last_ticket
   pub tickets_rise : new.last_ticket ≤ old.last_ticket + 1
+
+-- what is unreserved on the entry's link has moved, at each priority, by the difference of the two reservable bandwidths,
+-- and on no other link at all
+pub record MovesAlone (entry : LinkReload) (old new : State) : Type 0 where
+  pub there : (p : ℕ) → unreserved new.te.links new.base.paths entry.link p ≡ unreserved old.te.links old.base.paths entry.link p +ℤ (pos (entry.values).reservable -ℤ pos (reservable old.te.links entry.link))
+  pub elsewhere : (l p : ℕ) → l ≢ entry.link → unreserved new.te.links new.base.paths l p ≡ unreserved old.te.links old.base.paths l p

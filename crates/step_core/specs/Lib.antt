@@ -7,7 +7,9 @@ pub mod Networks
 pub mod Outcomes
 pub mod Asks
 pub mod Grants
+pub mod Reloads
 pub mod Searches
 pub mod Steps
 pub mod Laws
 pub mod Sound
+pub mod Consistent

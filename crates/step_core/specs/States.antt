@@ -22,7 +22,7 @@ pub record State : Type 0 where
   pub peers : List Peer
   -- in the order in which they were asked for
   pub tickets : List Ticket
-  -- how many events dropped or added a path
+  -- how many events dropped or added a path, or reloaded links
   pub changes : ℕ
   -- counted over all peers, and never used again
   pub last_session : ℕ

@@ -15,12 +15,13 @@ use Rattle.delegate_rules.specs.Returns.{must_be_held, given_back}
 use Rattle.initiate_rules.specs.Checks.{may_be_deleted}
 use Rattle.initiate_rules.specs.Messages.{return_message, delete_message}
 use Rattle.step_core.specs.declared.event.Event.{Event}
-use Rattle.step_core.specs.declared.event.Event.TheVariants.{Up, Report, Marker, Down, Expire, Drain, Refused as PeerRefused, Return, Delete, Ask, Take, Commit}
+use Rattle.step_core.specs.declared.event.Event.TheVariants.{Up, Report, Marker, Down, Expire, Drain, Refused as PeerRefused, Return, Delete, Ask, Take, Commit, Reload}
 use Rattle.step_core.specs.declared.event.Reply.TheVariants.{Booked, Out, Removing, Refused}
 use Rattle.step_core.specs.declared.peer.Peer.{Peer}
 use Rattle.step_core.specs.Asks.{ask_step}
 use Rattle.step_core.specs.Grants.{asking, take_step, commit_step}
 use Rattle.step_core.specs.Outcomes.{Outcome, decided, done, must_be_known, must_be_up, must_be_down, must_take_updates, must_take_initiations, must_have_a_number}
+use Rattle.step_core.specs.Reloads.{reload_step}
 use Rattle.step_core.specs.States.{State, is_known, peer_at, is_peer, put_peer, in_session, synchronized, out_of_session, emptied, outgoing, next_number, affected}
 use Rattle.step_core.specs.Tickets.{is_update_asked}
 
@@ -130,3 +131,4 @@ step s (Delete n plsp) = delete_step s n plsp
 step s (Ask n purpose) = ask_step s n purpose
 step s Take = take_step s
 step s (Commit ticket offer) = commit_step s ticket offer
+step s (Reload entries) = reload_step s entries

@@ -81,7 +81,7 @@ abbrev pub drop_first : {X : Type 0} → (X → Bool) → List X → List X
 drop_first test [] = []
 drop_first test (x ∷ xs) = if test x then xs else x ∷ drop_first test xs
 
--- a search for it begins, where paths came or went this often so far
+-- a search for it begins, where paths came or went, or links were reloaded, this often so far
 abbrev pub searched_for : ℕ → Ticket → Ticket
 searched_for changes t = record t { taken = true; tries = t.tries + 1; seen = changes }
 

@@ -7,10 +7,14 @@ use commit_core::Ticket;
 use lsp_base::{Path, Record};
 use sequence::{PlainData, Sequence};
 use std::alloc::{AllocError, Global};
+use te_base::LinkValues;
 
-/// What was known at one moment over a network: a state without the tables by which it finds things.
+/// What was known at one moment over nodes and the ends of links, which stay: a state without the tables by which it finds
+/// things.
 #[derive(Debug, Drop)]
 pub struct Base {
+    /// The values of all links, in the order of their numbers.
+    pub values: Sequence<LinkValues>,
     pub paths: Sequence<Path>,
     pub records: Sequence<Record>,
     /// The names of granted initiations that no report told of yet.
@@ -18,7 +22,7 @@ pub struct Base {
     pub peers: Sequence<Peer>,
     /// In the order in which they were asked for.
     pub tickets: Sequence<Ticket>,
-    /// How many events dropped or added a path.
+    /// How many events dropped or added a path, or reloaded links.
     pub changes: u64,
     /// The number of the last session, over all peers.
     pub last_session: u64,

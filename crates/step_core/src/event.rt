@@ -1,5 +1,6 @@
 //! Events, and what the database answers.
 use crate::job::Job;
+use crate::reload::LinkReload;
 use commit_core::Purpose;
 use lsp_base::Why;
 use pcep_messages::{Message, StateReport};
@@ -65,6 +66,10 @@ pub enum Event {
         peer: u32,
         plsp: Plsp,
     },
+    /// Links have other values from now on. Of several entries for one link the last counts.
+    Reload {
+        links: Sequence<LinkReload>,
+    },
 }
 
 impl PlainData for Event {
@@ -102,6 +107,9 @@ impl PlainData for Event {
             Event::Delete { peer, plsp } => Event::Delete {
                 peer: *peer,
                 plsp: *plsp,
+            },
+            Event::Reload { links } => Event::Reload {
+                links: links.copy()?,
             },
         })
     }

@@ -5,7 +5,8 @@
 //! full, the state after it and the reply; a refused event changes nothing, and where memory is refused
 //! nothing has changed. An event changes the paths, the records, the session and the messages of its own
 //! peer alone, if it is of a peer (`specs/Laws.antt`). What is left of a link is the share rule of `lsp_base` over the paths
-//! of the state, read from the stored sums of a book that stands for them (`specs/Networks.antt`).
+//! of the state, read from the stored sums of a book that stands for them (`specs/Networks.antt`). Every state that events
+//! lead to is consistent (`specs/Consistent.antt`).
 //!
 //! ```text
 //! fn left_after(state: &mut State, event: &Event) -> Result<Option<i64>, AllocError>
@@ -23,12 +24,14 @@
 mod base;
 mod event;
 mod job;
+mod laws;
 mod name_table;
 mod names;
 mod network;
 mod peer;
 mod peer_list;
 mod queue;
+mod reload;
 mod shared_event;
 mod state;
 mod ticket_table;
@@ -37,10 +40,12 @@ pub use base::Base;
 pub use commit_core::{LspName, Purpose, Ticket};
 pub use event::{Event, Reply};
 pub use job::Job;
+pub use laws::reload_moves_one_link;
 pub use lsp_base::Why;
 pub use names::AwaitedName;
 pub use peer::{PEER_LIMIT, Peer};
 pub use queue::Queue;
+pub use reload::LinkReload;
 pub use shared_event::SharedEvent;
 pub use state::State;
 pub use ticket_table::TICKET_LIMIT;

@@ -47,16 +47,11 @@ impl NameTable {
         self.map.values().as_slice()
     }
 
-    /// Makes room for a name of a grant that has none yet. A second name of a grant is refused: SRP-IDs in use aren't
-    /// given again.
-    pub fn reserve_for(&mut self, peer: u32, srp: u32) -> Result<(), AllocError>
+    /// Makes room for a name.
+    pub fn reserve(&mut self) -> Result<(), AllocError>
         ensures room { OnOk result (0 < self.new.room) }
-        ensures absent { OnOk result (list_any (is_of_grant peer srp) self.new.names ≡ false) }
         ensures names { self.new.names ≡ self.old.names }
     {
-        if self.map.contains_key(&GrantKey { peer, srp }) {
-            return Err(AllocError);
-        }
         self.map.reserve(1)?;
         Ok(())
     }

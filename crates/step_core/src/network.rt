@@ -27,6 +27,8 @@ use std::sync::Arc;
 use te_base::{LinkNumber, TeBase};
 use te_snapshot::{OwnShares, Snapshot, Topology};
 
+mod links;
+
 /// The links and nodes, what is known of the LSPs over them, the names of granted initiations that no report told of
 /// yet, and the book of what the paths reserve. A contract sees no book: of every value of `Network` it holds that the
 /// book stands for its paths.
@@ -86,11 +88,10 @@ fn granting(alloc: Global, path: Path) -> Result<Effect, AllocError>
 /// Makes room for a name, if there is one.
 fn reserve_name(names: &mut NameTable, name: &Option<AwaitedName>) -> Result<(), AllocError>
     ensures room { OnOk result (IfSome name.now (λ a. 0 < names.new.room)) }
-    ensures absent { OnOk result (IfSome name.now (λ a. list_any (is_of_grant a.peer a.srp) names.new.names ≡ false)) }
     ensures names { names.new.names ≡ names.old.names }
 {
     match name {
-        Some(name) => names.reserve_for(name.peer, name.srp),
+        Some(_) => names.reserve(),
         None => Ok(()),
     }
 }
@@ -171,6 +172,7 @@ impl Network {
         message: Message,
     ) -> Result<(), AllocError>
         requires few { length self.old.base.paths < 16384 }
+        requires absent { IfSome name (λ a. list_any (is_of_grant a.peer a.srp) self.old.names ≡ false) }
         ensures granted { OnOk result (self.new ≡ record self.old { base = changed self.old.base peer (granting path); names = with_name self.old.names name }) }
         ensures queued { OnOk result (queue.new ≡ queue.old ++ message ∷ []) }
         ensures unchanged_without_memory { OnErr result (self.new ≡ self.old) }
@@ -202,8 +204,8 @@ impl Network {
         Some(self.book.unreserved(link, priority))
     }
 
-    /// The network with what is left of every link: the last snapshot again where no path changed since. Where memory is
-    /// refused nothing has changed.
+    /// The network with what is left of every link: the last snapshot again where no path and no link changed since. Where
+    /// memory is refused nothing has changed.
     pub fn snapshot(&mut self) -> Result<Snapshot, AllocError>
         ensures snapshot { IfOk result (λ snapshot. snapshot ≡ snapshot_of self.old.te self.old.base) }
         ensures same { self.new ≡ self.old }

@@ -1,10 +1,15 @@
 //! Peers in the order of their coming.
 ghost use Rattle.std.specs.Prelude.{◌≡◌, ◌<◌, ◌≤◌, ◌++◌, ◌∷◌, [], not, find, filter, position, length, vec_capacity, option_copied, IfOk};
+ghost use Rattle.std.specs.List.{list_all};
+ghost use Rattle.step_core.specs.Consistent.{has_srps_left};
 ghost use Rattle.step_core.specs.States.{is_peer};
 
 use crate::peer::{PEER_LIMIT, Peer};
 use std::alloc::{AllocError, Global};
 use std::marker::Model;
+
+/// The greatest SRP-ID that a request has (RFC 8231 section 7.2).
+const GREATEST_SRP: u32 = 0xffff_fffe;
 
 /// Peers in the order of their coming, with room for as many as are known at a time. A contract sees the list alone.
 #[derive(Drop)]
@@ -74,6 +79,13 @@ impl PeerList {
         ensures { option_copied result ≡ find (is_peer number) self.now }
     {
         self.items.iter().find(|peer| peer.number == number)
+    }
+
+    /// Tests whether no peer was given the greatest SRP-ID, so that the next one of each is greater than its last.
+    pub fn have_srps_left(&self) -> bool
+        ensures { result ≡ list_all has_srps_left self.now }
+    {
+        self.items.iter().all(|peer| peer.last_srp < GREATEST_SRP)
     }
 
     /// A peer comes as the last.

@@ -1,7 +1,9 @@
 //! The whole state, looks at it, and one step of it.
-ghost use Rattle.std.specs.Prelude.{ℕ, Ok, ◌≡◌, ◌<◌, ◌≤◌, ◌^◌, ◌↔◌, length, IfOk, OnOk, OnErr, IsNone, IfSome};
+ghost use Rattle.std.specs.Prelude.{ℕ, Ok, true, ◌≡◌, ◌&&◌, ◌<◌, ◌≤◌, ◌^◌, ◌↔◌, length, IfOk, OnOk, OnErr, IsNone, IfSome};
+ghost use Rattle.std.specs.List.{list_all};
 ghost use Rattle.lsp_base.specs.Shares.{unreserved};
 ghost use Rattle.step_core.specs.States.{empty, is_up, is_queued, has_waiting};
+ghost use Rattle.step_core.specs.Consistent.{AreFree, IsConsistent, has_srps_left};
 ghost use Rattle.step_core.specs.Bases.{known_in};
 ghost use Rattle.step_core.specs.Steps.{step};
 ghost use Rattle.step_core.specs.Laws.{peer_of, OthersStay, CountsRise};
@@ -13,19 +15,21 @@ use crate::network::Network;
 use crate::peer_list::PeerList;
 use crate::ticket_table::TicketTable;
 use pcep_word::Priority;
+use sequence::Sequence;
 use std::alloc::{AllocError, Global};
 use std::marker::Model;
 use te_base::{LinkNumber, TeBase};
 
 mod asks;
 mod grants;
+mod reloads;
 mod reports;
 mod requests;
 mod sessions;
 
-/// What the database knows at one moment.
+/// The tables of what the database knows at one moment, and what each event does to them.
 #[derive(Drop)]
-pub struct State {
+struct Tables {
     alloc: Global,
     network: Network,
     peers: PeerList,
@@ -34,7 +38,7 @@ pub struct State {
     last_session: u64,
 }
 
-impl Model for State {
+impl Model for Tables {
     ghost use Rattle.step_core.specs.States.{State as Known};
 
     ghost Value = { Known };
@@ -51,13 +55,13 @@ impl Model for State {
     } };
 }
 
-impl State {
+impl Tables {
     /// A network of which nothing was reported yet. The links and nodes are dropped where memory is
     /// refused.
-    pub fn new(alloc: Global, te: TeBase) -> Result<State, AllocError>
-        ensures { IfOk result (λ state. state ≡ empty te) }
+    fn new(alloc: Global, te: TeBase) -> Result<Tables, AllocError>
+        ensures { IfOk result (λ tables. tables ≡ empty te) }
     {
-        Ok(State {
+        Ok(Tables {
             alloc,
             network: Network::new(alloc, te)?,
             peers: PeerList::new(alloc)?,
@@ -67,11 +71,14 @@ impl State {
         })
     }
 
+    /// One event. `are_free` says that the SRP-ID which each peer is given next is free.
     #[tactic(auto, unfolding(crate::specs::Steps::step))]
-    fn take_step(&mut self, event: &Event) -> Result<Reply, AllocError>
+    fn step(&mut self, event: &Event, are_free: bool) -> Result<Reply, AllocError>
         requires changes { self.old.changes < 2 ^ 62 }
         requires sessions { self.old.last_session < 2 ^ 62 }
         requires tickets { self.old.last_ticket < 2 ^ 62 }
+        requires consistent { IsConsistent self.old }
+        requires free { are_free ≡ true → AreFree self.old }
         ensures reply { IfOk result (λ reply. reply ≡ (step self.old event.now).reply) }
         ensures state { OnOk result (self.new ≡ (step self.old event.now).state) }
         ensures unchanged_without_memory { OnErr result (self.new ≡ self.old) }
@@ -84,12 +91,115 @@ impl State {
             Event::Expire { peer } => self.expire(*peer),
             Event::Ask { peer, purpose } => self.ask(*peer, purpose),
             Event::Take => self.take(),
-            Event::Commit { ticket, offer } => self.commit(*ticket, offer),
+            Event::Commit { ticket, offer } => self.commit(*ticket, offer, are_free),
             Event::Drain { peer } => Ok(self.drain(*peer)),
             Event::Refused { peer, srp } => self.refused(*peer, *srp),
-            Event::Return { peer, plsp } => self.give_back(*peer, *plsp),
-            Event::Delete { peer, plsp } => self.delete(*peer, *plsp),
+            Event::Return { peer, plsp } => self.give_back(*peer, *plsp, are_free),
+            Event::Delete { peer, plsp } => self.delete(*peer, *plsp, are_free),
+            Event::Reload { links } => Ok(self.reload(links.as_slice())),
         }
+    }
+
+    /// What is known, in plain lists.
+    fn copy(&self) -> Result<Base, AllocError>
+        ensures { IfOk result (λ base. base ≡ known_in self.now) }
+    {
+        Ok(Base {
+            values: Sequence::from_vec(self.network.te_base().values(self.alloc)?),
+            paths: copies(self.alloc, self.network.lsps().paths())?,
+            records: copies(self.alloc, self.network.lsps().records())?,
+            names: copies(self.alloc, self.network.names())?,
+            peers: copies(self.alloc, self.peers.as_slice())?,
+            tickets: copies(self.alloc, self.tickets.as_slice())?,
+            changes: self.changes,
+            last_session: self.last_session,
+            last_ticket: self.tickets.last(),
+        })
+    }
+
+    /// Tests whether no peer was given the greatest SRP-ID.
+    fn have_srps_left(&self) -> bool
+        ensures { result ≡ list_all has_srps_left self.now.peers }
+    {
+        self.peers.have_srps_left()
+    }
+
+    fn unreserved(&self, link: LinkNumber, priority: Priority) -> Option<i64>
+        ensures no_such_link { IsNone result ↔ (length self.now.te.links ≤ link) }
+        ensures left { IfSome result (λ left. left ≡ unreserved self.now.te.links self.now.base.paths link priority) }
+    {
+        self.network.unreserved(link, priority)
+    }
+
+    fn is_up(&self, peer: u32) -> bool
+        ensures { result ≡ is_up self.now peer }
+    {
+        match self.peers.find(peer) {
+            Some(known) => known.up,
+            None => false,
+        }
+    }
+
+    fn waiting(&self) -> bool
+        ensures { result ≡ has_waiting self.now }
+    {
+        self.tickets.first_waiting().is_some()
+    }
+
+    fn queued(&self, peer: u32) -> bool
+        ensures { result ≡ is_queued self.now peer }
+    {
+        match self.peers.find(peer) {
+            Some(known) => !known.outgoing.is_empty(),
+            None => false,
+        }
+    }
+
+    fn te_base(&self) -> &TeBase
+        ensures { result.now ≡ self.now.te }
+    {
+        self.network.te_base()
+    }
+}
+
+/// Tests whether the SRP-IDs that the peers are given next are above their last ones, as they were so far.
+fn do_srps_rise(rose: bool, tables: &Tables) -> bool
+    ensures { result ≡ (rose && list_all has_srps_left tables.now.peers) }
+{
+    rose && tables.have_srps_left()
+}
+
+/// What the database knows at one moment. A contract sees its lists, and of every value of `State` it holds that they
+/// are consistent.
+#[derive(Drop)]
+pub struct State {
+    tables: Tables,
+    /// No peer was ever given the greatest SRP-ID: none in use is above the last that its peer was given.
+    srps_rise: bool,
+}
+
+impl Model for State {
+    ghost use Rattle.std.specs.Prelude.{◌≡◌, true};
+    ghost use Rattle.step_core.specs.Consistent.{IsConsistent, NoneAbove};
+    ghost use Rattle.step_core.specs.States.{State as Known};
+
+    ghost Value = { Known };
+
+    ghost view = { λ s. s.tables };
+
+    ghost invariant = { λ s. IsConsistent s.tables × (s.srps_rise ≡ true → NoneAbove s.tables) };
+}
+
+impl State {
+    /// A network of which nothing was reported yet. The links and nodes are dropped where memory is
+    /// refused.
+    pub fn new(alloc: Global, te: TeBase) -> Result<State, AllocError>
+        ensures { IfOk result (λ state. state ≡ empty te) }
+    {
+        Ok(State {
+            tables: Tables::new(alloc, te)?,
+            srps_rise: true,
+        })
     }
 
     /// One event. It makes all the room that it needs before it changes anything.
@@ -100,13 +210,14 @@ impl State {
         ensures reply { IfOk result (λ reply. reply ≡ (step self.old event.now).reply) }
         ensures state { OnOk result (self.new ≡ (step self.old event.now).state) }
         ensures unchanged_without_memory { OnErr result (self.new ≡ self.old) }
+        ensures consistent { IsConsistent self.new }
         ensures others_stay { OthersStay (peer_of self.old event.now) self.old self.new }
         ensures counts_rise { CountsRise self.old self.new }
         ensures sound { (srp : ℕ) → result ≡ Ok (Reply.Granted srp) → IsSoundGrant self.old event.now self.new }
     {
-        // for the proof alone: of each LSP at most one record stands
-        let _records = self.network.lsps().records();
-        self.take_step(event)
+        let rise = do_srps_rise(self.srps_rise, &self.tables);
+        self.srps_rise = rise;
+        self.tables.step(event, rise)
     }
 
     /// What is left on a link at a priority, in bytes per second: what may be reserved on it, minus,
@@ -117,56 +228,41 @@ impl State {
         ensures no_such_link { IsNone result ↔ (length self.now.te.links ≤ link) }
         ensures left { IfSome result (λ left. left ≡ unreserved self.now.te.links self.now.base.paths link priority) }
     {
-        self.network.unreserved(link, priority)
+        self.tables.unreserved(link, priority)
     }
 
     /// Whether a session of the peer is up.
     pub fn is_up(&self, peer: u32) -> bool
         ensures { result ≡ is_up self.now peer }
     {
-        match self.peers.find(peer) {
-            Some(known) => known.up,
-            None => false,
-        }
+        self.tables.is_up(peer)
     }
 
     /// Whether a ticket waits to be searched for.
     pub fn waiting(&self) -> bool
         ensures { result ≡ has_waiting self.now }
     {
-        self.tickets.first_waiting().is_some()
+        self.tables.waiting()
     }
 
     /// Whether messages wait to be sent to the peer.
     pub fn queued(&self, peer: u32) -> bool
         ensures { result ≡ is_queued self.now peer }
     {
-        match self.peers.find(peer) {
-            Some(known) => !known.outgoing.is_empty(),
-            None => false,
-        }
+        self.tables.queued(peer)
     }
 
     /// The links and nodes.
     pub fn te_base(&self) -> &TeBase
         ensures { result.now ≡ self.now.te }
     {
-        self.network.te_base()
+        self.tables.te_base()
     }
 
     /// What is known, in plain lists.
     pub fn copy(&self) -> Result<Base, AllocError>
         ensures { IfOk result (λ base. base ≡ known_in self.now) }
     {
-        Ok(Base {
-            paths: copies(self.alloc, self.network.lsps().paths())?,
-            records: copies(self.alloc, self.network.lsps().records())?,
-            names: copies(self.alloc, self.network.names())?,
-            peers: copies(self.alloc, self.peers.as_slice())?,
-            tickets: copies(self.alloc, self.tickets.as_slice())?,
-            changes: self.changes,
-            last_session: self.last_session,
-            last_ticket: self.tickets.last(),
-        })
+        self.tables.copy()
     }
 }

@@ -122,7 +122,7 @@ impl TicketTable {
         None
     }
 
-    /// Takes the first that waits, to be searched for; paths came or went `changes` times so far.
+    /// Takes the first that waits, to be searched for; paths came or went, or links were reloaded, `changes` times so far.
     pub fn take_first(&mut self, changes: u64)
         ensures { self.new ≡ record self.old { tickets = take_first self.old.tickets changes } }
     {

@@ -2,7 +2,9 @@ pub mod Arrays
 pub mod Found
 pub mod Ownership
 pub mod Rows
+pub mod Same
 pub mod Soundness
 pub mod Steps
+pub mod Values
 pub mod WalkLaws
 pub mod Entries

@@ -14,8 +14,8 @@ use Rattle.te_base.specs.Faults.{some_or}
 use Rattle.te_base.specs.Base.{Base, empty_base}
 use Rattle.te_base.specs.Owners.{owner_of, with_owner, owned, is_id_of, is_local_of, is_remote_of, owns, is_node, AreOwners}
 use Rattle.te_base.specs.Fields.{node_text, link_text, tables_at}
-use Rattle.te_base.specs.Ranges.{node_value, link_ranges}
-use Rattle.te_base.specs.LinkText.{node_named, with_node, ends_of, with_link, with_nodes, with_links, few_enough, base_of_tree, base_of}
+use Rattle.te_base.specs.Ranges.{node_value, link_addresses, link_values}
+use Rattle.te_base.specs.LinkText.{node_named, with_node, ends_of, link_of, with_link, with_nodes, with_links, few_enough, base_of_tree, base_of}
 use Rattle.te_base.proofs.Found.{same_number, equal_numbers}
 use Rattle.te_base.proofs.Steps.{bind, after, when, behind}
 
@@ -134,20 +134,21 @@ with_link_owned : (base : Base) (t : Members) → Owned base → IfOk (with_link
 unfolding with_link Owned TellsMore
 with_link_owned base t are =
     after (link_text t) _ Owned (λ fields.
-    after (link_ranges fields) _ Owned (λ link.
+    after (link_addresses fields) _ Owned (λ addresses.
+    after (link_values fields) _ Owned (λ values.
     after (ends_of base fields) _ Owned (λ ends.
-    bind (owned base.owners link.local ends.0) _ (TellsMore base.owners link.local ends.0) Owned (owned_tells base.owners link.local ends.0) (λ near near_tells.
-    bind (owned near link.remote ends.1) _ (TellsMore near link.remote ends.1) Owned (owned_tells near link.remote ends.1) (λ owners tells x m.
-    let read : Link = record { from = ends.0; to = ends.1; local = link.local; remote = link.remote; igp = link.igp; te = link.te; colour = link.colour; reservable = link.reservable } in
+    bind (owned base.owners addresses.0 ends.0) _ (TellsMore base.owners addresses.0 ends.0) Owned (owned_tells base.owners addresses.0 ends.0) (λ near near_tells.
+    bind (owned near addresses.1 ends.1) _ (TellsMore near addresses.1 ends.1) Owned (owned_tells near addresses.1 ends.1) (λ owners tells x m.
+    let read : Link = link_of ends addresses values in
     let leaves : Link → Bool = λ l. l.from == m && l.local == x in
     let reaches : Link → Bool = λ l. l.to == m && l.remote == x in
     let id : Bool = is_id_of base.nodes m x in
     tells x m
-    ∙ ap (λ b. b || (ends.1 == m && link.remote == x)) (near_tells x m)
-    ∙ ap (λ b. (b || (ends.0 == m && link.local == x)) || (ends.1 == m && link.remote == x)) (are x m)
-    ∙ others_more id (list_any leaves base.links) (list_any reaches base.links) (ends.0 == m && link.local == x) (ends.1 == m && link.remote == x)
-    ∙ ap (λ b. (id || b) || (list_any reaches base.links || ((ends.1 == m && link.remote == x) || false))) (sym (list_any-append leaves base.links (read ∷ [])))
-    ∙ ap (λ b. (id || list_any leaves (base.links ++ read ∷ [])) || b) (sym (list_any-append reaches base.links (read ∷ []))))))))
+    ∙ ap (λ b. b || (ends.1 == m && addresses.1 == x)) (near_tells x m)
+    ∙ ap (λ b. (b || (ends.0 == m && addresses.0 == x)) || (ends.1 == m && addresses.1 == x)) (are x m)
+    ∙ others_more id (list_any leaves base.links) (list_any reaches base.links) (ends.0 == m && addresses.0 == x) (ends.1 == m && addresses.1 == x)
+    ∙ ap (λ b. (id || b) || (list_any reaches base.links || ((ends.1 == m && addresses.1 == x) || false))) (sym (list_any-append leaves base.links (read ∷ [])))
+    ∙ ap (λ b. (id || list_any leaves (base.links ++ read ∷ [])) || b) (sym (list_any-append reaches base.links (read ∷ [])))))))))
 
 with_nodes_owned : (ts : List Members) (base : Base) → Owned base → IfOk (with_nodes ts base) Owned
 with_nodes_owned [] base are = are

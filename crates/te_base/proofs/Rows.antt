@@ -4,14 +4,16 @@ use Rattle.toml.proofs.OnLiterals.{toml_on_literals}
 use Rattle.pcep_word.specs.Address.{address_of, octet_of, cut}
 use Rattle.pcep_objects.specs.declared.object.Hop.{Hop}
 use Rattle.pcep_objects.specs.declared.object.Hop.TheVariants.{Host, Other}
-use Rattle.te_base.specs.declared.fault.TeFault.TheVariants.{AddressTwice}
+use Rattle.te_base.specs.declared.fault.TeFault.TheVariants.{AddressTwice, NameTwice, OtherLinks}
 use Rattle.te_base.specs.declared.network.Node.{Node}
 use Rattle.te_base.specs.declared.network.Link.{Link}
 use Rattle.te_base.specs.declared.network.Owner.{Owner}
 use Rattle.te_base.specs.Base.{Base}
 use Rattle.te_base.specs.Owners.{owns}
 use Rattle.te_base.specs.Fields.{node_text, link_text}
-use Rattle.te_base.specs.Ranges.{node_value, link_value, link_ranges}
+use Rattle.te_base.specs.Ranges.{node_value, link_addresses, link_values}
+use Rattle.te_base.specs.Values.{checked_values, with_link_values}
+use Rattle.te_base.specs.Reload.{reloaded}
 use Rattle.te_base.specs.LinkText.{with_node, ends_of, with_link, base_of_tree, base_of}
 use Rattle.te_base.specs.Walk.{walk}
 
@@ -64,10 +66,41 @@ near_end = refl
 
 -- the diamond's text
 read : base_of (codes "node = [{name=\"A\",id=\"10.0.0.1\"},{name=\"B\",id=\"10.0.0.2\"},{name=\"C\",id=\"10.0.0.3\"},{name=\"D\",id=\"10.0.0.4\"}]\nlink = [{from=\"A\",to=\"B\",local=\"10.1.0.1\",remote=\"10.1.0.2\",igp=10,te=10,colour=0,reservable=1000000},{from=\"B\",to=\"D\",local=\"10.2.0.1\",remote=\"10.2.0.2\",igp=10,te=10,colour=0,reservable=1000000},{from=\"A\",to=\"C\",local=\"10.3.0.1\",remote=\"10.3.0.2\",igp=20,te=20,colour=0,reservable=1000000},{from=\"C\",to=\"D\",local=\"10.4.0.1\",remote=\"10.4.0.2\",igp=20,te=20,colour=0,reservable=1000000}]") ≡ Ok diamond
-unfolding toml_on_literals address_of octet_of cut node_text link_text node_value link_value link_ranges with_node ends_of with_link base_of_tree
+unfolding toml_on_literals address_of octet_of cut node_text link_text node_value link_addresses link_values checked_values with_node ends_of with_link base_of_tree
 read = refl
 
 -- an address of another node, and a link from a node to itself
 taken : base_of (codes "node = [{name=\"A\",id=\"10.0.0.1\"},{name=\"B\",id=\"10.0.0.1\"}]") ≡ Err AddressTwice
 unfolding toml_on_literals address_of octet_of cut node_text node_value with_node base_of_tree
 taken = refl
+
+-- two routers and a link from one to the other
+abbrev pair : ℕ → Base
+pair reservable = record {
+  nodes = node (codes "A") 0x0a000001 ∷ node (codes "B") 0x0a000002 ∷ [];
+  links = record { from = 0; to = 1; local = 0x0a010001; remote = 0x0a010002; igp = 10; te = 10; colour = 0; reservable = reservable } ∷ [];
+  owners = owner 0x0a000001 0 ∷ owner 0x0a000002 1 ∷ owner 0x0a010001 0 ∷ owner 0x0a010002 1 ∷ [];
+}
+
+-- its text, with another bandwidth
+less : reloaded (pair 1000000) (codes "node = [{name=\"A\",id=\"10.0.0.1\"},{name=\"B\",id=\"10.0.0.2\"}]\nlink = [{from=\"A\",to=\"B\",local=\"10.1.0.1\",remote=\"10.1.0.2\",igp=10,te=10,colour=0,reservable=400000}]") ≡ Ok (record { igp = 10; te = 10; colour = 0; reservable = 400000 } ∷ [])
+unfolding toml_on_literals address_of octet_of cut node_text link_text node_value link_addresses link_values checked_values with_node ends_of with_link base_of_tree
+less = refl
+
+-- without the link, and with another name of a node
+fewer : reloaded (pair 1000000) (codes "node = [{name=\"A\",id=\"10.0.0.1\"},{name=\"B\",id=\"10.0.0.2\"}]") ≡ Err OtherLinks
+unfolding toml_on_literals address_of octet_of cut node_text node_value with_node base_of_tree
+fewer = refl
+
+renamed : reloaded (pair 1000000) (codes "node = [{name=\"A\",id=\"10.0.0.1\"},{name=\"C\",id=\"10.0.0.2\"}]\nlink = [{from=\"A\",to=\"C\",local=\"10.1.0.1\",remote=\"10.1.0.2\",igp=10,te=10,colour=0,reservable=1000000}]") ≡ Err OtherLinks
+unfolding toml_on_literals address_of octet_of cut node_text link_text node_value link_addresses link_values checked_values with_node ends_of with_link base_of_tree
+renamed = refl
+
+-- a fault of the text comes first
+faulty : reloaded (pair 1000000) (codes "node = [{name=\"A\",id=\"10.0.0.1\"},{name=\"A\",id=\"10.0.0.2\"}]") ≡ Err NameTwice
+unfolding toml_on_literals address_of octet_of cut node_text node_value with_node base_of_tree
+faulty = refl
+
+-- link 0 alone gets the values
+set : with_link_values (pair 1000000) 0 (record { igp = 10; te = 10; colour = 0; reservable = 400000 }) ≡ pair 400000
+set = refl

@@ -1,8 +1,9 @@
 -- Each base that a link text says is sound.
-use Rattle.std.proofs.Common.{◌≡◌, ◌≢◌, ℕ, ℤ, pos, negsuc, codes, ◌+◌, ◌<◌, ◌≤◌, ◌==◌, ◌&&◌, nat_le, true, false, List, [], ◌∷◌, length, Option, Some, None, is_some, Ok, Err, IfOk, IfSome, All, option_map, find, refl, sym, subst, arith, length-append, if◌then◌else◌}
+use Rattle.std.proofs.Common.{◌≡◌, ◌≢◌, ℕ, codes, ◌+◌, ◌<◌, ◌≤◌, ◌==◌, ◌&&◌, nat_le, Bool, true, false, List, [], ◌∷◌, length, Option, Some, None, is_some, Ok, Err, IfOk, IfSome, All, option_map, find, refl, sym, subst, arith, length-append, if◌then◌else◌}
 use Rattle.std.proofs.lemmas.List.Elements.{All-nil, All-push, All-weaker, All-head, All-tail}
 use Rattle.std.proofs.lemmas.Bool.Decides.{nat_tests}
 use Rattle.std.proofs.lemmas.Grind.{common_steps}
+use Rattle.std.proofs.lemmas.Option.{same_Some}
 use Rattle.std.proofs.lemmas.Result.{IfOk-weaker, IfOk-at_ok}
 use Rattle.std.specs.Str.{bytes_eq}
 use Rattle.toml.specs.Data.{Members}
@@ -18,37 +19,34 @@ use Rattle.te_base.proofs.Ownership.{base_of-owned}
 use Rattle.te_base.specs.Base.{Base, empty_base, IsLinkAmong, IsSound}
 use Rattle.te_base.specs.Owners.{owner_of, with_owner, owned}
 use Rattle.te_base.specs.Fields.{LinkText, node_text, link_text, tables_at}
-use Rattle.te_base.specs.Ranges.{name_of, address_in, within, node_value, link_value, link_ranges}
-use Rattle.te_base.specs.LinkText.{node_named, with_node, ends_of, with_link, with_nodes, with_links, few_enough, base_of_tree, base_of}
+use Rattle.te_base.specs.Ranges.{natural, node_value, link_addresses, link_values}
+use Rattle.te_base.specs.Values.{Values, AreInRange, checked_values, is_metric}
+use Rattle.te_base.specs.LinkText.{node_named, with_node, ends_of, link_of, with_link, with_nodes, with_links, few_enough, base_of_tree, base_of}
 
 -- ---- values in range
 
-within_test : (low high n : ℕ) → (nat_le low n && nat_le n high) ≡ true → (low ≤ n) × (n ≤ high)
-within_test low high n = grind (arith, nat_tests, common_steps)
+metrics_test : (igp te colour reservable : ℕ) → (is_metric igp && is_metric te && nat_le colour 4294967295 && nat_le reservable 281474976710655) ≡ true → AreInRange (record { igp = igp; te = te; colour = colour; reservable = reservable })
+metrics_test igp te colour reservable = grind (arith, nat_tests, common_steps)
 
-within_range : (low high : ℕ) (z : ℤ) → IfOk (within low high z) (λ n. (low ≤ n) × (n ≤ high))
-within_range low high (pos n) = when (nat_le low n && nat_le n high) n OutOfRange (λ n. (low ≤ n) × (n ≤ high)) (within_test low high n)
-within_range low high (negsuc n) = tt
+tested : (test : Bool) (numbers v : Values) → (test ≡ true → AreInRange numbers) → (if test then Some numbers else None) ≡ Some v → AreInRange v
+tested true numbers v holds is = subst AreInRange (same_Some numbers v is) (holds refl)
+tested false numbers v holds is = absurd cc
 
-pub record InRanges (l : Link) : Type 0 where
-  igp : (1 ≤ l.igp) × (l.igp ≤ 16777215)
-  te : (1 ≤ l.te) × (l.te ≤ 16777215)
-  reservable : l.reservable ≤ 281474976710655
+checked : (igp te colour reservable : ℕ) (v : Values) → checked_values igp te colour reservable ≡ Some v → AreInRange v
+unfolding checked_values
+checked igp te colour reservable v is =
+    let test : Bool = is_metric igp && is_metric te && nat_le colour 4294967295 && nat_le reservable 281474976710655 in
+    let numbers : Values = record { igp = igp; te = te; colour = colour; reservable = reservable } in
+    tested test numbers v (metrics_test igp te colour reservable) is
 
-link_value_range : (t : LinkText) (from to : ℕ) → IfOk (link_value t from to) InRanges
-unfolding link_value
-link_value_range t from to =
-    after (address_in t.local) _ InRanges (λ near.
-    after (address_in t.remote) _ InRanges (λ far.
-    bind (within 1 16777215 t.igp) _ (λ n. (1 ≤ n) × (n ≤ 16777215)) InRanges (within_range 1 16777215 t.igp) (λ igp igp_in.
-    bind (within 1 16777215 t.te) _ (λ n. (1 ≤ n) × (n ≤ 16777215)) InRanges (within_range 1 16777215 t.te) (λ te te_in.
-    after (within 0 4294967295 t.colour) _ InRanges (λ colour.
-    bind (within 0 281474976710655 t.reservable) _ (λ n. (0 ≤ n) × (n ≤ 281474976710655)) InRanges (within_range 0 281474976710655 t.reservable) (λ reservable reservable_in.
-    record { igp = igp_in; te = te_in; reservable = reservable_in.1 }))))))
-
-link_ranges_range : (t : LinkText) → IfOk (link_ranges t) InRanges
-unfolding link_ranges
-link_ranges_range t = after (name_of t.from) _ InRanges (λ _. after (name_of t.to) _ InRanges (λ _. link_value_range t 0 0))
+link_values_range : (t : LinkText) → IfOk (link_values t) AreInRange
+unfolding link_values
+link_values_range t =
+    after (natural t.igp) _ AreInRange (λ igp.
+    after (natural t.te) _ AreInRange (λ te.
+    after (natural t.colour) _ AreInRange (λ colour.
+    after (natural t.reservable) _ AreInRange (λ reservable.
+    some_or_is OutOfRange (checked_values igp te colour reservable) AreInRange (checked igp te colour reservable)))))
 
 -- ---- ends and owners
 
@@ -127,20 +125,21 @@ with_link_joined : (base : Base) (t : Members) (n k : ℕ) → Joined n k base �
 unfolding with_link AreNodes
 with_link_joined base t n k j =
     after (link_text t) _ (Joined n (k + 1)) (λ fields.
-    bind (link_ranges fields) _ InRanges (Joined n (k + 1)) (link_ranges_range fields) (λ link range.
+    after (link_addresses fields) _ (Joined n (k + 1)) (λ addresses.
+    bind (link_values fields) _ AreInRange (Joined n (k + 1)) (link_values_range fields) (λ values range.
     bind (ends_of base fields) _ (AreEnds (length base.nodes)) (Joined n (k + 1)) (ends_within base fields) (λ ends are.
     let from : ends.0 < n = omega arith in
     let to : ends.1 < n = omega arith in
-    bind (owned base.owners link.local ends.0) _ (AreNodes n) (Joined n (k + 1)) (with_owner_within n base.owners link.local ends.0 (owner_of base.owners link.local) j.owned from) (λ near near_in.
-    bind (owned near link.remote ends.1) _ (AreNodes n) (Joined n (k + 1)) (with_owner_within n near link.remote ends.1 (owner_of near link.remote) near_in to) (λ owners owners_in.
-    let read : Link = record { from = ends.0; to = ends.1; local = link.local; remote = link.remote; igp = link.igp; te = link.te; colour = link.colour; reservable = link.reservable } in
-    let is : IsLinkAmong n read = record { from = from; to = to; apart = are.apart; igp_positive = omega arith; igp_small = omega arith; te_positive = omega arith; te_small = omega arith; reservable_small = omega arith } in
+    bind (owned base.owners addresses.0 ends.0) _ (AreNodes n) (Joined n (k + 1)) (with_owner_within n base.owners addresses.0 ends.0 (owner_of base.owners addresses.0) j.owned from) (λ near near_in.
+    bind (owned near addresses.1 ends.1) _ (AreNodes n) (Joined n (k + 1)) (with_owner_within n near addresses.1 ends.1 (owner_of near addresses.1) near_in to) (λ owners owners_in.
+    let read : Link = link_of ends addresses values in
+    let is : IsLinkAmong n read = record { from = from; to = to; apart = are.apart; igp_positive = range.igp_positive; igp_small = range.igp_small; te_positive = range.te_positive; te_small = range.te_small; reservable_small = range.reservable_small } in
     record {
       nodes_are = j.nodes_are;
       links_are = omega (arith, length-append base.links (read ∷ []));
       joined = All-push (IsLinkAmong n) base.links read j.joined is;
       owned = owners_in;
-    })))))
+    }))))))
 
 with_nodes_joined : (ts : List Members) (base : Base) (n m k : ℕ) → n + length ts ≡ m → Joined n k base → IfOk (with_nodes ts base) (Joined m k)
 with_nodes_joined [] base n m k e j = renamed n m k k base (omega arith) refl j

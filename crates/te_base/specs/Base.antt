@@ -24,7 +24,7 @@ pub record IsLinkAmong (nodes : ℕ) (link : Link) : Type 0 where
   pub te_small : link.te < 2 ^ 24
   pub reservable_small : link.reservable < 2 ^ 48
 
--- what holds of each base that was read
+-- what holds of each base
 pub record IsSound (base : Base) : Type 0 where
   pub few_nodes : length base.nodes ≤ 1024
   pub few_links : length base.links ≤ 4096

@@ -1,7 +1,7 @@
 -- The first fault of a link text, or a value.
 use Rattle.std.specs.Prelude.{ℕ, ◌≡◌, Result, Ok, Err, Option, Some, None}
 use Rattle.te_base.specs.declared.fault.TeFault.{TeFault}
-use Rattle.te_base.specs.declared.fault.TeFault.TheVariants.{NotToml, MissingField, OutOfRange, UnknownNode, AddressTwice, NameTwice, SelfLoop, TooMany, OutOfMemory}
+use Rattle.te_base.specs.declared.fault.TeFault.TheVariants.{NotToml, MissingField, OutOfRange, UnknownNode, AddressTwice, NameTwice, SelfLoop, TooMany, OutOfMemory, OtherLinks}
 
 -- the number by which a user is told a fault
 abbrev pub fault_number : TeFault → ℕ
@@ -14,6 +14,7 @@ fault_number NameTwice = 6
 fault_number SelfLoop = 7
 fault_number TooMany = 8
 fault_number OutOfMemory = 9
+fault_number OtherLinks = 10
 
 -- one step after the other, up to the first fault
 infixl 10 ◌>>=◌

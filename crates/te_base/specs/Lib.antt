@@ -1,9 +1,11 @@
 pub mod Faults
 pub mod Base
 pub mod Owners
+pub mod Values
 pub mod Fields
 pub mod Ranges
 pub mod LinkText
+pub mod Reload
 pub mod Views
 pub mod Walk
 pub mod Entries

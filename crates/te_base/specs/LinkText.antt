@@ -6,11 +6,13 @@ use Rattle.toml.specs.Parse.{parse_document}
 use Rattle.te_base.specs.declared.fault.TeFault.{TeFault}
 use Rattle.te_base.specs.declared.fault.TeFault.TheVariants.{NotToml, UnknownNode, NameTwice, SelfLoop, TooMany}
 use Rattle.te_base.specs.declared.network.Node.{Node}
+use Rattle.te_base.specs.declared.network.Link.{Link}
 use Rattle.te_base.specs.Faults.{◌>>=◌, some_or}
 use Rattle.te_base.specs.Base.{Base, empty_base}
 use Rattle.te_base.specs.Owners.{owned}
 use Rattle.te_base.specs.Fields.{LinkText, node_text, link_text, tables_at}
-use Rattle.te_base.specs.Ranges.{node_value, link_ranges}
+use Rattle.te_base.specs.Ranges.{node_value, link_addresses, link_values}
+use Rattle.te_base.specs.Values.{Values}
 
 -- the number of the node with this name
 abbrev pub node_named : List Node → List ℕ → Option ℕ
@@ -31,15 +33,19 @@ ends_of base t = do
   to ← some_or UnknownNode (node_named base.nodes t.to)
   if from == to then Err SelfLoop else Ok (from, to)
 
+abbrev pub link_of : (ends addresses : ℕ × ℕ) → Values → Link
+link_of ends addresses v = record { from = ends.0; to = ends.1; local = addresses.0; remote = addresses.1; igp = v.igp; te = v.te; colour = v.colour; reservable = v.reservable }
+
 -- A link's table: fields, ranges, its ends, then its addresses.
 unfoldable pub with_link : Base → Members → Result Base TeFault
 with_link base t = do
   fields ← link_text t
-  link ← link_ranges fields
+  addresses ← link_addresses fields
+  values ← link_values fields
   ends ← ends_of base fields
-  near ← owned base.owners link.local ends.0
-  owners ← owned near link.remote ends.1
-  Ok (record { nodes = base.nodes; links = base.links ++ record { from = ends.0; to = ends.1; local = link.local; remote = link.remote; igp = link.igp; te = link.te; colour = link.colour; reservable = link.reservable } ∷ []; owners = owners })
+  near ← owned base.owners addresses.0 ends.0
+  owners ← owned near addresses.1 ends.1
+  Ok (record { nodes = base.nodes; links = base.links ++ link_of ends addresses values ∷ []; owners = owners })
 
 abbrev pub with_nodes : List Members → Base → Result Base TeFault
 with_nodes [] base = Ok base

@@ -5,14 +5,18 @@ ghost use Rattle.te_base.specs.Faults.{Gives};
 ghost use Rattle.te_base.specs.LinkText.{base_of, base_of_tables, base_of_tree};
 ghost use Rattle.te_base.specs.Owners.{owner_of, owns};
 ghost use Rattle.te_base.specs.Walk.{walk};
+ghost use Rattle.te_base.specs.Reload.{reloaded, values_for};
+ghost use Rattle.te_base.specs.Values.{values_in, with_link_values};
 ghost use Rattle.te_base.specs.Views.{base_in};
 ghost use Rattle.toml.specs.View.{table_view};
 
 use crate::fault::TeFault;
 use crate::fields::tables;
+use crate::link_values::LinkValues;
 use crate::network::{Link, LinkNumber, NodeNumber, Parts};
 use crate::nodes::NodeTable;
 use crate::owners::OwnerTable;
+use crate::reload::{all_values, is_same, set_listed_values};
 use crate::tables::{add_links, add_nodes};
 use crate::walk::walk_parts;
 use keyed_list::KeyedList;
@@ -22,7 +26,7 @@ use std::alloc::{AllocError, Global};
 use std::marker::Model;
 use toml::Table;
 
-/// The TED: the nodes, links and owners of a link text. A contract sees it as a `Base` of lists, which is sound.
+/// The TED: the nodes, links and owners of a link text; the values of links may change. A contract sees it as a `Base` of lists, which is sound.
 #[derive(Debug)]
 pub struct TeBase {
     parts: Parts,
@@ -169,5 +173,40 @@ impl TeBase {
         ensures once { IfOk result (λ v. AllPairs (λ l k. l ≢ k) v.items) }
     {
         walk_parts(alloc, &self.parts, start, hops, end)
+    }
+
+    /// The values of all links, each at its link's number.
+    pub fn values(&self, alloc: Global) -> Result<Vec<LinkValues>, AllocError>
+        ensures { IfOk result (λ v. v.items ≡ values_in self.now) }
+    {
+        all_values(alloc, self.parts.links.as_slice())
+    }
+
+    /// The values that the text, read again, gives all links, each at its link's number. A fault is what `read` says of
+    /// the text, and `OtherLinks` where it says other nodes, or other ends or addresses of links.
+    pub fn reload(&self, alloc: Global, text: &str) -> Result<Vec<LinkValues>, TeFault>
+        ensures values { Gives (λ v. v.items) result (reloaded self.now text.now) }
+        ensures whole { IfOk result (λ v. length v.items ≡ length self.now.links) }
+    {
+        let other = TeBase::read(alloc, text)?;
+        self.values_for(alloc, &other)
+    }
+
+    fn values_for(&self, alloc: Global, other: &TeBase) -> Result<Vec<LinkValues>, TeFault>
+        ensures values { Gives (λ v. v.items) result (values_for self.now other.now) }
+        ensures whole { IfOk result (λ v. length v.items ≡ length self.now.links) }
+    {
+        if !is_same(&self.parts, &other.parts) {
+            return Err(TeFault::OtherLinks);
+        }
+        Ok(other.values(alloc)?)
+    }
+
+    /// Gives a link other values. Nodes, owners, and ends and addresses of links stay. Takes no memory.
+    pub fn set_values(&mut self, link: LinkNumber, values: LinkValues)
+        requires { link < length self.old.links }
+        ensures { self.new ≡ with_link_values self.old link values }
+    {
+        set_listed_values(&mut self.parts.links, link, values);
     }
 }

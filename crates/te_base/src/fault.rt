@@ -39,6 +39,10 @@ pub enum TeFault {
     /// There is no memory for what is read. May come in place of any answer.
     #[error("out of memory")]
     OutOfMemory,
+    /// The text, read again, has other nodes, or other ends or addresses of links, or more or fewer of them. Of a
+    /// reload alone, and looked for last.
+    #[error("te fault 10")]
+    OtherLinks,
 }
 
 impl From<AllocError> for TeFault {
@@ -60,7 +64,7 @@ impl<T: Drop> From<AllocFailed<T>> for TeFault {
 impl TeFault {
     ghost use Rattle.te_base.specs.Faults.{fault_number};
 
-    /// The number by which a user is told the fault, 1 to 9.
+    /// The number by which a user is told the fault, 1 to 10.
     pub fn number(self) -> u8
         ensures { result ≡ fault_number self }
     {
@@ -74,6 +78,7 @@ impl TeFault {
             TeFault::SelfLoop => 7,
             TeFault::TooMany => 8,
             TeFault::OutOfMemory => 9,
+            TeFault::OtherLinks => 10,
         }
     }
 }

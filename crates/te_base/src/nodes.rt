@@ -1,12 +1,46 @@
 //! The nodes of the TED, by number and by name.
-ghost use Rattle.std.specs.Prelude.{◌≡◌, ◌++◌, ◌∷◌, [], None, length, OnOk};
+ghost use Rattle.std.specs.Prelude.{◌≡◌, ◌++◌, ◌∷◌, ℕ, [], Some, None, length, map, slice_get, OnOk};
+ghost use Rattle.std.specs.declared.alloc.Global.{Global};
+ghost use Rattle.std.specs.declared.string.String.{String};
+ghost use Rattle.std.specs.Cmp.Lexicographic.{pointwise};
+ghost use Rattle.te_base.specs.Entries.{node_under};
 ghost use Rattle.te_base.specs.LinkText.{node_named};
+ghost use Rattle.te_base.specs.Reload.{same_node};
 
 use crate::network::{Node, NodeNumber};
 use indexmap::IndexMap;
 use pcep_word::Ipv4;
 use std::alloc::{AllocError, Global};
 use std::marker::Model;
+
+/// Tests whether both have a node of one name and one id at the number.
+fn same_at(
+    ids: &IndexMap<String, Ipv4>,
+    others: &IndexMap<String, Ipv4>,
+    number: NodeNumber,
+) -> bool
+    ensures { (e f : String Global × ℕ) → slice_get ids.now.entries number ≡ Some e → slice_get others.now.entries number ≡ Some f
+        → result ≡ same_node (node_under e) (node_under f) }
+{
+    match (ids.get_index(number), others.get_index(number)) {
+        (Some((name, id)), Some((other, other_id))) => name == other && id == other_id,
+        _ => false,
+    }
+}
+
+fn same_entries(ids: &IndexMap<String, Ipv4>, others: &IndexMap<String, Ipv4>) -> bool
+    ensures { result ≡ pointwise same_node (map node_under ids.now.entries) (map node_under others.now.entries) }
+{
+    if ids.len() != others.len() {
+        return false;
+    }
+    for number in 0..ids.len() {
+        if !same_at(ids, others, number) {
+            return false;
+        }
+    }
+    true
+}
 
 /// Nodes by number, found by name. A contract sees the list of them.
 #[derive(Debug, Drop)]
@@ -46,6 +80,13 @@ impl NodeTable {
         ensures { result ≡ node_named self.now name.now }
     {
         self.ids.get_index_of(name)
+    }
+
+    /// Tests whether another table has the same nodes at the same numbers.
+    pub fn is_same(&self, other: &NodeTable) -> bool
+        ensures { result ≡ pointwise same_node self.now other.now }
+    {
+        same_entries(&self.ids, &other.ids)
     }
 
     /// Adds a node at the end. No node has its name yet.

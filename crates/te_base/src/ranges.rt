@@ -1,13 +1,14 @@
 //! The values of a table's fields, each in its range.
-ghost use Rattle.std.specs.Prelude.{◌≡◌, ◌≤◌, IfOk};
+ghost use Rattle.std.specs.Prelude.{◌≡◌};
 ghost use Rattle.te_base.specs.Faults.{Gives};
-ghost use Rattle.te_base.specs.Ranges.{name_of, address_in, within, node_value, link_value, link_ranges};
+ghost use Rattle.te_base.specs.Ranges.{name_of, address_in, natural, node_value, link_addresses, link_values};
 ghost use Rattle.te_base.specs.Views.{node_texts, link_texts};
 
 use crate::fault::TeFault;
 use crate::fields::{LinkFields, NodeFields};
+use crate::link_values::LinkValues;
 use crate::name::Name;
-use crate::network::{Link, Node, NodeNumber};
+use crate::network::Node;
 use pcep_word::Ipv4;
 use std::alloc::Global;
 
@@ -29,18 +30,13 @@ fn address(text: &str) -> Result<Ipv4, TeFault>
     }
 }
 
-fn number_within(low: u64, high: u64, number: i64) -> Result<u64, TeFault>
-    ensures value { Gives (λ n. n) result (within low high number) }
-    ensures high { IfOk result (λ n. n ≤ high) }
+fn natural(number: i64) -> Result<u64, TeFault>
+    ensures { Gives (λ n. n) result (natural number) }
 {
     if number < 0 {
         return Err(TeFault::OutOfRange);
     }
-    let number = number as u64;
-    if number < low || number > high {
-        return Err(TeFault::OutOfRange);
-    }
-    Ok(number)
+    Ok(number as u64)
 }
 
 #[tactic(auto, unfolding(crate::specs::Ranges::node_value))]
@@ -53,34 +49,29 @@ pub(crate) fn node_of(alloc: Global, fields: &NodeFields) -> Result<Node, TeFaul
     Ok(Node { name, id })
 }
 
-#[tactic(auto, unfolding(crate::specs::Ranges::link_value))]
-fn link_of(fields: &LinkFields, from: NodeNumber, to: NodeNumber) -> Result<Link, TeFault>
-    ensures { Gives (λ l. l) result (link_value (link_texts fields.now) from to) }
-{
-    let local = address(fields.local)?;
-    let remote = address(fields.remote)?;
-    let igp = number_within(1, 0xff_ffff, fields.igp)?;
-    let te = number_within(1, 0xff_ffff, fields.te)?;
-    let colour = number_within(0, 0xffff_ffff, fields.colour)?;
-    let reservable = number_within(0, 0xffff_ffff_ffff, fields.reservable)?;
-    Ok(Link {
-        from,
-        to,
-        local,
-        remote,
-        igp: igp as u32,
-        te: te as u32,
-        colour: colour as u32,
-        reservable,
-    })
-}
-
-/// The link without the numbers of its ends.
-#[tactic(auto, unfolding(crate::specs::Ranges::link_ranges))]
-pub(crate) fn link_in_ranges(fields: &LinkFields) -> Result<Link, TeFault>
-    ensures { Gives (λ l. l) result (link_ranges (link_texts fields.now)) }
+/// The addresses of the link at the node that it leaves and at the one that it reaches. The names of both are
+/// judged first.
+#[tactic(auto, unfolding(crate::specs::Ranges::link_addresses))]
+pub(crate) fn link_addresses(fields: &LinkFields) -> Result<(Ipv4, Ipv4), TeFault>
+    ensures { Gives (λ p. p) result (link_addresses (link_texts fields.now)) }
 {
     checked_name(fields.from)?;
     checked_name(fields.to)?;
-    link_of(fields, 0, 0)
+    let local = address(fields.local)?;
+    let remote = address(fields.remote)?;
+    Ok((local, remote))
+}
+
+#[tactic(auto, unfolding(crate::specs::Ranges::link_values))]
+pub(crate) fn link_values(fields: &LinkFields) -> Result<LinkValues, TeFault>
+    ensures { Gives (λ v. v) result (link_values (link_texts fields.now)) }
+{
+    let igp = natural(fields.igp)?;
+    let te = natural(fields.te)?;
+    let colour = natural(fields.colour)?;
+    let reservable = natural(fields.reservable)?;
+    match LinkValues::new(igp, te, colour, reservable) {
+        Some(values) => Ok(values),
+        None => Err(TeFault::OutOfRange),
+    }
 }

@@ -10,7 +10,7 @@ use crate::fault::TeFault;
 use crate::fields::{LinkFields, link_fields, node_fields};
 use crate::network::{Link, NodeNumber, Owner, Parts};
 use crate::owners::OwnerTable;
-use crate::ranges::{link_in_ranges, node_of};
+use crate::ranges::{link_addresses, link_values, node_of};
 use pcep_word::Ipv4;
 use std::alloc::Global;
 use toml::Table;
@@ -69,12 +69,22 @@ fn add_link(parts: &mut Parts, table: &Table) -> Result<(), TeFault>
     ensures { Leaves result (with_link (base_in parts.old) (table_view table.now)) (base_in parts.new) }
 {
     let fields = link_fields(table)?;
-    let link = link_in_ranges(&fields)?;
+    let (local, remote) = link_addresses(&fields)?;
+    let values = link_values(&fields)?;
     let (from, to) = ends(parts, &fields)?;
-    own(&mut parts.owners, link.local, from)?;
-    own(&mut parts.owners, link.remote, to)?;
+    own(&mut parts.owners, local, from)?;
+    own(&mut parts.owners, remote, to)?;
     parts.links.reserve(1)?;
-    parts.links.push(Link { from, to, ..link });
+    parts.links.push(Link {
+        from,
+        to,
+        local,
+        remote,
+        igp: values.igp(),
+        te: values.te(),
+        colour: values.colour(),
+        reservable: values.reservable(),
+    });
     Ok(())
 }
 

@@ -1,4 +1,7 @@
+pub mod Cuts
 pub mod Ends
+pub mod Links
 pub mod Lists
 pub mod Arcs
+pub mod Moved
 pub mod Rows

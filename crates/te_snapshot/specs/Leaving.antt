@@ -27,6 +27,14 @@ turned l = record { from = l.to; to = l.from; local = l.remote; remote = l.local
 abbrev pub entering : List Link → ℕ → List Outgoing
 entering links node = leaving (map turned links) node
 
+abbrev pub revalued : Option Link → Outgoing → Outgoing
+revalued None a = a
+revalued (Some l) a = record { number = a.number; to = a.to; igp = l.igp; te = l.te; colour = l.colour }
+
+-- a link as a node at its end sees it, with the values that it has among these links
+abbrev pub arc_now : List Link → Outgoing → Outgoing
+arc_now links a = revalued (slice_get links a.number) a
+
 -- it leads to one of so many nodes, and its metrics are in their range
 pub record IsArcAmong (nodes : ℕ) (arc : Outgoing) : Type 0 where
   pub to : arc.to < nodes

@@ -1,5 +1,6 @@
 pub mod Network
 pub mod Leaving
+pub mod Spans
 pub mod Inside
 pub mod Shared
 pub mod Room

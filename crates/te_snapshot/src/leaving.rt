@@ -2,10 +2,12 @@
 ghost use Rattle.std.specs.Prelude.{◌≡◌, ◌<◌, ◌≤◌, ◌++◌, ◌==◌, ℕ, [], ◌∷◌, IfOk, OnOk, All, length, map, if◌then◌else◌};
 ghost use Rattle.te_base.specs.Base.{IsLinkAmong};
 ghost use Rattle.te_snapshot.specs.Leaving.{arc_of, entering, leaving, listed, turned};
+ghost use Rattle.te_snapshot.specs.Spans.{list_of};
 
 use crate::outgoing::Outgoing;
+use crate::spans::Arcs;
 use std::alloc::{AllocError, Global};
-use te_base::{Link, LinkNumber, NodeNumber};
+use te_base::{Link, LinkNumber};
 
 /// Puts the link last of those that leave its node.
 fn add(lists: &mut [Vec<Outgoing>], number: LinkNumber, link: &Link) -> Result<(), AllocError>
@@ -40,12 +42,7 @@ fn empty(alloc: Global, nodes: usize) -> Result<Vec<Vec<Outgoing>>, AllocError>
     Ok(lists)
 }
 
-/// For each node the links that leave it, in the order of their numbers.
-pub(crate) fn leaving(
-    alloc: Global,
-    links: &[Link],
-    nodes: usize,
-) -> Result<Vec<Vec<Outgoing>>, AllocError>
+fn lists_of(alloc: Global, links: &[Link], nodes: usize) -> Result<Vec<Vec<Outgoing>>, AllocError>
     requires { All (IsLinkAmong nodes) links.now }
     ensures count { IfOk result (λ lists. length lists.items ≡ nodes) }
     ensures leaving { IfOk result (λ lists. (v : ℕ) → listed lists.items v ≡ leaving links.now v) }
@@ -53,6 +50,16 @@ pub(crate) fn leaving(
     let mut lists = empty(alloc, nodes)?;
     add_all(&mut lists, links)?;
     Ok(lists)
+}
+
+/// For each node the links that leave it, in the order of their numbers.
+pub(crate) fn leaving(alloc: Global, links: &[Link], nodes: usize) -> Result<Arcs, AllocError>
+    requires { All (IsLinkAmong nodes) links.now }
+    ensures count { IfOk result (λ arcs. length arcs ≡ nodes) }
+    ensures leaving { IfOk result (λ arcs. (v : ℕ) → list_of arcs v ≡ leaving links.now v) }
+{
+    let lists = lists_of(alloc, links, nodes)?;
+    Arcs::new(alloc, &lists)
 }
 
 /// The link the other way round.
@@ -83,23 +90,11 @@ fn all_turned(alloc: Global, links: &[Link]) -> Result<Vec<Link>, AllocError>
 }
 
 /// For each node the links that enter it, in the order of their numbers, each the other way round.
-pub(crate) fn entering(
-    alloc: Global,
-    links: &[Link],
-    nodes: usize,
-) -> Result<Vec<Vec<Outgoing>>, AllocError>
+pub(crate) fn entering(alloc: Global, links: &[Link], nodes: usize) -> Result<Arcs, AllocError>
     requires { All (IsLinkAmong nodes) links.now }
-    ensures count { IfOk result (λ lists. length lists.items ≡ nodes) }
-    ensures entering { IfOk result (λ lists. (v : ℕ) → listed lists.items v ≡ entering links.now v) }
+    ensures count { IfOk result (λ arcs. length arcs ≡ nodes) }
+    ensures entering { IfOk result (λ arcs. (v : ℕ) → list_of arcs v ≡ entering links.now v) }
 {
     let all = all_turned(alloc, links)?;
     leaving(alloc, &all, nodes)
-}
-
-/// The list at a place.
-pub(crate) fn list_at(lists: &[Vec<Outgoing>], node: NodeNumber) -> &[Outgoing]
-    requires { node < length lists.now }
-    ensures { result.now ≡ listed lists.now node }
-{
-    &lists[node]
 }

@@ -1,9 +1,10 @@
 //! What a path search reads: the network, and how much every link can still carry at a moment.
 //!
-//! A `Topology` is made once from a `TeBase` and never changes: the links, the links that leave each node and
-//! those that enter it, and the owners of addresses. A `Snapshot` joins it with a table of unreserved bandwidth, eight numbers
-//! a link, one for each priority. Both are shared: a snapshot is copied by counting one more owner, so it
-//! can be searched while the network is booked on. `OwnShares` says what a tunnel holds already.
+//! A `Topology` is made from a `TeBase`, or from another one with other values of its links, and never changes: the
+//! links, the links that leave each node and those that enter it, and the owners of addresses. A `Snapshot` joins it with
+//! a table of unreserved bandwidth, eight numbers a link, one for each priority. Both are shared: a snapshot is copied by
+//! counting one more owner, so it can be searched while the network is booked on. `OwnShares` says what a tunnel holds
+//! already.
 //!
 //! The layer above may rely on each snapshot being sound: at most 1,024 nodes and 4,096 links, each link
 //! from one node to another with metrics from 1 to 16,777,215, and eight numbers for each link. The
@@ -27,6 +28,7 @@ mod outgoing;
 mod own;
 mod route;
 mod snapshot;
+mod spans;
 mod topology;
 
 pub use outgoing::Outgoing;

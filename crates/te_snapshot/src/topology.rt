@@ -3,26 +3,28 @@ ghost use Rattle.std.specs.Prelude.{◌≡◌, ◌<◌, ◌≤◌, IfOk, IfSome,
 ghost use Rattle.te_base.specs.Base.{IsLinkAmong};
 ghost use Rattle.te_snapshot.specs.Admissible.{node_of};
 ghost use Rattle.te_snapshot.specs.Leaving.{entering, leaving, IsArcAmong};
-ghost use Rattle.te_snapshot.specs.Network.{network_of};
+ghost use Rattle.te_snapshot.specs.Network.{network_of, with_links, AreLinksOf};
 
-use crate::leaving::{entering, leaving, list_at};
+use crate::leaving::{entering, leaving};
 use crate::outgoing::Outgoing;
 use crate::route::node_of;
+use crate::spans::Arcs;
 use pcep_word::Ipv4;
 use sequence::PlainData;
 use std::alloc::{AllocError, Global};
 use std::marker::Model;
+use std::sync::Arc;
 use te_base::{Link, LinkNumber, NodeNumber, OwnerTable, TeBase};
 
 /// The links, the links that leave each node and those that enter it, and the owners of addresses with their
-/// index. A contract sees it as a `Network` of lists, which is sound.
-#[derive(Debug, Drop)]
+/// index, which topologies of one network share. A contract sees it as a `Network` of lists, which is sound.
+#[derive(Drop)]
 pub struct Topology {
     nodes: usize,
     links: Vec<Link>,
-    owners: OwnerTable,
-    leaving: Vec<Vec<Outgoing>>,
-    entering: Vec<Vec<Outgoing>>,
+    owners: Arc<OwnerTable, Global>,
+    leaving: Arcs,
+    entering: Arcs,
 }
 
 impl Model for Topology {
@@ -46,9 +48,23 @@ impl Topology {
         Ok(Topology {
             nodes,
             links: te.links().to_vec(alloc)?,
-            owners: te.owners().copy()?,
+            owners: Arc::new(alloc, te.owners().copy()?)?,
             leaving: leaving(alloc, te.links(), nodes)?,
             entering: entering(alloc, te.links(), nodes)?,
+        })
+    }
+
+    /// The network with other values of its links, each at its number. The owners are shared.
+    pub fn with_links(&self, alloc: Global, links: &[Link]) -> Result<Topology, AllocError>
+        requires { AreLinksOf self.now links.now }
+        ensures { IfOk result (λ t. t ≡ with_links self.now links.now) }
+    {
+        Ok(Topology {
+            nodes: self.nodes,
+            links: links.to_vec(alloc)?,
+            owners: Arc::try_clone(&self.owners)?,
+            leaving: self.leaving.with_values_of(alloc, links)?,
+            entering: self.entering.with_values_of(alloc, links)?,
         })
     }
 
@@ -91,7 +107,7 @@ impl Topology {
         ensures links { result.now ≡ leaving self.now.links node }
         ensures sound { All (IsArcAmong self.now.nodes) result.now }
     {
-        list_at(&self.leaving, node)
+        self.leaving.at(node)
     }
 
     /// The links that enter a node, in the order of their numbers. Each is given the other way round: `to` is
@@ -101,6 +117,6 @@ impl Topology {
         ensures links { result.now ≡ entering self.now.links node }
         ensures sound { All (IsArcAmong self.now.nodes) result.now }
     {
-        list_at(&self.entering, node)
+        self.entering.at(node)
     }
 }

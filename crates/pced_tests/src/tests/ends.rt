@@ -190,3 +190,31 @@ fn a_part_taken_late_ends_the_connection(rt: HostRuntime) -> Result<(), Fail> {
     assert_eq!(rt; writer.bytes.len(), 1);
     Ok(())
 }
+
+/// A session that says nothing for half a minute sends a Keepalive, also where nothing comes. Its first answers the Open.
+#[test]
+fn a_keepalive_is_sent_when_it_is_due(rt: HostRuntime) -> Result<(), Fail> {
+    let alloc = rt.alloc();
+    let mut beats = VecDeque::new(alloc);
+    for beat in [Beat::Bytes(OPEN), Beat::Bytes(KEEPALIVE), Beat::Nothing] {
+        beats.push_back(beat)?;
+    }
+    let mut reader = Beats { beats };
+    let mut writer = Tap {
+        left: 99,
+        most: usize::MAX,
+        bytes: Vec::new(alloc),
+    };
+    let watch = Slow {
+        now_ms: Cell::new(0),
+    };
+    let mut store = done(alloc);
+    let ended = connection(&rt, alloc, 7, &mut reader, &mut writer, &watch, &mut store);
+    assert_eq!(rt; ended, Ended::PeerClosed);
+    let said = b"\x20\x02\x00\x04\x20\x02\x00\x04\x20\x02\x00\x04";
+    assert_eq!(rt;
+        writer.bytes.as_slice().strip_prefix(OPEN),
+        Some(said.as_slice())
+    );
+    Ok(())
+}

@@ -1,8 +1,9 @@
 //! Readers, writers, watches and stores that do what a test wants.
 use engine_core::{Call, Desk, Event, Fault, Reply, Store};
-use history_core::SharedEvent;
-use server_talk::{Patient, TAKEN_WITHIN_MS, Watch};
-use std::alloc::AllocError;
+use history_core::{LinkReload, SharedEvent};
+use sequence::Sequence;
+use server_talk::{Patient, Plan, PlanFault, TAKEN_WITHIN_MS, Watch};
+use std::alloc::{AllocError, Global};
 use std::cell::Cell;
 use std::collections::VecDeque;
 use std::io;
@@ -40,6 +41,38 @@ impl Read for Beats {
 
 impl Patient for Beats {
     fn set_patience(&mut self, _most: Duration) {}
+}
+
+/// A reader of bytes that are there.
+#[derive(Drop)]
+pub struct Given<'a> {
+    pub bytes: &'a [u8],
+}
+
+impl<'a> Read for Given<'a> {
+    fn read(&mut self, buf: &mut [u8]) -> io::Result<usize> {
+        self.bytes.read(buf)
+    }
+}
+
+impl<'a> Patient for Given<'a> {
+    fn set_patience(&mut self, _most: Duration) {}
+}
+
+/// A link text that gives no link other values, or has a fault.
+#[derive(Drop)]
+pub struct Text {
+    pub alloc: Global,
+    pub fault: Option<PlanFault>,
+}
+
+impl Plan for Text {
+    fn read(&self) -> Result<Sequence<LinkReload>, PlanFault> {
+        match self.fault {
+            Some(fault) => Err(fault),
+            None => Ok(Sequence::from_vec(Vec::new(self.alloc))),
+        }
+    }
 }
 
 /// A writer that takes so many writes, of so many bytes each at most, and then fails.
@@ -171,6 +204,12 @@ impl Desk for Faulty {
     ghost use Rattle.std.specs.Prelude.{⊤};
 
     ghost is_left = { λ _ table. ⊤ };
+
+    /// It is rolled whenever it is asked.
+    fn roll_if_full(&mut self) -> Result<Option<u64>, AllocError> {
+        let steps = self.roll()?;
+        Ok(Some(steps))
+    }
 
     fn queued(&self, _peer: u32) -> bool {
         false

@@ -1,8 +1,12 @@
 //! An operator's lines.
-use super::fakes::{Faulty, Noon, Tap};
+use super::fakes::{Beat, Beats, Faulty, Given, Noon, Tap, Text};
 use super::*;
 use engine_core::Fault;
-use server_talk::{LINE_LIMIT, OperatorFault, operate};
+use server_talk::{LINE_LIMIT, OperatorEnd, Patient, PlanFault, operate};
+use std::alloc::AllocError;
+use std::collections::VecDeque;
+use std::sync::Wait;
+use te_base::TeFault;
 
 fn store_in(alloc: Global) -> Faulty {
     Faulty {
@@ -14,9 +18,16 @@ fn store_in(alloc: Global) -> Faulty {
     }
 }
 
-/// What is answered to the input, by a writer that takes so many writes.
-fn answered(alloc: Global, input: &[u8], writes: u64) -> (Result<(), OperatorFault>, Vec<u8>) {
-    let mut reader = input;
+/// How an operator's part ended, or that there was no memory for it.
+type End = Result<OperatorEnd, AllocError>;
+
+/// What is answered to a reader's lines, by a writer that takes so many writes.
+fn answered_to<R: Wait, I: Patient>(
+    rt: &R,
+    alloc: Global,
+    reader: &mut I,
+    writes: u64,
+) -> (End, Vec<u8>) {
     let mut writer = Tap {
         left: writes,
         most: usize::MAX,
@@ -24,8 +35,14 @@ fn answered(alloc: Global, input: &[u8], writes: u64) -> (Result<(), OperatorFau
     };
     let mut store = store_in(alloc);
     let watch = Noon { is_closing: false };
-    let end = operate(alloc, &mut reader, &mut writer, &watch, &mut store);
+    let plan = Text { alloc, fault: None };
+    let end = operate(rt, alloc, reader, &mut writer, &watch, &plan, &mut store);
     (end, writer.bytes)
+}
+
+/// The same of bytes that are there.
+fn answered<R: Wait>(rt: &R, alloc: Global, input: &[u8], writes: u64) -> (End, Vec<u8>) {
+    answered_to(rt, alloc, &mut Given { bytes: input }, writes)
 }
 
 #[test]
@@ -51,8 +68,8 @@ fn lines_are_answered_and_bad_ones_by_number(rt: HostRuntime) -> Result<(), Fail
         ),
     ];
     for (input, want) in table {
-        let (end, told) = answered(rt.alloc(), input, 99);
-        assert_eq!(rt; end, Ok(()));
+        let (end, told) = answered(&rt, rt.alloc(), input, 99);
+        assert_eq!(rt; end, Ok(OperatorEnd::InputEnded));
         assert_eq!(rt; told.as_slice(), want);
     }
     Ok(())
@@ -66,16 +83,85 @@ fn a_long_line_is_bad_and_the_next_is_heard(rt: HostRuntime) -> Result<(), Fail>
         input.push(b'x')?;
     }
     input.extend_from_slice(b"\nupdate 1 1\n")?;
-    let (end, told) = answered(alloc, input.as_slice(), 99);
-    assert_eq!(rt; end, Ok(()));
+    let (end, told) = answered(&rt, rt.alloc(), input.as_slice(), 99);
+    assert_eq!(rt; end, Ok(OperatorEnd::InputEnded));
     assert_eq!(rt; told.as_slice(), b"bad line 1\ndone\n".as_slice());
     Ok(())
 }
 
 #[test]
-fn a_writer_that_fails_ends_the_run(rt: HostRuntime) -> Result<(), Fail> {
-    let (end, told) = answered(rt.alloc(), b"book\nupdate 1 1\n", 0);
-    assert_eq!(rt; end, Err(OperatorFault::Device));
+fn a_writer_that_fails_ends_the_operators_part(rt: HostRuntime) -> Result<(), Fail> {
+    let (end, told) = answered(&rt, rt.alloc(), b"book\nupdate 1 1\n", 0);
+    assert_eq!(rt; end, Ok(OperatorEnd::WriteFault));
     assert!(rt; told.is_empty());
+    Ok(())
+}
+
+#[test]
+fn nothing_is_heard_behind_the_line_end(rt: HostRuntime) -> Result<(), Fail> {
+    let table: [(&[u8], &[u8]); 3] = [
+        (b"end\nupdate 1 1\n", b""),
+        (b"update 1 1\nends\nend", b"done\nbad line 2\n"),
+        (b"end \nend\n", b"bad line 1\n"),
+    ];
+    for (input, want) in table {
+        let (end, told) = answered(&rt, rt.alloc(), input, 99);
+        assert_eq!(rt; end, Ok(OperatorEnd::EndAsked));
+        assert_eq!(rt; told.as_slice(), want);
+    }
+    Ok(())
+}
+
+#[test]
+fn a_read_without_bytes_is_made_again(rt: HostRuntime) -> Result<(), Fail> {
+    let alloc = rt.alloc();
+    let mut beats = VecDeque::new(alloc);
+    beats.push_back(Beat::Nothing)?;
+    beats.push_back(Beat::Bytes(b"update "))?;
+    beats.push_back(Beat::Nothing)?;
+    beats.push_back(Beat::Bytes(b"1 1\n"))?;
+    beats.push_back(Beat::Fault)?;
+    let (end, told) = answered_to(&rt, alloc, &mut Beats { beats }, 99);
+    assert_eq!(rt; end, Ok(OperatorEnd::ReadFault));
+    assert_eq!(rt; told.as_slice(), b"done\n".as_slice());
+    Ok(())
+}
+
+#[test]
+fn a_reload_is_told_its_reply_or_why_there_is_none(rt: HostRuntime) -> Result<(), Fail> {
+    let alloc = rt.alloc();
+    let table: [(Option<PlanFault>, &[u8]); 4] = [
+        (None, b"done\nbad line 2\n"),
+        (Some(PlanFault::Device), b"device fault\nbad line 2\n"),
+        (
+            Some(PlanFault::Te(TeFault::OtherLinks)),
+            b"te fault 10\nbad line 2\n",
+        ),
+        (
+            Some(PlanFault::Te(TeFault::OutOfMemory)),
+            b"out of memory\nbad line 2\n",
+        ),
+    ];
+    for (fault, want) in table {
+        let mut writer = Tap {
+            left: 99,
+            most: usize::MAX,
+            bytes: Vec::new(alloc),
+        };
+        let mut store = store_in(alloc);
+        let end = operate(
+            &rt,
+            alloc,
+            &mut Given {
+                bytes: b"reload\nreload 0 1 1 0 1\n",
+            },
+            &mut writer,
+            &Noon { is_closing: false },
+            &Text { alloc, fault },
+            &mut store,
+        );
+        assert_eq!(rt; end, Ok(OperatorEnd::InputEnded));
+        assert_eq!(rt; writer.bytes.as_slice(), want);
+    }
     Ok(())
 }

@@ -1,9 +1,10 @@
 //! A whole run with a router over loopback.
-use super::fakes::Tap;
+use super::fakes::{Beats, Tap, Text};
 use super::*;
 use log::Log;
-use pce_server::{Audit, Orders, Sessions, serve_run};
+use pce_server::{Audit, Orders, Routers, Sessions, serve_run};
 use pcep_word::Priority;
+use std::collections::VecDeque;
 use std::io::{Read, Write};
 use std::net::{Ipv4Addr, Net, SocketAddr, TcpListener, TcpStream};
 use std::sync::Wait;
@@ -87,7 +88,9 @@ fn serve<
         + Log
         + Sync,
 >(rt: &R, listener: &TcpListener, te: TeBase) -> Left {
-    let mut reader: &[u8] = b"";
+    let mut reader = Beats {
+        beats: VecDeque::new(rt.alloc()),
+    };
     let mut writer = Tap {
         left: 9,
         most: usize::MAX,
@@ -97,8 +100,26 @@ fn serve<
         workers: 2,
         sessions: Sessions::Count(1),
         keep_seconds: 60,
+        settle_seconds: 0,
     };
-    match serve_run(rt, listener, te, orders, &mut reader, &mut writer) {
+    let routers = Routers {
+        known: &None,
+        settle_for: &[],
+    };
+    let plan = Text {
+        alloc: rt.alloc(),
+        fault: None,
+    };
+    match serve_run(
+        rt,
+        listener,
+        te,
+        &plan,
+        orders,
+        routers,
+        &mut reader,
+        &mut writer,
+    ) {
         Ok(audit) => Some(left_in(&audit)),
         Err(_) => None,
     }

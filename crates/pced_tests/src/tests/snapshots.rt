@@ -3,7 +3,7 @@ use super::*;
 use history_core::{Event, Reply};
 use pcep_objects::Capabilities;
 use pcep_word::Priority;
-use script_lines::{Order, event_in, order_of};
+use script_lines::{Order, operator_event_in, order_of};
 use te_snapshot::Snapshot;
 
 /// A report of PLSP-ID 1: up and active, from A by B to D, at 7/0 with 500,000 bytes per second.
@@ -17,7 +17,7 @@ fn submit(database: &mut Database, event: Event) -> Result<(), Fail> {
 
 /// Submits the event of an operator's line.
 fn ask(alloc: Global, database: &mut Database, line: &str) -> Result<(), Fail> {
-    match event_in(alloc, line)? {
+    match operator_event_in(alloc, line)? {
         Some(event) => submit(database, event),
         None => Err(Fail::new("a bad line")),
     }

@@ -9,7 +9,7 @@ ghost use Rattle.step_core.specs.States.{peer_at};
 ghost use Rattle.step_core.specs.Tickets.{constraints_for, missing_ends, missing_ends_of};
 ghost use Rattle.lsp_base.specs.Refusals.{unless};
 
-use super::State;
+use super::Tables;
 use super::requests::{why_not_initiated, why_not_updated};
 use super::sessions::why_not_up;
 use crate::event::Reply;
@@ -116,7 +116,7 @@ fn session_of(peers: &PeerList, peer: u32) -> u64
     }
 }
 
-impl State {
+impl Tables {
     /// Why the LSP isn't asked to be updated.
     fn why_no_update(&self, peer: u32, plsp: Plsp) -> Option<Why>
         ensures { result ≡ may_be_asked self.now peer (Purpose.Update plsp) }

@@ -1,12 +1,15 @@
 //! Tickets that are taken to be searched for, and what becomes of the offers.
-ghost use Rattle.std.specs.Prelude.{◌≡◌, ◌<◌, ◌≤◌, ◌+◌, ◌^◌, [], true, length, unwrap_or, option_map, Some, IfOk, IfSome, OnOk, OnErr};
+ghost use Rattle.std.specs.Prelude.{◌≡◌, ◌<◌, ◌≤◌, ◌+◌, ◌^◌, [], true, false, length, unwrap_or, option_map, Some, IfOk, IfSome, OnOk, OnErr};
+ghost use Rattle.std.specs.List.{list_any};
 ghost use Rattle.lsp_base.specs.Base.{changed};
 ghost use Rattle.commit_core.specs.declared.verdict.Verdict.TheVariants as verdicts;
+ghost use Rattle.step_core.specs.Consistent.{AreFree, IsConsistent};
 ghost use Rattle.step_core.specs.Grants.{take_step, commit_step, judged, verdict_on, view_of, path_of, granted, granting, answered, in_vain, message_of, name_of_grant, with_name};
+ghost use Rattle.step_core.specs.Names.{is_of_grant};
 ghost use Rattle.step_core.specs.States.{asked, is_known, next_number, peer_at, put_peer};
 ghost use Rattle.step_core.specs.Tickets.{ticket_at};
 
-use super::State;
+use super::Tables;
 use super::requests::next_number;
 use crate::event::Reply;
 use crate::job::Job;
@@ -75,6 +78,7 @@ fn grant_path(
 ) -> Result<(), AllocError>
     requires few { length network.old.base.paths < 16384 }
     requires known { is_known peers.old peer ≡ true }
+    requires absent { IfSome name (λ a. list_any (is_of_grant a.peer a.srp) network.old.names ≡ false) }
     ensures network { OnOk result (network.new ≡ record network.old { base = changed network.old.base peer (granting path); names = with_name network.old.names name }) }
     ensures asked { OnOk result (peers.new ≡ put_peer peers.old (asked (peer_at peers.old peer) message)) }
     ensures same_network { OnErr result (network.new ≡ network.old) }
@@ -89,7 +93,7 @@ fn grant_path(
     Ok(())
 }
 
-impl State {
+impl Tables {
     /// The waiting ticket of the least number is taken, and given with what its search needs. Where memory is refused it
     /// waits as before.
     pub(super) fn take(&mut self) -> Result<Reply, AllocError>
@@ -115,10 +119,11 @@ impl State {
     }
 
     /// What is known of a ticket's peer, and of the whole state.
-    fn view_of(&self, peer: u32) -> PeerView
+    fn view_of(&self, peer: u32, are_free: bool) -> PeerView
+        requires { are_free ≡ true → AreFree self.now }
         ensures { result ≡ view_of self.now peer }
     {
-        let srp_in_use = self.is_number_used(peer);
+        let srp_in_use = self.is_number_used(peer, are_free);
         let changes = self.changes;
         match self.peers.find(peer) {
             Some(known) => PeerView {
@@ -161,6 +166,7 @@ impl State {
         requires known { is_known self.old.peers ticket.now.peer ≡ true }
         requires changes { self.old.changes < 2 ^ 62 }
         requires path { path ≡ path_of self.old ticket.now path.links }
+        requires absent { list_any (is_of_grant ticket.now.peer (next_number self.old ticket.now.peer)) self.old.names ≡ false }
         ensures reply { IfOk result (λ reply. reply ≡ Reply.Granted (next_number self.old ticket.now.peer)) }
         ensures state { OnOk result (self.new ≡ granted self.old ticket.now path.links) }
         ensures unchanged_without_memory { OnErr result (self.new ≡ self.old) }
@@ -219,6 +225,7 @@ impl State {
         verdict: Verdict,
     ) -> Result<Reply, AllocError>
         requires changes { self.old.changes < 2 ^ 62 }
+        requires consistent { IsConsistent self.old }
         requires there { ticket_at self.old.tickets ticket.now.id ≡ Some ticket.now }
         requires path { path ≡ option_map (path_of self.old ticket.now) offer.now }
         requires verdict { verdict ≡ verdict_on self.old ticket.now offer.now }
@@ -254,8 +261,11 @@ impl State {
         &mut self,
         id: u64,
         offer: &Option<Sequence<LinkNumber>>,
+        are_free: bool,
     ) -> Result<Reply, AllocError>
-        requires { self.old.changes < 2 ^ 62 }
+        requires changes { self.old.changes < 2 ^ 62 }
+        requires consistent { IsConsistent self.old }
+        requires free { are_free ≡ true → AreFree self.old }
         ensures reply { IfOk result (λ reply. reply ≡ (commit_step self.old id offer.now).reply) }
         ensures state { OnOk result (self.new ≡ (commit_step self.old id offer.now).state) }
         ensures unchanged_without_memory { OnErr result (self.new ≡ self.old) }
@@ -268,7 +278,7 @@ impl State {
         }
         let ticket = standing.copy()?;
         let path = self.path_of(&ticket, offer)?;
-        let view = self.view_of(ticket.peer);
+        let view = self.view_of(ticket.peer, are_free);
         let verdict = self.network.judge(&ticket, path.as_ref(), view);
         self.conclude(&ticket, path, offer, verdict)
     }

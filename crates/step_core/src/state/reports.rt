@@ -7,7 +7,7 @@ ghost use Rattle.step_core.specs.Networks.{carried_out};
 ghost use Rattle.step_core.specs.Steps.{report_step};
 ghost use Rattle.step_core.specs.Tickets.{is_update_asked};
 
-use super::State;
+use super::Tables;
 use crate::event::Reply;
 use crate::network::Network;
 use crate::peer::Peer;
@@ -63,7 +63,7 @@ fn wants_path(known: &Peer, tickets: &TicketTable, peer: u32, plsp: Plsp, effect
         && !tickets.is_update_asked(peer, plsp)
 }
 
-impl State {
+impl Tables {
     /// A report is booked whatever it reserves: the links bear what the routers say, also where that is
     /// more than they can.
     pub(super) fn report(&mut self, peer: u32, report: &StateReport) -> Result<Reply, AllocError>

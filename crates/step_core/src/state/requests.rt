@@ -4,6 +4,7 @@ ghost use Rattle.lsp_base.specs.Base.{HasAll, lsp_at};
 ghost use Rattle.lsp_base.specs.Rooms.{IsWithinLimit};
 ghost use Rattle.lsp_base.specs.Refusals.{unless, ◌⨟◌};
 ghost use Rattle.lsp_base.specs.declared.why.Why.TheVariants.{PeerDown, Syncing, NoUpdate, NoInitiate};
+ghost use Rattle.step_core.specs.Consistent.{AreFree};
 ghost use Rattle.step_core.specs.Networks.{carried_out};
 ghost use Rattle.step_core.specs.Outcomes.{must_be_in_sync, must_take_updates, must_take_initiations, must_have_a_number};
 ghost use Rattle.step_core.specs.States.{is_known, peer_at, put_peer, asked, moves_paths, next_number};
@@ -11,7 +12,7 @@ ghost use Rattle.step_core.specs.Steps.{refused_step, return_step, delete_step, 
 ghost use Rattle.initiate_rules.specs.Checks.{may_be_deleted};
 ghost use Rattle.initiate_rules.specs.Numbers.{next_srp, is_srp_used};
 
-use super::State;
+use super::Tables;
 use super::reports::{change_lsps, moves_a_path};
 use super::sessions::why_not_up;
 use crate::event::Reply;
@@ -141,20 +142,26 @@ fn removal_asked(
     Ok(Effect::new(Vec::new(alloc), Vec::new(alloc), records, false))
 }
 
-impl State {
-    /// Whether the number of the next request to the peer is still that of one that is awaited.
-    pub(super) fn is_number_used(&self, peer: u32) -> bool
+impl Tables {
+    /// Tests whether the SRP-ID of the next request to the peer is still that of one that is awaited. `are_free` says
+    /// that it is of no peer.
+    pub(super) fn is_number_used(&self, peer: u32, are_free: bool) -> bool
+        requires { are_free ≡ true → AreFree self.now }
         ensures { result ≡ is_srp_used self.now.base peer (next_number self.now peer) }
     {
+        if are_free {
+            return false;
+        }
         let number = next_number(&self.peers, peer);
         is_srp_used(self.network.lsps(), peer, number)
     }
 
     /// Why the peer can't be asked for anything, if its next number is still that of another request.
-    fn why_no_number(&self, peer: u32) -> Option<Why>
+    fn why_no_number(&self, peer: u32, are_free: bool) -> Option<Why>
+        requires { are_free ≡ true → AreFree self.now }
         ensures { result ≡ must_have_a_number self.now peer }
     {
-        if self.is_number_used(peer) {
+        if self.is_number_used(peer, are_free) {
             Some(Why::SrpInUse)
         } else {
             None
@@ -162,7 +169,8 @@ impl State {
     }
 
     /// Why the LSP isn't removed.
-    fn why_not_deleted(&self, peer: u32, plsp: Plsp) -> Option<Why>
+    fn why_not_deleted(&self, peer: u32, plsp: Plsp, are_free: bool) -> Option<Why>
+        requires { are_free ≡ true → AreFree self.now }
         ensures { result ≡ (must_take_initiations self.now.peers peer ⨟ may_be_deleted self.now.base peer plsp ⨟ must_have_a_number self.now peer) }
     {
         if let Some(why) = why_not_initiated(&self.peers, peer) {
@@ -170,7 +178,7 @@ impl State {
         }
         match check_delete(self.network.lsps(), peer, plsp) {
             Err(why) => Some(why),
-            Ok(()) => self.why_no_number(peer),
+            Ok(()) => self.why_no_number(peer, are_free),
         }
     }
 
@@ -191,8 +199,14 @@ impl State {
     }
 
     /// An LSP is given back to its peer: the delegation ends, and the message that says so waits to be sent.
-    pub(super) fn give_back(&mut self, peer: u32, plsp: Plsp) -> Result<Reply, AllocError>
-        requires { self.old.changes < 2 ^ 62 }
+    pub(super) fn give_back(
+        &mut self,
+        peer: u32,
+        plsp: Plsp,
+        are_free: bool,
+    ) -> Result<Reply, AllocError>
+        requires changes { self.old.changes < 2 ^ 62 }
+        requires free { are_free ≡ true → AreFree self.old }
         ensures reply { IfOk result (λ reply. reply ≡ (return_step self.old peer plsp).reply) }
         ensures state { OnOk result (self.new ≡ (return_step self.old peer plsp).state) }
         ensures unchanged_without_memory { OnErr result (self.new ≡ self.old) }
@@ -205,7 +219,7 @@ impl State {
             Err(RuleFault::Why(why)) => return Ok(Reply::Refused(why)),
             Ok(effect) => effect,
         };
-        if let Some(why) = self.why_no_number(peer) {
+        if let Some(why) = self.why_no_number(peer, are_free) {
             return Ok(Reply::Refused(why));
         }
         let number = next_number(&self.peers, peer);
@@ -223,13 +237,19 @@ impl State {
 
     /// An LSP that the PCE initiated is to be removed: its removal is awaited from now on, and the message that asks the
     /// peer for it waits to be sent.
-    pub(super) fn delete(&mut self, peer: u32, plsp: Plsp) -> Result<Reply, AllocError>
-        requires { self.old.changes < 2 ^ 62 }
+    pub(super) fn delete(
+        &mut self,
+        peer: u32,
+        plsp: Plsp,
+        are_free: bool,
+    ) -> Result<Reply, AllocError>
+        requires changes { self.old.changes < 2 ^ 62 }
+        requires free { are_free ≡ true → AreFree self.old }
         ensures reply { IfOk result (λ reply. reply ≡ (delete_step self.old peer plsp).reply) }
         ensures state { OnOk result (self.new ≡ (delete_step self.old peer plsp).state) }
         ensures unchanged_without_memory { OnErr result (self.new ≡ self.old) }
     {
-        if let Some(why) = self.why_not_deleted(peer, plsp) {
+        if let Some(why) = self.why_not_deleted(peer, plsp, are_free) {
             return Ok(Reply::Refused(why));
         }
         let number = next_number(&self.peers, peer);

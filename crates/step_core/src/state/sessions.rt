@@ -4,7 +4,7 @@ ghost use Rattle.lsp_base.specs.Refusals.{◌⨟◌};
 ghost use Rattle.step_core.specs.Outcomes.{must_be_known, must_be_up, must_be_down};
 ghost use Rattle.step_core.specs.Steps.{may_be_known, up_step, marker_step, down_step, expire_step, drain_step};
 
-use super::State;
+use super::Tables;
 use super::reports::change_lsps;
 use crate::event::Reply;
 use crate::peer::{PEER_LIMIT, begin_session, end_session, end_sync, take_outgoing};
@@ -50,7 +50,7 @@ fn why_not_forgotten(peers: &PeerList, peer: u32) -> Option<Why>
     }
 }
 
-impl State {
+impl Tables {
     /// A session comes up. What a peer that doesn't synchronize left stale is dropped at once.
     pub(super) fn up(&mut self, peer: u32, sent: Option<Capabilities>) -> Result<Reply, AllocError>
         requires changes { self.old.changes < 2 ^ 62 }

@@ -1,39 +1,51 @@
-use Rattle.std.proofs.Common.{◌≡◌, ◌≤◌, ◌<◌, ◌+◌, length, drop, length-append, ◌∙◌, arith}
-use Rattle.std.proofs.lemmas.Grind.{common_steps}
-use Rattle.bandwidth_book.specs.Held.{held_of, moved_all, room_for}
-use Rattle.bandwidth_book.specs.Ledgers.{count, held_at, promised_on}
+use Rattle.std.proofs.Common.{◌≡◌, ◌≤◌, [], length, drop, ◌∙◌, arith, inl, inr}
+use Rattle.std.proofs.lemmas.Bool.{cases_Bool}
+use Rattle.bandwidth_book.specs.Entries.{IsMoved}
+use Rattle.bandwidth_book.specs.Held.{held_of, promised_after, takes_memory}
+use Rattle.bandwidth_book.specs.Ledgers.{entry_at, promised_on}
 use Rattle.bandwidth_book.specs.Tunnels.{held_by_path}
-use Rattle.bandwidth_book.specs.Paths.{held_by}
-use Rattle.bandwidth_book.proofs.Moved.{moved_append, room_both}
+use Rattle.bandwidth_book.proofs.Moved.{after_next, room_next, unmoved}
+use Rattle.bandwidth_book.proofs.Pending.{next_long, path_moved, path_refused}
+use Rattle.bandwidth_book.proofs.Written.{no_more}
 use Rattle.bandwidth_book.proofs.paths.move_paths.Goals as goal
 
 pub loop-path-preserved : goal.loop-path-preserved
-loop-path-preserved c = record {
-  same = c.move_path.ensures.count ∙ c.loop-path.invariant.same;
-  kept = λ n k less.
-      let less2 : n < count c.loop-path.ledgers = omega (arith, less, c.loop-path.invariant.same) in
-      let step : held_at c.move_path.new.self n k ≡ moved_all c.args.motion (held_at c.loop-path.ledgers n k) (held_by_path c.path-item.result.tunnel (held_of c.path-item.result) n k c.path-item.result.links)
-      = rw (c.held_of.ensures.held, c.as_slice.ensures) at (c.move_path.ensures.kept n k less2) in
-      let two = moved_append c.args.motion (held_at c.loop-path.ledgers n k) (held_by_path c.path-item.result.tunnel (held_of c.path-item.result) n k c.path-item.result.links) (held_by n k (drop (c.loop-path.path-index + 1) c.args.paths.now)) in
-      let before = c.loop-path.invariant.kept n k less in
-      grind (arith, common_steps, before, step, two);
-  promised = λ n k less.
-      let before = c.loop-path.invariant.promised n k less in
-      let step : promised_on c.loop-path.ledgers n k ≤ promised_on c.move_path.new.self n k + room_for c.args.motion (length (held_by_path c.path-item.result.tunnel (held_of c.path-item.result) n k c.path-item.result.links))
-      = rw (c.held_of.ensures.held, c.as_slice.ensures) at (c.move_path.ensures.room n k) in
-      let one = held_by_path c.path-item.result.tunnel (held_of c.path-item.result) n k c.path-item.result.links in
-      let rest = held_by n k (drop (c.loop-path.path-index + 1) c.args.paths.now) in
-      let long = length-append one rest in
-      let both = room_both c.args.motion (length one) (length rest) in
-      grind (arith, common_steps, before, step, long, both);
-  room = λ n k.
-      let before = c.loop-path.invariant.room n k in
-      let step : promised_on c.loop-path.ledgers n k ≤ promised_on c.move_path.new.self n k + room_for c.args.motion (length (held_by_path c.path-item.result.tunnel (held_of c.path-item.result) n k c.path-item.result.links))
-      = rw (c.held_of.ensures.held, c.as_slice.ensures) at (c.move_path.ensures.room n k) in
-      let one = held_by_path c.path-item.result.tunnel (held_of c.path-item.result) n k c.path-item.result.links in
-      let rest = held_by n k (drop (c.loop-path.path-index + 1) c.args.paths.now) in
-      let long = length-append one rest in
-      let both = room_both c.args.motion (length one) (length rest) in
-      grind (arith, common_steps, before, step, long, both);
-  entries = λ n k. c.move_path.ensures.entries n k ∙ c.loop-path.invariant.entries n k;
-}
+loop-path-preserved c =
+    let known = c.loop-path.invariant in
+    let same = known.same in
+    let i = c.loop-path.path-index in
+    let x = c.path-item.result in
+    let test = c.loop-path-test.true in
+    record {
+      same = c.move_path.ensures.count ∙ same;
+      moved = λ n k end h rest.
+          let one : IsMoved c.args.motion (held_by_path x.tunnel (held_of x) n k x.links) (entry_at c.loop-path.ledgers n k) (entry_at c.move_path.new.self n k) = rw (c.held_of.ensures.held, c.as_slice.ensures) at (c.move_path.ensures.moved n k (omega (arith, h, same))) in
+          known.moved n k end h (path_moved c.args.motion n k c.args.paths.now i x _ _ end test c.path-item.is one rest);
+      past = λ n k h. c.move_path.ensures.past n k (omega (arith, h, same)) ∙ known.past n k h;
+      room = λ n k h.
+          let one : promised_after c.args.motion (length (held_by_path x.tunnel (held_of x) n k x.links)) (promised_on c.loop-path.ledgers n k) ≤ promised_on c.move_path.new.self n k = rw (c.held_of.ensures.held, c.as_slice.ensures) at (c.in_ok-move_path.ensures.ok n k (omega (arith, h, same))) in
+          room_next c.args.motion _ _ _ _ (rw (next_long n k c.args.paths.now i x test c.path-item.is) at (known.room n k h)) one;
+      after = λ n k h.
+          let one : promised_after c.args.motion (length (held_by_path x.tunnel (held_of x) n k x.links)) (promised_on c.loop-path.ledgers n k) ≤ promised_on c.move_path.new.self n k = rw (c.held_of.ensures.held, c.as_slice.ensures) at (c.in_ok-move_path.ensures.ok n k (omega (arith, h, same))) in
+          after_next c.args.motion _ _ _ _ _ (rw (next_long n k c.args.paths.now i x test c.path-item.is) at (known.after n k h)) one;
+    }
+
+pub returns-in_err-move_path-clause-moved : goal.returns-in_err-move_path-clause-moved
+returns-in_err-move_path-clause-moved c = λ n k h.
+    let same = c.loop-path.invariant.same in
+    let x = c.path-item.result in
+    let one : IsMoved c.args.motion (held_by_path x.tunnel (held_of x) n k x.links) (entry_at c.loop-path.ledgers n k) (entry_at c.move_path.new.self n k) = rw (c.held_of.ensures.held, c.as_slice.ensures) at (c.move_path.ensures.moved n k (omega (arith, h, same))) in
+    elim (cases_Bool (takes_memory c.args.motion)) [
+      | inl promise ↦ c.loop-path.invariant.moved n k _ h (path_refused c.args.motion n k c.args.paths.now c.loop-path.path-index x _ _ c.loop-path-test.true c.path-item.is promise one)
+      | inr sure ↦ absurd (let ok = c.in_err-move_path.ensures.sure sure in cc)
+    ]
+
+pub returns-in_err-move_path-clause-past : goal.returns-in_err-move_path-clause-past
+returns-in_err-move_path-clause-past c = λ n k h.
+    let same = c.loop-path.invariant.same in
+    c.move_path.ensures.past n k (omega (arith, h, same)) ∙ c.loop-path.invariant.past n k h
+
+pub returns-clause-moved : goal.returns-clause-moved
+returns-clause-moved c = λ n k h.
+    let end : drop c.loop-path.path-index c.args.paths.now ≡ [] = no_more _ _ c.loop-path-test.false in
+    c.loop-path.invariant.moved n k _ h (rw end (unmoved c.args.motion _))

@@ -8,6 +8,6 @@ use Rattle.te_snapshot.proofs.topology.Topology.leaving.Goals as goal
 pub returns-clause-sound : goal.returns-clause-sound
 returns-clause-sound c =
     let n = c.args.self.now in
-    let same : c.list_at.result.now ≡ leaving n.links c.args.node = search rules in
+    let same : c.at.result.now ≡ leaving n.links c.args.node = search rules in
     let links : All (IsLinkAmong n.nodes) n.links = subst (λ (m : Network). All (IsLinkAmong m.nodes) m.links) c.self.view_is c.self.invariant.sound.links in
     subst (All (IsArcAmong n.nodes)) (sym same) (leaving_among n.nodes n.links c.args.node links)

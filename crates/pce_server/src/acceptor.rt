@@ -1,0 +1,125 @@
+//! The acceptor: who comes gets a thread, a seat and a connection.
+ghost use Rattle.std.specs.Prelude.{◌≡◌};
+ghost use Rattle.pce_server.specs.Ranges.{one_fewer};
+
+use crate::connection::attend;
+use crate::context::Context;
+use crate::log_lines::{LogLine, Reason};
+use crate::run::RunFault;
+use crate::server::Sessions;
+use place_tokens::Room;
+use server_rules::{FailedAccept, failed_accept};
+use server_talk::peer_of;
+use std::net::{Net, SocketAddr, TcpListener, TcpStream};
+use std::sync::Wait;
+use std::sync::ledger::Ledger;
+use std::thread;
+use std::thread::Threads;
+use std::time::{Clock, Duration};
+
+/// So long the acceptor pauses after an accept that failed for want of descriptors, memory or the network, in
+/// milliseconds.
+const FAILURE_PAUSE_MS: u64 = 50;
+
+/// So long the acceptor waits for the seat of a connection that ends, in milliseconds.
+const SEAT_WAIT_MS: u64 = 1000;
+
+/// What an accept gave.
+enum Knock {
+    Came(TcpStream, SocketAddr),
+    Failed(FailedAccept),
+}
+
+/// How many connections are still to be accepted once one came.
+fn one_fewer(left: Sessions) -> Sessions
+    ensures { result ≡ one_fewer left }
+{
+    match left {
+        Sessions::Count(left) => Sessions::Count(left.saturating_sub(1)),
+        Sessions::Endless => Sessions::Endless,
+    }
+}
+
+fn listen(listener: &TcpListener) -> Knock {
+    match listener.accept() {
+        Ok((stream, address)) => Knock::Came(stream, address),
+        Err(error) => Knock::Failed(failed_accept(error.kind(), error.raw_os_error())),
+    }
+}
+
+/// The slot of the seat of a new connection of the address, if it may have a place.
+fn slot_for<R: Wait + Clock, S: Ledger, G: Ledger, B: Room>(
+    context: &Context<'_, R, S, G, B>,
+    address: u32,
+) -> Option<usize> {
+    if !context.wakers.admit(context.rt, address) {
+        return None;
+    }
+    let most = Duration::from_millis(SEAT_WAIT_MS);
+    let slot = context.pool.promise(context.rt, context.seats, most)?;
+    if context.wakers.enter(context.rt, slot, address).is_err() {
+        context.pool.release(context.rt, slot);
+        return None;
+    }
+    Some(slot)
+}
+
+/// Says that a connection of the peer was let go unheard.
+fn tell_unheard<R: Wait + Clock, S: Ledger, G: Ledger, B: Room>(
+    context: &Context<'_, R, S, G, B>,
+    peer: u32,
+) {
+    context.say(LogLine::Ended {
+        peer,
+        reason: Reason::Unheard,
+    });
+}
+
+/// Accepts connections, each into a thread of its own, until as many came as were ordered or the run is to end;
+/// then waits for their ends. Where a thread can't be started, that connection alone ends at once. A broken listener
+/// ends the run; what is short may come back.
+pub(crate) fn accept_all<
+    R: Wait + Clock + Net<Listener = TcpListener, Stream = TcpStream> + Threads + Sync,
+    S: Ledger + Send + Sync,
+    G: Ledger + Send + Sync,
+    B: Room + Send + Sync,
+>(context: &Context<'_, R, S, G, B>, listener: &TcpListener, sessions: Sessions) {
+    let rt = context.rt;
+    thread::scope(thread::scope_env(), rt, |scope| {
+        let mut left = sessions;
+        for _ in rt.forever() {
+            if left == Sessions::Count(0) || context.run.is_closing() {
+                break;
+            }
+            match listen(listener) {
+                Knock::Came(stream, address) => {
+                    let peer = peer_of(address);
+                    if !context.is_known(peer) {
+                        drop(stream);
+                        continue;
+                    }
+                    left = one_fewer(left);
+                    let Some(slot) = slot_for(context, peer) else {
+                        drop(stream);
+                        tell_unheard(context, peer);
+                        continue;
+                    };
+                    if scope
+                        .spawn(move || attend(context, stream, peer, slot))
+                        .is_err()
+                    {
+                        tell_unheard(context, peer);
+                        context.wakers.leave(rt, slot);
+                        context.pool.release(rt, slot);
+                    }
+                }
+                Knock::Failed(FailedAccept::Nobody) => {}
+                Knock::Failed(FailedAccept::Wait) => {
+                    context.say(LogLine::AcceptFailed);
+                    thread::sleep(rt, Duration::from_millis(FAILURE_PAUSE_MS));
+                }
+                Knock::Failed(FailedAccept::Broken) => context.cut(RunFault::Device),
+            }
+        }
+    });
+}

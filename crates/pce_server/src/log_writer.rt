@@ -1,0 +1,109 @@
+//! The thread that writes the log.
+use crate::context::Context;
+use crate::log_lines::{LogLine, write_line};
+use log::Log;
+use mio::unix::SourceFd;
+use mio::{Events, Interest, Poll, Token};
+use place_tokens::Room;
+use server_talk::Watch;
+use std::alloc::{AllocError, Global};
+use std::io;
+use std::net::Net;
+use std::os::fd::RawFd;
+use std::sync::Wait;
+use std::sync::ledger::Ledger;
+use std::time::{Clock, Duration};
+
+/// The descriptor of standard error.
+const STANDARD_ERROR: RawFd = 2;
+
+/// So long a wait for standard error takes, in milliseconds.
+const READY_WAIT_MS: u64 = 250;
+
+/// Standard error, which may be a pipe that nobody reads.
+#[derive(Drop)]
+pub struct ErrorOutput {
+    /// `None` where it can't be waited for, as a file.
+    poll: Option<Poll>,
+    found: Events,
+}
+
+/// Standard error's poll, where it can be waited for.
+fn poll_of<R: Net>(rt: &R) -> io::Result<Poll> {
+    let poll = Poll::new(rt)?;
+    let registry = poll.registry();
+    registry.register(&mut SourceFd(&STANDARD_ERROR), Token(0), Interest::WRITABLE)?;
+    Ok(poll)
+}
+
+/// Whether standard error takes a line within this time. It is noted anew, so that room that there was is found.
+fn is_found(poll: &mut Poll, found: &mut Events, most: Duration) -> io::Result<bool> {
+    let registry = poll.registry();
+    registry.reregister(&mut SourceFd(&STANDARD_ERROR), Token(0), Interest::WRITABLE)?;
+    poll.poll(found, Some(most))?;
+    Ok(!found.is_empty())
+}
+
+impl ErrorOutput {
+    pub fn new<R: Net>(rt: &R, alloc: Global) -> Result<ErrorOutput, AllocError> {
+        Ok(ErrorOutput {
+            poll: poll_of(rt).ok(),
+            found: Events::with_capacity(alloc, 1)?,
+        })
+    }
+
+    /// Whether a line can be written within this time without waiting for a reader.
+    pub fn is_ready(&mut self, most: Duration) -> bool {
+        match &mut self.poll {
+            None => true,
+            Some(poll) => is_found(poll, &mut self.found, most).unwrap_or(false),
+        }
+    }
+}
+
+/// Waits for standard error. False where the log is over meanwhile.
+fn await_ready<R: Wait + Clock, S: Ledger, G: Ledger, B: Room>(
+    context: &Context<'_, R, S, G, B>,
+    output: &mut ErrorOutput,
+) -> bool {
+    for _ in context.rt.forever() {
+        if output.is_ready(Duration::from_millis(READY_WAIT_MS)) {
+            return true;
+        }
+        if context.log.is_over(context.rt) {
+            return false;
+        }
+    }
+    unreachable!()
+}
+
+/// Writes these lines. False where standard error takes no more, and the log is over.
+fn write_lines<R: Wait + Clock + Log, S: Ledger, G: Ledger, B: Room>(
+    context: &Context<'_, R, S, G, B>,
+    output: &mut ErrorOutput,
+    lines: &[LogLine],
+) -> bool {
+    for line in lines {
+        if !await_ready(context, output) {
+            return false;
+        }
+        write_line(context.rt, *line);
+    }
+    true
+}
+
+/// Writes what is said, until the log is over.
+pub(crate) fn write_log<R: Wait + Clock + Log, S: Ledger, G: Ledger, B: Room>(
+    context: &Context<'_, R, S, G, B>,
+    mut output: ErrorOutput,
+    mut lines: Vec<LogLine>,
+) {
+    for _ in context.rt.forever() {
+        let now_ms = context.moments().now_ms();
+        let is_over = context.log.swap(context.rt, &mut lines, now_ms);
+        if !write_lines(context, &mut output, &lines) || (is_over && lines.is_empty()) {
+            return;
+        }
+        lines.clear();
+    }
+}

@@ -1,0 +1,147 @@
+//! A peer's socket whose first and last bytes are kept for the log: its timers, and how its session ended.
+use server_talk::{Line, Patient};
+use std::cell::Cell;
+use std::io;
+use std::io::{Read, Write};
+use std::net::TcpStream;
+use std::time::Duration;
+
+/// So many bytes a Close has, and the front of an Open with its timers (RFC 5440 sections 6.2 and 6.8).
+const KEPT: usize = 12;
+
+/// A message's header and its object's, as a Close begins (RFC 5440 section 6.8).
+const CLOSE_FRONT: [u8; 8] = [0x20, 7, 0, 12, 15, 0x10, 0, 8];
+
+/// The timers of a peer's Open, in seconds (RFC 5440 section 7.3).
+#[derive(Clone, Copy, PartialEq, Eq, Debug)]
+pub(crate) struct PeerTimers {
+    pub keepalive: u8,
+    pub dead: u8,
+}
+
+/// The last bytes of a stream.
+#[derive(Clone, Copy)]
+struct Tail {
+    bytes: [u8; KEPT],
+}
+
+impl Tail {
+    fn push(&mut self, byte: u8) {
+        for at in 1..KEPT {
+            self.bytes[at - 1] = self.bytes[at];
+        }
+        self.bytes[KEPT - 1] = byte;
+    }
+
+    fn push_all(&mut self, piece: &[u8]) {
+        let first = piece.len().saturating_sub(KEPT);
+        for byte in &piece[first..] {
+            self.push(*byte);
+        }
+    }
+
+    /// The reason of the Close that stands last (RFC 5440 section 7.17).
+    fn close_reason(&self) -> Option<u8> {
+        if self.bytes.starts_with(&CLOSE_FRONT) {
+            Some(self.bytes[KEPT - 1])
+        } else {
+            None
+        }
+    }
+}
+
+/// What a peer says.
+#[derive(Drop)]
+pub(crate) struct Heard<'a> {
+    line: Line<'a>,
+    head: [u8; KEPT],
+    count: usize,
+    tail: Tail,
+    /// Set once the Open has come.
+    timers: &'a Cell<PeerTimers>,
+}
+
+impl<'a> Heard<'a> {
+    pub fn new(line: Line<'a>, timers: &'a Cell<PeerTimers>) -> Heard<'a> {
+        Heard {
+            line,
+            head: [0; KEPT],
+            count: 0,
+            tail: Tail { bytes: [0; KEPT] },
+            timers,
+        }
+    }
+
+    /// The reason of the peer's Close, where that was its last message.
+    pub fn close_reason(&self) -> Option<u8> {
+        self.tail.close_reason()
+    }
+
+    fn note_head(&mut self, piece: &[u8]) {
+        for byte in piece {
+            if self.count >= KEPT {
+                return;
+            }
+            self.head[self.count] = *byte;
+            self.count += 1;
+        }
+    }
+
+    fn note(&mut self, piece: &[u8]) {
+        self.tail.push_all(piece);
+        self.note_head(piece);
+        self.timers.set(PeerTimers {
+            keepalive: self.head[9],
+            dead: self.head[10],
+        });
+    }
+}
+
+impl<'a> Read for Heard<'a> {
+    fn read(&mut self, buf: &mut [u8]) -> io::Result<usize> {
+        let count = self.line.read(buf)?;
+        self.note(&buf[..count]);
+        Ok(count)
+    }
+}
+
+impl<'a> Patient for Heard<'a> {
+    fn set_patience(&mut self, most: Duration) {
+        self.line.set_patience(most);
+    }
+}
+
+/// What is said to a peer.
+#[derive(Drop)]
+pub(crate) struct Said<'a> {
+    stream: &'a TcpStream,
+    tail: Tail,
+}
+
+impl<'a> Said<'a> {
+    pub fn new(stream: &'a TcpStream) -> Said<'a> {
+        Said {
+            stream,
+            tail: Tail { bytes: [0; KEPT] },
+        }
+    }
+
+    /// The reason of the Close that was said last.
+    pub fn close_reason(&self) -> Option<u8> {
+        self.tail.close_reason()
+    }
+}
+
+impl<'a> Write for Said<'a> {
+    fn write(&mut self, buf: &[u8]) -> io::Result<usize> {
+        let mut stream = self.stream;
+        let count = stream.write(buf)?;
+        self.tail.push_all(&buf[..count]);
+        Ok(count)
+    }
+
+    fn flush(&mut self) -> io::Result<()> {
+        let mut stream = self.stream;
+        stream.flush()
+    }
+}

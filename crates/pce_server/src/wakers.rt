@@ -1,0 +1,180 @@
+//! Who has a place, and what wakes the connection that has it when there is something to say to its peer.
+use mio::Waker;
+use server_rules::{Entrance, Taken, admit};
+use std::alloc::{AllocError, Global};
+use std::sync::{Mutex, Wait};
+
+/// A connection, by the slot of its seat.
+#[derive(Drop)]
+struct Entry {
+    slot: usize,
+    /// Set once its socket is prepared.
+    waker: Option<Waker>,
+}
+
+impl Entry {
+    /// A waker fails only where its connection is about to end.
+    fn wake(&self) {
+        if let Some(waker) = &self.waker {
+            let _woken = waker.wake();
+        }
+    }
+}
+
+/// The connections that have a place, the oldest first, and those that gave theirs up, until they are gone.
+#[derive(Drop)]
+struct Table {
+    places: usize,
+    taken: Vec<Taken>,
+    /// The entry of each connection that has a place, at its position in `taken`.
+    entries: Vec<Entry>,
+    leaving: Vec<Entry>,
+}
+
+impl Table {
+    fn position(&self, slot: usize) -> Option<usize> {
+        self.entries.iter().position(|entry| entry.slot == slot)
+    }
+
+    /// Gives the place at this position up, and wakes its connection.
+    fn give_up(&mut self, at: usize) -> bool {
+        if at >= self.taken.len() || at >= self.entries.len() {
+            return false;
+        }
+        let _taken = self.taken.remove(at);
+        let entry = self.entries.remove(at);
+        entry.wake();
+        self.leaving.push(entry).is_ok()
+    }
+
+    fn enter(&mut self, slot: usize, address: u32) -> Result<(), AllocError> {
+        self.taken.reserve(1)?;
+        self.entries.push(Entry { slot, waker: None })?;
+        self.taken.push(Taken {
+            address,
+            is_up: false,
+        })?;
+        Ok(())
+    }
+
+    fn leave(&mut self, slot: usize) {
+        if let Some(at) = self.position(slot) {
+            if at < self.taken.len() && at < self.entries.len() {
+                let _taken = self.taken.remove(at);
+                let _entry = self.entries.remove(at);
+            }
+        }
+        let left = self.leaving.iter().position(|entry| entry.slot == slot);
+        if let Some(at) = left {
+            if at < self.leaving.len() {
+                let _entry = self.leaving.remove(at);
+            }
+        }
+    }
+}
+
+/// All connections that live.
+#[derive(Drop)]
+pub(crate) struct Wakers {
+    table: Mutex<Table>,
+}
+
+impl Wakers {
+    /// Room for so many places, and for as many connections that gave theirs up.
+    pub fn new(alloc: Global, places: usize) -> Result<Wakers, AllocError> {
+        Ok(Wakers {
+            table: Mutex::new(Table {
+                places,
+                taken: Vec::with_capacity(alloc, places)?,
+                entries: Vec::with_capacity(alloc, places)?,
+                leaving: Vec::with_capacity(alloc, places)?,
+            }),
+        })
+    }
+
+    /// Whether a new connection of the address may have a place. Another is ended for it where that is needed.
+    pub fn admit<R: Wait>(&self, rt: &R, address: u32) -> bool {
+        let mut table = self.table.lock(rt);
+        let places = table.places;
+        if places == 0 || places > MOST || table.taken.len() > places {
+            return false;
+        }
+        match admit(&table.taken, address, places) {
+            Entrance::Free => true,
+            Entrance::Refused => false,
+            Entrance::InsteadOf(at) => table.give_up(at),
+        }
+    }
+
+    /// The connection of the address that has this slot takes a place.
+    pub fn enter<R: Wait>(&self, rt: &R, slot: usize, address: u32) -> Result<(), AllocError> {
+        self.table.lock(rt).enter(slot, address)
+    }
+
+    /// The connection that has this slot is gone.
+    pub fn leave<R: Wait>(&self, rt: &R, slot: usize) {
+        self.table.lock(rt).leave(slot);
+    }
+
+    /// Sets what wakes the connection that has this slot.
+    pub fn set<R: Wait>(&self, rt: &R, slot: usize, waker: Waker) {
+        let mut table = self.table.lock(rt);
+        let at = table.position(slot).unwrap_or(usize::MAX);
+        if let Some(entry) = table.entries.get_mut(at) {
+            entry.waker = Some(waker);
+        }
+    }
+
+    /// Says whether the session of the connection that has this slot is up: then the connection isn't ended for
+    /// another. False where it was ended.
+    pub fn mark<R: Wait>(&self, rt: &R, slot: usize, is_up: bool) -> bool {
+        let mut table = self.table.lock(rt);
+        let at = table.position(slot).unwrap_or(usize::MAX);
+        match table.taken.get_mut(at) {
+            Some(taken) => {
+                taken.is_up = is_up;
+                true
+            }
+            None => false,
+        }
+    }
+
+    /// Whether the connection that has this slot was ended for another.
+    pub fn is_ended<R: Wait>(&self, rt: &R, slot: usize) -> bool {
+        self.table.lock(rt).position(slot).is_none()
+    }
+
+    /// Whether the connection that has this slot may wait for its peer to close. It gives its place up for that, and
+    /// half as many as there are places may do so at once.
+    pub fn may_part<R: Wait>(&self, rt: &R, slot: usize) -> bool {
+        let mut table = self.table.lock(rt);
+        if table.leaving.len() > table.places / 2 {
+            return false;
+        }
+        match table.position(slot) {
+            Some(at) => table.give_up(at),
+            None => false,
+        }
+    }
+
+    /// Wakes the connections of a peer.
+    pub fn ring<R: Wait>(&self, rt: &R, peer: u32) {
+        let table = self.table.lock(rt);
+        for (taken, entry) in table.taken.iter().zip(table.entries.iter()) {
+            if taken.address == peer {
+                entry.wake();
+            }
+        }
+    }
+
+    /// Wakes all connections.
+    pub fn ring_all<R: Wait>(&self, rt: &R) {
+        let table = self.table.lock(rt);
+        for entry in table.entries.iter() {
+            entry.wake();
+        }
+    }
+}
+
+/// So many places there are at most.
+const MOST: usize = 1024;

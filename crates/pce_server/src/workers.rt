@@ -1,0 +1,241 @@
+//! The workers, who search for paths, and the keeper of time.
+use crate::context::Context;
+use crate::expiry::Settled;
+use crate::grant_gate::GrantGateLook;
+use crate::log_lines::LogLine;
+use crate::run::RunFault;
+use place_tokens::Room;
+use server_rules::Owing;
+use server_talk::Watch;
+use shared_pce::{Fault, Quiet, Seat, Worked};
+use std::alloc::AllocError;
+use std::sync::Wait;
+use std::sync::ledger::Ledger;
+use std::thread;
+use std::time::{Clock, Duration};
+
+/// So long a worker sleeps where nothing wakes it, in milliseconds.
+const WORK_WAIT_MS: u64 = 250;
+
+/// So long it sleeps where no ticket may be taken yet, in milliseconds.
+const GATE_WAIT_MS: u64 = 20;
+
+/// So many faults of a worker in a row end the run.
+const FAULTS: u32 = 4;
+
+/// So long a worker pauses after a fault, in milliseconds, for memory to come back.
+const FAULT_PAUSE_MS: u64 = 50;
+
+/// So long the keeper of time sleeps between two looks, in milliseconds.
+const KEEPER_WAIT_MS: u64 = 50;
+
+/// So often the Downs that are owed are tried at the end of a run.
+const LAST_TRIES: u32 = 100;
+
+/// The history is rolled where so many steps are kept, of the 1,048,576 that it holds.
+const ROLL_AT: u64 = 1_000_000;
+
+/// Says that the history was rolled, and has the seats that rest let go of their receipts. False where memory was refused.
+fn tell_rolled<R: Wait + Clock, S: Ledger, G: Ledger, B: Room>(
+    context: &Context<'_, R, S, G, B>,
+    rolled: Result<Option<u64>, AllocError>,
+) -> bool {
+    match rolled {
+        Ok(Some(steps)) => {
+            context.say(LogLine::Rolled { steps });
+            context.pool.fold(context.rt, context.shared);
+            true
+        }
+        Ok(None) => true,
+        Err(_) => {
+            context.say(LogLine::MemoryRefused);
+            false
+        }
+    }
+}
+
+/// Rolls the history where it is full. False where memory was refused: the next look tries again.
+fn make_room<R: Wait + Clock, S: Ledger, G: Ledger, B: Room>(
+    context: &Context<'_, R, S, G, B>,
+) -> bool {
+    tell_rolled(context, context.shared.roll_if_full(context.rt))
+}
+
+/// Rolls the history where it is nearly full.
+fn tend<R: Wait + Clock, S: Ledger, G: Ledger, B: Room>(context: &Context<'_, R, S, G, B>) {
+    let _is_rolled = tell_rolled(context, context.shared.roll_if(context.rt, ROLL_AT));
+}
+
+/// Has the connection of the router for which a path was sought look for what it has to say.
+fn ring_for<R: Wait + Clock, S: Ledger, G: Ledger, B: Room>(
+    context: &Context<'_, R, S, G, B>,
+    worked: &Worked,
+) {
+    if let Worked::Done { job, .. } = worked {
+        context.wakers.ring(context.rt, job.ticket.peer);
+    }
+}
+
+/// Whether tickets may be taken: what routers hold is known by now, or time is up. Else waits a while.
+fn may_grant<R: Wait + Clock, S: Ledger, G: Ledger, B: Room>(
+    context: &Context<'_, R, S, G, B>,
+) -> bool {
+    match context.grants.look(context.rt, context.moments().now_ms()) {
+        GrantGateLook::Open => true,
+        GrantGateLook::Opened => {
+            context.say(LogLine::Settled);
+            true
+        }
+        GrantGateLook::Closed => {
+            thread::sleep(context.rt, Duration::from_millis(GATE_WAIT_MS));
+            false
+        }
+    }
+}
+
+/// A turn of a worker that has failed so often in a row: sleeps until a ticket waits, and works at one. Where none comes,
+/// its seat drops its receipts of rolled steps. Gives the fault, if one came. After a fault the ticket may be in the seat's
+/// hand, so the turn doesn't wait for another.
+fn worker_turn<R: Wait + Clock, S: Ledger, G: Ledger, B: Room>(
+    context: &Context<'_, R, S, G, B>,
+    seat: &mut Seat<S, G, B>,
+    faults: u32,
+) -> Option<Fault> {
+    let rt = context.rt;
+    let most = Duration::from_millis(WORK_WAIT_MS);
+    if !may_grant(context) {
+        return None;
+    }
+    if faults == 0 && !context.shared.await_work(rt, most) {
+        context.shared.fold(rt, seat);
+        return None;
+    }
+    let fault = match context.shared.work_one(rt, seat, &mut Quiet) {
+        Ok(worked) => {
+            ring_for(context, &worked);
+            return None;
+        }
+        Err(fault) => fault,
+    };
+    if fault == Fault::HistoryFull {
+        let _is_rolled = make_room(context);
+    }
+    context.say(LogLine::WorkerFault(fault));
+    thread::sleep(rt, Duration::from_millis(FAULT_PAUSE_MS));
+    Some(fault)
+}
+
+/// Works until the end. The fourth fault in a row ends the run.
+fn work_on<R: Wait + Clock, S: Ledger, G: Ledger, B: Room>(
+    context: &Context<'_, R, S, G, B>,
+    seat: &mut Seat<S, G, B>,
+) {
+    let mut faults = 0u32;
+    for _ in context.rt.forever() {
+        if context.shared.is_over() {
+            return;
+        }
+        tend(context);
+        let Some(fault) = worker_turn(context, seat, faults) else {
+            faults = 0;
+            continue;
+        };
+        faults = faults.saturating_add(1);
+        if faults >= FAULTS {
+            context.cut(RunFault::Store(fault));
+            return;
+        }
+    }
+}
+
+/// A worker's thread.
+pub(crate) fn work<R: Wait + Clock, S: Ledger, G: Ledger, B: Room>(
+    context: &Context<'_, R, S, G, B>,
+    at: usize,
+) {
+    let Some(mut seat) = context.pool.take(context.rt, at) else {
+        return;
+    };
+    work_on(context, &mut seat);
+    context.pool.put(context.rt, at, seat);
+}
+
+/// Says that a peer was forgotten. False where nothing was due.
+fn tell_settled<R: Wait + Clock, S: Ledger, G: Ledger, B: Room>(
+    context: &Context<'_, R, S, G, B>,
+    settled: Settled,
+) -> bool {
+    let Settled::One(due) = settled else {
+        return false;
+    };
+    if due.what == Owing::Expire {
+        context.say(LogLine::Forgotten { peer: due.peer });
+    }
+    true
+}
+
+/// Submits what is due of a peer that is kept for so long, or waits a while where nothing is, or memory is refused.
+fn settle<R: Wait + Clock, S: Ledger, G: Ledger, B: Room>(
+    context: &Context<'_, R, S, G, B>,
+    seat: &mut Seat<S, G, B>,
+    keep_ms: u64,
+) {
+    let settled = context.peers.settle(
+        context.rt,
+        &context.moments(),
+        context.shared,
+        seat,
+        keep_ms,
+    );
+    let is_on = match settled {
+        Ok(settled) => tell_settled(context, settled),
+        Err(Fault::HistoryFull) => make_room(context),
+        Err(Fault::OutOfMemory) => {
+            context.say(LogLine::MemoryRefused);
+            false
+        }
+    };
+    if !is_on {
+        thread::sleep(context.rt, Duration::from_millis(KEEPER_WAIT_MS));
+    }
+}
+
+/// Submits the Downs that are still owed once no connection lives.
+fn settle_last<R: Wait + Clock, S: Ledger, G: Ledger, B: Room>(
+    context: &Context<'_, R, S, G, B>,
+    seat: &mut Seat<S, G, B>,
+) {
+    for _try in 0..LAST_TRIES {
+        if !context.peers.owes_a_down(context.rt) {
+            return;
+        }
+        settle(context, seat, u64::MAX);
+    }
+}
+
+/// Submits what is due, until the end. The history is looked at here too, since workers may all be searching.
+fn keep_on<R: Wait + Clock, S: Ledger, G: Ledger, B: Room>(
+    context: &Context<'_, R, S, G, B>,
+    seat: &mut Seat<S, G, B>,
+) {
+    for _ in context.rt.forever() {
+        if context.shared.is_over() {
+            return;
+        }
+        tend(context);
+        settle(context, seat, context.keep_ms);
+    }
+}
+
+/// The keeper of time's thread.
+pub(crate) fn keep_time<R: Wait + Clock, S: Ledger, G: Ledger, B: Room>(
+    context: &Context<'_, R, S, G, B>,
+    at: usize,
+) {
+    let Some(mut seat) = context.pool.take(context.rt, at) else {
+        return;
+    };
+    keep_on(context, &mut seat);
+    settle_last(context, &mut seat);
+    context.pool.put(context.rt, at, seat);
+}

@@ -1,0 +1,106 @@
+-- What an operator's line may ask for.
+use Rattle.std.proofs.Common.{◌≡◌, ℕ, Bool, true, false, List, Option, Some, None, option_map, option_and_then, codes, length, nat_le, ◌<◌, ◌&&◌, refl, sym, subst, arith, IfOk, IfErr, IsSome, Result, Ok, Err, if◌then◌else◌}
+use Rattle.std.proofs.lemmas.Bool.Decides.{nat_tests}
+use Rattle.std.specs.Str.{bytes_eq, is_utf8}
+use Rattle.step_core.specs.declared.event.Event.{Event}
+use Rattle.step_core.specs.declared.event.Event.TheVariants.{Ask, Return, Delete}
+use Rattle.commit_core.specs.declared.ticket.Purpose.TheVariants.{Update, Initiate}
+use Rattle.script_lines.specs.Commands.{constraints_in, lsp_in, lsp_event, initiate_event, operator_event_with, operator_event_in}
+use Rattle.script_lines.specs.Words.{cut_at_space, peer_in, name_in}
+use Rattle.server_talk.specs.declared.requests.Request.{Request}
+use Rattle.server_talk.specs.declared.requests.Request.TheVariants.{Book, End, Reload, Submit}
+use Rattle.server_talk.specs.Listening.{AreKept, Asks as Told}
+use Rattle.server_talk.specs.Requests.{is_operators, line_limit, request_in, request_of}
+
+-- an event that is found is an operator's
+abbrev Fits : Option Event → Type 0
+Fits found = (event : Event) → found ≡ Some event → is_operators event ≡ true
+
+fits_none : Fits None
+fits_none event is = cc
+
+fits_some : (e : Event) → is_operators e ≡ true → Fits (Some e)
+fits_some e fits event is = let same : e ≡ event = cc in subst (λ (x : Event). is_operators x ≡ true) same fits
+
+fits_either : (b : Bool) (x y : Option Event) → Fits x → Fits y → Fits (if b then x else y)
+fits_either true x y h k = h
+fits_either false x y h k = k
+
+fits_then : {A : Type 0} (o : Option A) (f : A → Option Event) → ((a : A) → Fits (f a)) → Fits (option_and_then f o)
+fits_then None f each = fits_none
+fits_then (Some a) f each = each a
+
+fits_lsp : (of : ℕ → ℕ → Event) (lsp : Option (ℕ × ℕ)) → ((peer plsp : ℕ) → is_operators (of peer plsp) ≡ true) → Fits (lsp_event of lsp)
+fits_lsp of None each = fits_none
+fits_lsp of (Some lsp) each = fits_some (of lsp.0 lsp.1) (each lsp.0 lsp.1)
+
+fits_initiate : (rest : List ℕ) → Fits (initiate_event rest)
+unfolding initiate_event
+fits_initiate rest =
+    fits_then (cut_at_space rest) _ (λ words.
+    fits_then (peer_in words.0) _ (λ peer.
+    fits_then (cut_at_space words.1) _ (λ named.
+    fits_then (constraints_in named.1) _ (λ constraints.
+    fits_then (name_in named.0) _ (λ name. fits_some (Ask peer (Initiate name constraints)) refl)))))
+
+fits_word : (word rest : List ℕ) → Fits (operator_event_with word rest)
+unfolding operator_event_with
+fits_word word rest =
+    fits_either (bytes_eq word (codes "return")) _ _ (fits_lsp (λ peer plsp. Return peer plsp) (lsp_in rest) (λ peer plsp. refl))
+    (fits_either (bytes_eq word (codes "update")) _ _ (fits_lsp (λ peer plsp. Ask peer (Update plsp)) (lsp_in rest) (λ peer plsp. refl))
+    (fits_either (bytes_eq word (codes "delete")) _ _ (fits_lsp (λ peer plsp. Delete peer plsp) (lsp_in rest) (λ peer plsp. refl))
+    (fits_either (bytes_eq word (codes "initiate")) _ _ (fits_initiate rest) fits_none)))
+
+fits_line : (line : List ℕ) → Fits (operator_event_in line)
+unfolding operator_event_in
+fits_line line = fits_then (cut_at_space line) _ (λ words. fits_word words.0 words.1)
+
+-- the same of what a line asks for
+abbrev Asks : Option Request → Type 0
+Asks found = (event : Event) → found ≡ Some (Submit event) → is_operators event ≡ true
+
+asks_either : (b : Bool) (x y : Option Request) → Asks x → Asks y → Asks (if b then x else y)
+asks_either true x y h k = h
+asks_either false x y h k = k
+
+asks_event : (found : Option Event) → Fits found → Asks (option_map Submit found)
+asks_event None fits event is = cc
+asks_event (Some e) fits event is = let same : e ≡ event = cc in fits event (rw same refl)
+
+asks_text : (line : List ℕ) → Asks (request_in line)
+unfolding request_in
+asks_text line =
+    asks_either (bytes_eq line (codes "book")) _ _ (λ event is. cc)
+    (asks_either (bytes_eq line (codes "end")) _ _ (λ event is. cc)
+    (asks_either (bytes_eq line (codes "reload")) _ _ (λ event is. cc) (asks_event (operator_event_in line) (fits_line line))))
+
+asks_line : (line : List ℕ) → Asks (request_of line)
+unfolding request_of
+asks_line line = asks_either (nat_le (length line) line_limit && is_utf8 line) _ _ (asks_text line) (λ event is. cc)
+
+pub operators_alone : (line : List ℕ) (event : Event) → request_of line ≡ Some (Submit event) → is_operators event ≡ true
+operators_alone line event is = asks_line line event is
+
+-- what is kept of a line that is too long, or isn't
+pub too_long : (is_long : Bool) (bytes line : List ℕ) → is_long ≡ true → AreKept is_long bytes line → line_limit < length line
+too_long true bytes line long h = h
+too_long false bytes line long h = cc
+
+pub all_kept : (is_long : Bool) (bytes line : List ℕ) → is_long ≡ false → AreKept is_long bytes line → bytes ≡ line
+all_kept true bytes line short h = cc
+all_kept false bytes line short h = h.0
+
+-- a line that is too long asks for nothing
+pub long_is_bad : (line : List ℕ) → line_limit < length line → None ≡ request_of line
+unfolding request_of
+long_is_bad line long = let no : nat_le (length line) 4096 ≡ false = grind (arith, nat_tests) in rw no refl
+
+-- what is asked for is told, or memory was refused to something
+pub told_what_is_asked : {E : Type 0} (r : Result (Option Request) E) (asked : Option Request) → IfOk r (λ request. request ≡ asked) → IfErr r (λ _. IsSome asked) → Told r asked
+told_what_is_asked (Ok request) asked is some = is
+told_what_is_asked (Err fault) (Some request) is some = tt
+told_what_is_asked (Err fault) None is some = cc
+
+pub some_asked : {E : Type 0} (fault : E) (asked : Option Request) → Told (Err fault) asked → IsSome asked
+some_asked fault (Some request) h = refl
+some_asked fault None h = absurd h

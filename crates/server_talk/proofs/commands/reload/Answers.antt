@@ -1,0 +1,9 @@
+use Rattle.server_talk.proofs.Operating.{came_unread}
+use Rattle.server_talk.proofs.commands.reload.Goals as goal
+
+pub returns-in-Ok : goal.returns-in-Ok
+returns-in-Ok g c = λ number text asks. c.submit_links.ensures number text asks c.in-Ok.ensures
+
+pub returns-in-Err : goal.returns-in-Err
+returns-in-Err g c = λ number text asks.
+    came_unread g.D.Store.moves g.D.Store.same_but_calls g.D.Store.rolls g.D.Store.is_full g.D.Desk.is_left (g.P.Plan.reads c.args.plan.now) number text c.args.store.now c.in-Err.fault asks c.in-Err.ensures

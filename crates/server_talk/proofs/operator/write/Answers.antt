@@ -1,0 +1,11 @@
+use Rattle.std.proofs.Common.{◌+◌}
+use Rattle.server_talk.proofs.Flowing.{some_more, rest_on}
+use Rattle.server_talk.proofs.operator.write.Goals as goal
+
+pub loop-write-preserved : goal.loop-write-preserved
+loop-write-preserved g c =
+    let i = c.loop-write.invariant in (
+      i.0 + c.in-Some.count,
+      rest_on c.args.bytes.now c.loop-write.rest.now i.0 c.in-Some.count i.1,
+      some_more (g.O.Write.contents c.args.writer.now) (g.O.Write.contents c.loop-write.writer) (g.O.Write.contents c.write_once.new.writer) c.args.bytes.now c.loop-write.rest.now i.0 c.in-Some.count i.1 i.2 c.in-Some.ensures.1,
+    )

@@ -1,0 +1,32 @@
+-- What a line asks of a running server.
+use Rattle.std.specs.Prelude.{ℕ, ◌&&◌, nat_le, Bool, true, false, List, length, codes, Option, Some, None, option_map, if◌then◌else◌}
+use Rattle.std.specs.Str.{bytes_eq, is_utf8}
+use Rattle.step_core.specs.declared.event.Event.{Event}
+use Rattle.step_core.specs.declared.event.Event.TheVariants as event
+use Rattle.script_lines.specs.Commands.{operator_event_in}
+use Rattle.server_talk.specs.declared.requests.Request.{Request}
+use Rattle.server_talk.specs.declared.requests.Request.TheVariants.{Book, End, Reload, Submit}
+
+-- an operator's events: tickets are taken by the server's workers, and peers are forgotten by its clock
+abbrev pub is_operators : Event → Bool
+is_operators (event.Ask peer purpose) = true
+is_operators (event.Return peer plsp) = true
+is_operators (event.Delete peer plsp) = true
+is_operators (event.Reload links) = true
+is_operators other = false
+
+-- None for a bad line
+unfoldable pub request_in : List ℕ → Option Request
+request_in line =
+    if bytes_eq line (codes "book") then Some Book
+    else if bytes_eq line (codes "end") then Some End
+    else if bytes_eq line (codes "reload") then Some Reload
+    else option_map Submit (operator_event_in line)
+
+-- a line has so many bytes at most
+abbrev pub line_limit : ℕ
+line_limit = 4096
+
+-- a line that is longer, or isn't text, is bad
+unfoldable pub request_of : List ℕ → Option Request
+request_of line = if nat_le (length line) line_limit && is_utf8 line then request_in line else None

@@ -1,0 +1,27 @@
+//! The link text of a server's network, read again while it runs.
+use sequence::Sequence;
+use step_core::LinkReload;
+use te_base::TeFault;
+
+/// Why a link text gives no values.
+#[derive(Clone, Copy, PartialEq, Eq, Debug)]
+pub enum PlanFault {
+    /// It can't be read.
+    Device,
+    /// It has this fault, want of memory among them.
+    Te(TeFault),
+}
+
+/// The link text of a server's network. It may be another at each reading.
+pub trait Plan {
+    ghost use Rattle.std.specs.Prelude.{List, Result, ⊤};
+    ghost use Rattle.step_core.specs.declared.reload.LinkReload.{LinkReload};
+    ghost use Rattle.server_talk.specs.declared.plan.PlanFault.{PlanFault};
+
+    /// A reading may give this.
+    ghost reads: { Self → Result (List LinkReload) PlanFault → Type 0 } = { λ _ _. ⊤ };
+
+    /// Reads the text, and gives the values of all links by it.
+    fn read(&self) -> Result<Sequence<LinkReload>, PlanFault>
+        ensures { reads self.now result };
+}

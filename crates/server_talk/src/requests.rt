@@ -1,0 +1,59 @@
+//! What a line of a server's operator asks for.
+ghost use Rattle.std.specs.Prelude.{◌≡◌, IfOk, IfErr, IsSome};
+ghost use Rattle.server_talk.specs.Requests.{request_in, request_of};
+
+use engine_core::Event;
+use script_lines::operator_event_in;
+use std::alloc::{AllocError, Global};
+
+/// A line has so many bytes at most. A longer one is bad.
+pub const LINE_LIMIT: usize = 4096;
+
+/// What a line asks for.
+#[derive(Drop)]
+pub(crate) enum Request {
+    /// What is left of each link.
+    Book,
+    /// The end of the run.
+    End,
+    /// The link text is read again, and its values are those of the links from now on.
+    Reload,
+    /// An initiation, an update, a return or a removal of an LSP.
+    Submit(Event),
+}
+
+/// What a text asks for, or None for a bad line. Memory is asked for only for a line that asks for something.
+#[tactic(auto, unfolding(crate::specs::Requests::request_in))]
+fn request_in(alloc: Global, text: &str) -> Result<Option<Request>, AllocError>
+    ensures request { IfOk result (λ request. request ≡ request_in text.now) }
+    ensures good { IfErr result (λ _. IsSome (request_in text.now)) }
+{
+    if text == "book" {
+        return Ok(Some(Request::Book));
+    }
+    if text == "end" {
+        return Ok(Some(Request::End));
+    }
+    if text == "reload" {
+        return Ok(Some(Request::Reload));
+    }
+    match operator_event_in(alloc, text)? {
+        Some(event) => Ok(Some(Request::Submit(event))),
+        None => Ok(None),
+    }
+}
+
+/// What a line asks for, or None for a bad line. Memory is asked for only for a line that asks for something.
+#[tactic(auto, unfolding(crate::specs::Requests::request_of))]
+pub(crate) fn request_of(alloc: Global, line: &[u8]) -> Result<Option<Request>, AllocError>
+    ensures request { IfOk result (λ request. request ≡ request_of line.now) }
+    ensures good { IfErr result (λ _. IsSome (request_of line.now)) }
+{
+    if line.len() > LINE_LIMIT {
+        return Ok(None);
+    }
+    match str::from_utf8(line) {
+        Ok(text) => request_in(alloc, text),
+        Err(_) => Ok(None),
+    }
+}

@@ -1,0 +1,119 @@
+-- What a reload leaves: nodes, owners, and ends and addresses of links; and the book of the network.
+use Rattle.std.proofs.Common.{◌≡◌, ◌∙◌, ◌<◌, ◌+◌, ◌&&◌, ℕ, zero, suc, Bool, true, false, List, [], ◌∷◌, add-one, drop, drop-cons, get_or, length, map, sym, ap, refl, subst, arith}
+use Rattle.std.proofs.Math.IntN.{+ℤ_assoc, +ℤ_comm, -ℤ-+ℤ_cancel}
+use Rattle.std.proofs.lemmas.Bool.Decides.{nat_tests}
+use Rattle.std.specs.Prelude.{ℤ, nat_lt, ◌≢◌, pos, neg_ℤ, ◌+ℤ◌, ◌-ℤ◌, Option, option_map, unwrap_or}
+use Rattle.std.specs.List.{list_all}
+use Rattle.te_base.specs.declared.network.Link.{Link}
+use Rattle.te_base.specs.Base.{Base}
+use Rattle.te_base.specs.Values.{Ends, Values, IsSameNetwork, ends_in, set_all_values, set_values, values_in, with_all_values, with_link_values, with_links_of, with_values}
+use Rattle.te_base.proofs.Values.{own_values, same-refl, same-set, same-trans, set-other}
+use Rattle.lsp_base.specs.Refusals.{unless}
+use Rattle.lsp_base.specs.Shares.{reservable, reserved, unreserved}
+use Rattle.lsp_base.specs.declared.path.Path.{Path}
+use Rattle.lsp_base.specs.declared.why.Why.TheVariants.{UnknownLink}
+use Rattle.step_core.specs.Bases.{known_in, state_over}
+use Rattle.step_core.specs.Laws.{MovesAlone}
+use Rattle.step_core.specs.Outcomes.{decided, done}
+use Rattle.step_core.specs.Reloads.{after_reload, with_entries}
+use Rattle.step_core.specs.Steps.{step}
+use Rattle.step_core.specs.States.{State}
+use Rattle.step_core.specs.declared.base.Base as known
+use Rattle.step_core.specs.declared.event.Event.TheVariants.{Reload}
+use Rattle.step_core.specs.declared.reload.LinkReload.{LinkReload}
+
+pub with_entries-same : (te : Base) (entries : List LinkReload) → IsSameNetwork te (with_entries te entries)
+with_entries-same te [] = same-refl te
+with_entries-same te (e ∷ es) = same-trans te (with_link_values te e.link e.values) (with_entries te (e ∷ es)) (same-set te e.link e.values) (with_entries-same (with_link_values te e.link e.values) es)
+
+-- ---- one entry after the other
+
+next_entry : (xs : List LinkReload) (i : ℕ) (x : LinkReload) → i < length xs → x ≡ get_or xs i x → drop i xs ≡ x ∷ drop (i + 1) xs
+next_entry xs i x less is =
+    let cons = drop-cons xs i x less in
+    let next = add-one i in
+    cc
+
+pub network_set : (old new first : Base) (xs : List LinkReload) (i : ℕ) (x : LinkReload) → i < length xs → x ≡ get_or xs i x → new ≡ with_link_values old x.link x.values
+    → with_entries old (drop i xs) ≡ with_entries first xs → with_entries new (drop (i + 1) xs) ≡ with_entries first xs
+network_set old new first xs i x less is new_is before =
+    ap (λ (te : Base). with_entries te (drop (i + 1) xs)) new_is ∙ ap (with_entries old) (sym (next_entry xs i x less is)) ∙ before
+
+both : (a b : Bool) → (a && b) ≡ true → (a ≡ true) × (b ≡ true)
+both true b is = (refl, is)
+both false b is = absurd (cc (is))
+
+is_less : (n count : ℕ) → nat_lt n count ≡ true → n < count
+is_less n count is = grind (arith, nat_tests)
+
+-- each entry's link is one of so many
+abbrev pub AreLinks : ℕ → List LinkReload → Type 0
+AreLinks count xs = list_all (λ e. nat_lt e.link count) xs ≡ true
+
+pub this_and_next : (count : ℕ) (xs : List LinkReload) (i : ℕ) (x : LinkReload) → i < length xs → x ≡ get_or xs i x → AreLinks count (drop i xs) → (x.link < count) × AreLinks count (drop (i + 1) xs)
+this_and_next count xs i x less is all =
+    let two = both (nat_lt x.link count) (list_all (λ e. nat_lt e.link count) (drop (i + 1) xs)) (subst (AreLinks count) (next_entry xs i x less is) all) in
+    (is_less x.link count two.0, two.1)
+
+-- ---- what is known over a network, and over the same with other values
+
+-- a link is its ends and its values
+abbrev joined : Ends → Values → Link
+joined e v = record { from = e.from; to = e.to; local = e.local; remote = e.remote; igp = v.igp; te = v.te; colour = v.colour; reservable = v.reservable }
+
+-- links with the same ends and addresses are one with the same values
+same_links : (ls ks : List Link) (vs : List Values) → map ends_in ls ≡ map ends_in ks → length vs ≡ length ls → set_all_values ls vs ≡ set_all_values ks vs
+same_links [] [] vs same long = refl
+same_links [] (k ∷ ks) vs same long = absurd cc
+same_links (l ∷ ls) [] vs same long = absurd cc
+same_links (l ∷ ls) (k ∷ ks) [] same long = absurd (omega arith)
+same_links (l ∷ ls) (k ∷ ks) (v ∷ vs) same long =
+    let ends : ends_in l ≡ ends_in k = cc in
+    let first : with_values l v ≡ with_values k v = ap (λ (e : Ends). joined e v) ends in
+    let rest : map ends_in ls ≡ map ends_in ks = cc in
+    ap (λ x. x ∷ set_all_values ls vs) first ∙ ap (λ xs. with_values k v ∷ xs) (same_links ls ks vs rest (omega (arith, long)))
+
+-- the values of all links leave nothing else of the network than what stays
+pub same_over : (a b : Base) (vs : List Values) → IsSameNetwork a b → length vs ≡ length a.links → with_all_values a vs ≡ with_all_values b vs
+same_over a b vs same long = rw (same.nodes, same.owners, same_links a.links b.links vs same.ends long) refl
+
+pub state_over-same : (a b : Base) (base : known.Base) → IsSameNetwork a b → length base.values ≡ length a.links → state_over a base ≡ state_over b base
+state_over-same a b base same long = ap (λ (te : Base). record (state_over a base) { te = te }) (same_over a b base.values same long)
+
+-- what is known of a state is all of it
+pub known_again : (s : State) (base : known.Base) → base ≡ known_in s → state_over s.te base ≡ s
+known_again s base is = ap (state_over s.te) is ∙ ap (λ (te : Base). record s { te = te }) (own_values s.te)
+
+-- ---- what is unreserved after a reload of one link
+
+reservable-set : (links : List Link) (n : ℕ) (v : Values) → n < length links → reservable (set_values links n v) n ≡ v.reservable
+reservable-set [] n v less = absurd (omega (arith, less))
+reservable-set (l ∷ ls) zero v less = refl
+reservable-set (l ∷ ls) (suc n) v less = reservable-set ls n v (omega (arith, less))
+
+reservable-other : (links : List Link) (n m : ℕ) (v : Values) → n ≢ m → reservable (set_values links n v) m ≡ reservable links m
+reservable-other links n m v apart = ap (λ (o : Option Link). unwrap_or (option_map (λ (k : Link). k.reservable) o) 0) (set-other links n m v apart)
+
+moved : (a b r : ℤ) → b -ℤ r ≡ (a -ℤ r) +ℤ (b -ℤ a)
+moved a b r = ap (λ (x : ℤ). x -ℤ r) (sym (-ℤ-+ℤ_cancel b a)) ∙ +ℤ_assoc (b -ℤ a) a (neg_ℤ r) ∙ +ℤ_comm (b -ℤ a) (a -ℤ r)
+
+left-set : (links : List Link) (paths : List Path) (n p : ℕ) (v : Values) → n < length links
+    → unreserved (set_values links n v) paths n p ≡ unreserved links paths n p +ℤ (pos v.reservable -ℤ pos (reservable links n))
+unfolding unreserved
+left-set links paths n p v less = ap (λ (b : ℕ). pos b -ℤ pos (reserved paths n p)) (reservable-set links n v less) ∙ moved (pos (reservable links n)) (pos v.reservable) (pos (reserved paths n p))
+
+left-other : (links : List Link) (paths : List Path) (n l p : ℕ) (v : Values) → n ≢ l → unreserved (set_values links n v) paths l p ≡ unreserved links paths l p
+unfolding unreserved
+left-other links paths n l p v apart = ap (λ (b : ℕ). pos b -ℤ pos (reserved paths l p)) (reservable-other links n l v apart)
+
+step_is : (s : State) (e : LinkReload) → e.link < length s.te.links → (step s (Reload (e ∷ []))).state ≡ after_reload s (e ∷ [])
+unfolding step
+step_is s e less =
+    let there : nat_lt e.link (length s.te.links) ≡ true = grind (arith, nat_tests) in
+    ap (λ (b : Bool). (decided s (unless (b && true) UnknownLink) (done (after_reload s (e ∷ [])))).state) there
+
+pub moves_alone : (s : State) (e : LinkReload) → e.link < length s.te.links → MovesAlone e s (step s (Reload (e ∷ []))).state
+moves_alone s e less = subst (MovesAlone e s) (sym (step_is s e less)) (record {
+  there = λ p. left-set s.te.links s.base.paths e.link p e.values less;
+  elsewhere = λ l p apart. left-other s.te.links s.base.paths e.link l p e.values (λ same. apart (sym same));
+})

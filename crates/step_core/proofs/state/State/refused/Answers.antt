@@ -1,5 +1,0 @@
-use Rattle.step_core.proofs.Dropped.{has_by_refused}
-use Rattle.step_core.proofs.state.State.refused.Goals as goal
-
-pub change_lsps-requires-clause-stand : goal.change_lsps-requires-clause-stand
-change_lsps-requires-clause-stand c = has_by_refused c.self.inside.network.base _ c.args.peer c.args.srp c.in_ok-effect.effect c.lsps.ensures c.in_ok-effect.ensures.effect

@@ -1,0 +1,5 @@
+use Rattle.step_core.proofs.Dropped.{has_by_up}
+use Rattle.step_core.proofs.state.Tables.up.Goals as goal
+
+pub change_lsps-requires-clause-stand : goal.change_lsps-requires-clause-stand
+change_lsps-requires-clause-stand c = has_by_up c.self.inside.network.base _ c.args.peer c.args.sent c.in_ok-effect.effect c.lsps.ensures c.in_ok-effect.ensures.effect
