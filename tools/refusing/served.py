@@ -7,7 +7,7 @@ import time
 from reader import messages as m
 from reader.numbers import word_of
 
-MOST, SECONDS = 400, 20
+MOST, SECONDS = 1000, 20
 A, D = bytes([10, 0, 0, 1]), bytes([10, 0, 0, 4])
 OUT_OF_MEMORY = "out of memory"
 END_OF_SYNCHRONIZATION = m.message(m.M_PCRPT, m.thing(32, bytes(4) + struct.pack(">HH", 18, 16) + bytes(16)), m.thing(7, b""))
