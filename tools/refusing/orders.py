@@ -9,6 +9,7 @@ HERE = os.path.dirname(os.path.realpath(__file__))
 
 class Refusals:
     def __init__(self, room):
+        self.room = room
         library, path = f"{room}/refused.so", f"{room}/orders"
         subprocess.run(["gcc", "-O1", "-shared", "-fPIC", "-o", library, f"{HERE}/refused.c"], check=True)
         with open(path, "wb") as file:

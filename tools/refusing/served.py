@@ -1,4 +1,5 @@
 """A server whose allocations are refused while it is called: the call that is told so is made again."""
+import shutil
 import socket
 import struct
 import subprocess
@@ -11,6 +12,7 @@ MOST, SECONDS = 1000, 20
 A, D = bytes([10, 0, 0, 1]), bytes([10, 0, 0, 4])
 OUT_OF_MEMORY = "out of memory"
 END_OF_SYNCHRONIZATION = m.message(m.M_PCRPT, m.thing(32, bytes(4) + struct.pack(">HH", 18, 16) + bytes(16)), m.thing(7, b""))
+OVER_C = bytes.fromhex("01080a0300022000 01080a0400022000")
 FREE = [[1_000_000] * 8 for _ in range(4)]
 HELD = [[500_000] * 8 for _ in range(2)] + FREE[2:]
 
@@ -40,7 +42,7 @@ class Gone(Exception):
 
 class Served:
     def __init__(self, program, network, refusals, place=-1):
-        self.refusals, self.router, self.number = refusals, None, 0
+        self.refusals, self.network, self.router, self.number = refusals, network, None, 0
         refusals.order(place)
         with socket.create_server(("127.0.0.1", 0)) as free:
             self.port = free.getsockname()[1]
@@ -95,11 +97,13 @@ class Served:
                 return message
 
     def is_answered(self):
-        """Asks for a path: what the router sent before has been handled."""
+        """Asks for a path, and gives the reply: what the router sent before has been handled."""
         self.number += 1
         self.send(request(self.number))
-        while self.hear_of(m.M_PCREP)[8:16] != struct.pack(">II", 0, self.number):
-            pass
+        while True:
+            reply = self.hear_of(m.M_PCREP)
+            if reply[8:16] == struct.pack(">II", 0, self.number):
+                return reply
 
     def tell(self, line, answers=1):
         self.process.stdin.write(line.encode() + b"\n")
@@ -237,6 +241,38 @@ class Coming(Call):
         self.served.is_answered()
 
 
+class Reload(Call):
+    """Links get other values by the file, and the next search goes by them."""
+
+    def __init__(self, served):
+        super().__init__(served)
+        with open(served.network) as file:
+            self.first = file.read()
+        # (the way over B costs 41 then, that over C 40)
+        self.second = self.first.replace("igp=10,te=10,colour=0,reservable=1000000", "igp=31,te=31,colour=0,reservable=400000", 1)
+
+    def write(self, text):
+        with open(self.served.network, "w") as file:
+            file.write(text)
+
+    def reset(self):
+        self.served.refusals.lift()
+        self.write(self.first)
+        wants(self.served.tell("reload"), ["done"])
+        super().reset()
+        self.write(self.second)
+
+    def run(self, place):
+        wants(self.answer_of("reload", FREE), "done")
+        wants(self.served.is_answered().find(OVER_C) > 0, True)
+        wants(self.served.book(), [[400_000] * 8] + FREE[1:])
+
+    def run_again(self, place):
+        """The session has ended, with the request or as its answer was sent."""
+        self.served.come()
+        self.run(place)
+
+
 class Look(Call):
     """The book is looked at."""
 
@@ -253,7 +289,7 @@ class Look(Call):
         wants(printed, wanted)
 
 
-CALLS = (Look, Initiation, Update, Return, Removal, Report, Coming)
+CALLS = (Look, Initiation, Update, Return, Removal, Report, Coming, Reload)
 
 
 def refuse_each(call):
@@ -304,7 +340,9 @@ def refuse_each_of_an_end(program, network, refusals):
 
 def refuse_each_of_the_calls(program, network, refusals):
     """Each call of a server that goes on, whose audit passes in the end."""
-    served = Served(program, network, refusals)
+    own = f"{refusals.room}/network.toml"
+    shutil.copyfile(network, own)
+    served = Served(program, own, refusals)
     try:
         served.come()
         for kind in CALLS:

@@ -2,7 +2,7 @@ pub mod Rising
 pub mod LinkLists
 pub mod Sums
 pub mod Packed
-pub mod Removed
+pub mod Replaced
 pub mod Places
 pub mod Order
 pub mod Totals

@@ -3,7 +3,7 @@ use Rattle.std.proofs.Common.{◌≡◌, ◌≤◌, ◌<◌, ◌+◌, ◌^◌, �
 use Rattle.bandwidth_book.specs.Entries.{IsMoved, held_in, promised_in}
 use Rattle.lsp_base.specs.declared.tunnel.Tunnel.{Tunnel}
 use Rattle.bandwidth_book.specs.Tunnels.{held_by_path, tunnel_eq}
-use Rattle.bandwidth_book.specs.Held.{Held, most, moved_all, moved_one, promised_after, room_for, takes_memory, with_all, without_all}
+use Rattle.bandwidth_book.specs.Held.{Held, changes_held, most, moved_all, moved_one, promised_after, room_for, takes_memory, with_all, without_all}
 use Rattle.bandwidth_book.specs.Holdings.{Holdings}
 use Rattle.bandwidth_book.specs.declared.held.Motion.{Motion}
 use Rattle.bandwidth_book.specs.declared.held.Motion.TheVariants.{Promise, Add, Drop, Withdraw}
@@ -34,6 +34,12 @@ promised Withdraw e hs xs = absurd (true≢false (sym e))
 moved_append : (m : Motion) (hs xs ys : List Held) → moved_all m hs (xs ++ ys) ≡ moved_all m (moved_all m hs xs) ys
 moved_append m hs [] ys = refl
 moved_append m hs (x ∷ xs) ys = moved_append m (moved_one m x hs) xs ys
+
+pub held_stays : (m : Motion) (h : Held) (hs : List Held) → changes_held m ≡ false → moved_one m h hs ≡ hs
+held_stays Promise h hs e = refl
+held_stays Add h hs e = absurd (true≢false e)
+held_stays Drop h hs e = absurd (true≢false e)
+held_stays Withdraw h hs e = refl
 
 -- one of them rises no higher than the one that is moved
 pub most_moved : (m : Motion) (h : Held) (hs : List Held) (p : ℕ) → most (moved_one m h hs) p ≤ max h.bandwidth (most hs p)

@@ -1,5 +1,5 @@
 -- What is left of the links where one of them has other values.
-use Rattle.std.proofs.Common.{◌≡◌, ◌≢◌, ◌<◌, ◌-ℤ◌, pos, ℕ, zero, suc, List, [], ◌∷◌, length, slice_get, Option, Some, None, option_map, refl, ap, arith}
+use Rattle.std.proofs.Common.{◌≡◌, ◌<◌, ◌-ℤ◌, pos, ℕ, zero, suc, List, [], ◌∷◌, length, Option, option_map, refl, ap, arith}
 use Rattle.std.specs.Prelude.{unwrap_or}
 use Rattle.std.proofs.lemmas.Int.{ints}
 use Rattle.lsp_base.specs.Shares.{reservable, reserved, unreserved}

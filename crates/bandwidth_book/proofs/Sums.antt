@@ -7,15 +7,6 @@ use Rattle.bandwidth_book.specs.Held.{Held}
 use Rattle.bandwidth_book.specs.Held.{most, is_before, same_held, with_one, without_one}
 use Rattle.bandwidth_book.specs.Tunnels.{total}
 
--- a value that is written moves the total by its change
-pub total-set_value : {K V : Type 0} (f : Option V → ℕ) (test : K → Bool) (es : List (K × V)) (old new : V) → lookup test es ≡ Some old → total f (set_value test es new) + f (Some old) ≡ total f es + f (Some new)
-total-set_value f test [] old new h = cc
-total-set_value f test (e ∷ es) old new h =
-    elim (cases_Bool (test e.0)) [
-      | inl here ↦ (let at : Some e.1 ≡ Some old = rw here at h in let m : f (Some e.1) ≡ f (Some old) = ap f at in rw here (omega (arith, m)))
-      | inr other ↦ (let there : lookup test es ≡ Some old = rw other at h in rw other (omega (arith, total-set_value f test es old new there)))
-    ]
-
 -- no value counts more than the total
 pub one-le-total : {K V : Type 0} (f : Option V → ℕ) (test : K → Bool) (es : List (K × V)) (old : V) → lookup test es ≡ Some old → f (Some old) ≤ total f es
 one-le-total f test [] old h = cc

@@ -1,6 +1,5 @@
 -- When a book stands for a list of paths.
-use Rattle.std.specs.Prelude.{◌≡◌, ◌<◌, ℕ, true, List, [], Option, length}
-use Rattle.std.specs.Arc.{arc_value}
+use Rattle.std.specs.Prelude.{◌≡◌, ◌<◌, ℕ, true, List, [], Option, Some, None, length, if◌then◌else◌}
 use Rattle.lsp_base.specs.declared.effect.Change.{Change}
 use Rattle.lsp_base.specs.declared.path.Path.{Path}
 use Rattle.lsp_base.specs.declared.tunnel.Tunnel.{Tunnel}
@@ -14,7 +13,7 @@ use Rattle.bandwidth_book.specs.Pending.{noted}
 
 -- the network, with the links as they are now
 abbrev pub network_of : Book → Network
-network_of book = with_links (arc_value book.topology) book.links.items
+network_of book = with_links book.last.network book.links.items
 
 -- the links of the network
 abbrev pub links_of : Book → List Link
@@ -22,7 +21,7 @@ links_of book = (network_of book).links
 
 -- the snapshot that is given again while no path and no value changes
 abbrev pub kept_by : Book → Option NetworkState
-kept_by book = book.kept
+kept_by book = if book.is_kept then Some book.last else None
 
 -- what a tunnel's paths hold on a link
 abbrev pub held_on : Book → ℕ → Tunnel → List Held

@@ -82,6 +82,13 @@ promised_after Drop n p = p
 promised_after Withdraw zero p = p
 promised_after Withdraw (suc n) p = 0
 
+-- whether it changes what is held
+abbrev pub changes_held : Motion → Bool
+changes_held Promise = false
+changes_held Add = true
+changes_held Drop = true
+changes_held Withdraw = false
+
 -- whether it takes memory
 abbrev pub takes_memory : Motion → Bool
 takes_memory Promise = true

@@ -1,14 +1,16 @@
 -- Tables of what is left of links, and the snapshots that have them.
-use Rattle.std.specs.Prelude.{ℕ, ℤ, ◌≡◌, ◌<◌, List, length, Option, Some}
+use Rattle.std.specs.Prelude.{ℕ, ℤ, ◌≡◌, ◌<◌, false, List, length}
 use Rattle.lsp_base.specs.Shares.{unreserved}
 use Rattle.lsp_base.specs.declared.path.Path.{Path}
 use Rattle.lsp_base.specs.declared.tunnel.Tunnel.{Tunnel}
 use Rattle.te_base.specs.declared.network.Link.{Link}
-use Rattle.te_snapshot.specs.Left.{all_left}
+use Rattle.te_snapshot.specs.Left.{all_left, left_on}
 use Rattle.te_snapshot.specs.Network.{Network, NetworkState}
+use Rattle.te_snapshot.specs.Pages.{is_marked, row}
 use Rattle.te_snapshot.specs.Room.{left}
-use Rattle.bandwidth_book.specs.Held.{Held}
-use Rattle.bandwidth_book.specs.Paths.{IsHeldBy}
+use Rattle.te_snapshot.specs.declared.marks.Marks.{Marks}
+use Rattle.bandwidth_book.specs.Held.{Held, times}
+use Rattle.bandwidth_book.specs.Paths.{IsHeldBy, held_by}
 
 -- on each link, at each of the eight priorities, what the paths leave
 abbrev pub AreLeft : List Link → List Path → List (List ℤ) → Type 0
@@ -20,6 +22,14 @@ pub record IsLeftOver (n : Network) (count : ℕ) (held : ℕ → Tunnel → Lis
   pub network : s.network ≡ n
   pub left : (paths : List Path) → IsHeldBy count held paths → s.unreserved ≡ all_left n.links paths
 
--- a snapshot that may be kept is of what is held now
-abbrev pub IsKept : Network → ℕ → (ℕ → Tunnel → List Held) → Option NetworkState → Type 0
-IsKept n count held kept = (s : NetworkState) → kept ≡ Some s → IsLeftOver n count held s
+-- of each tunnel, holding priority and bandwidth, as much is held on the link as the paths hold there
+abbrev pub IsHeldOn : (Tunnel → List Held) → ℕ → List Path → Type 0
+IsHeldOn held l paths = (t : Tunnel) (h : Held) → times h (held t) ≡ times h (held_by l t paths)
+
+-- a row says what is left of the link beside each list of paths that holds this much there
+abbrev pub IsRowOf : List Link → (ℕ → Tunnel → List Held) → ℕ → List ℤ → Type 0
+IsRowOf links held l row = (paths : List Path) → IsHeldOn (held l) l paths → row ≡ left_on links paths l
+
+-- each row on a page that isn't marked says so
+abbrev pub AreFresh : List Link → (ℕ → Tunnel → List Held) → Marks → List (List ℤ) → Type 0
+AreFresh links held marks table = (l : ℕ) → l < length links → is_marked marks l ≡ false → IsRowOf links held l (row table l)

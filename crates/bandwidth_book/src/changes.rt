@@ -1,5 +1,5 @@
 //! How a book comes to stand for lists of paths.
-ghost use Rattle.std.specs.Prelude.{◌≡◌, ◌<◌, ◌≤◌, ◌++◌, ℕ, List, [], length, IfOk, OnOk};
+ghost use Rattle.std.specs.Prelude.{◌≡◌, ◌<◌, ◌≤◌, ◌++◌, true, ℕ, List, [], length, IfOk, OnOk};
 ghost use Rattle.std.specs.Arc.{arc_value};
 ghost use Rattle.lsp_base.specs.Base.{HasAll, without};
 ghost use Rattle.lsp_base.specs.declared.path.Path.{Path};
@@ -11,14 +11,25 @@ ghost use Rattle.bandwidth_book.specs.Paths.{held_by};
 use crate::book::Book;
 use crate::ledgers::Ledgers;
 use crate::paths::{change_paths, give_up_room, promise_paths};
-use lsp_base::Change;
+use crate::snapshots::{first_snapshot, mark_paths};
+use lsp_base::{Change, Path};
 use sequence::{PlainData, Sequence};
 use std::alloc::{AllocError, Global};
 use std::sync::Arc;
-use te_snapshot::Topology;
+use te_snapshot::{Marks, Topology};
+
+/// Whether a snapshot that was kept stays so: where no path goes or comes.
+fn stays_kept(is_kept: bool, dropped: &[Path], added: &[Path]) -> bool
+    ensures kept { dropped.now ≡ [] → added.now ≡ [] → result ≡ is_kept }
+    ensures was { result ≡ true → is_kept ≡ true }
+    ensures none_dropped { result ≡ true → length dropped.now ≡ 0 }
+    ensures none_added { result ≡ true → length added.now ≡ 0 }
+{
+    is_kept && dropped.is_empty() && added.is_empty()
+}
 
 impl Book {
-    /// A book of the network's links, on which nothing is reserved.
+    /// Makes a book of the network's links, on which nothing is reserved.
     pub fn new(alloc: Global, topology: Arc<Topology, Global>) -> Result<Book, AllocError>
         ensures network { IfOk result (λ book. network_of book ≡ arc_value topology) }
         ensures stands { IfOk result (λ book. StandsFor book []) }
@@ -29,11 +40,12 @@ impl Book {
         Ok(Book {
             alloc,
             links,
-            topology,
+            last: first_snapshot(alloc, topology)?,
+            is_kept: false,
             is_current: true,
+            marks: Marks::all(),
             ledgers,
             pending: Sequence::from_vec(Vec::new(alloc)),
-            kept: None,
         })
     }
 
@@ -70,10 +82,10 @@ impl Book {
     {
         let dropped = change.dropped.as_slice();
         let added = change.added.as_slice();
-        if !dropped.is_empty() || !added.is_empty() {
-            self.kept = None;
-            change_paths(self.alloc, &mut self.ledgers, dropped, added);
-        }
+        self.is_kept = stays_kept(self.is_kept, dropped, added);
+        mark_paths(&mut self.marks, dropped);
+        mark_paths(&mut self.marks, added);
+        change_paths(self.alloc, &mut self.ledgers, dropped, added);
         give_up_room(self.alloc, &mut self.ledgers, &mut self.pending);
     }
 }

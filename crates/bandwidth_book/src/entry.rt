@@ -42,7 +42,7 @@ impl MadeWith<Global> for Entry {
     }
 }
 
-/// Where one belongs in the order.
+/// Finds where one belongs in the order.
 #[tactic(auto, using(crate::proofs::Order::place_within))]
 fn place_of(held: &[Held], one: &Held) -> usize
     requires { AreInOrder held.now }
@@ -62,7 +62,7 @@ fn place_of(held: &[Held], one: &Held) -> usize
     low
 }
 
-/// The greatest bandwidth that is held at the priority and no better one: the last of them has it.
+/// Finds the greatest bandwidth that is held at the priority and no better one: the last of them has it.
 fn last_of(held: &[Held], priority: u8) -> u64
     requires order { AreInOrder held.now }
     requires priority { priority < 8 }
@@ -80,7 +80,7 @@ fn last_of(held: &[Held], priority: u8) -> u64
     }
 }
 
-/// The greatest bandwidth that is held at the priority or a better one, from that at better ones.
+/// Finds the greatest bandwidth that is held at the priority or a better one, from that at better ones.
 #[tactic(auto, using(crate::proofs::Runs::below_next))]
 fn most_from(held: &[Held], priority: u8, better: u64) -> u64
     requires order { AreInOrder held.now }
@@ -92,7 +92,7 @@ fn most_from(held: &[Held], priority: u8, better: u64) -> u64
     better.max(last_of(held, priority))
 }
 
-/// The greatest bandwidth at each priority, by a binary search for each.
+/// Finds the greatest bandwidth at each priority, by a binary search for each.
 #[tactic(auto, using(crate::proofs::Runs::below_first))]
 fn maxima_of_many(held: &[Held]) -> [u64; 8]
     requires { AreInOrder held.now }
@@ -107,7 +107,7 @@ fn maxima_of_many(held: &[Held]) -> [u64; 8]
     maxima
 }
 
-/// The maxima with one more.
+/// Raises the maxima by one more.
 fn raise(maxima: &mut [u64; 8], held: &Held)
     ensures { (p : ℕ) → p < 8 → slice_index maxima.new p ≡ max (if nat_le held.now.hold p then held.now.bandwidth else 0) (slice_index maxima.old p) }
 {
@@ -120,7 +120,7 @@ fn raise(maxima: &mut [u64; 8], held: &Held)
     }
 }
 
-/// The greatest bandwidth at each priority, by a pass.
+/// Finds the greatest bandwidth at each priority, by a pass.
 fn maxima_of_few(held: &[Held]) -> [u64; 8]
     ensures { AreMaxima result held.now }
 {
@@ -158,7 +158,7 @@ fn take_held(list: &mut SmallVec<Held, IN_PLACE>, held: Held)
 }
 
 impl Entry {
-    /// Nothing is held. Takes no memory.
+    /// Makes an entry that holds nothing. Takes no memory.
     pub fn new(alloc: Global) -> Entry
         ensures held { result.held ≡ [] }
         ensures promised { result.promised ≡ 0 }
@@ -169,14 +169,14 @@ impl Entry {
         }
     }
 
-    /// Whether nothing is held.
+    /// Tests whether nothing is held.
     pub fn is_empty(&self) -> bool
         ensures { IsTrue result ↔ (length self.now.held ≡ 0) }
     {
         self.held.is_empty()
     }
 
-    /// Whether nothing is held and no room is promised.
+    /// Tests whether nothing is held and no room is promised.
     pub fn is_idle(&self) -> bool
         ensures idle { IsTrue result → (length self.now.held ≡ 0) × (self.now.promised ≡ 0) }
         ensures busy { result ≡ false → length self.now.held ≡ 0 → 0 < self.now.promised }
@@ -184,7 +184,7 @@ impl Entry {
         self.is_empty() && self.promised == 0
     }
 
-    /// The greatest bandwidth that is held at each priority or a better one.
+    /// Finds the greatest bandwidth that is held at each priority or a better one.
     pub fn maxima(&self) -> [u64; 8]
         ensures { AreMaxima result self.now.held }
     {

@@ -1,6 +1,6 @@
 //! What one path holds on a link.
 ghost use Rattle.std.specs.Prelude.{◌≡◌, ◌<◌, ◌^◌};
-ghost use Rattle.bandwidth_book.specs.Held.{held_of, is_before, same_held, takes_memory};
+ghost use Rattle.bandwidth_book.specs.Held.{changes_held, held_of, is_before, same_held, takes_memory};
 
 use lsp_base::Path;
 use std::marker::Model;
@@ -19,7 +19,17 @@ pub enum Motion {
 }
 
 impl Motion {
-    /// Whether it takes memory.
+    /// Tests whether it changes what is held.
+    pub fn changes_held(self) -> bool
+        ensures { result ≡ changes_held self }
+    {
+        match self {
+            Motion::Add | Motion::Drop => true,
+            Motion::Promise | Motion::Withdraw => false,
+        }
+    }
+
+    /// Tests whether it takes memory.
     pub fn takes_memory(self) -> bool
         ensures { result ≡ takes_memory self }
     {
@@ -60,7 +70,7 @@ impl Default for Held {
 }
 
 impl Held {
-    /// A bandwidth that is held at a priority.
+    /// Joins a holding priority and a bandwidth.
     #[tactic(auto, using(crate::proofs::Packed::hold_of, crate::proofs::Packed::bandwidth_of))]
     pub fn new(hold: u8, bandwidth: u64) -> Held
         requires { bandwidth < 2 ^ 48 }
@@ -71,14 +81,14 @@ impl Held {
         }
     }
 
-    /// The holding priority.
+    /// Returns the holding priority.
     pub fn hold(&self) -> u64
         ensures { result ≡ self.now.hold }
     {
         self.number / (1 << 48)
     }
 
-    /// The bandwidth.
+    /// Returns the bandwidth.
     pub fn bandwidth(&self) -> u64
         ensures { result ≡ self.now.bandwidth }
     {
@@ -86,7 +96,7 @@ impl Held {
     }
 }
 
-/// What the path holds on each of its links.
+/// Returns what the path holds on each of its links.
 pub fn held_of(path: &Path) -> Held
     ensures held { result ≡ held_of path.now }
     ensures hold { result.hold < 8 }
@@ -95,7 +105,7 @@ pub fn held_of(path: &Path) -> Held
     Held::new(path.hold.number(), path.bandwidth.value())
 }
 
-/// Whether both are of one holding priority and bandwidth.
+/// Tests whether both are of one holding priority and bandwidth.
 #[tactic(auto, using(crate::proofs::Packed::same_is))]
 pub fn is_same_held(a: &Held, b: &Held) -> bool
     ensures { result ≡ same_held a.now b.now }
@@ -103,7 +113,7 @@ pub fn is_same_held(a: &Held, b: &Held) -> bool
     a.number == b.number
 }
 
-/// The order in a list: by holding priority, then by bandwidth.
+/// Tests the order in a list: by holding priority, then by bandwidth.
 #[tactic(auto, using(crate::proofs::Packed::before_is))]
 pub fn is_before(a: &Held, b: &Held) -> bool
     ensures { result ≡ is_before a.now b.now }

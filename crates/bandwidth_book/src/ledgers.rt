@@ -17,6 +17,8 @@ use lsp_base::Tunnel;
 pub struct Ledgers {
     pub(crate) tunnels: IndexMap<Tunnel, LinkEntries>,
     pub(crate) sums: Vec<[u64; 8]>,
+    /// The place of the tunnel that was found last. Any number would do.
+    pub(crate) last: usize,
     ghost summed: { AreSums sums.items tunnels.entries },
     ghost few: { length tunnels.entries ≤ 30000 },
     ghost small: { (l : ℕ) (t : Tunnel) (p : ℕ) → l < length sums.items → most (held_in (entry_of tunnels.entries l t)) p < 2 ^ 48 },

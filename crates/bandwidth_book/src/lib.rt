@@ -11,7 +11,8 @@
 //! no entry without paths, so that a book keeps memory for standing paths alone
 //! (`specs/Pending.antt`).
 //! `snapshot` gives a table of what is left of every link, of which a search can be made while the book goes
-//! on; while no path and no link's values change it gives the same one again (`specs/Tables.antt`).
+//! on; while no path and no link's values change it gives the same one again, and else shares with it all pages of links on
+//! which nothing changed (`specs/Tables.antt`).
 //! `set_values` gives a link other metrics, colours and reservable bandwidth: what is left of it moves by the difference, and
 //! of no other link. It takes no memory: the book has the links of now in a list of its own, so that a network which running
 //! searches share is never written. The next snapshot makes a new one.

@@ -1,5 +1,5 @@
 //! What one tunnel holds on its links, and how that moves the sums of the links.
-ghost use Rattle.std.specs.Prelude.{◌≡◌, ◌<◌, ◌≤◌, ◌+◌, ◌-◌, ◌^◌, ◌==◌, ◌∷◌, [], ℕ, true, false, length, slice_index, IfSome, IfNone, IsTrue, ◌↔◌, IfOk, IsOk, OnErr, OnOk, if◌then◌else◌, None};
+ghost use Rattle.std.specs.Prelude.{◌≡◌, ◌<◌, ◌≤◌, ◌+◌, ◌-◌, ◌^◌, ◌==◌, ◌∷◌, [], ℕ, true, false, length, slice_index, IfSome, IfNone, IsTrue, ◌↔◌, IfOk, IsOk, OnOk, if◌then◌else◌, None};
 ghost use Rattle.bandwidth_book.specs.Entries.{AreRising, IsAt, IsMoved, entry_on, kept, place_on, promised_to};
 ghost use Rattle.bandwidth_book.specs.Held.{most, moved_one, promised_after, room_for, takes_memory};
 ghost use Rattle.bandwidth_book.specs.Tunnels.{held_by_links, sum_at};
@@ -78,13 +78,16 @@ fn move_in(
     ensures promised { entry.new.promised ≤ promised_after motion 1 entry.old.promised }
     ensures sure { takes_memory motion ≡ false → IsOk result }
 {
+    if !motion.changes_held() {
+        return entry.move_one(motion, held);
+    }
     let before = entry.maxima();
     let moved = entry.move_one(motion, held);
     exchange(sums, &before, &entry.maxima());
     moved
 }
 
-/// Where the entry of a link belongs in the order, by a binary search.
+/// Finds where the entry of a link belongs in the order, by a binary search.
 #[tactic(auto, using(crate::proofs::Rising::place_within))]
 fn place_of(entries: &[LinkEntry], link: LinkNumber) -> usize
     requires { AreRising entries.now }
@@ -104,7 +107,7 @@ fn place_of(entries: &[LinkEntry], link: LinkNumber) -> usize
     low
 }
 
-/// Where the entry of a link is.
+/// Finds the place of the entry of a link.
 fn find(entries: &[LinkEntry], link: LinkNumber) -> Option<usize>
     requires { AreRising entries.now }
     ensures within { IfSome result (λ i. i < length entries.now) }
@@ -173,7 +176,7 @@ fn move_at(
 }
 
 impl LinkEntries {
-    /// No entry, with room for `count`.
+    /// Makes a list of no entries, with room for `count`.
     pub fn with_room(alloc: Global, count: usize) -> Result<LinkEntries, AllocError>
         ensures { IfOk result (λ entries. entries ≡ []) }
     {
@@ -182,14 +185,14 @@ impl LinkEntries {
         })
     }
 
-    /// Whether there is none.
+    /// Tests whether there is none.
     pub fn is_empty(&self) -> bool
         ensures { IsTrue result ↔ (length self.now ≡ 0) }
     {
         self.entries.is_empty()
     }
 
-    /// The entries.
+    /// Lends the entries.
     pub fn as_slice(&self) -> &[LinkEntry]
         ensures entries { result.now ≡ self.now }
         ensures rising { AreRising self.now }
@@ -197,7 +200,7 @@ impl LinkEntries {
         self.entries.as_slice()
     }
 
-    /// The greatest bandwidth that is held on a link at the priority or a better one, or 0.
+    /// Finds the greatest bandwidth that is held on a link at the priority or a better one, or 0.
     pub fn share(&self, link: LinkNumber, priority: u8) -> u64
         requires { priority < 8 }
         ensures { result ≡ most (kept link self.now) priority }

@@ -14,14 +14,14 @@ use lsp_base::{Path, Tunnel};
 use pcep_word::Priority;
 use te_base::{Link, LinkNumber};
 
-/// The stored maximum of a tunnel on a link.
+/// Finds the greatest bandwidth of a tunnel on a link.
 fn maximum_at(ledgers: &Ledgers, tunnel: &Tunnel, link: LinkNumber, priority: Priority) -> u64
     ensures { result ≡ most (held_at ledgers.now link tunnel.now) priority }
 {
     ledgers.share(*tunnel, link, priority.number())
 }
 
-/// What a tunnel reserves on a link.
+/// Finds what a tunnel reserves on a link.
 fn share_at(ledgers: &Ledgers, tunnel: &Tunnel, link: LinkNumber, priority: Priority) -> u64
     requires { link < count ledgers.now }
     ensures { (paths : List Path) → IsHeldBy (count ledgers.now) (held_at ledgers.now) paths
@@ -30,7 +30,7 @@ fn share_at(ledgers: &Ledgers, tunnel: &Tunnel, link: LinkNumber, priority: Prio
     maximum_at(ledgers, tunnel, link, priority)
 }
 
-/// The stored sums of a link.
+/// Lends the stored sums of a link.
 pub(crate) fn sums_at(ledgers: &Ledgers, link: LinkNumber) -> &[u64; 8]
     requires { link < count ledgers.now }
     ensures reserved { (paths : List Path) → IsHeldBy (count ledgers.now) (held_at ledgers.now) paths
@@ -40,7 +40,7 @@ pub(crate) fn sums_at(ledgers: &Ledgers, link: LinkNumber) -> &[u64; 8]
     ledgers.sums(link)
 }
 
-/// What is left of an amount; it may be negative.
+/// Subtracts what is taken from an amount; the rest may be negative.
 pub(crate) fn left_of(reservable: u64, sum: u64) -> i64
     requires reservable { reservable < 2 ^ 63 }
     requires sum { sum < 2 ^ 63 }
@@ -49,7 +49,7 @@ pub(crate) fn left_of(reservable: u64, sum: u64) -> i64
     reservable as i64 - sum as i64
 }
 
-/// What is left of the reservable bandwidth of a link.
+/// Computes what is left of the reservable bandwidth of a link.
 #[tactic(auto, unfolding(lsp_base::specs::Shares::unreserved))]
 fn unreserved_at(links: &[Link], ledgers: &Ledgers, link: LinkNumber, priority: Priority) -> i64
     requires link { link < length links.now }
@@ -62,7 +62,7 @@ fn unreserved_at(links: &[Link], ledgers: &Ledgers, link: LinkNumber, priority: 
     left_of(reservable_of(links, link), sums[priority.number() as usize])
 }
 
-/// Whether a bandwidth is borne where the tunnel holds this share and this much of the reservable is taken.
+/// Tests whether a bandwidth is borne where the tunnel holds this share and this much of the reservable is taken.
 fn is_borne(bandwidth: u64, share: u64, reservable: u64, sum: u64) -> bool
     requires bandwidth { bandwidth < 2 ^ 48 }
     requires reservable { reservable < 2 ^ 48 }
@@ -75,7 +75,7 @@ fn is_borne(bandwidth: u64, share: u64, reservable: u64, sum: u64) -> bool
     left_of(reservable, sum + (bandwidth - share)) >= 0
 }
 
-/// What may be reserved on a link.
+/// Looks up what may be reserved on a link.
 pub(crate) fn reservable_of(links: &[Link], link: LinkNumber) -> u64
     requires { link < length links.now }
     ensures { result ≡ reservable links.now link }
@@ -83,7 +83,7 @@ pub(crate) fn reservable_of(links: &[Link], link: LinkNumber) -> u64
     links[link].reservable
 }
 
-/// Whether a link of the path bears it at a priority at which it is held: its tunnel's share doesn't rise
+/// Tests whether a link of the path bears it at a priority at which it is held: its tunnel's share doesn't rise
 /// there, or what it rises by is left.
 fn bears_at(
     links: &[Link],
@@ -107,7 +107,7 @@ fn bears_at(
     is_borne(path.bandwidth.value(), share, reservable, sum)
 }
 
-/// Whether a link of the path bears it at each priority from holding to setup.
+/// Tests whether a link of the path bears it at each priority from holding to setup.
 #[tactic(auto, using(crate::proofs::Fits::first_priority, crate::proofs::Fits::no_priority))]
 fn bears(links: &[Link], ledgers: &Ledgers, path: &Path, link: LinkNumber, setup: Priority) -> bool
     requires link { link < length links.now }
@@ -125,7 +125,7 @@ fn bears(links: &[Link], ledgers: &Ledgers, path: &Path, link: LinkNumber, setup
     true
 }
 
-/// Whether each link of a path, whose links these are, is there and bears it.
+/// Tests whether each link of a path, whose links these are, is there and bears it.
 #[tactic(auto, using(crate::proofs::Fits::has_at), unfolding(lsp_base::specs::Shares::fits))]
 fn fits_on(
     links: &[Link],
@@ -149,7 +149,7 @@ fn fits_on(
 }
 
 impl Book {
-    /// What the tunnel reserves on the link at the priority, in bytes per second: the greatest bandwidth
+    /// Finds what the tunnel reserves on the link at the priority, in bytes per second: the greatest bandwidth
     /// of its paths there that are held at the priority or a better one, or 0.
     pub fn share(&self, tunnel: &Tunnel, link: LinkNumber, priority: Priority) -> u64
         requires { link < length (links_of self.now) }
@@ -158,7 +158,7 @@ impl Book {
         share_at(&self.ledgers, tunnel, link, priority)
     }
 
-    /// What all tunnels reserve on the link, in bytes per second: eight numbers, by priority, as they are
+    /// Lends what all tunnels reserve on the link, in bytes per second: eight numbers, by priority, as they are
     /// stored.
     pub fn sums(&self, link: LinkNumber) -> &[u64; 8]
         requires { link < length (links_of self.now) }
@@ -167,7 +167,7 @@ impl Book {
         sums_at(&self.ledgers, link)
     }
 
-    /// What is left of the reservable bandwidth of the link at the priority, in bytes per second. It is
+    /// Computes what is left of the reservable bandwidth of the link at the priority, in bytes per second. It is
     /// below zero where more was reported than the link bears.
     pub fn unreserved(&self, link: LinkNumber, priority: Priority) -> i64
         requires { link < length (links_of self.now) }
@@ -176,14 +176,14 @@ impl Book {
         unreserved_at(&self.links, &self.ledgers, link, priority)
     }
 
-    /// How many links there are.
+    /// Counts the links.
     pub fn link_count(&self) -> usize
         ensures { result ≡ length (links_of self.now) }
     {
         self.links.len()
     }
 
-    /// Whether one more path with this setup priority fits: its links are there, and with it none is below
+    /// Tests whether one more path with this setup priority fits: its links are there, and with it none is below
     /// zero at a priority from holding to setup at which its tunnel reserves more than now.
     pub fn fits(&self, path: &Path, setup: Priority) -> bool
         ensures { (paths : List Path) → StandsFor self.now paths → result ≡ fits (links_of self.now) paths path.now setup }

@@ -20,14 +20,14 @@ use sequence::Sequence;
 use std::alloc::{AllocError, Global};
 use te_snapshot::{OwnShare, OwnShares};
 
-/// The greatest bandwidths of an entry.
+/// Finds the greatest bandwidths of an entry.
 fn maxima_in(entry: &LinkEntry) -> [u64; 8]
     ensures { AreMaxima result entry.now.entry.held }
 {
     entry.entry.maxima()
 }
 
-/// What a tunnel reserves on the link of one of its entries at each priority.
+/// Computes what a tunnel reserves on the link of one of its entries at each priority.
 fn own_of(entry: &LinkEntry) -> OwnShare
     ensures { (paths : List Path) (t : Tunnel) → ((h : Held) → times h entry.now.entry.held ≡ times h (held_by entry.now.link t paths))
         → result ≡ own_share_on paths t entry.now.link }
@@ -59,7 +59,7 @@ fn list_entry(own: &mut Vec<OwnShare>, count: usize, entry: &LinkEntry) -> Resul
     Ok(())
 }
 
-/// On how many links something is held.
+/// Counts the links on which something is held.
 fn filled(entries: &[LinkEntry]) -> usize
     ensures { result ≤ length entries.now }
 {
@@ -69,7 +69,7 @@ fn filled(entries: &[LinkEntry]) -> usize
         .count()
 }
 
-/// What a tunnel reserves on each link on which it reserves something. The entries are counted before, so that their
+/// Lists what a tunnel reserves on each link on which it reserves something. The entries are counted before, so that their
 /// memory comes at once and the list doesn't grow.
 fn own_on(alloc: Global, ledgers: &Ledgers, tunnel: &Tunnel) -> Result<Vec<OwnShare>, AllocError>
     ensures { IfOk result (λ own. (paths : List Path) → IsHeldBy (count ledgers.now) (held_at ledgers.now) paths
@@ -85,7 +85,7 @@ fn own_on(alloc: Global, ledgers: &Ledgers, tunnel: &Tunnel) -> Result<Vec<OwnSh
 }
 
 impl Book {
-    /// What the tunnel reserves already, in bytes per second for each priority: the links on which it
+    /// Lists what the tunnel reserves already, in bytes per second for each priority: the links on which it
     /// reserves something, in the order of their numbers, each once. It is what a search for a path of the
     /// tunnel takes: on a link that is not listed the tunnel reserves nothing. Where memory is refused the
     /// book is as it was, since it is only read.

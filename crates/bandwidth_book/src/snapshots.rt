@@ -1,64 +1,84 @@
 //! Snapshots of what is left of every link.
-ghost use Rattle.std.specs.Prelude.{◌≡◌, ◌<◌, ◌^◌, ◌-ℤ◌, pos, Some, ℕ, List, length, slice_index, slice_index_or, IfOk, OnErr};
+ghost use Rattle.std.specs.Prelude.{◌≡◌, ◌<◌, ◌^◌, Some, true, ℕ, List, [], All, length, slice_index, slice_index_or, IfOk, OnErr};
 ghost use Rattle.std.specs.Arc.{arc_value};
 ghost use Rattle.lsp_base.specs.Shares.{reservable};
 ghost use Rattle.lsp_base.specs.declared.effect.Change.{Change};
 ghost use Rattle.lsp_base.specs.declared.path.Path.{Path};
 ghost use Rattle.lsp_base.specs.declared.tunnel.Tunnel.{Tunnel};
-ghost use Rattle.te_snapshot.specs.Left.{all_left, left_on, state_beside};
+ghost use Rattle.te_snapshot.specs.Left.{left_on, state_beside};
 ghost use Rattle.te_snapshot.specs.Network.{NetworkState};
+ghost use Rattle.te_snapshot.specs.Pages.{is_marked, left_beside, row};
 ghost use Rattle.bandwidth_book.specs.Books.{HasNoEmptyEntry, IsReady, StandsFor, held_on, kept_by, links_of, network_of};
 ghost use Rattle.bandwidth_book.specs.Ledgers.{count, held_at};
-ghost use Rattle.bandwidth_book.specs.Paths.{IsHeldBy};
-ghost use Rattle.bandwidth_book.specs.Tables.{AreLeft};
+ghost use Rattle.bandwidth_book.specs.Tables.{AreFresh, AreLeft, IsHeldOn, IsLeftOver, IsRowOf};
 
 use crate::book::Book;
 use crate::ledgers::Ledgers;
-use crate::looks::{left_of, reservable_of, sums_at};
-use lsp_base::Tunnel;
+use lsp_base::{Path, Tunnel};
 use sequence::PlainData;
 use std::alloc::{AllocError, Global};
 use std::sync::Arc;
 use te_base::{Link, LinkNumber};
-use te_snapshot::{Snapshot, Topology};
+use te_snapshot::{Marks, Snapshot, Table, Topology};
 
-/// What is left of an amount beside each of eight sums.
-fn left_of_each(reservable: u64, sums: &[u64; 8]) -> [i64; 8]
-    requires reservable { reservable < 2 ^ 63 }
-    requires sums { (p : ℕ) → p < 8 → slice_index sums.now p < 2 ^ 63 }
-    ensures { (p : ℕ) → p < 8 → slice_index_or result p (pos 0) ≡ pos reservable -ℤ pos (slice_index sums.now p) }
+/// A snapshot to begin with, of which each page is to be made anew.
+pub(crate) fn first_snapshot(
+    alloc: Global,
+    topology: Arc<Topology, Global>,
+) -> Result<Snapshot, AllocError>
+    ensures { IfOk result (λ s. s.network ≡ arc_value topology) }
 {
-    let mut left = [0i64; 8];
-    for priority in 0..8usize {
-        left[priority] = left_of(reservable, sums[priority]);
+    let mut rows = Vec::new(alloc);
+    rows.resize(topology.links().len(), [0i64; 8])?;
+    Snapshot::new(alloc, topology, rows)
+}
+
+/// Marks the pages of a path's links.
+fn mark_links(marks: &mut Marks, links: &[LinkNumber])
+    ensures marked { All (λ l. is_marked marks.new l ≡ true) links.now }
+    ensures kept { (l : ℕ) → is_marked marks.old l ≡ true → is_marked marks.new l ≡ true }
+{
+    for link in links {
+        marks.mark(*link);
     }
-    left
 }
 
-/// What is left of a link at each priority.
-fn left_at(links: &[Link], ledgers: &Ledgers, link: LinkNumber) -> [i64; 8]
-    requires link { link < length links.now }
-    requires ledger { link < count ledgers.now }
-    requires small { reservable links.now link < 2 ^ 48 }
-    ensures { (paths : List Path) → IsHeldBy (count ledgers.now) (held_at ledgers.now) paths
-        → result ≡ left_on links.now paths link }
+/// Marks the pages of the links of each path.
+pub(crate) fn mark_paths(marks: &mut Marks, paths: &[Path])
+    ensures marked { All (λ x. All (λ l. is_marked marks.new l ≡ true) x.links) paths.now }
+    ensures kept { (l : ℕ) → is_marked marks.old l ≡ true → is_marked marks.new l ≡ true }
 {
-    left_of_each(reservable_of(links, link), sums_at(ledgers, link))
+    for path in paths {
+        mark_links(marks, path.links.as_slice());
+    }
 }
 
-/// What is left of every link.
-#[tactic(auto, unfolding(te_snapshot::specs::Left::all_left), using(crate::proofs::Tables::one_more_left))]
-fn table_of(alloc: Global, links: &[Link], ledgers: &Ledgers) -> Result<Vec<[i64; 8]>, AllocError>
+/// The stored sums of all links.
+fn all_sums(ledgers: &Ledgers) -> &[[u64; 8]]
+    ensures count { length result.now ≡ count ledgers.now }
+    ensures small { (l p : ℕ) → l < length result.now → p < 8 → slice_index (slice_index_or result.now l []) p < 2 ^ 63 }
+    ensures left { (links : List Link) (paths : List Path) (l : ℕ) → l < count ledgers.now → IsHeldOn (held_at ledgers.now l) l paths
+        → left_beside links result.now l ≡ left_on links paths l }
+{
+    &ledgers.sums
+}
+
+/// What is left of every link: the last snapshot's table, with the marked pages made anew.
+fn table_now(
+    alloc: Global,
+    last: &Snapshot,
+    marks: &Marks,
+    links: &[Link],
+    ledgers: &Ledgers,
+) -> Result<Table, AllocError>
     requires same { count ledgers.now ≡ length links.now }
+    requires whole { length links.now ≡ length last.now.network.links }
     requires small { (l : ℕ) → reservable links.now l < 2 ^ 48 }
-    ensures whole { IfOk result (λ table. length table.items ≡ length links.now) }
-    ensures left { IfOk result (λ table. (paths : List Path) → IsHeldBy (count ledgers.now) (held_at ledgers.now) paths → table.items ≡ all_left links.now paths) }
+    requires fresh { AreFresh links.now (held_at ledgers.now) marks.now last.now.unreserved }
+    ensures count { IfOk result (λ table. length table ≡ length links.now) }
+    ensures rows { IfOk result (λ table. (l : ℕ) → l < length links.now → IsRowOf links.now (held_at ledgers.now) l (row table l)) }
 {
-    let mut table = Vec::with_capacity(alloc, links.len())?;
-    for link in 0..links.len() {
-        table.push(left_at(links, ledgers, link))?;
-    }
-    Ok(table)
+    last.table().renewed(alloc, marks, links, all_sums(ledgers))
 }
 
 impl Book {
@@ -67,16 +87,32 @@ impl Book {
         ensures { IfOk result (λ topology. arc_value topology ≡ network_of self.now) }
     {
         if self.is_current {
-            return Arc::try_clone(&self.topology);
+            return self.last.shared_topology();
         }
-        let topology = self.topology.with_links(self.alloc, &self.links)?;
+        let topology = self.last.topology().with_links(self.alloc, &self.links)?;
         Ok(Arc::new(self.alloc, topology)?)
     }
 
+    /// A snapshot of now, of the pages of the last one and of new ones.
+    fn snapshot_now(&self) -> Result<Snapshot, AllocError>
+        ensures left { IfOk result (IsLeftOver (network_of self.now) (count self.now.ledgers) (held_at self.now.ledgers)) }
+        ensures rows { IfOk result (λ s. (l : ℕ) → l < length (links_of self.now) → IsRowOf (links_of self.now) (held_on self.now) l (row s.unreserved l)) }
+    {
+        let topology = self.topology_now()?;
+        let table = table_now(
+            self.alloc,
+            &self.last,
+            &self.marks,
+            &self.links,
+            &self.ledgers,
+        )?;
+        Snapshot::of(self.alloc, topology, table)
+    }
+
     /// The network, with what is left of every link at each priority, in bytes per second. Where no path and no value
-    /// changed since the last one it is that one, shared, and takes no memory; else only the numbers are
-    /// made anew, and the network where a link has other values. Later changes leave it as it is. Where memory is refused
-    /// nothing has changed.
+    /// changed since the last one it is that one, shared, and takes no memory; else only the pages with a link on which
+    /// something changed are made anew, and the network where a link has other values. Later changes leave it as it is.
+    /// Where memory is refused nothing has changed.
     pub fn snapshot(&mut self) -> Result<Snapshot, AllocError>
         ensures network { IfOk result (λ s. s.network ≡ network_of self.old) }
         ensures whole { IfOk result (λ s. (paths : List Path) → StandsFor self.old paths → s ≡ state_beside (network_of self.old) paths) }
@@ -90,15 +126,14 @@ impl Book {
         ensures tidy { HasNoEmptyEntry self.old → HasNoEmptyEntry self.new }
         ensures unchanged_without_memory { OnErr result (self.new ≡ self.old) }
     {
-        if let Some(kept) = &self.kept {
-            return kept.copy();
+        if self.is_kept {
+            return self.last.copy();
         }
-        let topology = self.topology_now()?;
-        let table = table_of(self.alloc, &self.links, &self.ledgers)?;
-        let snapshot = Snapshot::new(self.alloc, Arc::try_clone(&topology)?, table)?;
-        self.kept = Some(snapshot.copy()?);
-        self.topology = topology;
+        let snapshot = self.snapshot_now()?;
+        self.last = snapshot.copy()?;
+        self.is_kept = true;
         self.is_current = true;
+        self.marks = Marks::none();
         Ok(snapshot)
     }
 }

@@ -1,8 +1,8 @@
 //! What tunnels hold, by tunnel, and what one path does to it and to the sums of its links. A link that isn't there holds
 //! nothing, and a path's part on it is skipped.
-ghost use Rattle.std.specs.Prelude.{◌≡◌, ◌<◌, ◌≤◌, ◌+◌, ◌-◌, ◌^◌, ◌&&◌, [], ℕ, length, slice_index, None, Some, IsTrue, IfOk, IsOk, OnOk, true, false, OnErr, cond};
+ghost use Rattle.std.specs.Prelude.{◌≡◌, ◌<◌, ◌≤◌, ◌+◌, ◌-◌, ◌^◌, [], ℕ, length, slice_get, slice_index, None, Some, IfOk, IsOk, OnOk, true, false, OnErr, cond};
 ghost use Rattle.std.specs.Map.{lookup};
-ghost use Rattle.indexmap.specs.IndexMap.{IsUnique, get, insert_entry};
+ghost use Rattle.indexmap.specs.IndexMap.{IsUnique, get, insert_entry, keys, values};
 ghost use Rattle.lsp_base.specs.declared.tunnel.Tunnel.{Tunnel};
 ghost use Rattle.bandwidth_book.specs.Entries.{AreRising, IsMoved, held_in, promised_in};
 ghost use Rattle.bandwidth_book.specs.Held.{most, promised_after, room_for, takes_memory};
@@ -81,51 +81,24 @@ fn put_tunnel(
     Ok(())
 }
 
-/// Moves what a path holds in the entries of its tunnel, and the sums. Says also whether the tunnel is left with no entry.
-fn move_entries(
-    alloc: Global,
-    tunnels: &mut IndexMap<Tunnel, LinkEntries>,
-    sums: &mut [[u64; 8]],
-    tunnel: Tunnel,
-    links: &[LinkNumber],
-    motion: Motion,
-    held: Held,
-) -> (Result<(), AllocError>, bool)
-    requires sums { AreSums sums.old tunnels.old.entries }
-    requires small { (l p : ℕ) → l < length sums.old → p < 8 → sum_at sums.old l p < 2 ^ 63 - 2 ^ 48 }
-    requires least { (l : ℕ) (t : Tunnel) (p : ℕ) → l < length sums.old → most (held_in (entry_of tunnels.old.entries l t)) p < 2 ^ 48 }
-    requires below { held.bandwidth < 2 ^ 48 }
-    requires full { HasNoEmptyList tunnels.old.entries }
-    requires room { (l : ℕ) → l < length sums.old → room_for motion (length (held_by_links held l links.now)) ≤ promised_in (entry_of tunnels.old.entries l tunnel) }
-    ensures sums { AreSums sums.new tunnels.new.entries }
-    ensures rows { length sums.new ≡ length sums.old }
-    ensures few { length tunnels.old.entries ≤ 30000 → length tunnels.new.entries ≤ 30000 }
-    ensures moved { (l : ℕ) (t : Tunnel) → l < length sums.old → IsMoved motion (held_by_path tunnel held l t links.now) (entry_of tunnels.old.entries l t) (entry_of tunnels.new.entries l t) }
-    ensures past { (l : ℕ) (t : Tunnel) → length sums.old ≤ l → held_in (entry_of tunnels.new.entries l t) ≡ held_in (entry_of tunnels.old.entries l t) }
-    ensures ok { OnOk result.0 ((l : ℕ) (t : Tunnel) → l < length sums.old → promised_after motion (length (held_by_path tunnel held l t links.now)) (promised_in (entry_of tunnels.old.entries l t)) ≤ promised_in (entry_of tunnels.new.entries l t)) }
-    ensures sure { takes_memory motion ≡ false → IsOk result.0 }
-    ensures empty { IsTrue result.1 → get tunnel_eq tunnels.new tunnel ≡ Some [] }
-    ensures full { (t : Tunnel) → get tunnel_eq tunnels.new t ≡ Some [] → (result.1 && tunnel_eq tunnel t) ≡ true }
-    ensures unique { IsUnique tunnel_eq tunnels.new }
+/// Finds the place of a tunnel, first where one was found last; the end if it isn't there.
+fn place_of(tunnels: &IndexMap<Tunnel, LinkEntries>, last: usize, tunnel: &Tunnel) -> usize
+    ensures key { (t : Tunnel) → slice_get (keys tunnels.now) result ≡ Some t → t ≡ tunnel.now }
+    ensures value { slice_get (values tunnels.now) result ≡ get tunnel_eq tunnels.now tunnel.now }
 {
-    if let Some(entries) = tunnels.get_mut(&tunnel) {
-        let moved = entries.move_links(alloc, sums, links, motion, held);
-        return (moved, entries.is_empty());
+    match tunnels.get_index(last) {
+        Some((found, _)) if found == tunnel => last,
+        _ => tunnels.get_index_of(tunnel).unwrap_or(tunnels.len()),
     }
-    if motion.takes_memory() {
-        return (
-            put_tunnel(alloc, tunnels, sums, tunnel, links, motion, held),
-            false,
-        );
-    }
-    (Ok(()), false)
 }
 
-/// Moves what a path holds in the entries of its tunnel, and the sums. A tunnel that is left with no entry goes.
+/// Moves what a path holds in the entries of its tunnel, and the sums. A tunnel that is left with no entry goes. It is looked
+/// up unless it is the one that was found last.
 pub fn move_in_tunnel(
     alloc: Global,
     tunnels: &mut IndexMap<Tunnel, LinkEntries>,
     sums: &mut [[u64; 8]],
+    last: &mut usize,
     tunnel: Tunnel,
     links: &[LinkNumber],
     motion: Motion,
@@ -147,14 +120,23 @@ pub fn move_in_tunnel(
     ensures full { HasNoEmptyList tunnels.new.entries }
     ensures unique { IsUnique tunnel_eq tunnels.new }
 {
-    let (moved, is_empty) = move_entries(alloc, tunnels, sums, tunnel, links, motion, held);
-    if is_empty {
-        tunnels.swap_remove(&tunnel);
+    let place = place_of(tunnels, *last, &tunnel);
+    *last = place;
+    if let Some(entries) = tunnels.get_index_mut(place) {
+        let moved = entries.move_links(alloc, sums, links, motion, held);
+        if entries.is_empty() {
+            tunnels.swap_remove_index(place);
+        }
+        return moved;
     }
-    moved
+    if motion.takes_memory() {
+        put_tunnel(alloc, tunnels, sums, tunnel, links, motion, held)
+    } else {
+        Ok(())
+    }
 }
 
-/// `count` rows of sums, each of zeros.
+/// Makes `count` rows of sums, each of zeros.
 pub fn empty_sums(alloc: Global, count: usize) -> Result<Vec<[u64; 8]>, AllocError>
     ensures count { IfOk result (λ sums. length sums.items ≡ count) }
     ensures nothing { IfOk result (λ sums. (l p : ℕ) → l < count → p < 8 → sum_at sums.items l p ≡ 0) }
@@ -167,7 +149,7 @@ pub fn empty_sums(alloc: Global, count: usize) -> Result<Vec<[u64; 8]>, AllocErr
 }
 
 impl Ledgers {
-    /// Ledgers of `links` links, on which nothing is held.
+    /// Makes ledgers of `links` links, on which nothing is held.
     pub fn new(alloc: Global, links: usize) -> Result<Self, AllocError>
         ensures count { IfOk result (λ ledgers. count ledgers ≡ links) }
         ensures entries { IfOk result (λ ledgers. (l : ℕ) (t : Tunnel) → entry_at ledgers l t ≡ None) }
@@ -176,10 +158,11 @@ impl Ledgers {
         Ok(Ledgers {
             tunnels: IndexMap::new(alloc),
             sums,
+            last: 0,
         })
     }
 
-    /// How many links there are.
+    /// Counts the links.
     pub fn count(&self) -> usize
         ensures { result ≡ count self.now }
     {
@@ -207,6 +190,7 @@ impl Ledgers {
             alloc,
             &mut self.tunnels,
             &mut self.sums,
+            &mut self.last,
             tunnel,
             path,
             motion,
@@ -214,7 +198,7 @@ impl Ledgers {
         )
     }
 
-    /// The stored sums of a link.
+    /// Lends the stored sums of a link.
     pub fn sums(&self, link: LinkNumber) -> &[u64; 8]
         requires { link < count self.now }
         ensures summed { (p : ℕ) → p < 8 → slice_index result.now p ≡ total (most_on link p) self.now.tunnels.entries }
@@ -224,7 +208,7 @@ impl Ledgers {
         &self.sums[link]
     }
 
-    /// The greatest bandwidth of the tunnel's paths on a link that are held at the priority or a better one, or 0.
+    /// Looks up the greatest bandwidth of the tunnel's paths on a link that are held at the priority or a better one, or 0.
     pub fn share(&self, tunnel: Tunnel, link: LinkNumber, priority: u8) -> u64
         requires { priority < 8 }
         ensures { result ≡ most (held_at self.now link tunnel) priority }
@@ -235,7 +219,7 @@ impl Ledgers {
         }
     }
 
-    /// The tunnel's entries, in the order of their links, at most one for each.
+    /// Lends the tunnel's entries, in the order of their links, at most one for each.
     pub fn entries(&self, tunnel: Tunnel) -> &[LinkEntry]
         ensures entries { result.now ≡ entries_in (lookup (tunnel_eq tunnel) self.now.tunnels.entries) }
         ensures rising { AreRising result.now }

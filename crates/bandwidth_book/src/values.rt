@@ -27,8 +27,9 @@ impl Book {
         ensures pending { (l : ℕ) (t : Tunnel) → pending_on self.new l t ≡ pending_on self.old l t }
         ensures tidy { HasNoEmptyEntry self.old → HasNoEmptyEntry self.new }
     {
-        self.kept = None;
+        self.is_kept = false;
         self.is_current = false;
+        self.marks.mark(link);
         set_values(&mut self.links, link, values);
     }
 }

@@ -298,4 +298,12 @@ impl Database {
     {
         self.state.te_base()
     }
+
+    /// What is known at this moment.
+    pub fn state(&self) -> &State
+        ensures state { result.now ≡ self.now.state }
+        ensures replays { Replays self.now }
+    {
+        &self.state
+    }
 }

@@ -79,7 +79,7 @@ impl PlainData for Effect {
 }
 
 impl Effect {
-    /// The effect of these parts. Allocates nothing.
+    /// Makes the effect of these parts. Allocates nothing.
     pub fn new(
         dropped: Vec<Path>,
         added: Vec<Path>,

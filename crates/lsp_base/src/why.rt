@@ -43,7 +43,7 @@ pub enum Why {
 }
 
 impl Why {
-    /// The number of the refusal, from 1 to 20 in the order of the variants.
+    /// Returns the number of the refusal, from 1 to 20 in the order of the variants.
     pub fn number(self) -> u8
         ensures number { result ≡ number_of self }
         ensures last { result ≤ 20 }

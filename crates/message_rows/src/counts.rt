@@ -1,7 +1,7 @@
 //! Long messages, by the numbers of their items and hops.
 
-use crate::faults::add_fault;
 use crate::written::add_written_message;
+use message_words::add_fault;
 use pcep_messages::{Answer, Initiate, Message, StateReport, read_message};
 use std::alloc::{AllocError, Global};
 use std::fmt::Write;

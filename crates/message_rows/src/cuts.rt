@@ -1,6 +1,6 @@
 //! Messages cut short.
 
-use crate::faults::add_fault;
+use message_words::add_fault;
 use pcep_messages::{MessageFault, read_message};
 use std::alloc::{AllocError, Global};
 use std::fmt::Write;

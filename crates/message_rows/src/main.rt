@@ -7,6 +7,7 @@
 //! | `object HEX` | a line for the object at the front, and how it is written again |
 //! | `count HEX` | how many items and hops a long message has, and how it is written again |
 //! | `cuts HEX` | how the message is read when it is cut short, with the length left, and with the length mended |
+//! | `line TEXT` | what `pced decode` says of the line |
 //! | `notice NOTICE` | the bytes of a message that a session sends by itself |
 //! | `word HEX` | the bandwidth and the metric of a word, and their words |
 //! | `number N` | the least bandwidth that is not below the number, and the number as a metric, with their words |
@@ -24,8 +25,6 @@
 mod bytes;
 mod counts;
 mod cuts;
-mod faults;
-mod fields;
 mod messages;
 mod notices;
 mod objects;

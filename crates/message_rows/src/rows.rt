@@ -7,6 +7,7 @@ use crate::messages::add_read_message;
 use crate::notices::add_notice;
 use crate::objects::add_read_object;
 use crate::words::{add_address, add_number, add_priorities, add_word};
+use message_words::add_line;
 use std::alloc::{AllocError, Global};
 
 /// Adds what the bytes are, as the row's first word asks.
@@ -51,6 +52,7 @@ fn add_answer_with(
         "priorities" => add_priorities(rest, text),
         "address" => add_address(rest, text),
         "notice" => add_notice(alloc, rest, text),
+        "line" => add_line(alloc, rest, text),
         _ => add_answer_of_bytes(alloc, word, rest, text),
     }
 }

@@ -132,7 +132,7 @@ fn answer(
 
 /// The same as `find`, and adds to `fallbacks` 1 where the quick search did not show its answer, so that the
 /// second one ran: where the cheapest walk has too many links.
-pub fn find_counting(
+fn find_counting(
     alloc: Global,
     snapshot: &Snapshot,
     constraints: &Constraints,

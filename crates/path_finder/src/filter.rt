@@ -1,6 +1,6 @@
 //! Which links a path may take, and what they cost.
-ghost use Rattle.std.specs.Prelude.{◌≡◌, ◌<◌, ◌≤◌, ◌^◌, ◌-◌, ◌||◌, pos, int_le, nat_le, IfSome, slice_index_or, []};
-ghost use Rattle.te_snapshot.specs.Room.{left, has_room_at, has_room};
+ghost use Rattle.std.specs.Prelude.{◌≡◌, ◌<◌, ◌≤◌, ◌^◌, ◌-◌, ◌||◌, pos, int_le, nat_le, IfSome};
+ghost use Rattle.te_snapshot.specs.Room.{has_room_at, has_room};
 ghost use Rattle.te_base.specs.Base.{IsLinkAmong};
 ghost use Rattle.te_snapshot.specs.Leaving.{arc_of, IsArcAmong};
 ghost use Rattle.te_snapshot.specs.Admissible.{is_open};
@@ -20,16 +20,6 @@ fn rise_fits(left: i64, share: u64, bandwidth: u64) -> bool
     bandwidth <= share || (bandwidth - share) as i64 <= left
 }
 
-#[inline(always)]
-fn left_on(unreserved: &[[i64; 8]], link: LinkNumber, priority: Priority) -> i64
-    ensures { result ≡ left unreserved.now link priority }
-{
-    match unreserved.get(link) {
-        Some(numbers) => numbers[priority.number() as usize],
-        None => 0,
-    }
-}
-
 /// Whether the link bears the bandwidth at the priority. Own shares are looked up only where less is left
 /// than the bandwidth.
 #[inline(always)]
@@ -37,7 +27,7 @@ fn has_room_at(query: &Query<'_>, link: LinkNumber, priority: Priority) -> bool
     ensures { result ≡ has_room_at query.now.unreserved.now query.now.own.now query.now.constraints.now.bandwidth link priority }
 {
     let bandwidth = query.constraints.bandwidth.value();
-    let left = left_on(query.unreserved, link, priority);
+    let left = query.unreserved.left(link, priority);
     bandwidth as i64 <= left || rise_fits(left, own_share(query.own, link, priority), bandwidth)
 }
 

@@ -30,5 +30,5 @@ mod quick;
 mod rounds;
 mod walk;
 
-pub use answer::{find, find_counting};
+pub use answer::find;
 pub use found::Found;

@@ -1,14 +1,14 @@
 //! What a search is given.
 use lsp_base::Constraints;
 use te_base::NodeNumber;
-use te_snapshot::{OwnShare, Topology};
+use te_snapshot::{OwnShare, Table, Topology};
 
 /// What is asked, and of which network.
 #[derive(Clone, Copy)]
 pub(crate) struct Query<'a> {
     pub topology: &'a Topology,
     /// What is unreserved on each link, by priority.
-    pub unreserved: &'a [[i64; 8]],
+    pub unreserved: &'a Table,
     pub constraints: &'a Constraints,
     pub own: &'a [OwnShare],
 }

@@ -2,3 +2,4 @@ pub mod Ranges
 pub mod Faults
 pub mod Expiries
 pub mod Texts
+pub mod Shows

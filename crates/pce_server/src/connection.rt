@@ -6,7 +6,7 @@ use crate::noted::{Noted, Notes, has_down};
 use crate::overheard::{Heard, PeerTimers, Said};
 use place_tokens::Room;
 use seated_store::Seated;
-use server_talk::{Ended, Line, Watch, connection, part, prepare};
+use server_talk::{Ended, PolledSocket, Watch, connection, part, prepare};
 use shared_pce::Seat;
 use std::cell::Cell;
 use std::io;
@@ -58,7 +58,7 @@ fn reason_of<R: Wait + Clock, S: Ledger, G: Ledger, B: Room>(
 /// Serves the peer from this seat until the end of its connection.
 fn receive<R: Wait + Clock, S: Ledger, G: Ledger, B: Room>(
     context: &Context<'_, R, S, G, B>,
-    line: Line<'_>,
+    socket: PolledSocket<'_>,
     stream: &TcpStream,
     peer: u32,
     slot: usize,
@@ -69,19 +69,15 @@ fn receive<R: Wait + Clock, S: Ledger, G: Ledger, B: Room>(
         keepalive: 0,
         dead: 0,
     });
-    let mut heard = Heard::new(line, &timers);
+    let mut heard = Heard::new(socket, &timers);
     let mut said = Said::new(stream);
     let mut store = Noted {
         notes: Notes {
-            moments: context.moments_at(slot),
+            context,
             slot,
-            peers: context.peers,
-            log: context.log,
-            grants: context.grants,
             peer,
             timers: &timers,
             up_ms: 0,
-            reports: 0,
             refused: None,
         },
         store: Seated::new(context.rt, context.alloc, context.shared, seat),
@@ -105,18 +101,22 @@ fn receive<R: Wait + Clock, S: Ledger, G: Ledger, B: Room>(
     }
 }
 
-/// The prepared socket as a line, which others may wake.
+/// The prepared socket, whose waits others may end.
 fn connected<
     'a,
     R: Wait + Clock + Net<Listener = TcpListener, Stream = TcpStream>,
     S: Ledger,
     G: Ledger,
     B: Room,
->(context: &Context<'_, R, S, G, B>, stream: &'a TcpStream, slot: usize) -> io::Result<Line<'a>> {
+>(
+    context: &Context<'_, R, S, G, B>,
+    stream: &'a TcpStream,
+    slot: usize,
+) -> io::Result<PolledSocket<'a>> {
     prepare(stream)?;
-    let line = Line::new(context.rt, context.alloc, stream)?;
-    context.wakers.set(context.rt, slot, line.waker()?);
-    Ok(line)
+    let socket = PolledSocket::new(context.rt, context.alloc, stream)?;
+    context.wakers.set(context.rt, slot, socket.waker()?);
+    Ok(socket)
 }
 
 /// Whether the end of the session is to reach the peer: then it is waited for the peer to close.
@@ -143,13 +143,13 @@ fn host<
     slot: usize,
     seat: &mut Seat<S, G, B>,
 ) -> Reason {
-    let Ok(line) = connected(context, stream, slot) else {
+    let Ok(socket) = connected(context, stream, slot) else {
         return Reason::Unheard;
     };
     if context.peers.connected(context.rt, peer).is_err() {
         return Reason::Unheard;
     }
-    let left = receive(context, line, stream, peer, slot, seat);
+    let left = receive(context, socket, stream, peer, slot, seat);
     let now_ms = context.moments().now_ms();
     context.peers.ended(context.rt, peer, left.parting, now_ms);
     if may_part(context, left.parting, slot) {

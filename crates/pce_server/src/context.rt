@@ -3,6 +3,7 @@ use crate::expiry::Peers;
 use crate::grant_gate::GrantGate;
 use crate::log_lines::LogLine;
 use crate::log_queue::LogQueue;
+use crate::network::LinkEnds;
 use crate::run::{Run, RunFault};
 use crate::seat_pool::SeatPool;
 use crate::wakers::Wakers;
@@ -69,6 +70,8 @@ pub(crate) struct Context<'a, R: Clock, S: Ledger, G: Ledger, B: Room> {
     pub known: &'a Option<TeBase>,
     /// So many connections of others came.
     pub strangers: &'a AtomicU64,
+    /// The ends of each link.
+    pub ends: &'a [LinkEnds],
     pub start: Option<Instant>,
     /// So long a peer that went down is kept, in milliseconds.
     pub keep_ms: u64,

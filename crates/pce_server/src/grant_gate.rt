@@ -29,9 +29,9 @@ impl GrantGate {
         }
     }
 
-    /// The router has reported all of its LSPs.
-    pub fn in_sync<R: Wait>(&self, rt: &R, address: u32) {
-        self.settling.lock(rt).in_sync(address);
+    /// The router has reported all of its LSPs, or its session has ended.
+    pub fn note<R: Wait>(&self, rt: &R, address: u32, is_in_sync: bool) {
+        self.settling.lock(rt).note(address, is_in_sync);
     }
 
     pub fn look<R: Wait>(&self, rt: &R, now_ms: u64) -> GrantGateLook {

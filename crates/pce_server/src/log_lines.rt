@@ -10,7 +10,7 @@ use std::fmt;
 const TARGET: &str = "pce_server";
 
 /// So many kinds of lines there are.
-pub(crate) const KINDS: usize = 14;
+pub(crate) const KINDS: usize = 17;
 
 /// Why a connection ended.
 #[derive(Clone, Copy, PartialEq, Eq, Debug)]
@@ -68,10 +68,10 @@ pub(crate) enum LogLine {
         timers: PeerTimers,
         capabilities: Option<Capabilities>,
     },
-    /// The peer has reported all of its LSPs: by so many reports, so long after it came up.
+    /// The peer has reported all of its LSPs, so many, so long after it came up.
     InSync {
         peer: u32,
-        reports: u64,
+        lsps: usize,
         after_ms: u64,
     },
     /// A connection ended.
@@ -95,6 +95,8 @@ pub(crate) enum LogLine {
     WorkerFault(Fault),
     /// The operator's lines aren't answered any more.
     OperatorGone,
+    /// The control socket can't be heard.
+    ControlGone,
     /// The state refused an event of the peer, by this number.
     Refused {
         peer: u32,
@@ -106,6 +108,17 @@ pub(crate) enum LogLine {
     Stranger {
         address: u32,
         count: u64,
+    },
+    /// A reload left a link below zero: so much is left of it at its worst priority.
+    BelowZero {
+        link: usize,
+        local: u32,
+        remote: u32,
+        worst: i64,
+    },
+    /// The process may have so few descriptors that connections may find none.
+    FewDescriptors {
+        limit: u64,
     },
     /// So many lines of this kind were withheld.
     Withheld {
@@ -134,6 +147,9 @@ fn subject(kind: usize) -> &'static str {
         10 => "refused",
         11 => "settled",
         12 => "stranger",
+        13 => "below zero",
+        14 => "control socket",
+        15 => "few descriptors",
         _ => "log",
     }
 }
@@ -155,7 +171,10 @@ impl LogLine {
             LogLine::Refused { .. } => 10,
             LogLine::Settled => 11,
             LogLine::Stranger { .. } => 12,
-            LogLine::Withheld { .. } | LogLine::Lost { .. } => 13,
+            LogLine::BelowZero { .. } => 13,
+            LogLine::ControlGone => 14,
+            LogLine::FewDescriptors { .. } => 15,
+            LogLine::Withheld { .. } | LogLine::Lost { .. } => 16,
         }
     }
 
@@ -173,7 +192,10 @@ impl LogLine {
             | LogLine::MemoryRefused
             | LogLine::WorkerFault(_)
             | LogLine::OperatorGone
+            | LogLine::ControlGone
             | LogLine::Stranger { .. }
+            | LogLine::BelowZero { .. }
+            | LogLine::FewDescriptors { .. }
             | LogLine::Withheld { .. }
             | LogLine::Lost { .. } => Level::Warn,
             LogLine::Refused { .. } => Level::Debug,
@@ -249,11 +271,11 @@ impl fmt::Display for LogLine {
             }
             LogLine::InSync {
                 peer,
-                reports,
+                lsps,
                 after_ms,
             } => {
                 let peer = Dotted(peer);
-                write!(f, "in sync {peer} reports={reports} after={after_ms}ms")
+                write!(f, "in sync {peer} lsps={lsps} after={after_ms}ms")
             }
             LogLine::Ended { peer, reason: _ } => {
                 let peer = Dotted(peer);
@@ -268,6 +290,7 @@ impl fmt::Display for LogLine {
             LogLine::MemoryRefused => f.write_str("memory refused"),
             LogLine::WorkerFault(fault) => write!(f, "worker: {fault}"),
             LogLine::OperatorGone => f.write_str("operator gone"),
+            LogLine::ControlGone => f.write_str("control socket gone"),
             LogLine::Refused { peer, number } => {
                 let peer = Dotted(peer);
                 write!(f, "refused {number} {peer}")
@@ -277,6 +300,19 @@ impl fmt::Display for LogLine {
                 let address = Dotted(address);
                 write!(f, "stranger {address} count={count}")
             }
+            LogLine::BelowZero {
+                link,
+                local,
+                remote,
+                worst,
+            } => {
+                let (local, remote) = (Dotted(local), Dotted(remote));
+                write!(
+                    f,
+                    "below zero link={link} local={local} remote={remote} worst={worst}"
+                )
+            }
+            LogLine::FewDescriptors { limit } => write!(f, "few descriptors {limit}"),
             LogLine::Withheld { kind, lines } => {
                 let subject = subject(kind);
                 write!(f, "withheld {lines} lines: {subject}")

@@ -1,70 +1,73 @@
 //! A store that notes what happens to its peer's session.
-use crate::context::Moments;
-use crate::expiry::Peers;
-use crate::grant_gate::GrantGate;
+use crate::context::Context;
 use crate::log_lines::LogLine;
-use crate::log_queue::LogQueue;
 use crate::overheard::PeerTimers;
 use engine_core::{Call, Desk, Event, Fault, Reply, Store};
 use pcep_objects::Capabilities;
+use place_tokens::Room;
 use server_talk::Watch;
 use std::alloc::AllocError;
 use std::cell::Cell;
 use std::sync::Wait;
+use std::sync::ledger::Ledger;
 use std::time::Clock;
 
 /// What a connection's thread notes of its session.
 #[derive(Drop)]
-pub(crate) struct Notes<'a, R: Clock> {
-    pub moments: Moments<'a, R>,
+pub(crate) struct Notes<'a, 'c, 't, R: Clock, S: Ledger, G: Ledger, B: Room> {
+    pub context: &'a Context<'c, R, S, G, B>,
     /// The slot of the connection's seat.
     pub slot: usize,
-    pub peers: &'a Peers,
-    pub log: &'a LogQueue,
-    pub grants: &'a GrantGate,
     pub peer: u32,
     /// Those of the peer's Open.
-    pub timers: &'a Cell<PeerTimers>,
+    pub timers: &'t Cell<PeerTimers>,
     /// When the session came up, in milliseconds.
     pub up_ms: u64,
-    /// So many reports came since then.
-    pub reports: u64,
     /// The session was refused, by this number.
     pub refused: Option<u8>,
 }
 
-impl<'a, R: Wait + Clock> Notes<'a, R> {
-    fn say(&self, line: LogLine) {
-        self.log.say(self.moments.rt, line, self.moments.now_ms());
+impl<'a, 'c, 't, R: Wait + Clock, S: Ledger, G: Ledger, B: Room> Notes<'a, 'c, 't, R, S, G, B> {
+    fn now_ms(&self) -> u64 {
+        self.context.moments().now_ms()
     }
 
     /// Marks the session as one that comes up, which no other connection ends. False where it was ended already.
     fn may_rise(&self) -> bool {
-        self.moments.wakers.mark(self.moments.rt, self.slot, true)
+        let context = self.context;
+        context.wakers.mark(context.rt, self.slot, true)
     }
 
     /// The session hasn't come up.
     fn stay_down(&mut self) {
-        let _has_place = self.moments.wakers.mark(self.moments.rt, self.slot, false);
+        let context = self.context;
+        let _has_place = context.wakers.mark(context.rt, self.slot, false);
     }
 
     fn rise(&mut self, capabilities: Option<Capabilities>) {
-        self.peers.up(self.moments.rt, self.peer);
-        self.up_ms = self.moments.now_ms();
-        self.say(LogLine::Up {
+        self.context.peers.up(self.context.rt, self.peer);
+        self.up_ms = self.now_ms();
+        self.context.say(LogLine::Up {
             peer: self.peer,
             timers: self.timers.get(),
             capabilities,
         });
     }
 
+    /// The peer has reported all of its LSPs.
     fn sync(&self) {
-        self.grants.in_sync(self.moments.rt, self.peer);
-        self.say(LogLine::InSync {
+        let context = self.context;
+        context.grants.note(context.rt, self.peer, true);
+        context.say(LogLine::InSync {
             peer: self.peer,
-            reports: self.reports,
-            after_ms: self.moments.now_ms().saturating_sub(self.up_ms),
+            lsps: context.shared.lsp_count(context.rt, self.peer),
+            after_ms: self.now_ms().saturating_sub(self.up_ms),
         });
+    }
+
+    /// What the peer holds isn't known any more.
+    fn lose_sync(&self) {
+        self.context.grants.note(self.context.rt, self.peer, false);
     }
 
     fn refuse(&mut self, event: &Event, number: u8) {
@@ -72,7 +75,7 @@ impl<'a, R: Wait + Clock> Notes<'a, R> {
             self.refused = Some(number);
             self.stay_down();
         }
-        self.say(LogLine::Refused {
+        self.context.say(LogLine::Refused {
             peer: self.peer,
             number,
         });
@@ -84,7 +87,6 @@ impl<'a, R: Wait + Clock> Notes<'a, R> {
             (event, Reply::Refused(why)) => self.refuse(event, why.number()),
             (Event::Up { capabilities, .. }, Reply::Done) => self.rise(*capabilities),
             (Event::Up { .. }, _) => self.stay_down(),
-            (Event::Report { .. }, _) => self.reports = self.reports.saturating_add(1),
             (Event::Marker { .. }, _) => self.sync(),
             _ => {}
         }
@@ -100,8 +102,8 @@ impl<'a, R: Wait + Clock> Notes<'a, R> {
 /// The store of one session. That the session came up is noted before the list of the call is emptied, and so before
 /// the session's Down. A connection that was ended for another can't come up any more.
 #[derive(Drop)]
-pub(crate) struct Noted<'a, R: Clock, D: Desk + Drop> {
-    pub notes: Notes<'a, R>,
+pub(crate) struct Noted<'a, 'c, 't, R: Clock, S: Ledger, G: Ledger, B: Room, D: Desk + Drop> {
+    pub notes: Notes<'a, 'c, 't, R, S, G, B>,
     pub store: D,
 }
 
@@ -113,7 +115,8 @@ pub(crate) fn has_down<D: Store>(store: &D) -> bool {
         .any(|call| matches!(call.event.event(), Event::Down { .. }))
 }
 
-impl<'a, R: Wait + Clock, D: Desk + Drop> Store for Noted<'a, R, D> {
+impl<'a, 'c, 't, R: Wait + Clock, S: Ledger, G: Ledger, B: Room, D: Desk + Drop> Store
+    for Noted<'a, 'c, 't, R, S, G, B, D> {
     ghost calls = { λ s. D.calls s.store };
 
     ghost moves = { λ old made new. D.moves old.store made new.store };
@@ -134,6 +137,9 @@ impl<'a, R: Wait + Clock, D: Desk + Drop> Store for Noted<'a, R, D> {
         if matches!(event, Event::Up { .. }) && !self.notes.may_rise() {
             return Err(Fault::OutOfMemory);
         }
+        if matches!(event, Event::Down { .. }) {
+            self.notes.lose_sync();
+        }
         self.store.submit(event)
     }
 
@@ -151,7 +157,8 @@ impl<'a, R: Wait + Clock, D: Desk + Drop> Store for Noted<'a, R, D> {
     }
 }
 
-impl<'a, R: Wait + Clock, D: Desk + Drop> Desk for Noted<'a, R, D> {
+impl<'a, 'c, 't, R: Wait + Clock, S: Ledger, G: Ledger, B: Room, D: Desk + Drop> Desk
+    for Noted<'a, 'c, 't, R, S, G, B, D> {
     ghost queues = { λ s peer waits. D.queues s.store peer waits };
 
     ghost is_left = { λ s table. D.is_left s.store table };
@@ -159,7 +166,7 @@ impl<'a, R: Wait + Clock, D: Desk + Drop> Desk for Noted<'a, R, D> {
     fn roll_if_full(&mut self) -> Result<Option<u64>, AllocError> {
         let rolled = self.store.roll_if_full()?;
         if let Some(steps) = rolled {
-            self.notes.say(LogLine::Rolled { steps });
+            self.notes.context.say(LogLine::Rolled { steps });
         }
         Ok(rolled)
     }

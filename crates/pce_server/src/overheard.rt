@@ -1,5 +1,5 @@
 //! A peer's socket whose first and last bytes are kept for the log: its timers, and how its session ended.
-use server_talk::{Line, Patient};
+use server_talk::{Patient, PolledSocket};
 use std::cell::Cell;
 use std::io;
 use std::io::{Read, Write};
@@ -53,7 +53,7 @@ impl Tail {
 /// What a peer says.
 #[derive(Drop)]
 pub(crate) struct Heard<'a> {
-    line: Line<'a>,
+    socket: PolledSocket<'a>,
     head: [u8; KEPT],
     count: usize,
     tail: Tail,
@@ -62,9 +62,9 @@ pub(crate) struct Heard<'a> {
 }
 
 impl<'a> Heard<'a> {
-    pub fn new(line: Line<'a>, timers: &'a Cell<PeerTimers>) -> Heard<'a> {
+    pub fn new(socket: PolledSocket<'a>, timers: &'a Cell<PeerTimers>) -> Heard<'a> {
         Heard {
-            line,
+            socket,
             head: [0; KEPT],
             count: 0,
             tail: Tail { bytes: [0; KEPT] },
@@ -99,7 +99,7 @@ impl<'a> Heard<'a> {
 
 impl<'a> Read for Heard<'a> {
     fn read(&mut self, buf: &mut [u8]) -> io::Result<usize> {
-        let count = self.line.read(buf)?;
+        let count = self.socket.read(buf)?;
         self.note(&buf[..count]);
         Ok(count)
     }
@@ -107,7 +107,7 @@ impl<'a> Read for Heard<'a> {
 
 impl<'a> Patient for Heard<'a> {
     fn set_patience(&mut self, most: Duration) {
-        self.line.set_patience(most);
+        self.socket.set_patience(most);
     }
 }
 

@@ -1,30 +1,34 @@
 //! A whole run.
-ghost use Rattle.std.specs.Prelude.{◌≡◌, ◌≤◌, true};
+ghost use Rattle.std.specs.Prelude.{◌≡◌, ◌≤◌};
 ghost use Rattle.pce_server.specs.Faults.{closes_run};
-ghost use Rattle.pce_server.specs.Ranges.{AreSessions, AreOrders};
+ghost use Rattle.pce_server.specs.Ranges.{AreOrders};
 
 use crate::acceptor::accept_all;
+use crate::answering::answer_operator;
 use crate::context::Context;
+use crate::control::{Operators, control_seats, hear_controls};
 use crate::expiry::Peers;
 use crate::grant_gate::GrantGate;
 use crate::log_lines::{LogLine, is_debug_wanted};
 use crate::log_queue::LogQueue;
 use crate::log_writer::{ErrorOutput, write_log};
+use crate::network::{LinkEnds, ends_of};
 use crate::run::{Run, RunFault};
 use crate::seat_pool::SeatPool;
+use crate::starting::{few_descriptors, listening_line, live_of};
 use crate::wakers::Wakers;
 use crate::workers::{keep_time, work};
 use history_core::Database;
 use log::{Log, warn};
 use place_tokens::{Room, Unopened};
-use seated_store::Seated;
 use server_rules::Settling;
-use server_talk::{OperatorEnd, Patient, Plan, bound_accepts, operate, peer_of};
+use server_talk::{OperatorEnd, Patient, Plan, bound_accepts};
 use shared_pce::{Audit, Fault, Seat, Shared};
 use std::alloc::Global;
 use std::io::Write;
 use std::marker::Brand;
 use std::net::{Net, TcpListener, TcpStream};
+use std::os::unix::net::UnixListener;
 use std::sync::Wait;
 use std::sync::atomic::AtomicU64;
 use std::sync::ledger::{Blank, Ledger};
@@ -41,7 +45,8 @@ pub const AT_ONCE: usize = 64;
 pub enum Sessions {
     /// So many in all. The run ends when these and the operator's lines have ended.
     Count(u64),
-    /// Any number, until the operator's lines end. Then each session that lives is closed.
+    /// Any number, until the operator's lines end; with a control socket, until one of them asks for the end. Then each
+    /// session that lives is closed.
     Endless,
 }
 
@@ -56,6 +61,8 @@ pub struct Orders {
     /// No ticket is taken before so many seconds have passed since the start, or each router that is to be waited for is
     /// in sync.
     pub settle_seconds: u64,
+    /// So many descriptors the process may have, where that is known.
+    pub descriptors: Option<u64>,
 }
 
 /// Which routers are heard, and which are waited for.
@@ -67,26 +74,19 @@ pub struct Routers<'a> {
     pub settle_for: &'a [u32],
 }
 
-/// How many connections have a place, at most.
-fn live_of(sessions: Sessions) -> u64
-    requires { AreSessions sessions }
-    ensures { (1 ≤ result) × (result ≤ 64) }
-{
-    match sessions {
-        Sessions::Count(count) => count.min(AT_ONCE as u64),
-        Sessions::Endless => AT_ONCE as u64,
-    }
-}
-
 /// Serves routers and operator over a network of which nothing was reported yet, until both have ended, and closes
 /// the database. What happens is logged by a thread of its own, so that no other waits for whoever reads the log. At most
 /// 64 connections have a place. Where all are taken, who comes has one that isn't up yet ended, or is let go.
 ///
+/// With a control socket more operators are heard, four at once, and an endless run ends by the line `end` alone, whoever
+/// says it. One that fails ends alone.
+///
 /// After a fault that ends the run, sessions are closed and connections accepted no more. Where the writer fails, the run
 /// goes on without an operator.
-pub fn serve_run<R, I: Patient, O: Write, P: Plan>(
+pub fn serve_run<R, I: Patient, O: Write, P: Plan + Sync>(
     rt: &R,
     listener: &TcpListener,
+    control: Option<&UnixListener>,
     te: TeBase,
     plan: &P,
     orders: Orders,
@@ -104,11 +104,12 @@ where
         + Sync,
     requires orders { AreOrders orders }
 {
-    let seats = 2 * live_of(orders.sessions) + orders.workers + 2;
+    let seats = 2 * live_of(orders.sessions) + orders.workers + 2 + control_seats(control);
     let (steps, grants) = (Blank::new(seats), Blank::new(seats));
     let room = Unopened::new(rt.alloc(), seats)?;
     seated_run::<Brand, Brand, Brand, R, I, O, P>(
-        rt, listener, te, orders, routers, seats, reader, writer, plan, steps, grants, room,
+        rt, listener, control, te, orders, routers, seats, reader, writer, plan, steps, grants,
+        room,
     )
 }
 
@@ -119,10 +120,11 @@ fn seated_run<
     R,
     I: Patient,
     O: Write,
-    P: Plan,
+    P: Plan + Sync,
 >(
     rt: &R,
     listener: &TcpListener,
+    control: Option<&UnixListener>,
     te: TeBase,
     orders: Orders,
     routers: Routers<'_>,
@@ -150,29 +152,20 @@ where
 {
     let alloc = rt.alloc();
     let listening = listening_line(listener, &te);
+    let ends = ends_of(alloc, &te)?;
     let database = Database::new(alloc, te)?;
     let (shared, all) = Shared::<S, G, B>::new(alloc, database, seats, steps, grants, room)?;
     let pool = SeatPool::new(alloc, all)?;
     let log = LogQueue::new(alloc, is_debug_wanted(rt))?;
     log.say(rt, listening, 0);
+    if let Some(line) = few_descriptors(orders) {
+        log.say(rt, line, 0);
+    }
     serve_all(
-        rt, alloc, &shared, &pool, &log, listener, orders, routers, reader, writer, plan,
+        rt, alloc, &shared, &pool, &log, &ends, listener, control, orders, routers, reader, writer,
+        plan,
     )?;
     close(shared, pool.into_seats(alloc)?)
-}
-
-/// Where routers may connect, and to how large a network.
-fn listening_line(listener: &TcpListener, te: &TeBase) -> LogLine {
-    let (address, port) = match listener.local_addr() {
-        Ok(local) => (peer_of(local), local.port()),
-        Err(_) => (0, 0),
-    };
-    LogLine::Listening {
-        address,
-        port,
-        nodes: te.node_count(),
-        links: te.link_count(),
-    }
 }
 
 /// Closes the database with all seats.
@@ -194,14 +187,16 @@ fn serve_all<
     R,
     I: Patient,
     O: Write,
-    P: Plan,
+    P: Plan + Sync,
 >(
     rt: &R,
     alloc: Global,
     shared: &Shared<S, G, B>,
     pool: &SeatPool<S, G, B>,
     log: &LogQueue,
+    ends: &[LinkEnds],
     listener: &TcpListener,
+    control: Option<&UnixListener>,
     orders: Orders,
     routers: Routers<'_>,
     reader: &mut I,
@@ -240,6 +235,7 @@ where
         grants: &grants,
         known: routers.known,
         strangers: &strangers,
+        ends,
         start: Instant::now(rt).ok(),
         keep_ms: orders.keep_seconds * 1000,
         seats: 2 * live,
@@ -247,7 +243,7 @@ where
     let output = ErrorOutput::new(rt, alloc)?;
     let lines = log.room(alloc)?;
     run_threads(
-        &context, output, lines, listener, orders, reader, writer, plan,
+        &context, output, lines, listener, control, orders, reader, writer, plan,
     );
     if peers.owes_a_down(rt) {
         run.cut(rt, RunFault::Store(Fault::OutOfMemory));
@@ -259,7 +255,7 @@ where
 }
 
 /// Starts the threads, hears the operator, and joins them in order: the acceptor first, for workers are needed as
-/// long as connections live, and the log last. Slots: of connections, then of workers, of the keeper of time, of the operator.
+/// long as connections live, and the log last. Slots: of connections, then of workers, of the keeper of time, of the operator, and of those at the control socket.
 fn run_threads<
     S: Ledger + Send + Sync,
     G: Ledger + Send + Sync,
@@ -267,12 +263,13 @@ fn run_threads<
     R,
     I: Patient,
     O: Write,
-    P: Plan,
+    P: Plan + Sync,
 >(
     context: &Context<'_, R, S, G, B>,
     output: ErrorOutput,
     lines: Vec<LogLine>,
     listener: &TcpListener,
+    control: Option<&UnixListener>,
     orders: Orders,
     reader: &mut I,
     writer: &mut O,
@@ -292,6 +289,12 @@ where
     let first = context.seats;
     let keeper_at = first.saturating_add(orders.workers as usize);
     let operator_at = keeper_at.saturating_add(1);
+    let operators = Operators {
+        context,
+        plan,
+        first: operator_at.saturating_add(1),
+    };
+    let operators = &operators;
     thread::scope(thread::scope_env(), rt, |scope| {
         let log = scope.spawn(move || write_log(context, output, lines));
         let mut has_worker = false;
@@ -302,14 +305,25 @@ where
         let keeper = scope.spawn(move || keep_time(context, keeper_at));
         let sessions = orders.sessions;
         let acceptor = scope.spawn(move || accept_all(context, listener, sessions));
+        let door = match control {
+            Some(control) => scope.spawn(move || hear_controls(operators, control)).ok(),
+            None => None,
+        };
+        if control.is_some() && door.is_none() {
+            context.say(LogLine::ControlGone);
+        }
         if log.is_err() || !has_worker || keeper.is_err() || acceptor.is_err() {
             context.cut(RunFault::Device);
         }
         if let Some(end) = hear_operator(context, operator_at, reader, writer, plan) {
-            end_with(context, end, sessions);
+            end_with(context, end, sessions, control.is_some());
         }
         if let Ok(acceptor) = acceptor {
             acceptor.join(rt);
+        }
+        if let Some(door) = door {
+            context.close();
+            door.join(rt);
         }
         context.shared.finish(rt);
         if let Ok(keeper) = keeper {
@@ -320,13 +334,13 @@ where
 }
 
 /// Whether the run is to end with its operator's part: where a line asked for it, and where the lines of an endless run
-/// have ended. A writer that fails ends the operator's part alone.
-fn closes_run(end: OperatorEnd, sessions: Sessions) -> bool
-    ensures { result ≡ closes_run end sessions }
+/// have ended that no other operator can reach. A writer that fails ends the operator's part alone.
+fn closes_run(end: OperatorEnd, sessions: Sessions, has_control: bool) -> bool
+    ensures { result ≡ closes_run end sessions has_control }
 {
     match end {
         OperatorEnd::EndAsked => true,
-        OperatorEnd::InputEnded => sessions == Sessions::Endless,
+        OperatorEnd::InputEnded => sessions == Sessions::Endless && !has_control,
         OperatorEnd::RunEnding | OperatorEnd::ReadFault | OperatorEnd::WriteFault => false,
     }
 }
@@ -336,8 +350,9 @@ fn end_with<S: Ledger, G: Ledger, B: Room, R: Wait + Clock>(
     context: &Context<'_, R, S, G, B>,
     end: OperatorEnd,
     sessions: Sessions,
+    has_control: bool,
 ) {
-    if closes_run(end, sessions) {
+    if closes_run(end, sessions, has_control) {
         context.close();
     }
     match end {
@@ -356,17 +371,7 @@ fn hear_operator<S: Ledger, G: Ledger, B: Room, R: Wait + Clock, I: Patient, O: 
     plan: &P,
 ) -> Option<OperatorEnd> {
     let mut seat = context.pool.take(context.rt, at)?;
-    let mut store = Seated::new(context.rt, context.alloc, context.shared, &mut seat);
-    let heard = operate(
-        context.rt,
-        context.alloc,
-        reader,
-        writer,
-        &context.moments(),
-        plan,
-        &mut store,
-    );
-    drop(store);
+    let heard = answer_operator(context, plan, &mut seat, reader, writer);
     context.pool.put(context.rt, at, seat);
     match heard {
         Ok(end) => Some(end),

@@ -94,8 +94,8 @@ fn may_grant<R: Wait + Clock, S: Ledger, G: Ledger, B: Room>(
 }
 
 /// A turn of a worker that has failed so often in a row: sleeps until a ticket waits, and works at one. Where none comes,
-/// its seat drops its receipts of rolled steps. Gives the fault, if one came. After a fault the ticket may be in the seat's
-/// hand, so the turn doesn't wait for another.
+/// it looks at the history, and its seat drops its receipts of rolled steps. Gives the fault, if one came. After a fault the
+/// ticket may be in the seat's hand, so the turn doesn't wait for another.
 fn worker_turn<R: Wait + Clock, S: Ledger, G: Ledger, B: Room>(
     context: &Context<'_, R, S, G, B>,
     seat: &mut Seat<S, G, B>,
@@ -107,6 +107,7 @@ fn worker_turn<R: Wait + Clock, S: Ledger, G: Ledger, B: Room>(
         return None;
     }
     if faults == 0 && !context.shared.await_work(rt, most) {
+        tend(context);
         context.shared.fold(rt, seat);
         return None;
     }
@@ -135,7 +136,6 @@ fn work_on<R: Wait + Clock, S: Ledger, G: Ledger, B: Room>(
         if context.shared.is_over() {
             return;
         }
-        tend(context);
         let Some(fault) = worker_turn(context, seat, faults) else {
             faults = 0;
             continue;
@@ -213,7 +213,7 @@ fn settle_last<R: Wait + Clock, S: Ledger, G: Ledger, B: Room>(
     }
 }
 
-/// Submits what is due, until the end. The history is looked at here too, since workers may all be searching.
+/// Submits what is due, until the end. The history is looked at between them, since workers that have tickets don't.
 fn keep_on<R: Wait + Clock, S: Ledger, G: Ledger, B: Room>(
     context: &Context<'_, R, S, G, B>,
     seat: &mut Seat<S, G, B>,

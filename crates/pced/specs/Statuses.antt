@@ -1,5 +1,5 @@
 -- The exit status of a run that a fault ended: 2 for what was given, 3 for a device, 4 for an audit, 5 for room.
-use Rattle.std.specs.Prelude.{ℕ, Result, Ok, Err}
+use Rattle.std.specs.Prelude.{ℕ, Option, Some, None, Result, Ok, Err}
 use Rattle.std.specs.declared.io.ErrorKind as system
 use Rattle.std.specs.declared.io.ErrorKind.TheVariants as error
 use Rattle.clap.specs.declared.error.kind.ErrorKind as words
@@ -12,6 +12,10 @@ use Rattle.pce_server.specs.declared.run.RunFault.{RunFault}
 use Rattle.pce_server.specs.declared.run.RunFault.TheVariants as run
 use Rattle.pced.specs.declared.serve.ServeFault.{ServeFault}
 use Rattle.pced.specs.declared.serve.ServeFault.TheVariants as serve
+use Rattle.pced.specs.declared.tell.TellFault.{TellFault}
+use Rattle.pced.specs.declared.tell.TellFault.TheVariants as tell
+use Rattle.pced.specs.declared.tell.Told.{Told}
+use Rattle.pced.specs.declared.tell.Told.TheVariants.{AllHeard, SomeRefused}
 use Rattle.pce_engine.specs.declared.fault.ScriptFault.{ScriptFault}
 use Rattle.pce_engine.specs.declared.fault.ScriptFault.TheVariants.{BadLine, Te, ReadFault, WriteFault, OutOfMemory, HistoryFull}
 
@@ -19,6 +23,11 @@ use Rattle.pce_engine.specs.declared.fault.ScriptFault.TheVariants.{BadLine, Te,
 abbrev pub te_status : TeFault → ℕ
 te_status te.OutOfMemory = 5
 te_status fault = 2
+
+-- the exit status of a link text that was looked at
+abbrev pub checked_status : Option TeFault → ℕ
+checked_status None = 0
+checked_status (Some fault) = te_status fault
 
 abbrev pub status_of : ScriptFault → ℕ
 status_of (BadLine n) = 2
@@ -53,6 +62,31 @@ serve_status (serve.Run fault) = run_status fault
 abbrev pub ended_serve_status : {X : Type 0} → Result X ServeFault → ℕ
 ended_serve_status (Ok x) = 0
 ended_serve_status (Err fault) = serve_status fault
+
+-- the fault of an exchange with a server that failed
+abbrev pub tell_fault : system.ErrorKind → TellFault
+tell_fault error.OutOfMemory = tell.OutOfMemory
+tell_fault error.BrokenPipe = tell.BrokenOff
+tell_fault error.ConnectionReset = tell.BrokenOff
+tell_fault error.TimedOut = tell.BrokenOff
+tell_fault error.WouldBlock = tell.BrokenOff
+tell_fault kind = tell.Nobody
+
+abbrev pub tell_status : TellFault → ℕ
+tell_status tell.BadArgument = 2
+tell_status tell.Nobody = 3
+tell_status tell.BrokenOff = 3
+tell_status tell.Device = 3
+tell_status tell.OutOfMemory = 5
+
+-- the exit status of lines that were told
+abbrev pub told_status : Told → ℕ
+told_status AllHeard = 0
+told_status SomeRefused = 2
+
+abbrev pub ended_tell_status : Result Told TellFault → ℕ
+ended_tell_status (Ok told) = told_status told
+ended_tell_status (Err fault) = tell_status fault
 
 -- the exit status of words that are no command: 0 where they ask for help or the version
 abbrev pub refused_status : words.ErrorKind → ℕ

@@ -26,15 +26,27 @@ Standard input is a link text (TOML), a line ---, and lines:
   roll             the steps so far are let go, and stay counted
 PEER is a number or a dotted address. docs/FORMAT.md tells all of it.";
 
+/// The lines that are said in words, in short.
+const DECODED_LINES: &str = "\
+Standard input has lines, a message or several in each:
+  HEX              digits alone, with spaces anywhere
+  out PEER HEX     a line of what a script prints; so msg and report
+Any other line is printed as it stands. So what a script prints is read by
+  pced script < examples/session.txt | pced decode";
+
 /// The lines of an operator, in short.
 const OPERATOR_LINES: &str = "\
-Standard input has an operator's lines, each answered on standard output:
+Standard input has an operator's lines, each answered on standard output, and so has `pced tell` with --control:
   initiate PEER NAME FROM TO BW SETUP HOLD
                    a path is asked for, to set an LSP up
   update PEER PLSP a path is asked for, to update an LSP
   return PEER PLSP an LSP is given back to its router
   delete PEER PLSP an LSP that was initiated is to be removed
   book             what is left of each link at the priorities 0 to 7
+  status, links, link N, peers, lsps, lsps PEER, lsp PEER PLSP, tickets,
+  history N, path FROM TO BW SETUP HOLD
+                   what stands, as a table; as JSON behind the word json
+  end              the end of the run
 PEER is a number or a dotted address. docs/OPERATING.md tells how to run it.";
 
 /// What `serve` is told.
@@ -44,6 +56,8 @@ pub struct ServeWords<'a> {
     pub file: &'a str,
     /// Where to listen, as `ADDR:PORT`.
     pub listen: &'a str,
+    /// The path of the control socket, if there is to be one.
+    pub control: Option<&'a str>,
     /// The most verbose level that is logged.
     pub log: &'a str,
     /// Only routers whose address a node of the network owns are heard.
@@ -53,17 +67,64 @@ pub struct ServeWords<'a> {
     pub orders: Orders,
 }
 
+/// What `tell` is told.
+#[derive(Drop)]
+pub struct TellWords<'a> {
+    /// The path of the server's control socket.
+    pub path: &'a str,
+    /// The lines. Where there are none, standard input has them.
+    pub lines: Vec<&'a str>,
+    /// Lines that show something are answered as JSON.
+    pub is_json: bool,
+}
+
 /// What the words ask for.
 #[derive(Drop)]
 pub enum Task<'a> {
-    Script,
+    /// A script, whose messages are explained or not.
+    Script { explain: bool },
+    /// Lines of digits in words.
+    Decode,
+    /// The link text of this path.
+    Check(&'a str),
     Serve(ServeWords<'a>),
+    Tell(TellWords<'a>),
 }
 
-fn script_command<'a>(alloc: Global) -> Command<'a> {
+fn explain_arg<'a>(alloc: Global) -> Arg<'a> {
+    Arg::new(alloc, "explain")
+        .long("explain")
+        .action(ArgAction::SetTrue)
+        .help(
+            "Behind each line of bytes that are sent, say in comments what they are; all is printed at the end",
+        )
+}
+
+fn script_command<'a>(alloc: Global) -> Result<Command<'a>, AllocError> {
     Command::new(alloc, "script")
         .about("Runs a link text and lines from standard input, and prints what they answer")
         .after_help(LINES)
+        .arg(explain_arg(alloc))
+}
+
+fn decode_command<'a>(alloc: Global) -> Command<'a> {
+    Command::new(alloc, "decode")
+        .about("Says in words what messages in hexadecimal digits are")
+        .after_help(DECODED_LINES)
+}
+
+fn text_arg<'a>(alloc: Global) -> Arg<'a> {
+    Arg::new(alloc, "file")
+        .value_name("FILE")
+        .required(true)
+        .action(ArgAction::Set)
+        .help("The link text (TOML)")
+}
+
+fn check_command<'a>(alloc: Global) -> Result<Command<'a>, AllocError> {
+    Command::new(alloc, "check")
+        .about("Says in words what is wrong in a link text, or what its network has")
+        .arg(text_arg(alloc))
 }
 
 fn file_arg<'a>(alloc: Global) -> Arg<'a> {
@@ -82,6 +143,14 @@ fn listen_arg<'a>(alloc: Global) -> Arg<'a> {
         .required(true)
         .action(ArgAction::Set)
         .help("Where routers connect, as 192.0.2.1:4189")
+}
+
+fn control_arg<'a>(alloc: Global) -> Arg<'a> {
+    Arg::new(alloc, "control")
+        .long("control")
+        .value_name("PATH")
+        .action(ArgAction::Set)
+        .help("A socket for `pced tell`, which its owner alone may use")
 }
 
 fn workers_arg<'a>(alloc: Global) -> Arg<'a> {
@@ -162,6 +231,7 @@ fn serve_command<'a>(alloc: Global) -> Result<Command<'a>, AllocError> {
         .after_help(OPERATOR_LINES)
         .arg(file_arg(alloc))?
         .arg(listen_arg(alloc))?
+        .arg(control_arg(alloc))?
         .arg(workers_arg(alloc))?
         .arg(sessions_arg(alloc))?
         .arg(keep_arg(alloc))?
@@ -172,13 +242,47 @@ fn serve_command<'a>(alloc: Global) -> Result<Command<'a>, AllocError> {
         .arg(endless_arg(alloc)?)
 }
 
+fn path_arg<'a>(alloc: Global) -> Arg<'a> {
+    Arg::new(alloc, "path")
+        .value_name("PATH")
+        .required(true)
+        .action(ArgAction::Set)
+        .help("The control socket of a server")
+}
+
+fn lines_arg<'a>(alloc: Global) -> Arg<'a> {
+    Arg::new(alloc, "line")
+        .value_name("LINE")
+        .num_args(..)
+        .action(ArgAction::Append)
+        .help("What is told, a line each; without any, the lines of standard input")
+}
+
+fn json_arg<'a>(alloc: Global) -> Arg<'a> {
+    Arg::new(alloc, "json")
+        .long("json")
+        .action(ArgAction::SetTrue)
+        .help("Lines that show something are answered as JSON")
+}
+
+fn tell_command<'a>(alloc: Global) -> Result<Command<'a>, AllocError> {
+    Command::new(alloc, "tell")
+        .about("Tells a running server lines, and prints what it answers")
+        .arg(json_arg(alloc))?
+        .arg(path_arg(alloc))?
+        .arg(lines_arg(alloc))
+}
+
 fn command<'a>(alloc: Global) -> Result<Command<'a>, AllocError> {
     Command::new(alloc, "pced")
         .version("0.1.0")
         .about("A stateful path computation element for MPLS-TE, with a book of its bandwidth")
         .subcommand_required(true)
-        .subcommand(script_command(alloc))?
-        .subcommand(serve_command(alloc)?)
+        .subcommand(script_command(alloc)?)?
+        .subcommand(decode_command(alloc))?
+        .subcommand(check_command(alloc)?)?
+        .subcommand(serve_command(alloc)?)?
+        .subcommand(tell_command(alloc)?)
 }
 
 fn sessions_in(matches: &ArgMatches<'_>) -> Sessions {
@@ -206,21 +310,57 @@ fn orders_in(matches: &ArgMatches<'_>) -> Orders {
         sessions: sessions_in(matches),
         keep_seconds: matches.get_one::<u64>("keep").unwrap_or(60),
         settle_seconds: matches.get_one::<u64>("settle").unwrap_or(0),
+        descriptors: None,
     }
+}
+
+fn serve_words<'a>(alloc: Global, matches: &ArgMatches<'a>) -> Result<ServeWords<'a>, AllocError> {
+    Ok(ServeWords {
+        file: matches.get_str("te").unwrap_or(""),
+        listen: matches.get_str("listen").unwrap_or(""),
+        control: matches.get_str("control"),
+        log: matches.get_str("log").unwrap_or("info"),
+        only_known: matches.get_flag("only-known"),
+        settle_for: addresses_in(alloc, matches.get_strs("settle-for").unwrap_or(&[]))?,
+        orders: orders_in(matches),
+    })
+}
+
+fn is_explained(matches: &ArgMatches<'_>) -> bool {
+    match matches.subcommand_matches("script") {
+        Some(matches) => matches.get_flag("explain"),
+        None => false,
+    }
+}
+
+fn tell_words<'a>(alloc: Global, matches: &ArgMatches<'a>) -> Result<TellWords<'a>, AllocError> {
+    let mut lines = Vec::new(alloc);
+    for line in matches.get_strs("line").unwrap_or(&[]) {
+        lines.push(*line)?;
+    }
+    Ok(TellWords {
+        path: matches.get_str("path").unwrap_or(""),
+        lines,
+        is_json: matches.get_flag("json"),
+    })
 }
 
 /// What the words ask for, the first of them being the program's name.
 pub fn parse<'a>(alloc: Global, words: &'a [String]) -> Result<Task<'a>, Error> {
     let matches = command(alloc)?.try_get_matches_from(words)?;
-    let Some(matches) = matches.subcommand_matches("serve") else {
-        return Ok(Task::Script);
-    };
-    Ok(Task::Serve(ServeWords {
-        file: matches.get_str("te").unwrap_or(""),
-        listen: matches.get_str("listen").unwrap_or(""),
-        log: matches.get_str("log").unwrap_or("info"),
-        only_known: matches.get_flag("only-known"),
-        settle_for: addresses_in(alloc, matches.get_strs("settle-for").unwrap_or(&[]))?,
-        orders: orders_in(matches),
-    }))
+    if let Some(matches) = matches.subcommand_matches("serve") {
+        return Ok(Task::Serve(serve_words(alloc, matches)?));
+    }
+    if let Some(matches) = matches.subcommand_matches("tell") {
+        return Ok(Task::Tell(tell_words(alloc, matches)?));
+    }
+    if let Some(matches) = matches.subcommand_matches("check") {
+        return Ok(Task::Check(matches.get_str("file").unwrap_or("")));
+    }
+    if matches.subcommand_matches("decode").is_some() {
+        return Ok(Task::Decode);
+    }
+    Ok(Task::Script {
+        explain: is_explained(&matches),
+    })
 }

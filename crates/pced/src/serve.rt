@@ -1,16 +1,21 @@
 //! `pced serve`: the file, the listener, the run, and what can go wrong with each, in this order.
-ghost use Rattle.std.specs.Prelude.{◌≤◌};
+ghost use Rattle.std.specs.Prelude.{◌≤◌, Some};
+ghost use Rattle.pced.specs.Texts.{serve_text};
 ghost use Rattle.pce_server.specs.Ranges.{AreSessions, AreOrders};
 
 use crate::arguments::ServeWords;
+use crate::descriptors::descriptor_limit;
 use crate::stamped::Stamped;
+use control_socket::{close_path, open_path};
 use log::{LevelFilter, Log, Logged};
 use pce_engine::TeFault;
 use pce_server::{Fault, FilePlan, Orders, Routers, RunFault, Sessions, serve_run};
 use pcep_word::Ipv4;
-use server_talk::PolledInput;
+use server_talk::{PolledInput, PolledOutput};
 use std::alloc::Global;
+use std::fs::Files;
 use std::net::{Ipv4Addr, Net, SocketAddr, TcpListener, TcpStream};
+use std::os::unix::net::UnixListener;
 use std::rt::Runtime;
 use std::str::FromStr;
 use std::sync::Wait;
@@ -32,6 +37,8 @@ pub enum ServeFault {
 }
 
 impl fmt::Display for ServeFault {
+    ghost output = { λ fault. Some (serve_text fault) };
+
     fn fmt<W: fmt::Write>(&self, f: &mut fmt::Formatter<W>) -> fmt::Result {
         match *self {
             ServeFault::BadArgument => f.write_str("bad argument"),
@@ -108,6 +115,27 @@ fn listen<R: Net<Listener = TcpListener, Stream = TcpStream>>(
     }
 }
 
+/// The control socket, where there is to be one.
+fn open_control<R: Runtime<A = Global> + Net>(
+    rt: &R,
+    path: Option<&str>,
+) -> Result<Option<UnixListener>, ServeFault> {
+    let Some(path) = path else {
+        return Ok(None);
+    };
+    match open_path(rt, rt.alloc(), path) {
+        Ok(listener) => Ok(Some(listener)),
+        Err(error) => Err(device_fault(&error)),
+    }
+}
+
+/// Takes the file of the control socket away. One that can't be removed is found stale by the next server.
+fn close_control<R: Files>(rt: &R, control: &Option<UnixListener>, path: Option<&str>) {
+    if let (Some(listener), Some(path)) = (control, path) {
+        let _removed = close_path(rt, listener, path);
+    }
+}
+
 /// The number of the range that is nearest to this one.
 fn within(least: u64, number: u64, most: u64) -> u64
     requires { least ≤ most }
@@ -140,10 +168,11 @@ fn orders_within(orders: Orders) -> Orders
         sessions: sessions_within(orders.sessions),
         keep_seconds: within(0, orders.keep_seconds, 3600),
         settle_seconds: within(0, orders.settle_seconds, 3600),
+        descriptors: orders.descriptors,
     }
 }
 
-/// Serves until the end of the run.
+/// Serves until the end of the run. Each operator's thread reads the link text through the system's own `files`.
 pub fn serve<
     R: Runtime<A = Global>
         + Net<Listener = TcpListener, Stream = TcpStream>
@@ -151,7 +180,7 @@ pub fn serve<
         + Threads
         + Log
         + Sync,
->(rt: &R, words: &ServeWords<'_>) -> Result<(), ServeFault> {
+>(rt: &R, files: &HostRuntime, words: &ServeWords<'_>) -> Result<(), ServeFault> {
     let Some(place) = place_in(words.listen) else {
         return Err(ServeFault::BadArgument);
     };
@@ -171,28 +200,39 @@ pub fn serve<
         Ok(reader) => reader,
         Err(error) => return Err(device_fault(&error)),
     };
-    let mut writer = io::writer(rt);
-    let orders = orders_within(words.orders);
+    let mut output = io::writer(rt);
+    let mut writer = match PolledOutput::new(rt, rt.alloc(), &mut output) {
+        Ok(writer) => writer,
+        Err(_) => return Err(ServeFault::Run(RunFault::Store(Fault::OutOfMemory))),
+    };
+    let orders = orders_within(Orders {
+        descriptors: descriptor_limit(rt),
+        ..words.orders
+    });
     let logged = Logged::new(rt, level, Stamped::new(rt));
     let routers = Routers {
         known: &known,
         settle_for,
     };
     let plan = FilePlan {
-        rt,
+        rt: files,
         file: words.file,
         te: &second,
     };
-    match serve_run(
+    let control = open_control(rt, words.control)?;
+    let outcome = serve_run(
         &logged,
         &listener,
+        control.as_ref(),
         base,
         &plan,
         orders,
         routers,
         &mut reader,
         &mut writer,
-    ) {
+    );
+    close_control(rt, &control, words.control);
+    match outcome {
         Ok(_audit) => Ok(()),
         Err(fault) => Err(ServeFault::Run(fault)),
     }

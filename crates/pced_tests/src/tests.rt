@@ -16,6 +16,8 @@ mod lines;
 mod loopback;
 mod meeting;
 mod others;
+mod refused;
+mod reloads;
 mod shared;
 mod snapshots;
 mod stores;

@@ -9,3 +9,4 @@ pub mod Submits
 pub mod Takes
 pub mod Rolls
 pub mod Answered
+pub mod Views

@@ -29,7 +29,7 @@ fn expire_event(line: &str) -> Option<Event>
 
 /// A peer, and a PLSP-ID of its own.
 #[tactic(auto, unfolding(crate::specs::Commands::lsp_in))]
-fn lsp_in(line: &str) -> Option<(u32, Plsp)>
+pub(crate) fn lsp_in(line: &str) -> Option<(u32, Plsp)>
     ensures { result ≡ lsp_in line.now }
 {
     let (peer, plsp) = cut_at_space(line)?;
@@ -87,7 +87,7 @@ fn commit_event(alloc: Global, line: &str) -> Result<Option<Event>, AllocError>
 }
 
 #[tactic(auto, unfolding(crate::specs::Commands::priorities_in))]
-fn priorities_in(line: &str) -> Option<Priorities>
+pub(crate) fn priorities_in(line: &str) -> Option<Priorities>
     ensures { result ≡ priorities_in line.now }
 {
     let (setup, hold) = cut_at_space(line)?;

@@ -6,7 +6,8 @@
 //! here and carried out above.
 //!
 //! `command` does what an operator's line asks for (`specs/Commands.antt`), over any store (`specs/Answered.antt`). A
-//! server takes fewer events of its operator, by `operator_event_in`, and submits them by the same `answer_event`.
+//! server takes fewer events of its operator, by `operator_event_in`, and submits them by the same `answer_event`; and
+//! it has lines that ask to see something, by `view_line_in` (`specs/Views.antt`).
 //!
 //! ```text
 //! fn obey(alloc: Global, database: &mut Database, line: &str) -> Result<String, CommandFault>
@@ -25,6 +26,7 @@ mod rolls;
 mod submits;
 mod takes;
 mod texts;
+mod views;
 mod words;
 
 pub use book::{book_text, table_text};
@@ -36,3 +38,4 @@ pub use rolls::roll_line;
 pub use submits::{event_line, report_line};
 pub use takes::take_line;
 pub use texts::history_text;
+pub use views::{ViewLine, view_line_in};

@@ -1,8 +1,8 @@
 -- A seat of a shared database as a store: what calls on it do.
-use Rattle.std.specs.Prelude.{ℕ, ◌≡◌, true, List, [], ◌∷◌, ◌++◌}
+use Rattle.std.specs.Prelude.{ℕ, ◌≡◌, ◌⊎◌, true, List, [], ◌∷◌, ◌++◌}
 use Rattle.std.specs.Borrow.{MutBor}
 use Rattle.history_core.specs.Histories.{Content, Replays, is_full}
-use Rattle.history_seats.specs.Receipts.{SeatContent}
+use Rattle.history_seats.specs.Receipts.{SeatContent, tidy}
 use Rattle.shared_pce.specs.Turns.{Told}
 use Rattle.engine_core.specs.declared.store.Call.{Call}
 
@@ -24,10 +24,14 @@ pub record SeatedRolls (old : MutBor SeatContent) (listed : List Call) (steps : 
   pub same_calls : list ≡ listed
   pub rolled : (d : Content) × Replays d × (steps ≡ d.rolled) × (d.history ≡ [])
 
--- the same loan of the same seat
+-- a seat that keeps its receipts of rolled places no longer
+abbrev pub IsFolded : SeatContent → SeatContent → Type 0
+IsFolded old new = (d : Content) × Replays d × (new ≡ tidy d.rolled old)
+
+-- the same loan of the same seat, which may keep its receipts of rolled places no longer
 pub record SameSeat (old new : MutBor SeatContent) : Type 0 where
   pub same_loan : new.ghost_name ≡ old.ghost_name
-  pub same : new.now ≡ old.now
+  pub same : (new.now ≡ old.now) ⊎ IsFolded old.now new.now
 
 -- the lock held a database whose history was full
 abbrev pub WasFull : Type 0

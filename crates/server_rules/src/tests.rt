@@ -122,22 +122,30 @@ fn lines_are_withheld(rt: HostRuntime) {
     assert_eq!(rt; answers, [None, None, Some(2), None]);
 }
 
-/// Two routers are waited for, for ten seconds at most; the one comes in sync twice, then the other.
-fn settled(alloc: Global) -> Result<[bool; 4], AllocError> {
+/// Two routers are waited for, for ten seconds at most; the one comes in sync and goes down, then both come in sync.
+fn settled(alloc: Global) -> Result<[bool; 5], AllocError> {
     let mut settling = Settling::new(alloc, &[1, 2], 10_000)?;
-    settling.in_sync(1);
-    settling.in_sync(1);
+    settling.note(1, true);
     let by_one = settling.has_settled(9_999);
     let in_time = settling.has_settled(10_000);
-    settling.in_sync(2);
+    settling.note(1, false);
+    settling.note(2, true);
+    let by_the_other = settling.has_settled(0);
+    settling.note(1, true);
     let by_both = settling.has_settled(0);
     let unnamed = Settling::new(alloc, &[], 10_000)?;
-    Ok([by_one, in_time, by_both, unnamed.has_settled(9_999)])
+    Ok([
+        by_one,
+        in_time,
+        by_the_other,
+        by_both,
+        unnamed.has_settled(9_999),
+    ])
 }
 
 #[test]
 fn a_server_settles(rt: HostRuntime) -> Result<(), Fail> {
     let answers = settled(rt.alloc())?;
-    assert_eq!(rt; answers, [false, true, true, false]);
+    assert_eq!(rt; answers, [false, true, false, true, false]);
     Ok(())
 }

@@ -7,6 +7,7 @@ use Rattle.std.specs.Io.KnownBytes.{Consumes, IsAtEnd}
 use Rattle.std.specs.declared.io.ErrorKind.{ErrorKind}
 use Rattle.history_core.specs.Faults.{fault_text}
 use Rattle.history_core.specs.declared.fault.Fault.TheVariants.{OutOfMemory, HistoryFull}
+use Rattle.te_base.specs.Values.{Values}
 use Rattle.step_core.specs.declared.event.Event.{Event}
 use Rattle.step_core.specs.declared.event.Event.TheVariants as event
 use Rattle.step_core.specs.declared.reload.LinkReload.{LinkReload}
@@ -14,6 +15,7 @@ use Rattle.engine_core.specs.Calls.{called}
 use Rattle.engine_core.specs.declared.store.Call.{Call}
 use Rattle.script_lines.specs.Answered.{Replied, NotTaken}
 use Rattle.script_lines.specs.Book.{table_text}
+use Rattle.script_lines.specs.declared.views.ViewLine.{ViewLine}
 use Rattle.script_lines.specs.Lines.{Cut, cut, lines_of}
 use Rattle.script_lines.specs.declared.fault.CommandFault.{CommandFault}
 use Rattle.script_lines.specs.declared.fault.CommandFault.TheVariants.{BadLine, Store}
@@ -24,14 +26,17 @@ use Rattle.server_talk.specs.declared.operator.OperatorEnd.{OperatorEnd}
 use Rattle.server_talk.specs.declared.operator.OperatorEnd.TheVariants.{InputEnded, EndAsked, RunEnding, ReadFault, WriteFault}
 use Rattle.server_talk.specs.declared.pending.Pending.{Pending}
 use Rattle.server_talk.specs.declared.plan.PlanFault.{PlanFault}
-use Rattle.server_talk.specs.declared.requests.Request.TheVariants.{Book, End, Reload, Submit}
+use Rattle.server_talk.specs.declared.requests.Request.{Request}
+use Rattle.server_talk.specs.declared.requests.Request.TheVariants.{Book, Check, End, Reload, Submit, View}
 use Rattle.server_talk.specs.Goings.{Goes, ways}
 use Rattle.server_talk.specs.Goings.Goes.{Stays, Moves, Empties, Rolls}
 use Rattle.server_talk.specs.Listening.{said_of, Comes, Answered, Answers, Told, TakesLine, IsKept, SoFar, StopsAt, Stopped, HearsOn, Turns}
 use Rattle.server_talk.specs.Operators.{bad_line, unread_line, number_behind, AreOperators, IsAnswered, Listens, is_out, FailsAs, IsOver, Operated}
-use Rattle.server_talk.specs.Operators.IsAnswered.{Obeyed, Shown, Reloaded, Unread, Refused, Starved, StillFull}
+use Rattle.server_talk.specs.Operators.IsAnswered.{Obeyed, Shown, Reloaded, Unread, Checked, Viewed, Refused, Starved, StillFull}
 use Rattle.server_talk.specs.Operators.Listens.{Begins, Hears, Waits}
-use Rattle.server_talk.specs.Requests.{is_operators, request_of}
+use Rattle.server_talk.specs.Networks.{NetworkNow}
+use Rattle.server_talk.specs.ReloadChecks.{check_text}
+use Rattle.server_talk.specs.Requests.{asks_reading, asks_step, is_operators, request_of}
 use Rattle.server_talk.specs.Visits.{Takes}
 use Rattle.server_talk.proofs.Flowing.{appends_none, takes_behind}
 use Rattle.server_talk.proofs.Requesting.{operators_alone}
@@ -42,6 +47,11 @@ IsOperators call = is_operators call.event ≡ true
 -- the next line has the next number
 next_number : (number : ℕ) (lines : List (List ℕ)) (line : List ℕ) → number ≡ number_behind lines → min (number + 1) (2 ^ 64 - 1) ≡ number_behind (lines ++ line ∷ [])
 next_number number lines line is = let more = length_push lines line in omega arith
+
+-- what asks for an event asks for something
+step_is_asked : (asked : Option Request) → asks_step asked ≡ true → IsSome asked
+step_is_asked (Some request) is = refl
+step_is_asked None is = cc
 
 -- the bytes of a piece up to one, that one, and those behind it
 pub whole_piece : (heard piece : List ℕ) (i : ℕ) → i < length piece → ((heard ++ take i piece) ++ get_or piece i 0 ∷ []) ++ drop (i + 1) piece ≡ heard ++ piece
@@ -55,39 +65,39 @@ whole_piece heard piece i h =
 pub longer_front : (heard piece : List ℕ) (i : ℕ) → i < length piece → (heard ++ take i piece) ++ get_or piece i 0 ∷ [] ≡ heard ++ take (i + 1) piece
 longer_front heard piece i h = append_assoc heard (take i piece) (get_or piece i 0 ∷ []) ∙ ap (λ (front : List ℕ). heard ++ front) (sym (take_more piece i 0 h))
 
-module _ {S : Type 0} (moves : S → List Call → S → Type 0) (same_but_calls : S → S → Type 0) (rolls : S → ℕ → S → Type 0) (is_full : S → Type 0) (is_left : S → List (List ℤ) → Type 0) (reads : Result (List LinkReload) PlanFault → Type 0) where
+module _ {S : Type 0} (moves : S → List Call → S → Type 0) (same_but_calls : S → S → Type 0) (rolls : S → ℕ → S → Type 0) (is_full : S → Type 0) (is_left : S → List (List ℤ) → Type 0) (network : NetworkNow) where
   abbrev Heard : S → List (List ℕ) → List Call → List ℕ → S → Type 0
-  Heard start lines calls said now = Listens moves same_but_calls rolls is_full is_left reads start lines calls said now
+  Heard start lines calls said now = Listens moves same_but_calls rolls is_full is_left network start lines calls said now
 
   abbrev IsDone : ℕ → List ℕ → S → List Call → List ℕ → S → Type 0
-  IsDone number line old made text new = IsAnswered moves rolls is_full is_left reads number line old made text new
+  IsDone number line old made text new = IsAnswered moves rolls is_full is_left network number line old made text new
 
   abbrev Came : Result Answer CommandFault → ℕ → List ℕ → S → S → Type 0
-  Came r number line old new = Comes moves same_but_calls rolls is_full is_left reads r number line old new
+  Came r number line old new = Comes moves same_but_calls rolls is_full is_left network r number line old new
 
   abbrev Stands : S → List (List ℕ) → List ℕ → S → Type 0
-  Stands start lines said now = Answered moves same_but_calls rolls is_full is_left reads start lines said now
+  Stands start lines said now = Answered moves same_but_calls rolls is_full is_left network start lines said now
 
   abbrev Answering : Result Answer CommandFault → S → List (List ℕ) → List ℕ → List ℕ → S → Type 0
-  Answering r start lines said line now = Answers moves same_but_calls rolls is_full is_left reads r start lines said line now
+  Answering r start lines said line now = Answers moves same_but_calls rolls is_full is_left network r start lines said line now
 
   abbrev Tells : S → List (List ℕ) → Option (List ℕ) → Bool → S → Option (List ℕ) → Type 0
-  Tells start lines blank goes_out now written = Told moves same_but_calls rolls is_full is_left reads start lines blank goes_out now written
+  Tells start lines blank goes_out now written = Told moves same_but_calls rolls is_full is_left network start lines blank goes_out now written
 
   abbrev Line : Option OperatorEnd → S → List (List ℕ) → Option (List ℕ) → List ℕ → S → Option (List ℕ) → Type 0
-  Line end start lines blank line now written = TakesLine moves same_but_calls rolls is_full is_left reads end start lines blank line now written
+  Line end start lines blank line now written = TakesLine moves same_but_calls rolls is_full is_left network end start lines blank line now written
 
   abbrev Keeps : S → Option (List ℕ) → List ℕ → Pending → S → Option (List ℕ) → Type 0
-  Keeps start blank heard pending now written = SoFar moves same_but_calls rolls is_full is_left reads start blank heard pending now written
+  Keeps start blank heard pending now written = SoFar moves same_but_calls rolls is_full is_left network start blank heard pending now written
 
   abbrev Stops : OperatorEnd → S → Option (List ℕ) → List ℕ → S → Option (List ℕ) → Type 0
-  Stops end start blank heard now written = Stopped moves same_but_calls rolls is_full is_left reads end start blank heard now written
+  Stops end start blank heard now written = Stopped moves same_but_calls rolls is_full is_left network end start blank heard now written
 
   abbrev Hearing : Option OperatorEnd → S → Option (List ℕ) → List ℕ → Pending → S → Option (List ℕ) → Type 0
-  Hearing end start blank heard pending now written = HearsOn moves same_but_calls rolls is_full is_left reads end start blank heard pending now written
+  Hearing end start blank heard pending now written = HearsOn moves same_but_calls rolls is_full is_left network end start blank heard pending now written
 
   abbrev Ends : S → Option (List ℕ) → Option (List ℕ) → OperatorEnd → Type 0 → S → Option (List ℕ) → Option (List ℕ) → Type 0
-  Ends start unread blank end may_close now left written = Operated moves same_but_calls rolls is_full is_left reads start unread blank end may_close now left written
+  Ends start unread blank end may_close now left written = Operated moves same_but_calls rolls is_full is_left network start unread blank end may_close now left written
 
   abbrev Goings : S → List Call → S → Type 0
   Goings start calls now = Goes (ways moves same_but_calls is_full rolls) start calls now
@@ -112,6 +122,8 @@ module _ {S : Type 0} (moves : S → List Call → S → Type 0) (same_but_calls
   answer_goes number line a b made text (Shown table asks left) = Stays
   answer_goes number line a b made text (Reloaded links reply new asks given h) = Moves [] (called (event.Reload links) reply ∷ []) a new Stays h
   answer_goes number line a b made text (Unread fault asks given) = Stays
+  answer_goes number line a b made text (Checked links values left asks given has) = Stays
+  answer_goes number line a b made text (Viewed view shown asks h) = Stays
   answer_goes number line a b made text (Refused bad) = Stays
   answer_goes number line a b made text (Starved new asks h) = Moves [] [] a new Stays h
   answer_goes number line a b made text (StillFull steps c d new asks h full k m again) = Moves [] [] d new (rolled steps a c d h full k) m
@@ -121,6 +133,8 @@ module _ {S : Type 0} (moves : S → List Call → S → Type 0) (same_but_calls
   answer_operators number line a b made text (Shown table asks left) = All-nil IsOperators
   answer_operators number line a b made text (Reloaded links reply new asks given h) = All-push IsOperators [] (called (event.Reload links) reply) (All-nil IsOperators) refl
   answer_operators number line a b made text (Unread fault asks given) = All-nil IsOperators
+  answer_operators number line a b made text (Checked links values left asks given has) = All-nil IsOperators
+  answer_operators number line a b made text (Viewed view shown asks h) = All-nil IsOperators
   answer_operators number line a b made text (Refused bad) = All-nil IsOperators
   answer_operators number line a b made text (Starved new asks h) = All-nil IsOperators
   answer_operators number line a b made text (StillFull steps c d new asks h full k m again) = All-nil IsOperators
@@ -151,21 +165,28 @@ module _ {S : Type 0} (moves : S → List Call → S → Type 0) (same_but_calls
   pub came_table : (number : ℕ) (line : List ℕ) (a : S) (text : List ℕ) (table : List (List ℤ)) → request_of line ≡ Some Book → is_left a table → text ≡ table_text 0 table → (calls : List Call) × IsDone number line a calls text a
   came_table number line a text table asks left is = ([], subst (λ (t : List ℕ). IsDone number line a [] t a) (sym is) (Shown table asks left))
 
+  pub came_check : (number : ℕ) (line : List ℕ) (a : S) (text : List ℕ) (links : List LinkReload) (values : List Values) (left : List (List ℤ)) → request_of line ≡ Some Check → network.reads (Ok links) → network.has_links values left → text ≡ check_text values left links
+      → (calls : List Call) × IsDone number line a calls text a
+  came_check number line a text links values left asks given has is = ([], subst (λ (t : List ℕ). IsDone number line a [] t a) (sym is) (Checked links values left asks given has))
+
+  pub came_view : (number : ℕ) (line : List ℕ) (a : S) (view : ViewLine) (text : List ℕ) → request_of line ≡ Some (View view) → network.shows view text → (calls : List Call) × IsDone number line a calls text a
+  came_view number line a view text asks h = ([], Viewed view text asks h)
+
   pub came_starved : (number : ℕ) (line : List ℕ) (a b : S) → IsSome (request_of line) → moves a [] b → Came (Err (Store OutOfMemory)) number line a b
   came_starved number line a b asks h = ([], Starved b asks h)
 
-  pub came_reloaded : (number : ℕ) (line : List ℕ) (a b : S) (links : List LinkReload) (text : List ℕ) → request_of line ≡ Some Reload → reads (Ok links) → Replied moves (event.Reload links) text a b → (calls : List Call) × IsDone number line a calls (text ++ codes "\n") b
+  pub came_reloaded : (number : ℕ) (line : List ℕ) (a b : S) (links : List LinkReload) (text : List ℕ) → request_of line ≡ Some Reload → network.reads (Ok links) → Replied moves (event.Reload links) text a b → (calls : List Call) × IsDone number line a calls (text ++ codes "\n") b
   came_reloaded number line a b links text asks given h = (
     called (event.Reload links) h.0 ∷ [],
     subst (λ (t : List ℕ). IsDone number line a (called (event.Reload links) h.0 ∷ []) (t ++ codes "\n") b) (sym h.2) (Reloaded links h.0 b asks given h.1),
   )
 
-  pub came_unread : (number : ℕ) (line : List ℕ) (a : S) (fault : PlanFault) → request_of line ≡ Some Reload → reads (Err fault) → (calls : List Call) × IsDone number line a calls (unread_line fault) a
+  pub came_unread : (number : ℕ) (line : List ℕ) (a : S) (fault : PlanFault) → asks_reading (request_of line) ≡ true → network.reads (Err fault) → (calls : List Call) × IsDone number line a calls (unread_line fault) a
   came_unread number line a fault asks given = ([], Unread fault asks given)
 
-  pub came_fault : (fault : CommandFault) (number : ℕ) (line : List ℕ) (a b : S) → IsSome (request_of line) → NotTaken moves is_full fault a b → Came (Err fault) number line a b
+  pub came_fault : (fault : CommandFault) (number : ℕ) (line : List ℕ) (a b : S) → asks_step (request_of line) ≡ true → NotTaken moves is_full fault a b → Came (Err fault) number line a b
   came_fault BadLine number line a b asks h = absurd h
-  came_fault (Store OutOfMemory) number line a b asks h = came_starved number line a b asks h
+  came_fault (Store OutOfMemory) number line a b asks h = came_starved number line a b (step_is_asked (request_of line) asks) h
   came_fault (Store HistoryFull) number line a b asks h = (asks, h.0, h.1)
 
   -- the history was full
@@ -186,6 +207,7 @@ module _ {S : Type 0} (moves : S → List Call → S → Type 0) (same_but_calls
   pub answered_at_once : (r : Result Answer CommandFault) (start a b : S) (lines : List (List ℕ)) (said line : List ℕ) → r ≢ Err (Store HistoryFull) → Came r (number_behind lines) line a b → Stands start lines said a → Answering r start lines said line b
   answered_at_once (Ok (answers.Reply text)) start a b lines said line other h s = heard_line start a b lines said (string_bytes text ++ codes "\n") line h.0 h.1 s
   answered_at_once (Ok (answers.Table text)) start a b lines said line other h s = heard_line start a b lines said (string_bytes text) line h.0 h.1 s
+  answered_at_once (Ok (answers.Viewed text)) start a b lines said line other h s = heard_line start a b lines said text.items line h.0 h.1 s
   answered_at_once (Ok (answers.Unread fault)) start a b lines said line other h s = heard_line start a b lines said (unread_line fault) line h.0 h.1 s
   answered_at_once (Ok answers.End) start a b lines said line other h s = (h.0, subst (λ (now : S). Stands start lines said now) (sym h.1) s)
   answered_at_once (Err BadLine) start a b lines said line other h s = heard_line start a b lines said (bad_line (number_behind lines)) line h.0 h.1 s
@@ -210,7 +232,7 @@ module _ {S : Type 0} (moves : S → List Call → S → Type 0) (same_but_calls
   -- and memory was refused to that
   pub answered_starved : (start a b c : S) (lines : List (List ℕ)) (said line : List ℕ) → Full (number_behind lines) line a b → moves b [] c → Stands start lines said a → Answering (Err (Store OutOfMemory)) start lines said line c
   answered_starved start a b c lines said line full k s =
-      heard_line start b c lines said (fault_text OutOfMemory ++ codes "\n") line [] (Starved c full.0 k) (waited start a b lines said (Moves [] [] a b Stays full.1) s)
+      heard_line start b c lines said (fault_text OutOfMemory ++ codes "\n") line [] (Starved c (step_is_asked (request_of line) full.0) k) (waited start a b lines said (Moves [] [] a b Stays full.1) s)
 
   -- ---- what is written
 
@@ -219,6 +241,7 @@ module _ {S : Type 0} (moves : S → List Call → S → Type 0) (same_but_calls
       → Takes goes_out old new (said_of (number_behind lines) r) → Tells start (lines ++ line ∷ []) blank goes_out now new
   said_of_line (Ok (answers.Reply text)) goes_out start now lines blank old new said line other a was out = record { said = said ++ said_of (number_behind lines) (Ok (answers.Reply text)); answered = a; out = takes_behind goes_out blank old new said (said_of (number_behind lines) (Ok (answers.Reply text))) was out }
   said_of_line (Ok (answers.Table text)) goes_out start now lines blank old new said line other a was out = record { said = said ++ said_of (number_behind lines) (Ok (answers.Table text)); answered = a; out = takes_behind goes_out blank old new said (said_of (number_behind lines) (Ok (answers.Table text))) was out }
+  said_of_line (Ok (answers.Viewed text)) goes_out start now lines blank old new said line other a was out = record { said = said ++ said_of (number_behind lines) (Ok (answers.Viewed text)); answered = a; out = takes_behind goes_out blank old new said (said_of (number_behind lines) (Ok (answers.Viewed text))) was out }
   said_of_line (Ok (answers.Unread fault)) goes_out start now lines blank old new said line other a was out = record { said = said ++ said_of (number_behind lines) (Ok (answers.Unread fault)); answered = a; out = takes_behind goes_out blank old new said (said_of (number_behind lines) (Ok (answers.Unread fault))) was out }
   said_of_line (Ok answers.End) goes_out start now lines blank old new said line other a was out = absurd (other refl)
   said_of_line (Err BadLine) goes_out start now lines blank old new said line other a was out = record { said = said ++ said_of (number_behind lines) (Err BadLine); answered = a; out = takes_behind goes_out blank old new said (said_of (number_behind lines) (Err BadLine)) was out }
@@ -230,6 +253,7 @@ module _ {S : Type 0} (moves : S → List Call → S → Type 0) (same_but_calls
   end_of_line (Ok answers.End) start now lines blank old said line is a was = (a.0, record { said = said; answered = a.1; out = was })
   end_of_line (Ok (answers.Reply text)) start now lines blank old said line is a was = cc
   end_of_line (Ok (answers.Table text)) start now lines blank old said line is a was = cc
+  end_of_line (Ok (answers.Viewed text)) start now lines blank old said line is a was = cc
   end_of_line (Ok (answers.Unread fault)) start now lines blank old said line is a was = cc
   end_of_line (Err fault) start now lines blank old said line is a was = cc
 
@@ -237,6 +261,7 @@ module _ {S : Type 0} (moves : S → List Call → S → Type 0) (same_but_calls
   pub answer_emptied : (r : Result Answer CommandFault) (start a b : S) (lines : List (List ℕ)) (said line : List ℕ) → same_but_calls a b → Answering r start lines said line a → Answering r start lines said line b
   answer_emptied (Ok (answers.Reply text)) start a b lines said line h s = waited start a b (lines ++ line ∷ []) (said ++ said_of (number_behind lines) (Ok (answers.Reply text))) (Empties [] a b Stays h) s
   answer_emptied (Ok (answers.Table text)) start a b lines said line h s = waited start a b (lines ++ line ∷ []) (said ++ said_of (number_behind lines) (Ok (answers.Table text))) (Empties [] a b Stays h) s
+  answer_emptied (Ok (answers.Viewed text)) start a b lines said line h s = waited start a b (lines ++ line ∷ []) (said ++ said_of (number_behind lines) (Ok (answers.Viewed text))) (Empties [] a b Stays h) s
   answer_emptied (Ok (answers.Unread fault)) start a b lines said line h s = waited start a b (lines ++ line ∷ []) (said ++ said_of (number_behind lines) (Ok (answers.Unread fault))) (Empties [] a b Stays h) s
   answer_emptied (Ok answers.End) start a b lines said line h s = (s.0, waited start a b lines said (Empties [] a b Stays h) s.1)
   answer_emptied (Err BadLine) start a b lines said line h s = waited start a b (lines ++ line ∷ []) (said ++ said_of (number_behind lines) (Err BadLine)) (Empties [] a b Stays h) s
@@ -262,6 +287,14 @@ module _ {S : Type 0} (moves : S → List Call → S → Type 0) (same_but_calls
     told = record { said = []; answered = record { calls = []; listens = Begins }; out = appends_none blank };
     kept = kept;
     number = first;
+  }
+
+  -- the store's list was emptied in between
+  pub rested : (start a b : S) (blank written : Option (List ℕ)) (heard : List ℕ) (pending : Pending) → same_but_calls a b → Keeps start blank heard pending a written → Keeps start blank heard pending b written
+  rested start a b blank written heard pending h s = record {
+    told = record { said = s.told.said; answered = waited start a b (cut heard).0 s.told.said (Empties [] a b Stays h) s.told.answered; out = s.told.out };
+    kept = s.kept;
+    number = s.number;
   }
 
   -- a byte of a line
@@ -312,7 +345,7 @@ module _ {S : Type 0} (moves : S → List Call → S → Type 0) (same_but_calls
   break_stops RunEnding start now blank written heard byte ends t = absurd t
   break_stops ReadFault start now blank written heard byte ends t = absurd t
 
-  stops_at_more : (end : OperatorEnd) (rest more : List ℕ) → StopsAt moves same_but_calls rolls is_full is_left reads end rest → StopsAt moves same_but_calls rolls is_full is_left reads end (rest ++ more)
+  stops_at_more : (end : OperatorEnd) (rest more : List ℕ) → StopsAt moves same_but_calls rolls is_full is_left network end rest → StopsAt moves same_but_calls rolls is_full is_left network end (rest ++ more)
   stops_at_more EndAsked rest more h = (h.0, h.1, h.2 ++ more, ap (λ (all : List ℕ). all ++ more) h.3 ∙ append_assoc h.0 (10 ∷ h.2) more)
   stops_at_more WriteFault rest more h = tt
   stops_at_more InputEnded rest more h = absurd h
@@ -337,7 +370,7 @@ module _ {S : Type 0} (moves : S → List Call → S → Type 0) (same_but_calls
   consumed_none a b c heard buffer count none h k =
       subst (λ (bytes : List ℕ). Consumes a c bytes) (ap (λ (n : ℕ). heard ++ take n buffer) none ∙ append-nil heard) (Consumes-trans a b c heard (take count buffer) h k)
 
-  cause_over : (end : OperatorEnd) (may_close : Type 0) (left : Option (List ℕ)) (rest : List ℕ) → StopsAt moves same_but_calls rolls is_full is_left reads end rest → IsOver end may_close left rest
+  cause_over : (end : OperatorEnd) (may_close : Type 0) (left : Option (List ℕ)) (rest : List ℕ) → StopsAt moves same_but_calls rolls is_full is_left network end rest → IsOver end may_close left rest
   cause_over EndAsked may_close left rest h = (h.0, h.1, inl (h.2, h.3))
   cause_over WriteFault may_close left rest h = tt
   cause_over InputEnded may_close left rest h = absurd h
@@ -379,7 +412,7 @@ module _ {S : Type 0} (moves : S → List Call → S → Type 0) (same_but_calls
 
   -- a read failed
   pub failed : (r : Option OperatorEnd) (kind : ErrorKind) (start now : S) (unread blank left written : Option (List ℕ)) (may_close : Type 0) (heard : List ℕ) (pending : Pending) → FailsAs r kind may_close → Consumes unread left heard
-      → Keeps start blank heard pending now written → Turns moves same_but_calls rolls is_full is_left reads r start unread blank may_close pending now left written
+      → Keeps start blank heard pending now written → Turns moves same_but_calls rolls is_full is_left network r start unread blank may_close pending now left written
   failed None kind start now unread blank left written may_close heard pending why read s = (heard, read, s)
   failed (Some ReadFault) kind start now unread blank left written may_close heard pending why read s =
       left_there ReadFault start now unread blank left written may_close heard [] pending refl (subst (λ (all : List ℕ). Consumes unread left all) (sym (append-nil heard)) read) (λ rest. tt) s
@@ -391,7 +424,7 @@ module _ {S : Type 0} (moves : S → List Call → S → Type 0) (same_but_calls
 
   -- bytes were taken up to the end, or all of them
   pub taken : (r : Option OperatorEnd) (start now : S) (unread blank left written : Option (List ℕ)) (may_close : Type 0) (heard : List ℕ) (pending : Pending) → Consumes unread left heard → Hearing r start blank heard pending now written
-      → Turns moves same_but_calls rolls is_full is_left reads r start unread blank may_close pending now left written
+      → Turns moves same_but_calls rolls is_full is_left network r start unread blank may_close pending now left written
   taken None start now unread blank left written may_close heard pending read s = (heard, read, s)
   taken (Some end) start now unread blank left written may_close heard pending read s = stopped end start now unread blank left written may_close heard read s
 

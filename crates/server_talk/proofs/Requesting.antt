@@ -6,11 +6,13 @@ use Rattle.step_core.specs.declared.event.Event.{Event}
 use Rattle.step_core.specs.declared.event.Event.TheVariants.{Ask, Return, Delete}
 use Rattle.commit_core.specs.declared.ticket.Purpose.TheVariants.{Update, Initiate}
 use Rattle.script_lines.specs.Commands.{constraints_in, lsp_in, lsp_event, initiate_event, operator_event_with, operator_event_in}
+use Rattle.script_lines.specs.Views.{view_line_in}
+use Rattle.script_lines.specs.declared.views.ViewLine.{ViewLine}
 use Rattle.script_lines.specs.Words.{cut_at_space, peer_in, name_in}
 use Rattle.server_talk.specs.declared.requests.Request.{Request}
-use Rattle.server_talk.specs.declared.requests.Request.TheVariants.{Book, End, Reload, Submit}
+use Rattle.server_talk.specs.declared.requests.Request.TheVariants.{Book, Check, End, Reload, Submit, View}
 use Rattle.server_talk.specs.Listening.{AreKept, Asks as Told}
-use Rattle.server_talk.specs.Requests.{is_operators, line_limit, request_in, request_of}
+use Rattle.server_talk.specs.Requests.{is_operators, line_limit, request_in, request_of, view_or_event}
 
 -- an event that is found is an operator's
 abbrev Fits : Option Event → Type 0
@@ -67,12 +69,17 @@ asks_event : (found : Option Event) → Fits found → Asks (option_map Submit f
 asks_event None fits event is = cc
 asks_event (Some e) fits event is = let same : e ≡ event = cc in fits event (rw same refl)
 
+asks_view : (view : Option ViewLine) (found : Option Event) → Fits found → Asks (view_or_event view found)
+asks_view (Some view) found fits event is = cc
+asks_view None found fits event is = asks_event found fits event is
+
 asks_text : (line : List ℕ) → Asks (request_in line)
 unfolding request_in
 asks_text line =
     asks_either (bytes_eq line (codes "book")) _ _ (λ event is. cc)
     (asks_either (bytes_eq line (codes "end")) _ _ (λ event is. cc)
-    (asks_either (bytes_eq line (codes "reload")) _ _ (λ event is. cc) (asks_event (operator_event_in line) (fits_line line))))
+    (asks_either (bytes_eq line (codes "reload")) _ _ (λ event is. cc)
+    (asks_either (bytes_eq line (codes "reload check")) _ _ (λ event is. cc) (asks_view (view_line_in line) (operator_event_in line) (fits_line line)))))
 
 asks_line : (line : List ℕ) → Asks (request_of line)
 unfolding request_of

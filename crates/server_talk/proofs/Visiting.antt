@@ -1,5 +1,5 @@
 -- A visit, step by step.
-use Rattle.std.proofs.Common.{◌≡◌, ℕ, Bool, true, false, List, [], ◌++◌, Option, Some, None, Result, Ok, Err, refl, sym, ◌∙◌, ap, subst}
+use Rattle.std.proofs.Common.{◌≡◌, ◌≤◌, ◌⊎◌, inl, inr, ℕ, Bool, true, false, List, [], ◌++◌, Option, Some, None, Result, Ok, Err, refl, sym, ◌∙◌, ap, subst}
 use Rattle.std.proofs.lemmas.List.{append-nil}
 use Rattle.std.proofs.KnownBytes.{Consumes-nil, Consumes-trans}
 use Rattle.std.specs.Io.KnownBytes.{Consumes}
@@ -29,13 +29,14 @@ LeadsOn w start a b = (calls : List Call) → Goes w start calls a → Goes w st
 
 -- it begins
 pub begun : {S : Type 0} (w : Ways S) (tells : ℕ → Type 0) (may_close : Type 0) (peer : ℕ) (store : S) (unread blank : Option (List ℕ)) (now_ms : ℕ) (c : Client)
-    → c ≡ new_client now_ms → tells now_ms → SoFar w tells may_close peer store unread blank None store unread blank c
+    → c ≡ new_client now_ms → tells now_ms → SoFar w tells may_close peer store unread blank None store unread blank now_ms c
 begun w tells may_close peer store unread blank now_ms c is told =
-    subst (λ (k : Client). SoFar w tells may_close peer store unread blank None store unread blank k) (sym is) (record {
+    subst (λ (k : Client). SoFar w tells may_close peer store unread blank None store unread blank now_ms k) (sym is) (record {
       heard = [];
       said = [];
       calls = [];
       talks = Begins now_ms told;
+      told_at = told;
       joined = refl;
       goes = Stays;
       read = Consumes-nil unread;
@@ -43,29 +44,36 @@ begun w tells may_close peer store unread blank now_ms c is told =
       told = tt;
     })
 
+-- a moment that is the last one, or that the watch tells
+told_then : (tells : ℕ → Type 0) (at_ms now_ms : ℕ) → (now_ms ≡ at_ms) ⊎ tells now_ms → tells at_ms → tells now_ms
+told_then tells at_ms now_ms (inl is) told = subst (λ (n : ℕ). tells n) (sym is) told
+told_then tells at_ms now_ms (inr told) before = told
+
 -- bytes were served
-pub heeded : {X S : Type 0} (w : Ways S) (tells : ℕ → Type 0) (may_close : Type 0) (r : Result X Fault) (peer : ℕ) (start old mid new : S) (unread blank left read written : Option (List ℕ)) (piece : List ℕ) (now_ms : ℕ) (c d : Client)
-    → tells now_ms → ServesOrEnds r w.moves w.is_full old mid c d (served peer piece now_ms c) → LeadsOn w start mid new
-    → SoFar w tells may_close peer start unread blank None old left written c → Consumes left read piece
-    → SoFar w tells may_close peer start unread blank None new read written d
-heeded w tells may_close (Ok x) peer start old mid new unread blank left read written piece now_ms c d told h on s k = record {
+pub heeded : {X S : Type 0} (w : Ways S) (tells : ℕ → Type 0) (may_close : Type 0) (r : Result X Fault) (peer : ℕ) (start old mid new : S) (unread blank left read written : Option (List ℕ)) (piece : List ℕ) (at_ms now_ms : ℕ) (c d : Client)
+    → at_ms ≤ now_ms → (now_ms ≡ at_ms) ⊎ tells now_ms → ServesOrEnds r w.moves w.is_full old mid c d (served peer piece now_ms c) → LeadsOn w start mid new
+    → SoFar w tells may_close peer start unread blank None old left written at_ms c → Consumes left read piece
+    → SoFar w tells may_close peer start unread blank None new read written now_ms d
+heeded w tells may_close (Ok x) peer start old mid new unread blank left read written piece at_ms now_ms c d later told h on s k = record {
   heard = s.heard ++ piece;
   said = s.said;
   calls = s.calls ++ h.calls;
-  talks = Serves s.heard s.said piece s.calls h.calls now_ms c d told s.talks h.leads;
+  talks = Serves s.heard s.said piece s.calls h.calls at_ms now_ms c d (told_then tells at_ms now_ms told s.told_at) later s.talks h.leads;
+  told_at = told_then tells at_ms now_ms told s.told_at;
   joined = h.joined ∙ ap (λ (is : Bool). joined_after is h.calls) s.joined ∙ sym (joined_on false s.calls h.calls);
   goes = on (s.calls ++ h.calls) (Moves s.calls h.calls old mid s.goes h.made);
   read = Consumes-trans unread left read s.heard piece s.read k;
   out = s.out;
   told = tt;
 }
-heeded w tells may_close (Err fault) peer start old mid new unread blank left read written piece now_ms c d told h on s k =
+heeded w tells may_close (Err fault) peer start old mid new unread blank left read written piece at_ms now_ms c d later told h on s k =
     let b = h.broke_off.carried in
-    subst (λ (k : Client). SoFar w tells may_close peer start unread blank None new read written k) (sym h.ended) (record {
+    subst (λ (k : Client). SoFar w tells may_close peer start unread blank None new read written now_ms k) (sym h.ended) (record {
       heard = s.heard ++ piece;
       said = s.said;
       calls = s.calls ++ b.calls;
-      talks = Breaks s.heard s.said piece s.calls b.calls now_ms c h.reached h.broke_off.rest told s.talks b.leads;
+      talks = Breaks s.heard s.said piece s.calls b.calls at_ms now_ms c h.reached h.broke_off.rest (told_then tells at_ms now_ms told s.told_at) later s.talks b.leads;
+      told_at = told_then tells at_ms now_ms told s.told_at;
       joined = b.joined ∙ ap (λ (is : Bool). joined_after is b.calls) s.joined ∙ sym (joined_on false s.calls b.calls);
       goes = on (s.calls ++ b.calls) (Moves s.calls b.calls old mid s.goes b.made);
       read = Consumes-trans unread left read s.heard piece s.read k;
@@ -74,36 +82,38 @@ heeded w tells may_close (Err fault) peer start old mid new unread blank left re
     })
 
 -- what there was to say was said
-pub said : {S : Type 0} (w : Ways S) (tells : ℕ → Type 0) (may_close : Type 0) (peer : ℕ) (start now : S) (unread blank left written after : Option (List ℕ)) (end : Option Ended) (c d : Client)
-    → d ≡ spoken c → GoesOut end written after c.session.output → IsToldOf end left d
-    → SoFar w tells may_close peer start unread blank None now left written c → SoFar w tells may_close peer start unread blank end now left after d
-said w tells may_close peer start now unread blank left written after end c d is out told s = record {
+pub said : {S : Type 0} (w : Ways S) (tells : ℕ → Type 0) (may_close : Type 0) (peer : ℕ) (start now : S) (unread blank left written after : Option (List ℕ)) (end : Option Ended) (at_ms then_ms : ℕ) (c d : Client)
+    → then_ms ≡ at_ms → d ≡ spoken c → GoesOut end written after c.session.output → IsToldOf end left d
+    → SoFar w tells may_close peer start unread blank None now left written at_ms c → SoFar w tells may_close peer start unread blank end now left after then_ms d
+said w tells may_close peer start now unread blank left written after end at_ms then_ms c d same is out told s = subst (λ (n : ℕ). SoFar w tells may_close peer start unread blank end now left after n d) (sym same) (record {
   heard = s.heard;
   said = s.said ++ c.session.output;
   calls = s.calls;
-  talks = subst (λ (k : Client). Talks tells may_close peer s.heard s.calls (s.said ++ c.session.output) k) (sym is) (Says s.heard s.said s.calls c s.talks);
+  talks = subst (λ (k : Client). Talks tells may_close peer s.heard s.calls (s.said ++ c.session.output) at_ms k) (sym is) (Says s.heard s.said s.calls at_ms c s.talks);
+  told_at = s.told_at;
   joined = ap (λ (k : Client). k.joined) is ∙ s.joined;
   goes = s.goes;
   read = s.read;
   out = goes_out_behind end blank written after s.said c.session.output s.out out;
   told = told;
-}
+})
 
 -- the session was closed from this side
-pub closed : {S : Type 0} (w : Ways S) (tells : ℕ → Type 0) (may_close : Type 0) (peer : ℕ) (start now : S) (unread blank left written : Option (List ℕ)) (c d : Client)
-    → may_close → (reason : Option ℕ) × IsUnexplained reason × (d ≡ ending None reason c)
-    → SoFar w tells may_close peer start unread blank None now left written c → SoFar w tells may_close peer start unread blank None now left written d
-closed w tells may_close peer start now unread blank left written c d may h s = record {
+pub closed : {S : Type 0} (w : Ways S) (tells : ℕ → Type 0) (may_close : Type 0) (peer : ℕ) (start now : S) (unread blank left written : Option (List ℕ)) (at_ms then_ms : ℕ) (c d : Client)
+    → then_ms ≡ at_ms → may_close → (reason : Option ℕ) × IsUnexplained reason × (d ≡ ending None reason c)
+    → SoFar w tells may_close peer start unread blank None now left written at_ms c → SoFar w tells may_close peer start unread blank None now left written then_ms d
+closed w tells may_close peer start now unread blank left written at_ms then_ms c d same may h s = subst (λ (n : ℕ). SoFar w tells may_close peer start unread blank None now left written n d) (sym same) (record {
   heard = s.heard;
   said = s.said;
   calls = s.calls;
-  talks = subst (λ (k : Client). Talks tells may_close peer s.heard s.calls s.said k) (sym h.2) (Closes s.heard s.said s.calls c h.0 may h.1 s.talks);
+  talks = subst (λ (k : Client). Talks tells may_close peer s.heard s.calls s.said at_ms k) (sym h.2) (Closes s.heard s.said s.calls at_ms c h.0 may h.1 s.talks);
+  told_at = s.told_at;
   joined = ap (λ (k : Client). k.joined) h.2 ∙ s.joined;
   goes = s.goes;
   read = s.read;
   out = s.out;
   told = tt;
-}
+})
 
 -- a session that could be ended is the one that has ended
 pub ended_ok : {X : Type 0} (r : Result X SessionFault) (old new : Contents) (step : Result Contents SessionFault) → is_err r ≡ false → Does r old new step → new ≡ or_same old step
@@ -121,17 +131,18 @@ lasts_at WriteFault listed peer joined new last here h k = (h, k)
 lasts_at (StoreFault fault) listed peer joined new last here h k = cc
 
 -- a visit is over, and its Down was submitted where its peer was joined
-pub over : {S : Type 0} (w : Ways S) (tells : ℕ → Type 0) (may_close : Type 0) (listed : S → List Call) (peer : ℕ) (start mid new : S) (unread blank left written : Option (List ℕ)) (ended : Ended) (c : Client)
-    → (s : SoFar w tells may_close peer start unread blank (Some ended) mid left written c) → c.session.output ≡ []
+pub over : {S : Type 0} (w : Ways S) (tells : ℕ → Type 0) (may_close : Type 0) (listed : S → List Call) (peer : ℕ) (start mid new : S) (unread blank left written : Option (List ℕ)) (ended : Ended) (at_ms : ℕ) (c : Client)
+    → (s : SoFar w tells may_close peer start unread blank (Some ended) mid left written at_ms c) → c.session.output ≡ []
     → (last : List Call) × IsDown peer c.joined last × Goes w start (s.calls ++ last) new × (listed new ≡ last)
     → Visited w tells may_close listed peer start unread blank ended new left written
-over w tells may_close listed peer start mid new unread blank left written ended c s silent h =
+over w tells may_close listed peer start mid new unread blank left written ended at_ms c s silent h =
     let down : IsDown peer (joined_after false s.calls) h.0 = subst (λ (is : Bool). IsDown peer is h.0) s.joined h.1 in
     record {
       heard = s.heard;
       said = s.said;
       calls = s.calls;
       last = h.0;
+      at_ms = at_ms;
       client = c;
       talks = s.talks;
       silent = silent;
@@ -144,15 +155,16 @@ over w tells may_close listed peer start mid new unread blank left written ended
     }
 
 -- a visit is over, and its peer is left joined
-pub left_joined : {S : Type 0} (w : Ways S) (tells : ℕ → Type 0) (may_close : Type 0) (listed : S → List Call) (peer : ℕ) (start mid new : S) (unread blank left written : Option (List ℕ)) (ended : Ended) (fault : Fault) (c : Client)
-    → (s : SoFar w tells may_close peer start unread blank (Some ended) mid left written c) → c.session.output ≡ []
+pub left_joined : {S : Type 0} (w : Ways S) (tells : ℕ → Type 0) (may_close : Type 0) (listed : S → List Call) (peer : ℕ) (start mid new : S) (unread blank left written : Option (List ℕ)) (ended : Ended) (fault : Fault) (at_ms : ℕ) (c : Client)
+    → (s : SoFar w tells may_close peer start unread blank (Some ended) mid left written at_ms c) → c.session.output ≡ []
     → (c.joined ≡ true) × Goes w start s.calls new
     → Visited w tells may_close listed peer start unread blank (StoreFault fault) new left written
-left_joined w tells may_close listed peer start mid new unread blank left written ended fault c s silent h = record {
+left_joined w tells may_close listed peer start mid new unread blank left written ended fault at_ms c s silent h = record {
   heard = s.heard;
   said = s.said;
   calls = s.calls;
   last = [];
+  at_ms = at_ms;
   client = c;
   talks = s.talks;
   silent = silent;

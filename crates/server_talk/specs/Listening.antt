@@ -16,8 +16,9 @@ use Rattle.server_talk.specs.declared.pending.Pending.{Pending}
 use Rattle.server_talk.specs.declared.plan.PlanFault.{PlanFault}
 use Rattle.server_talk.specs.declared.requests.Request.{Request}
 use Rattle.server_talk.specs.declared.requests.Request.TheVariants.{End}
+use Rattle.server_talk.specs.Networks.{NetworkNow}
 use Rattle.server_talk.specs.Operators.{IsAnswered, Listens, Operated, bad_line, is_out, number_behind, unread_line}
-use Rattle.server_talk.specs.Requests.{line_limit, request_of}
+use Rattle.server_talk.specs.Requests.{asks_step, line_limit, request_of}
 use Rattle.server_talk.specs.Visits.{Takes}
 
 -- ---- a line that has ended
@@ -42,22 +43,23 @@ Asks (Err fault) (Some request) = ⊤
 abbrev pub said_of : ℕ → Result Answer CommandFault → List ℕ
 said_of number (Ok (answers.Reply text)) = string_bytes text ++ codes "\n"
 said_of number (Ok (answers.Table text)) = string_bytes text
+said_of number (Ok (answers.Viewed text)) = text.items
 said_of number (Ok (answers.Unread fault)) = unread_line fault
 said_of number (Ok answers.End) = []
 said_of number (Err BadLine) = bad_line number
 said_of number (Err (Store fault)) = fault_text fault ++ codes "\n"
 
-module _ {S : Type 0} (moves : S → List Call → S → Type 0) (same_but_calls : S → S → Type 0) (rolls : S → ℕ → S → Type 0) (is_full : S → Type 0) (is_left : S → List (List ℤ) → Type 0) (reads : Result (List LinkReload) PlanFault → Type 0) where
+module _ {S : Type 0} (moves : S → List Call → S → Type 0) (same_but_calls : S → S → Type 0) (rolls : S → ℕ → S → Type 0) (is_full : S → Type 0) (is_left : S → List (List ℤ) → Type 0) (network : NetworkNow) where
   -- What a line comes to at once: it is answered, it asks for the end, or a full history takes nothing.
   abbrev pub Comes : Result Answer CommandFault → ℕ → List ℕ → S → S → Type 0
   Comes (Ok answers.End) number line old new = (request_of line ≡ Some End) × (new ≡ old)
-  Comes (Err (Store HistoryFull)) number line old new = IsSome (request_of line) × moves old [] new × is_full new
-  Comes answer number line old new = (calls : List Call) × IsAnswered moves rolls is_full is_left reads number line old calls (said_of number answer) new
+  Comes (Err (Store HistoryFull)) number line old new = (asks_step (request_of line) ≡ true) × moves old [] new × is_full new
+  Comes answer number line old new = (calls : List Call) × IsAnswered moves rolls is_full is_left network number line old calls (said_of number answer) new
 
   -- these lines were answered so far, and this is said to them
   pub record Answered (start : S) (lines : List (List ℕ)) (said : List ℕ) (now : S) : Type 0 where
     pub calls : List Call
-    pub listens : Listens moves same_but_calls rolls is_full is_left reads start lines calls said now
+    pub listens : Listens moves same_but_calls rolls is_full is_left network start lines calls said now
 
   -- and it went out, or some of it did
   pub record Told (start : S) (lines : List (List ℕ)) (blank : Option (List ℕ)) (goes_out : Bool) (now : S) (written : Option (List ℕ)) : Type 0 where
@@ -108,4 +110,4 @@ module _ {S : Type 0} (moves : S → List Call → S → Type 0) (same_but_calls
   -- What a turn leaves that began with all lines answered which had been heard.
   abbrev pub Turns : Option OperatorEnd → S → Option (List ℕ) → Option (List ℕ) → Type 0 → Pending → S → Option (List ℕ) → Option (List ℕ) → Type 0
   Turns None start unread blank may_close pending now left written = (heard : List ℕ) × Consumes unread left heard × SoFar start blank heard pending now written
-  Turns (Some end) start unread blank may_close pending now left written = Operated moves same_but_calls rolls is_full is_left reads start unread blank end may_close now left written
+  Turns (Some end) start unread blank may_close pending now left written = Operated moves same_but_calls rolls is_full is_left network start unread blank end may_close now left written

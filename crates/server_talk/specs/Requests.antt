@@ -4,8 +4,10 @@ use Rattle.std.specs.Str.{bytes_eq, is_utf8}
 use Rattle.step_core.specs.declared.event.Event.{Event}
 use Rattle.step_core.specs.declared.event.Event.TheVariants as event
 use Rattle.script_lines.specs.Commands.{operator_event_in}
+use Rattle.script_lines.specs.Views.{view_line_in}
+use Rattle.script_lines.specs.declared.views.ViewLine.{ViewLine}
 use Rattle.server_talk.specs.declared.requests.Request.{Request}
-use Rattle.server_talk.specs.declared.requests.Request.TheVariants.{Book, End, Reload, Submit}
+use Rattle.server_talk.specs.declared.requests.Request.TheVariants.{Book, Check, End, Reload, Submit, View}
 
 -- an operator's events: tickets are taken by the server's workers, and peers are forgotten by its clock
 abbrev pub is_operators : Event → Bool
@@ -15,13 +17,31 @@ is_operators (event.Delete peer plsp) = true
 is_operators (event.Reload links) = true
 is_operators other = false
 
+-- what a line asks to see, else the event that it asks for
+abbrev pub view_or_event : Option ViewLine → Option Event → Option Request
+view_or_event (Some view) event = Some (View view)
+view_or_event None event = option_map Submit event
+
 -- None for a bad line
 unfoldable pub request_in : List ℕ → Option Request
 request_in line =
     if bytes_eq line (codes "book") then Some Book
     else if bytes_eq line (codes "end") then Some End
     else if bytes_eq line (codes "reload") then Some Reload
-    else option_map Submit (operator_event_in line)
+    else if bytes_eq line (codes "reload check") then Some Check
+    else view_or_event (view_line_in line) (operator_event_in line)
+
+-- it asks for an event, so that a full history takes nothing
+abbrev pub asks_step : Option Request → Bool
+asks_step (Some Reload) = true
+asks_step (Some (Submit of)) = true
+asks_step asked = false
+
+-- it asks for what the link text gives
+abbrev pub asks_reading : Option Request → Bool
+asks_reading (Some Check) = true
+asks_reading (Some Reload) = true
+asks_reading asked = false
 
 -- a line has so many bytes at most
 abbrev pub line_limit : ℕ

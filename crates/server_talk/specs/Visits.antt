@@ -1,5 +1,5 @@
 -- A visit of a peer: what its session hears and says, what it does to the store, and how it ends.
-use Rattle.std.specs.Prelude.{◌≡◌, ◌<◌, ◌⊎◌, ℕ, Bool, true, false, List, [], ◌∷◌, ◌++◌, length, take, ⊤, Option, Some, None, Result, Ok, Err}
+use Rattle.std.specs.Prelude.{◌≡◌, ◌<◌, ◌≤◌, ◌⊎◌, ℕ, Bool, true, false, List, [], ◌∷◌, ◌++◌, length, take, ⊤, Option, Some, None, Result, Ok, Err}
 use Rattle.std.specs.Io.KnownBytes.{Appends, Consumes, IsAtEnd}
 use Rattle.pcep_session.specs.Calls.{output_taken}
 use Rattle.pcep_session.specs.Turns.{is_closed}
@@ -27,23 +27,24 @@ abbrev pub IsUnexplained : Option ℕ → Type 0
 IsUnexplained reason = (reason ≡ Some 1) ⊎ (reason ≡ None)
 
 -- A session of a peer so far: the bytes that it heard, the calls that it led to, the bytes that it said, and what it has
--- come to. Of the watch it is known which moments it tells, and whether the run may be told to end.
-pub data Talks (tells : ℕ → Type 0) (may_close : Type 0) (peer : ℕ) : List ℕ → List Call → List ℕ → Client → Type 0 where
+-- come to, with the moment at which it was served last. Of the watch it is known which moments it tells, and whether the
+-- run may be told to end.
+pub data Talks (tells : ℕ → Type 0) (may_close : Type 0) (peer : ℕ) : List ℕ → List Call → List ℕ → ℕ → Client → Type 0 where
   -- it begins at a moment that the watch tells
-  Begins : (now_ms : ℕ) → tells now_ms → Talks tells may_close peer [] [] [] (new_client now_ms)
-  -- it is served with bytes at a moment that the watch tells, as the engine's table says
-  Serves : (heard said piece : List ℕ) (before made : List Call) (now_ms : ℕ) (c d : Client) → tells now_ms
-      → Talks tells may_close peer heard before said c → LeadsTo (served peer piece now_ms c) made (Returns d) → Talks tells may_close peer (heard ++ piece) (before ++ made) said d
+  Begins : (now_ms : ℕ) → tells now_ms → Talks tells may_close peer [] [] [] now_ms (new_client now_ms)
+  -- it is served with bytes, as the engine's table says, at a moment that the watch tells and that isn't before the last
+  Serves : (heard said piece : List ℕ) (before made : List Call) (at_ms now_ms : ℕ) (c d : Client) → tells now_ms → at_ms ≤ now_ms
+      → Talks tells may_close peer heard before said at_ms c → LeadsTo (served peer piece now_ms c) made (Returns d) → Talks tells may_close peer (heard ++ piece) (before ++ made) said now_ms d
   -- the same up to a fault, which ends it
-  Breaks : (heard said piece : List ℕ) (before made : List Call) (now_ms : ℕ) (c d : Client) (rest : Plan Client) → tells now_ms
-      → Talks tells may_close peer heard before said c → LeadsTo (served peer piece now_ms c) made (Reaches d rest) → Talks tells may_close peer (heard ++ piece) (before ++ made) said (ending None None d)
+  Breaks : (heard said piece : List ℕ) (before made : List Call) (at_ms now_ms : ℕ) (c d : Client) (rest : Plan Client) → tells now_ms → at_ms ≤ now_ms
+      → Talks tells may_close peer heard before said at_ms c → LeadsTo (served peer piece now_ms c) made (Reaches d rest) → Talks tells may_close peer (heard ++ piece) (before ++ made) said now_ms (ending None None d)
   -- it says what it has to say
-  Says : (heard said : List ℕ) (before : List Call) (c : Client)
-      → Talks tells may_close peer heard before said c → Talks tells may_close peer heard before (said ++ c.session.output) (spoken c)
+  Says : (heard said : List ℕ) (before : List Call) (at_ms : ℕ) (c : Client)
+      → Talks tells may_close peer heard before said at_ms c → Talks tells may_close peer heard before (said ++ c.session.output) at_ms (spoken c)
   -- it is closed from this side where the run may be told to end: with a Close that explains nothing (RFC 5440 section 7.17), or
   -- without one
-  Closes : (heard said : List ℕ) (before : List Call) (c : Client) (reason : Option ℕ) → may_close → IsUnexplained reason
-      → Talks tells may_close peer heard before said c → Talks tells may_close peer heard before said (ending None reason c)
+  Closes : (heard said : List ℕ) (before : List Call) (at_ms : ℕ) (c : Client) (reason : Option ℕ) → may_close → IsUnexplained reason
+      → Talks tells may_close peer heard before said at_ms c → Talks tells may_close peer heard before said at_ms (ending None reason c)
 
 -- ---- what is read and written
 
@@ -92,12 +93,13 @@ IsToldOf (Some ended) left c = IsTold ended left c × (owes_down ended ≡ false
 -- ---- a visit so far
 
 -- From `start` on, in a visit that goes on or has come to this end, but for the Down of its peer. Of the reader and the
--- writer the known bytes are meant, at the visit's start and now.
-pub record SoFar {S : Type 0} (w : Ways S) (tells : ℕ → Type 0) (may_close : Type 0) (peer : ℕ) (start : S) (unread blank : Option (List ℕ)) (end : Option Ended) (now : S) (left written : Option (List ℕ)) (client : Client) : Type 0 where
+-- writer the known bytes are meant, at the visit's start and now; the session was served at this moment last.
+pub record SoFar {S : Type 0} (w : Ways S) (tells : ℕ → Type 0) (may_close : Type 0) (peer : ℕ) (start : S) (unread blank : Option (List ℕ)) (end : Option Ended) (now : S) (left written : Option (List ℕ)) (at_ms : ℕ) (client : Client) : Type 0 where
   pub heard : List ℕ
   pub said : List ℕ
   pub calls : List Call
-  pub talks : Talks tells may_close peer heard calls said client
+  pub talks : Talks tells may_close peer heard calls said at_ms client
+  pub told_at : tells at_ms
   pub joined : client.joined ≡ joined_after false calls
   pub goes : Goes w start calls now
   pub read : Consumes unread left heard
@@ -130,8 +132,9 @@ pub record Visited {S : Type 0} (w : Ways S) (tells : ℕ → Type 0) (may_close
   pub said : List ℕ
   pub calls : List Call
   pub last : List Call
+  pub at_ms : ℕ
   pub client : Client
-  pub talks : Talks tells may_close peer heard calls said client
+  pub talks : Talks tells may_close peer heard calls said at_ms client
   pub silent : client.session.output ≡ []
   pub goes : Goes w start (calls ++ last) now
   pub down : joined_after false (calls ++ last) ≡ owes_down ended

@@ -4,8 +4,8 @@
 //! a fault of the store; every other call is one that the engine's table names for this peer and the bytes that came
 //! (`specs/Visits`). `operate` is an operator: each line asks for one thing or for none (`specs/Requests`), that is done
 //! once, and what came of it is said (`specs/Operators`). What a session makes of bytes and what a step does is proved
-//! in the layers below. `Line` is a peer's socket as a reader whose wait another thread may end, and `PolledInput` is
-//! standard input; that they deliver is shown by tests alone.
+//! in the layers below. `PolledSocket` is a peer's socket as a reader whose wait another thread may end, `PolledInput`
+//! and `PolledOutput` are standard input and output; that they deliver is shown by tests alone.
 //!
 //! ```text
 //! fn ends_by_line<R: Wait, D: Desk, I: Patient, O: Write, W: Watch>(rt: &R, alloc: Global, reader: &mut I, writer: &mut O, watch: &W, store: &mut D) -> bool
@@ -15,23 +15,29 @@
 //! ```
 //!
 //! The modules, lowest first: `traits` (what a connection asks of its surroundings), `talk` (a connection), `socket`,
-//! `input`, `requests` (what a line asks for), `pending` (a line that hasn't ended), `commands` (what comes of one), `operator`.
+//! `input`, `requests` (what a line asks for), `pending` (a line that hasn't ended), `reload_check` (what a reload would
+//! change), `commands` (what comes of a line), `operator`.
 #![tactic(auto)]
 
 mod commands;
 mod input;
 mod operator;
+mod output;
 mod pending;
 mod plan;
+mod reload_check;
 mod requests;
+mod show;
 mod socket;
 mod talk;
 mod traits;
 
 pub use input::PolledInput;
 pub use operator::{OperatorEnd, operate};
-pub use plan::{Plan, PlanFault};
+pub use output::PolledOutput;
+pub use plan::{Network, Plan, PlanFault};
 pub use requests::LINE_LIMIT;
-pub use socket::{ACCEPT_WAIT_MS, Line, bound_accepts, part, peer_of, prepare};
+pub use show::Show;
+pub use socket::{ACCEPT_WAIT_MS, PolledSocket, bound_accepts, part, peer_of, prepare};
 pub use talk::{Ended, TAKEN_WITHIN_MS, connection};
 pub use traits::{Patient, Watch};

@@ -6,13 +6,15 @@ ghost use Rattle.history_core.specs.Faults.{fault_text};
 ghost use Rattle.engine_core.specs.declared.store.Call.{Call};
 ghost use Rattle.server_talk.specs.Goings.{Goes, ways};
 ghost use Rattle.server_talk.specs.Listening.{Told, TakesLine, IsKept, SoFar, HearsOn, Turns, said_of};
+ghost use Rattle.server_talk.specs.Networks.{network_of};
 ghost use Rattle.server_talk.specs.Operators.{AreOperators, FailsAs, Operated, EndsAs, is_quiet, te_line, unread_line, number_behind};
 ghost use Rattle.server_talk.specs.Visits.{Takes};
 
 use crate::commands::{Answer, answer_line, asks_end};
 use crate::pending::Pending;
-use crate::plan::{Plan, PlanFault};
+use crate::plan::PlanFault;
 use crate::requests::LINE_LIMIT;
+use crate::show::Show;
 use crate::talk::{INTERRUPTS, write_once};
 use crate::traits::{Patient, Watch};
 use engine_core::{Desk, Fault};
@@ -124,6 +126,7 @@ fn say<O: Write>(writer: &mut O, number: u64, answer: &Result<Answer, CommandFau
     match answer {
         Ok(Answer::Reply(text)) => write_line(writer, text.as_str()),
         Ok(Answer::Table(text)) => write(writer, text.as_bytes()),
+        Ok(Answer::Viewed(text)) => write(writer, text),
         Ok(Answer::Unread(fault)) => write_unread(writer, *fault),
         Ok(Answer::End) => true,
         Err(CommandFault::BadLine) => write_numbered(writer, "bad line ", number),
@@ -142,7 +145,7 @@ fn say_at_once<O: Write>(writer: &mut O, number: u64, answer: &Result<Answer, Co
 }
 
 /// Answers a line that has ended. The store's list is emptied. Gives the end, where that has come.
-fn take_line<D: Desk, O: Write, W: Watch, P: Plan>(
+fn take_line<D: Desk, O: Write, W: Watch, P: Show>(
     alloc: Global,
     line: &Pending,
     watch: &W,
@@ -152,8 +155,8 @@ fn take_line<D: Desk, O: Write, W: Watch, P: Plan>(
 ) -> Option<OperatorEnd>
     ensures empty { D.calls store.new ≡ [] }
     ensures taken { (start : D) (lines : List (List ℕ)) (blank : Option (List ℕ)) (text : List ℕ) → IsKept line.now text → line.now.number ≡ number_behind lines
-        → Told D.moves D.same_but_calls D.rolls D.is_full D.is_left (P.reads plan.now) start lines blank true store.old (O.contents writer.old)
-        → TakesLine D.moves D.same_but_calls D.rolls D.is_full D.is_left (P.reads plan.now) result start lines blank text store.new (O.contents writer.new) }
+        → Told D.moves D.same_but_calls D.rolls D.is_full D.is_left (network_of P.reads P.has_links P.shows plan.now) start lines blank true store.old (O.contents writer.old)
+        → TakesLine D.moves D.same_but_calls D.rolls D.is_full D.is_left (network_of P.reads P.has_links P.shows plan.now) result start lines blank text store.new (O.contents writer.new) }
 {
     let came = answer_line(alloc, line, watch, plan, store);
     store.forget();
@@ -167,7 +170,7 @@ fn take_line<D: Desk, O: Write, W: Watch, P: Plan>(
 }
 
 /// Takes a byte: a line break ends a line, which is answered. Gives the end, where that has come.
-fn take_byte<D: Desk, O: Write, W: Watch, P: Plan>(
+fn take_byte<D: Desk, O: Write, W: Watch, P: Show>(
     alloc: Global,
     pending: &mut Pending,
     byte: u8,
@@ -178,8 +181,8 @@ fn take_byte<D: Desk, O: Write, W: Watch, P: Plan>(
 ) -> Option<OperatorEnd>
     ensures empty { D.calls store.old ≡ [] → D.calls store.new ≡ [] }
     ensures taken { (start : D) (blank : Option (List ℕ)) (heard : List ℕ)
-        → SoFar D.moves D.same_but_calls D.rolls D.is_full D.is_left (P.reads plan.now) start blank heard pending.old store.old (O.contents writer.old)
-        → HearsOn D.moves D.same_but_calls D.rolls D.is_full D.is_left (P.reads plan.now) result start blank (heard ++ byte ∷ []) pending.new store.new (O.contents writer.new) }
+        → SoFar D.moves D.same_but_calls D.rolls D.is_full D.is_left (network_of P.reads P.has_links P.shows plan.now) start blank heard pending.old store.old (O.contents writer.old)
+        → HearsOn D.moves D.same_but_calls D.rolls D.is_full D.is_left (network_of P.reads P.has_links P.shows plan.now) result start blank (heard ++ byte ∷ []) pending.new store.new (O.contents writer.new) }
 {
     if byte != b'\n' {
         pending.add(byte);
@@ -195,7 +198,7 @@ fn take_byte<D: Desk, O: Write, W: Watch, P: Plan>(
 }
 
 /// Takes bytes, up to the end, and gives that, where it has come.
-fn take_piece<D: Desk, O: Write, W: Watch, P: Plan>(
+fn take_piece<D: Desk, O: Write, W: Watch, P: Show>(
     alloc: Global,
     pending: &mut Pending,
     piece: &[u8],
@@ -206,8 +209,8 @@ fn take_piece<D: Desk, O: Write, W: Watch, P: Plan>(
 ) -> Option<OperatorEnd>
     ensures empty { D.calls store.old ≡ [] → D.calls store.new ≡ [] }
     ensures taken { (start : D) (blank : Option (List ℕ)) (heard : List ℕ)
-        → SoFar D.moves D.same_but_calls D.rolls D.is_full D.is_left (P.reads plan.now) start blank heard pending.old store.old (O.contents writer.old)
-        → HearsOn D.moves D.same_but_calls D.rolls D.is_full D.is_left (P.reads plan.now) result start blank (heard ++ piece.now) pending.new store.new (O.contents writer.new) }
+        → SoFar D.moves D.same_but_calls D.rolls D.is_full D.is_left (network_of P.reads P.has_links P.shows plan.now) start blank heard pending.old store.old (O.contents writer.old)
+        → HearsOn D.moves D.same_but_calls D.rolls D.is_full D.is_left (network_of P.reads P.has_links P.shows plan.now) result start blank (heard ++ piece.now) pending.new store.new (O.contents writer.new) }
 {
     for byte in piece {
         match take_byte(alloc, pending, *byte, watch, plan, store, writer) {
@@ -219,7 +222,7 @@ fn take_piece<D: Desk, O: Write, W: Watch, P: Plan>(
 }
 
 /// Answers the last line, where no line break ends it.
-fn finish<D: Desk, O: Write, W: Watch, P: Plan>(
+fn finish<D: Desk, O: Write, W: Watch, P: Show>(
     alloc: Global,
     pending: &Pending,
     watch: &W,
@@ -229,8 +232,8 @@ fn finish<D: Desk, O: Write, W: Watch, P: Plan>(
 ) -> OperatorEnd
     ensures empty { D.calls store.old ≡ [] → D.calls store.new ≡ [] }
     ensures finished { (start : D) (unread blank left : Option (List ℕ)) (heard : List ℕ) → Consumes unread left heard → IsAtEnd left
-        → SoFar D.moves D.same_but_calls D.rolls D.is_full D.is_left (P.reads plan.now) start blank heard pending.now store.old (O.contents writer.old)
-        → Operated D.moves D.same_but_calls D.rolls D.is_full D.is_left (P.reads plan.now) start unread blank result (W.may_close watch.now) store.new left (O.contents writer.new) }
+        → SoFar D.moves D.same_but_calls D.rolls D.is_full D.is_left (network_of P.reads P.has_links P.shows plan.now) start blank heard pending.now store.old (O.contents writer.old)
+        → Operated D.moves D.same_but_calls D.rolls D.is_full D.is_left (network_of P.reads P.has_links P.shows plan.now) start unread blank result (W.may_close watch.now) store.new left (O.contents writer.new) }
 {
     if pending.is_empty() {
         return OperatorEnd::InputEnded;
@@ -266,7 +269,7 @@ fn after_fault<W: Watch>(kind: ErrorKind, watch: &W) -> Option<OperatorEnd>
 
 /// Reads once, and answers the lines that came; where the reader has ended, the last line. Gives the end, where that
 /// has come.
-fn turn<D: Desk, I: Patient, O: Write, W: Watch, P: Plan>(
+fn turn<D: Desk, I: Patient, O: Write, W: Watch, P: Show>(
     alloc: Global,
     pending: &mut Pending,
     piece: &mut [u8],
@@ -279,12 +282,15 @@ fn turn<D: Desk, I: Patient, O: Write, W: Watch, P: Plan>(
     requires room { 0 < length piece.old }
     ensures empty { D.calls store.old ≡ [] → D.calls store.new ≡ [] }
     ensures turned { (start : D) (unread blank : Option (List ℕ)) (heard : List ℕ) → Consumes unread (I.remaining reader.old) heard
-        → SoFar D.moves D.same_but_calls D.rolls D.is_full D.is_left (P.reads plan.now) start blank heard pending.old store.old (O.contents writer.old)
-        → Turns D.moves D.same_but_calls D.rolls D.is_full D.is_left (P.reads plan.now) result start unread blank (W.may_close watch.now) pending.new store.new (I.remaining reader.new) (O.contents writer.new) }
+        → SoFar D.moves D.same_but_calls D.rolls D.is_full D.is_left (network_of P.reads P.has_links P.shows plan.now) start blank heard pending.old store.old (O.contents writer.old)
+        → Turns D.moves D.same_but_calls D.rolls D.is_full D.is_left (network_of P.reads P.has_links P.shows plan.now) result start unread blank (W.may_close watch.now) pending.new store.new (I.remaining reader.new) (O.contents writer.new) }
 {
     let count = match reader.read(piece) {
         Ok(count) => count,
-        Err(error) => return after_fault(error.kind(), watch),
+        Err(error) => {
+            store.forget();
+            return after_fault(error.kind(), watch);
+        }
     };
     if count == 0 {
         return Some(finish(alloc, pending, watch, plan, store, writer));
@@ -300,7 +306,7 @@ fn turn<D: Desk, I: Patient, O: Write, W: Watch, P: Plan>(
 /// asks for the end of the run. A bad line is answered `bad line N`, want of memory `out of memory`, and the next line
 /// is read. Where the run is to end, what was read last is left. The only fault is want of memory before the first
 /// read.
-pub fn operate<R: Wait, D: Desk, I: Patient, O: Write, W: Watch, P: Plan>(
+pub fn operate<R: Wait, D: Desk, I: Patient, O: Write, W: Watch, P: Show>(
     rt: &R,
     alloc: Global,
     reader: &mut I,
@@ -312,7 +318,7 @@ pub fn operate<R: Wait, D: Desk, I: Patient, O: Write, W: Watch, P: Plan>(
     ensures by_operators { (calls : List Call) × AreOperators calls × Goes (ways D.moves D.same_but_calls D.is_full D.rolls) store.old calls store.new }
     ensures empty { D.calls store.old ≡ [] → D.calls store.new ≡ [] }
     ensures operated { EndsAs result
-        (λ end. Operated D.moves D.same_but_calls D.rolls D.is_full D.is_left (P.reads plan.now) store.old (I.remaining reader.old) (O.contents writer.old) end (W.may_close watch.now) store.new (I.remaining reader.new) (O.contents writer.new))
+        (λ end. Operated D.moves D.same_but_calls D.rolls D.is_full D.is_left (network_of P.reads P.has_links P.shows plan.now) store.old (I.remaining reader.old) (O.contents writer.old) end (W.may_close watch.now) store.new (I.remaining reader.new) (O.contents writer.new))
         ((store.new ≡ store.old) × (reader.new ≡ reader.old) × (writer.new ≡ writer.old)) }
 {
     let mut pending = Pending {

@@ -3,7 +3,7 @@ ghost use Rattle.std.specs.Prelude.{◌≡◌, IfOk, IfErr, IsSome};
 ghost use Rattle.server_talk.specs.Requests.{request_in, request_of};
 
 use engine_core::Event;
-use script_lines::operator_event_in;
+use script_lines::{ViewLine, operator_event_in, view_line_in};
 use std::alloc::{AllocError, Global};
 
 /// A line has so many bytes at most. A longer one is bad.
@@ -14,10 +14,14 @@ pub const LINE_LIMIT: usize = 4096;
 pub(crate) enum Request {
     /// What is left of each link.
     Book,
+    /// What a reload would change.
+    Check,
     /// The end of the run.
     End,
     /// The link text is read again, and its values are those of the links from now on.
     Reload,
+    /// To see something.
+    View(ViewLine),
     /// An initiation, an update, a return or a removal of an LSP.
     Submit(Event),
 }
@@ -36,6 +40,12 @@ fn request_in(alloc: Global, text: &str) -> Result<Option<Request>, AllocError>
     }
     if text == "reload" {
         return Ok(Some(Request::Reload));
+    }
+    if text == "reload check" {
+        return Ok(Some(Request::Check));
+    }
+    if let Some(view) = view_line_in(text) {
+        return Ok(Some(Request::View(view)));
     }
     match operator_event_in(alloc, text)? {
         Some(event) => Ok(Some(Request::Submit(event))),

@@ -37,7 +37,7 @@ const FOUND: usize = 2;
 
 /// A socket that is waited for together with a bell.
 #[derive(Drop)]
-pub struct Line<'a> {
+pub struct PolledSocket<'a> {
     stream: &'a TcpStream,
     descriptor: RawFd,
     poll: Poll,
@@ -45,13 +45,17 @@ pub struct Line<'a> {
     most: Duration,
 }
 
-impl<'a> Line<'a> {
-    pub fn new<R: Net>(rt: &R, alloc: Global, stream: &'a TcpStream) -> io::Result<Line<'a>> {
+impl<'a> PolledSocket<'a> {
+    pub fn new<R: Net>(
+        rt: &R,
+        alloc: Global,
+        stream: &'a TcpStream,
+    ) -> io::Result<PolledSocket<'a>> {
         let descriptor = stream.as_raw_fd();
         let poll = Poll::new(rt)?;
         poll.registry()
             .register(&mut SourceFd(&descriptor), SOCKET, Interest::READABLE)?;
-        Ok(Line {
+        Ok(PolledSocket {
             stream,
             descriptor,
             poll,
@@ -60,7 +64,7 @@ impl<'a> Line<'a> {
         })
     }
 
-    /// By which another thread ends a wait of this line.
+    /// By which another thread ends a wait of this socket.
     pub fn waker(&self) -> io::Result<Waker> {
         Waker::new(self.poll.registry(), BELL)
     }
@@ -75,7 +79,7 @@ impl<'a> Line<'a> {
     }
 }
 
-impl<'a> Read for Line<'a> {
+impl<'a> Read for PolledSocket<'a> {
     fn read(&mut self, buf: &mut [u8]) -> io::Result<usize> {
         if !self.is_spoken_to()? {
             return Err(io::Error::from(ErrorKind::WouldBlock));
@@ -85,7 +89,7 @@ impl<'a> Read for Line<'a> {
     }
 }
 
-impl<'a> Patient for Line<'a> {
+impl<'a> Patient for PolledSocket<'a> {
     fn set_patience(&mut self, most: Duration) {
         self.most = most;
     }

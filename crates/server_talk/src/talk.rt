@@ -63,6 +63,8 @@ enum Heard {
 struct Talk {
     peer: u32,
     client: Client,
+    /// When it was served last, in milliseconds.
+    served_ms: u64,
 }
 
 /// Serves one peer until its end. Every call that the store gets is one that the engine's table names for this peer and
@@ -82,10 +84,15 @@ pub fn connection<R: Wait, I: Patient, O: Write, W: Watch, D: Desk>(
     ensures visited { IsNoVisit result store.old store.new reader.old reader.new writer.old writer.new
         ⊎ Visited (ways D.moves D.same_but_calls D.is_full D.rolls) (W.tells watch.now) (W.may_close watch.now) D.calls peer store.old (I.remaining reader.old) (O.contents writer.old) result store.new (I.remaining reader.new) (O.contents writer.new) }
 {
-    let Ok(client) = Client::new(alloc, watch.now_ms()) else {
+    let served_ms = watch.now_ms();
+    let Ok(client) = Client::new(alloc, served_ms) else {
         return Ended::SessionEnded;
     };
-    let mut talk = Talk { peer, client };
+    let mut talk = Talk {
+        peer,
+        client,
+        served_ms,
+    };
     let ended = talk_on(rt, &mut talk, reader, writer, watch, store);
     match leave(&mut talk, store) {
         Ok(()) => ended,
@@ -132,8 +139,8 @@ fn talk_on<R: Wait, I: Patient, O: Write, W: Watch, D: Desk>(
     ensures silent { talk.new.client.session.output ≡ [] }
     ensures peer { talk.new.peer ≡ talk.old.peer }
     ensures ended { (start : D) (unread blank : Option (List ℕ))
-        → SoFar (ways D.moves D.same_but_calls D.is_full D.rolls) (W.tells watch.now) (W.may_close watch.now) talk.old.peer start unread blank None store.old (I.remaining reader.old) (O.contents writer.old) talk.old.client
-        → SoFar (ways D.moves D.same_but_calls D.is_full D.rolls) (W.tells watch.now) (W.may_close watch.now) talk.old.peer start unread blank (Some result) store.new (I.remaining reader.new) (O.contents writer.new) talk.new.client }
+        → SoFar (ways D.moves D.same_but_calls D.is_full D.rolls) (W.tells watch.now) (W.may_close watch.now) talk.old.peer start unread blank None store.old (I.remaining reader.old) (O.contents writer.old) talk.old.served_ms talk.old.client
+        → SoFar (ways D.moves D.same_but_calls D.is_full D.rolls) (W.tells watch.now) (W.may_close watch.now) talk.old.peer start unread blank (Some result) store.new (I.remaining reader.new) (O.contents writer.new) talk.new.served_ms talk.new.client }
 {
     let mut buffer = [0u8; PIECE];
     if let Some(ended) = answer(talk, &[], writer, watch, store) {
@@ -162,8 +169,8 @@ fn turn<I: Patient, O: Write, W: Watch, D: Desk>(
     ensures silent { talk.old.client.session.output ≡ [] → talk.new.client.session.output ≡ [] }
     ensures peer { talk.new.peer ≡ talk.old.peer }
     ensures turned { (start : D) (unread blank : Option (List ℕ))
-        → SoFar (ways D.moves D.same_but_calls D.is_full D.rolls) (W.tells watch.now) (W.may_close watch.now) talk.old.peer start unread blank None store.old (I.remaining reader.old) (O.contents writer.old) talk.old.client
-        → SoFar (ways D.moves D.same_but_calls D.is_full D.rolls) (W.tells watch.now) (W.may_close watch.now) talk.old.peer start unread blank result store.new (I.remaining reader.new) (O.contents writer.new) talk.new.client }
+        → SoFar (ways D.moves D.same_but_calls D.is_full D.rolls) (W.tells watch.now) (W.may_close watch.now) talk.old.peer start unread blank None store.old (I.remaining reader.old) (O.contents writer.old) talk.old.served_ms talk.old.client
+        → SoFar (ways D.moves D.same_but_calls D.is_full D.rolls) (W.tells watch.now) (W.may_close watch.now) talk.old.peer start unread blank result store.new (I.remaining reader.new) (O.contents writer.new) talk.new.served_ms talk.new.client }
 {
     if watch.is_closing() {
         close(talk);
@@ -234,14 +241,27 @@ fn hear<I: Patient>(reader: &mut I, buffer: &mut [u8]) -> Heard
     }
 }
 
+/// The moment that it is, or the last one at which the session was served, where that is later.
+fn moment_ms<W: Watch>(talk: &Talk, watch: &W) -> u64
+    ensures rises { talk.now.served_ms ≤ result }
+    ensures told { (result ≡ talk.now.served_ms) ⊎ W.tells watch.now result }
+{
+    let now_ms = watch.now_ms();
+    if now_ms < talk.served_ms {
+        return talk.served_ms;
+    }
+    now_ms
+}
+
 /// Serves a piece at the moment that it is.
 fn heed<W: Watch, D: Desk>(talk: &mut Talk, piece: &[u8], watch: &W, store: &mut D)
     ensures peer { talk.new.peer ≡ talk.old.peer }
     ensures heeded { (start : D) (unread blank left read written : Option (List ℕ))
-        → SoFar (ways D.moves D.same_but_calls D.is_full D.rolls) (W.tells watch.now) (W.may_close watch.now) talk.old.peer start unread blank None store.old left written talk.old.client → Consumes left read piece.now
-        → SoFar (ways D.moves D.same_but_calls D.is_full D.rolls) (W.tells watch.now) (W.may_close watch.now) talk.old.peer start unread blank None store.new read written talk.new.client }
+        → SoFar (ways D.moves D.same_but_calls D.is_full D.rolls) (W.tells watch.now) (W.may_close watch.now) talk.old.peer start unread blank None store.old left written talk.old.served_ms talk.old.client → Consumes left read piece.now
+        → SoFar (ways D.moves D.same_but_calls D.is_full D.rolls) (W.tells watch.now) (W.may_close watch.now) talk.old.peer start unread blank None store.new read written talk.new.served_ms talk.new.client }
 {
-    let now_ms = watch.now_ms();
+    let now_ms = moment_ms(talk, watch);
+    talk.served_ms = now_ms;
     let served = serve(&mut talk.client, talk.peer, piece, now_ms, store);
     store.forget();
     if let Err(fault) = served {
@@ -261,8 +281,8 @@ fn answer<O: Write, W: Watch, D: Desk>(
     ensures silent { talk.new.client.session.output ≡ [] }
     ensures peer { talk.new.peer ≡ talk.old.peer }
     ensures answered { (start : D) (unread blank left read : Option (List ℕ))
-        → SoFar (ways D.moves D.same_but_calls D.is_full D.rolls) (W.tells watch.now) (W.may_close watch.now) talk.old.peer start unread blank None store.old left (O.contents writer.old) talk.old.client → Consumes left read piece.now
-        → SoFar (ways D.moves D.same_but_calls D.is_full D.rolls) (W.tells watch.now) (W.may_close watch.now) talk.old.peer start unread blank result store.new read (O.contents writer.new) talk.new.client }
+        → SoFar (ways D.moves D.same_but_calls D.is_full D.rolls) (W.tells watch.now) (W.may_close watch.now) talk.old.peer start unread blank None store.old left (O.contents writer.old) talk.old.served_ms talk.old.client → Consumes left read piece.now
+        → SoFar (ways D.moves D.same_but_calls D.is_full D.rolls) (W.tells watch.now) (W.may_close watch.now) talk.old.peer start unread blank result store.new read (O.contents writer.new) talk.new.served_ms talk.new.client }
 {
     heed(talk, piece, watch, store);
     say(talk, writer, watch)
@@ -271,6 +291,7 @@ fn answer<O: Write, W: Watch, D: Desk>(
 /// Writes what the session has to say, and gives the end, where that has come.
 fn say<O: Write, W: Watch>(talk: &mut Talk, writer: &mut O, watch: &W) -> Option<Ended>
     ensures peer { talk.new.peer ≡ talk.old.peer }
+    ensures moment { talk.new.served_ms ≡ talk.old.served_ms }
     ensures spoken { talk.new.client ≡ spoken talk.old.client }
     ensures out { GoesOut result (O.contents writer.old) (O.contents writer.new) talk.old.client.session.output }
     ensures told { (left : Option (List ℕ)) → IsToldOf result left talk.new.client }
@@ -336,6 +357,7 @@ fn is_taken<O: Write, W: Watch>(writer: &mut O, watch: &W, bytes: &[u8]) -> bool
 /// Ends the session from this side, with a Close where there is memory for it.
 fn close(talk: &mut Talk)
     ensures peer { talk.new.peer ≡ talk.old.peer }
+    ensures moment { talk.new.served_ms ≡ talk.old.served_ms }
     ensures closed { (reason : Option ℕ) × IsUnexplained reason × (talk.new.client ≡ ending None reason talk.old.client) }
 {
     let session = &mut talk.client.session;

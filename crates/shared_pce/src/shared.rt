@@ -1,6 +1,7 @@
 //! The lock, what is done under it, and the waits for what it holds.
-ghost use Rattle.std.specs.Prelude.{◌≡◌, ◌≤◌, [], true, not, nat_lt, length, IfOk, IfErr, OnErr, replicate};
+ghost use Rattle.std.specs.Prelude.{◌≡◌, ◌≤◌, ◌==◌, [], true, not, nat_lt, filter, length, IfOk, IfErr, OnErr, replicate};
 ghost use Rattle.step_core.specs.States.{has_waiting, is_queued};
+ghost use Rattle.te_base.specs.Values.{values_in};
 ghost use Rattle.te_snapshot.specs.Left.{all_left};
 ghost use Rattle.history_core.specs.Histories.{Content, Replays, IsSound, is_full, steps_of, grants_of};
 ghost use Rattle.history_seats.specs.Receipts.{new_seat, tidy};
@@ -9,8 +10,9 @@ ghost use Rattle.shared_pce.specs.Turns.{Takes, Told, Commits, Works, Pauses, Ro
 
 use crate::audit::{Audit, AuditRefused};
 use crate::bell::Bell;
-use crate::looks::left_on_each;
+use crate::looks::{left_on_each, links_of, lsp_count};
 use crate::work::{Gate, Worked};
+use database_looks::Look;
 use history_core::{Database, Event, Fault, Job, Reply, SharedEvent};
 use history_seats::{Held, Seat};
 use place_tokens::{Room, Unopened};
@@ -19,6 +21,7 @@ use std::alloc::{AllocError, Global};
 use std::sync::ledger::{Blank, Ledger};
 use std::sync::{CondvarTimeouts, Mutex, Wait};
 use std::time::{Clock, Duration};
+use te_base::LinkValues;
 
 /// One database for all threads, behind one lock.
 pub struct Shared<S: Ledger, G: Ledger, B: Room> {
@@ -200,6 +203,38 @@ impl<S: Ledger, G: Ledger, B: Room> Shared<S, G, B> {
         // for the proof alone: the history replays
         let _replays = held.database().history();
         left_on_each(self.alloc, held.database())
+    }
+
+    /// The values of every link, and what is left of it at each of the eight priorities, all at one moment.
+    pub fn links<R: Wait>(&self, rt: &R) -> Result<(Vec<LinkValues>, Vec<[i64; 8]>), AllocError>
+        ensures { IfOk result (λ table. (d : Content) × Replays d × (table.0.items ≡ values_in d.state.te)
+            × (table.1.items ≡ all_left d.state.te.links d.state.base.paths)) }
+    {
+        let held = self.held.lock(rt);
+        // for the proof alone: the history replays
+        let _replays = held.database().history();
+        links_of(self.alloc, held.database())
+    }
+
+    /// How many LSPs of the peer are known.
+    pub fn lsp_count<R: Wait>(&self, rt: &R, peer: u32) -> usize
+        ensures { (d : Content) × Replays d × (result ≡ length (filter (λ r. r.peer == peer) d.state.base.records)) }
+    {
+        let held = self.held.lock(rt);
+        // for the proof alone: the history replays
+        let _replays = held.database().history();
+        lsp_count(held.database(), peer)
+    }
+
+    /// Looks at the database: what is seen, all of one moment, is copied out. It is no step. Of the lock it takes as long
+    /// as the look.
+    pub fn look<R: Wait, L: Look>(&self, rt: &R, look: &L) -> Result<L::Seen, AllocError>
+        ensures { IfOk result (λ seen. (d : Content) × Replays d × L.sees look.now d seen) }
+    {
+        let held = self.held.lock(rt);
+        // for the proof alone: the history replays
+        let _replays = held.database().history();
+        look.see(self.alloc, held.database())
     }
 
     /// Rolls the history: the state becomes its base, and the steps that were kept are let go once the lock is

@@ -1,33 +1,25 @@
 -- Each event leaves the state consistent, and none of its SRP-IDs above the last that its peer was given.
-use Rattle.std.proofs.Common.{◌≡◌, ◌≤◌, ◌<◌, ◌==◌, ◌&&◌, ◌||◌, ℕ, ◌+◌, Bool, true, false, cond, not, nat_lt, nat_le, List, [], ◌∷◌, ◌++◌, length, map, filter, find, refl, sym, ap, ◌∙◌, subst, arith}
-use Rattle.std.specs.Prelude.{Option, Some, None, Result, Ok, Err, is_some, unwrap_or, option_map, if◌then◌else◌}
-use Rattle.std.specs.List.{list_any}
-use Rattle.std.proofs.lemmas.Bool.{and_parts, both_ways, eqb-true, eq-eqb, false_from_ne_true}
-use Rattle.std.proofs.lemmas.Bool.Decides.{nat_tests}
-use Rattle.pcep_objects.specs.declared.object.Capabilities.{Capabilities}
-use Rattle.pcep_messages.specs.declared.message.Message.{Message}
-use Rattle.te_base.specs.Base.{Base}
-use Rattle.lsp_base.specs.Base.{Lsps, AreDistinct, changed, dropping, ended_records, has_none_left, is_path_of, is_record_of, lsp_at, made_stale, put, set_records, taking, with_stale, without}
+use Rattle.std.proofs.Common.{◌≡◌, ◌≤◌, ◌==◌, ℕ, Bool, true, false, cond, List, map, refl, sym, ap, ◌∙◌, subst, arith}
+use Rattle.std.specs.Prelude.{Some}
+use Rattle.std.proofs.lemmas.Bool.{eqb-true}
+use Rattle.lsp_base.specs.Base.{Lsps, AreDistinct, changed, is_path_of, is_record_of, made_stale, with_stale}
 use Rattle.lsp_base.specs.Grants.{is_grant_of, is_unbound_grant}
-use Rattle.lsp_base.specs.Pending.{is_grant_as, is_removed_as}
+use Rattle.lsp_base.specs.Pending.{is_grant_as}
 use Rattle.lsp_base.specs.declared.path.Path.{Path}
 use Rattle.lsp_base.specs.declared.effect.Effect.{Effect}
-use Rattle.lsp_base.specs.declared.effect.Record.{Record}
 use Rattle.lsp_base.proofs.Distinct.{set_records_distinct}
-use Rattle.lsp_base.proofs.Removal.{has_filter}
-use Rattle.sync_rules.specs.Peers.{is_of_peer, expire_effect}
-use Rattle.initiate_rules.specs.Numbers.{is_srp_used, next_srp}
 use Rattle.step_core.specs.Consistent.{AreRising, asked_as, count, IsConsistent, NoneAbove}
 use Rattle.step_core.specs.Names.{is_of_grant}
-use Rattle.step_core.specs.States.{State, affected, is_peer, names_without, next_number, peer_at, put_peer, unknown_peer}
+use Rattle.step_core.specs.States.{State, is_peer, names_without, peer_at, put_peer}
+use Rattle.step_core.specs.Tickets.{AreInOrder}
 use Rattle.step_core.specs.declared.peer.Peer.{Peer}
-use Rattle.step_core.proofs.Counts.{one, count-exchanged, count-filter, count-filtered, count-map, count-same, count_of_none, none_of}
+use Rattle.step_core.proofs.Counts.{count-exchanged, count-map, count-same}
 use Rattle.step_core.proofs.Kept.{HasPaths, KeepsPaths}
 use Rattle.step_core.proofs.NameCounts.{names_without-count}
-use Rattle.step_core.proofs.Others.{peer_at-number, same_number}
-use Rattle.step_core.proofs.PeerCounts.{forgotten-other, forgotten-own, put_peer-once, put_peer-other, put_peer-own}
-use Rattle.step_core.proofs.Plain.{IsPlain, expire-plain}
-use Rattle.step_core.proofs.RecordCounts.{AllTake-map, known_numbered, none_awaited, put_awaiting, set-numbered, sets_none, taken_all}
+use Rattle.step_core.proofs.Others.{peer_at-number}
+use Rattle.step_core.proofs.PeerCounts.{put_peer-other, put_peer-own}
+use Rattle.step_core.proofs.Plain.{IsPlain}
+use Rattle.step_core.proofs.RecordCounts.{set-numbered}
 
 -- ---- after an effect that asks for nothing
 
@@ -94,8 +86,8 @@ pub same_peers : (ps : List Peer) → Rise ps ps
 same_peers ps m = omega arith
 
 -- where the LSPs and the names stay
-pub keeps_lsps : (s t : State) → IsConsistent s → t.base ≡ s.base → t.names ≡ s.names → ((m : ℕ) → count (is_peer m) t.peers ≤ 1) → Rise s.peers t.peers → Keeps s t
-keeps_lsps s t c base names peers rise = record {
+pub keeps_lsps : (s t : State) → IsConsistent s → t.base ≡ s.base → t.names ≡ s.names → ((m : ℕ) → count (is_peer m) t.peers ≤ 1) → Rise s.peers t.peers → AreInOrder t.last_ticket t.tickets → Keeps s t
+keeps_lsps s t c base names peers rise tickets = record {
   consistent = record {
     distinct = subst (λ (b : Lsps). AreDistinct b.records) (sym base) c.distinct;
     numbered = ap (λ (b : Lsps). count (λ r. r.plsp == 0) b.records) base ∙ c.numbered;
@@ -104,6 +96,7 @@ keeps_lsps s t c base names peers rise = record {
     grants = λ m q bound. subst (λ (b : Lsps). count (is_grant_of m q) b.paths ≤ 1) (sym base) (c.grants m q bound);
     kept = λ m q bound. subst (λ (b : Lsps). count (is_record_of m q) b.records ≤ count (is_path_of m q) b.paths) (sym base) (c.kept m q bound);
     peers = peers;
+    tickets = tickets;
   };
   none = λ above rising. none_by s t (λ m k. let e = ap (λ (b : Lsps). asked_as b m k) base in omega (arith, e)) rise above;
 }
@@ -116,8 +109,8 @@ pub has_paths : (s : State) → IsConsistent s → HasPaths s.base
 has_paths s c = record { distinct = c.distinct; asked = c.asked; grants = c.grants; kept = c.kept }
 
 -- after an effect that asks for nothing
-pub consistent_effect : (s t : State) (n : ℕ) (e : Effect) → IsConsistent s → IsPlain s.base n e → KeepsPaths s.base n e → t.base ≡ changed s.base n e → t.names ≡ names_without s.names e.change.dropped → ((m : ℕ) → count (is_peer m) t.peers ≤ 1) → IsConsistent t
-consistent_effect s t n e c plain keeps base names peers = record {
+pub consistent_effect : (s t : State) (n : ℕ) (e : Effect) → IsConsistent s → IsPlain s.base n e → KeepsPaths s.base n e → t.base ≡ changed s.base n e → t.names ≡ names_without s.names e.change.dropped → ((m : ℕ) → count (is_peer m) t.peers ≤ 1) → AreInOrder t.last_ticket t.tickets → IsConsistent t
+consistent_effect s t n e c plain keeps base names peers tickets = record {
   distinct = subst (λ (b : Lsps). AreDistinct b.records) (sym base) (still_distinct s n e c);
   numbered = ap (λ (b : Lsps). count (λ r. r.plsp == 0) b.records) base ∙ still_numbered s n e plain c;
   asked = λ m k. (
@@ -129,11 +122,12 @@ consistent_effect s t n e c plain keeps base names peers = record {
   grants = λ m q bound. subst (λ (b : Lsps). count (is_grant_of m q) b.paths ≤ 1) (sym base) (keeps.grants m q bound);
   kept = λ m q bound. subst (λ (b : Lsps). count (is_record_of m q) b.records ≤ count (is_path_of m q) b.paths) (sym base) (keeps.kept m q bound);
   peers = peers;
+  tickets = tickets;
 }
 
-pub keeps_effect : (s t : State) (n : ℕ) (e : Effect) → IsConsistent s → IsPlain s.base n e → KeepsPaths s.base n e → t.base ≡ changed s.base n e → t.names ≡ names_without s.names e.change.dropped → ((m : ℕ) → count (is_peer m) t.peers ≤ 1) → (AreRising s → Rise s.peers t.peers) → Keeps s t
-keeps_effect s t n e c plain keeps base names peers rise = record {
-  consistent = consistent_effect s t n e c plain keeps base names peers;
+pub keeps_effect : (s t : State) (n : ℕ) (e : Effect) → IsConsistent s → IsPlain s.base n e → KeepsPaths s.base n e → t.base ≡ changed s.base n e → t.names ≡ names_without s.names e.change.dropped → ((m : ℕ) → count (is_peer m) t.peers ≤ 1) → (AreRising s → Rise s.peers t.peers) → AreInOrder t.last_ticket t.tickets → Keeps s t
+keeps_effect s t n e c plain keeps base names peers rise tickets = record {
+  consistent = consistent_effect s t n e c plain keeps base names peers tickets;
   none = λ above rising. none_by s t (λ m k. let less = less_asked s.base n e plain m k in let same = ap (λ (b : Lsps). asked_as b m k) base in omega (arith, less, same)) (rise rising) above;
 }
 
@@ -153,9 +147,9 @@ pub stale_asked : (base : Lsps) (n m k : ℕ) → asked_as (with_stale base n) m
 unfolding with_stale
 stale_asked base n m k = let stale = stale_count (is_grant_as m k) (λ x. refl) n base.paths in omega (arith, stale)
 
-pub consistent_stale : (s t : State) (n : ℕ) → IsConsistent s → t.base ≡ with_stale s.base n → t.names ≡ s.names → t.peers ≡ s.peers → IsConsistent t
+pub consistent_stale : (s t : State) (n : ℕ) → IsConsistent s → t.base ≡ with_stale s.base n → t.names ≡ s.names → t.peers ≡ s.peers → AreInOrder t.last_ticket t.tickets → IsConsistent t
 unfolding with_stale
-consistent_stale s t n c base names peers = record {
+consistent_stale s t n c base names peers tickets = record {
   distinct = subst (λ (b : Lsps). AreDistinct b.records) (sym base) c.distinct;
   numbered = ap (λ (b : Lsps). count (λ r. r.plsp == 0) b.records) base ∙ c.numbered;
   asked = λ m k. (
@@ -176,4 +170,5 @@ consistent_stale s t n c base names peers = record {
       let before = c.kept m q bound in
       omega (arith, paths, stale, records, before));
   peers = λ m. subst (λ (ps : List Peer). count (is_peer m) ps ≤ 1) (sym peers) (c.peers m);
+  tickets = tickets;
 }

@@ -1,28 +1,21 @@
 -- Each effect leaves each record a path of its LSP, and each LSP at most one grant.
 use Rattle.std.proofs.Common.{◌≡◌, ◌≤◌, ◌==◌, ◌&&◌, ◌||◌, ℕ, ◌+◌, Bool, true, false, cond, not, List, [], ◌∷◌, ◌++◌, length, map, filter, find, option_map, refl, sym, ap, ◌∙◌, subst, arith}
-use Rattle.std.specs.Prelude.{Option, Some, None, Result, Ok, Err, is_some, if◌then◌else◌}
-use Rattle.std.specs.List.{list_any, flat_map}
-use Rattle.std.proofs.lemmas.Bool.{and_from, and_parts, both_ways, eqb-true, eq-eqb, false_from_ne_true}
+use Rattle.std.specs.Prelude.{Option, Some, None, is_some}
+use Rattle.std.specs.List.{list_any}
+use Rattle.std.proofs.lemmas.Bool.{and_from, and_parts, eqb-true, eq-eqb}
 use Rattle.pcep_objects.specs.declared.object.Capabilities.{Capabilities}
-use Rattle.pcep_messages.specs.declared.message.StateReport.{StateReport}
-use Rattle.te_base.specs.Base.{Base}
-use Rattle.lsp_base.specs.Base.{Lsps, AreDistinct, changed, effect_of, dropping, has_none_left, is_path_of, is_record_of, lsp_at, no_effect, put, set_record, set_records, taking, without, without_first}
-use Rattle.lsp_base.specs.Grants.{has_grant, has_srp, is_grant_of, is_unbound_grant}
-use Rattle.lsp_base.specs.Pending.{is_grant_as, is_removed_as}
-use Rattle.lsp_base.specs.Same.{is_reported}
+use Rattle.lsp_base.specs.Base.{Lsps, AreDistinct, changed, effect_of, dropping, has_none_left, is_path_of, is_record_of, lsp_at, no_effect, put, set_record, set_records, taking, without}
+use Rattle.lsp_base.specs.Grants.{is_grant_of}
 use Rattle.lsp_base.specs.declared.lsp.Lsp.{Lsp}
 use Rattle.lsp_base.specs.declared.path.Path.{Path}
-use Rattle.lsp_base.specs.declared.tunnel.Part.{Part}
-use Rattle.lsp_base.specs.declared.tunnel.Part.TheVariants.{Reported, Granted}
 use Rattle.lsp_base.specs.declared.effect.Effect.{Effect}
 use Rattle.lsp_base.specs.declared.effect.Record.{Record}
 use Rattle.lsp_base.specs.declared.effect.RecordChange.{RecordChange}
-use Rattle.lsp_base.proofs.Distinct.{set_records_distinct}
 use Rattle.lsp_base.proofs.Removal.{has_filter}
 use Rattle.sync_rules.specs.Peers.{is_stale_of, is_of_peer, left_alone, marker_effect, up_effect, down_effect, expire_effect}
 use Rattle.delegate_rules.specs.Effects.{one_record}
 use Rattle.step_core.specs.Consistent.{asked_as, count}
-use Rattle.step_core.proofs.Counts.{one, count-exchanged, count-filter, count-filtered, count-fewer, count-map, count-none, count-same, count_of_none, none_of, without_first-fewer}
+use Rattle.step_core.proofs.Counts.{one, count-exchanged, count-filter, count-fewer, count-map, count-none, without_first-fewer}
 use Rattle.step_core.proofs.Dropped.{has_none}
 use Rattle.step_core.proofs.Others.{first_of_both}
 use Rattle.step_core.proofs.RecordCounts.{AllTake, AllTake-map, put-more, record_set, taken_all}

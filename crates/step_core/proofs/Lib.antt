@@ -14,6 +14,7 @@ pub mod Concluded
 pub mod AskTests
 pub mod NameEntries
 pub mod TicketEntries
+pub mod TicketOrders
 pub mod Counts
 pub mod RecordCounts
 pub mod NameCounts
@@ -21,5 +22,12 @@ pub mod PeerCounts
 pub mod Plain
 pub mod Kept
 pub mod KeptReports
+pub mod KeptRefusals
 pub mod Consistent
+pub mod ConsistentGrants
 pub mod ConsistentSteps
+pub mod Permuted
+pub mod PermutedShares
+pub mod PermutedLists
+pub mod PermutedEffects
+pub mod AlikeSteps

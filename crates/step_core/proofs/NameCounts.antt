@@ -1,8 +1,8 @@
 -- How many names are held for a grant, as grants go.
-use Rattle.std.proofs.Common.{◌≡◌, ◌==◌, ◌&&◌, ℕ, ◌+◌, ◌-◌, Bool, true, false, cond, List, [], ◌∷◌, refl, sym, ap, ◌∙◌, arith, subst}
-use Rattle.std.specs.Prelude.{Some, None}
+use Rattle.std.proofs.Common.{◌≡◌, ◌==◌, ◌&&◌, ℕ, ◌-◌, Bool, true, false, List, [], ◌∷◌, refl, sym, ap, ◌∙◌, arith}
+use Rattle.std.specs.Prelude.{Some}
 use Rattle.std.specs.Cmp.{nat_eq_equiv}
-use Rattle.std.proofs.lemmas.Bool.{and_parts, and_from, both_ways, eqb-true, eq-eqb, false_from_ne_true}
+use Rattle.std.proofs.lemmas.Bool.{and_parts, both_ways, eqb-true, false_from_ne_true}
 use Rattle.lsp_base.specs.Base.{without_first}
 use Rattle.lsp_base.specs.Grants.{has_srp, is_unbound_grant}
 use Rattle.lsp_base.specs.declared.tunnel.Part.{Part}
@@ -33,7 +33,7 @@ name_of peer srp x a is =
     true_and false c = refl
 
 -- another path leaves the names of the grant
-other_name : (peer srp : ℕ) (x : Path) (a : AwaitedName) → is_unbound_grant peer (Some srp) x ≡ false → is_grant_of_name a x ≡ true → is_of_grant peer srp a ≡ false
+pub other_name : (peer srp : ℕ) (x : Path) (a : AwaitedName) → is_unbound_grant peer (Some srp) x ≡ false → is_grant_of_name a x ≡ true → is_of_grant peer srp a ≡ false
 other_name peer srp x a other is = false_from_ne_true _ (λ named.
     let parts = and_parts (a.peer == peer) (a.srp == srp) named in
     let peer_is : a.peer ≡ peer = eqb-true a.peer peer parts.0 in

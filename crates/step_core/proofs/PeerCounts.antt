@@ -1,11 +1,11 @@
 -- A peer in the list, as one is set or goes.
-use Rattle.std.proofs.Common.{◌≡◌, ◌≤◌, ◌==◌, ℕ, ◌+◌, Bool, true, false, cond, List, [], ◌∷◌, refl, sym, ap, ◌∙◌, arith, subst}
-use Rattle.std.specs.Prelude.{Option, Some, None, find, filter, not, unwrap_or}
-use Rattle.std.proofs.lemmas.Bool.{both_ways, eqb-true, eq-eqb, false_from_ne_true}
+use Rattle.std.proofs.Common.{◌≡◌, ◌≤◌, ◌==◌, ℕ, ◌+◌, Bool, true, false, cond, List, [], ◌∷◌, refl, sym, ap, ◌∙◌, arith}
+use Rattle.std.specs.Prelude.{Some, None, find, filter, not, unwrap_or}
+use Rattle.std.proofs.lemmas.Bool.{eqb-true, eq-eqb}
 use Rattle.step_core.specs.States.{is_peer, peer_at, put_peer, unknown_peer}
 use Rattle.step_core.specs.declared.peer.Peer.{Peer}
 use Rattle.step_core.specs.Consistent.{count}
-use Rattle.step_core.proofs.Counts.{one, count-filtered}
+use Rattle.step_core.proofs.Counts.{one}
 
 -- two numbers that pass one test are one
 same_test : (a b n : ℕ) → (a == b) ≡ true → (a == n) ≡ (b == n)

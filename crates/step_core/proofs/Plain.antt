@@ -1,12 +1,11 @@
 -- Effects of events that ask a peer for nothing: no grant and no awaited removal comes, and no record of PLSP-ID 0.
-use Rattle.std.proofs.Common.{◌≡◌, ◌≤◌, ◌==◌, ◌&&◌, ◌||◌, ℕ, ◌+◌, Bool, true, false, cond, not, List, [], ◌∷◌, ◌++◌, map, filter, refl, sym, ap, ◌∙◌, subst, arith}
-use Rattle.std.specs.Prelude.{Option, Some, None, Result, Ok, Err, IfSome, is_some, if◌then◌else◌}
-use Rattle.std.specs.List.{flat_map}
-use Rattle.std.proofs.lemmas.Bool.{and_parts, both_ways}
+use Rattle.std.proofs.Common.{◌≡◌, ◌≤◌, ◌==◌, ◌&&◌, ◌||◌, ℕ, ◌+◌, Bool, true, false, not, List, [], ◌∷◌, ◌++◌, map, filter, refl, ap, ◌∙◌, subst, arith}
+use Rattle.std.specs.Prelude.{Option, Some, None, Ok, Err, is_some, if◌then◌else◌}
+use Rattle.std.proofs.lemmas.Bool.{and_parts}
 use Rattle.pcep_objects.specs.declared.object.Capabilities.{Capabilities}
 use Rattle.pcep_messages.specs.declared.message.StateReport.{StateReport}
 use Rattle.te_base.specs.Base.{Base}
-use Rattle.lsp_base.specs.Base.{Lsps, HasAll, ended_record, ended_records, dropping, is_path_of, lsp_at, no_effect, set_records, taking}
+use Rattle.lsp_base.specs.Base.{Lsps, HasAll, ended_records, dropping, lsp_at, no_effect, set_records, taking}
 use Rattle.lsp_base.specs.Grants.{has_grant, has_srp, is_unbound_grant}
 use Rattle.lsp_base.specs.Pending.{is_grant_as, is_removed_as}
 use Rattle.lsp_base.specs.declared.lsp.Lsp.{Lsp}
@@ -14,18 +13,16 @@ use Rattle.lsp_base.specs.declared.path.Path.{Path}
 use Rattle.lsp_base.specs.declared.effect.Effect.{Effect}
 use Rattle.lsp_base.specs.declared.effect.Record.{Record}
 use Rattle.lsp_base.specs.declared.effect.RecordChange.{RecordChange}
-use Rattle.lsp_base.specs.declared.why.Why.{Why}
 use Rattle.lsp_base.specs.declared.why.Why.TheVariants.{BadReport, TooManyPaths}
 use Rattle.lsp_base.proofs.Removal.{has_filter}
 use Rattle.sync_rules.specs.Peers.{is_stale_of, is_of_peer, left_alone, marker_effect, up_effect, down_effect, expire_effect}
 use Rattle.delegate_rules.specs.Reports.{are_zero, identifiers_of, reported_lsp, reported_path}
 use Rattle.delegate_rules.specs.Grants.{is_grant_met, is_grant_kept, is_grant_settled, is_grant_bound, moved_grant, bound_grant}
-use Rattle.delegate_rules.specs.Effects.{is_replaced, is_removed, is_nil, goes_by_report, report_effect_by, goes_by_removal, removal_effect_by, bound_grants, records_left, told_effect, is_reserved, is_too_many, allowed, one_record, report_result}
+use Rattle.delegate_rules.specs.Effects.{is_replaced, is_removed, is_nil, goes_by_report, report_effect_by, goes_by_removal, removal_effect_by, bound_grants, told_effect, is_too_many, allowed, one_record, report_result}
 use Rattle.delegate_rules.specs.Refusals.{has_no_other, records_ended, removal_cleared, refused_by, refused_effect}
-use Rattle.delegate_rules.specs.Returns.{given_back}
 use Rattle.step_core.specs.Consistent.{count}
-use Rattle.step_core.proofs.Counts.{one, count-append, count-filtered, count-map, count-none, count-part, count-same}
-use Rattle.step_core.proofs.RecordCounts.{AwaitNone, AwaitNone-map, put-same, set_awaiting_none, set-numbered, sets_none}
+use Rattle.step_core.proofs.Counts.{one, count-filtered, count-map, count-none, count-part}
+use Rattle.step_core.proofs.RecordCounts.{AwaitNone, AwaitNone-map, put-same, set_awaiting_none, sets_none}
 
 -- what holds of the effect of an event that asks its peer for nothing
 pub record IsPlain (base : Lsps) (n : ℕ) (e : Effect) : Type 0 where

@@ -6,7 +6,7 @@ use Rattle.std.specs.Prelude.{ℤ, nat_lt, ◌≢◌, pos, neg_ℤ, ◌+ℤ◌, 
 use Rattle.std.specs.List.{list_all}
 use Rattle.te_base.specs.declared.network.Link.{Link}
 use Rattle.te_base.specs.Base.{Base}
-use Rattle.te_base.specs.Values.{Ends, Values, IsSameNetwork, ends_in, set_all_values, set_values, values_in, with_all_values, with_link_values, with_links_of, with_values}
+use Rattle.te_base.specs.Values.{Ends, Values, IsSameNetwork, ends_in, set_all_values, set_values, with_all_values, with_link_values, with_values}
 use Rattle.te_base.proofs.Values.{own_values, same-refl, same-set, same-trans, set-other}
 use Rattle.lsp_base.specs.Refusals.{unless}
 use Rattle.lsp_base.specs.Shares.{reservable, reserved, unreserved}

@@ -8,8 +8,8 @@ use Rattle.std.proofs.lemmas.Bool.{eq-eqb, ne_eqb}
 use Rattle.std.proofs.lemmas.List.Elements.{All-from_recursion}
 use Rattle.indexmap.specs.IndexMap.{insert_entry}
 use Rattle.commit_core.specs.declared.ticket.Ticket.{Ticket}
-use Rattle.step_core.specs.Tickets.{edit_first, first_waiting, is_ticket, is_waiting, searched_for, take_first, ticket_at, without_ticket}
-use Rattle.step_core.specs.TicketTables.{AreNumbered, AreRising, AreRisingFrom}
+use Rattle.step_core.specs.Tickets.{AreRising, AreRisingFrom, edit_first, first_waiting, is_ticket, is_waiting, searched_for, take_first, ticket_at, without_ticket}
+use Rattle.step_core.specs.TicketTables.{AreNumbered}
 
 -- a number is equal to a ticket's key where it is the ticket's own
 same_test : (id : ℕ) (e : ℕ × Ticket) → e.0 ≡ e.1.id → nat_eq id e.0 ≡ is_ticket id e.1

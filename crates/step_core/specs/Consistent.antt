@@ -6,6 +6,7 @@ use Rattle.lsp_base.specs.Pending.{is_grant_as, is_removed_as}
 use Rattle.initiate_rules.specs.Numbers.{is_srp_used}
 use Rattle.step_core.specs.Names.{is_of_grant}
 use Rattle.step_core.specs.States.{State, is_peer, next_number, peer_at}
+use Rattle.step_core.specs.Tickets.{AreInOrder}
 use Rattle.step_core.specs.declared.peer.Peer.{Peer}
 
 -- how many of the items pass a test
@@ -31,6 +32,8 @@ pub record IsConsistent (s : State) : Type 0 where
   pub names : (peer srp : ℕ) → count (is_of_grant peer srp) s.names ≡ count (is_unbound_grant peer (Some srp)) s.base.paths
   -- a peer stands once
   pub peers : (number : ℕ) → count (is_peer number) s.peers ≤ 1
+  -- tickets' numbers rise, none is above the last that was given, and none is searched for more than four times
+  pub tickets : AreInOrder s.last_ticket s.tickets
 
 -- no grant or awaited removal has an SRP-ID above the last that its peer was given
 pub record NoneAbove (s : State) : Type 0 where

@@ -59,3 +59,16 @@ pub record CountsRise (old new : State) : Type 0 where
 pub record MovesAlone (entry : LinkReload) (old new : State) : Type 0 where
   pub there : (p : ℕ) → unreserved new.te.links new.base.paths entry.link p ≡ unreserved old.te.links old.base.paths entry.link p +ℤ (pos (entry.values).reservable -ℤ pos (reservable old.te.links entry.link))
   pub elsewhere : (l p : ℕ) → l ≢ entry.link → unreserved new.te.links new.base.paths l p ≡ unreserved old.te.links old.base.paths l p
+
+-- the states differ in the order of their lists alone: the same paths, records and names stand in both, and all else is
+-- equal, what waits for each peer to be sent too
+pub record AreAlike (s t : State) : Type 0 where
+  pub paths : IsPermutation s.base.paths t.base.paths
+  pub records : IsPermutation s.base.records t.base.records
+  pub names : IsPermutation s.names t.names
+  pub te : s.te ≡ t.te
+  pub peers : s.peers ≡ t.peers
+  pub tickets : s.tickets ≡ t.tickets
+  pub changes : s.changes ≡ t.changes
+  pub last_session : s.last_session ≡ t.last_session
+  pub last_ticket : s.last_ticket ≡ t.last_ticket

@@ -9,15 +9,6 @@ pub record TicketTable : Type 0 where
   pub tickets : List Ticket
   pub last : ℕ
 
--- the numbers rise, from this one on
-abbrev pub AreRisingFrom : ℕ → List Ticket → Type 0
-AreRisingFrom least [] = Unit {0}
-AreRisingFrom least (t ∷ ts) = (least ≤ t.id) × AreRisingFrom (t.id + 1) ts
-
--- each number is greater than those before it
-abbrev pub AreRising : List Ticket → Type 0
-AreRising tickets = AreRisingFrom 0 tickets
-
 -- each ticket stands under its number, and the numbers rise, from this one on and up to the last
 abbrev pub AreNumbered : ℕ → ℕ → List (ℕ × Ticket) → Type 0
 AreNumbered least last [] = least ≤ last + 1

@@ -1,5 +1,5 @@
 -- Paths that are asked for: tickets, in the order in which they were asked for, so in rising order of their numbers.
-use Rattle.std.specs.Prelude.{ℕ, ◌+◌, Bool, true, false, ◌==◌, ◌&&◌, not, nat_lt, nat_le, List, [], ◌∷◌, find, Option, Some, None, option_map, if◌then◌else◌}
+use Rattle.std.specs.Prelude.{ℕ, ◌≡◌, ◌+◌, ◌≤◌, Bool, true, false, ◌==◌, ◌&&◌, not, nat_lt, nat_le, List, [], ◌∷◌, find, Option, Some, None, option_map, if◌then◌else◌}
 use Rattle.std.specs.List.{list_any, list_all}
 use Rattle.te_base.specs.Base.{Base}
 use Rattle.te_snapshot.specs.Admissible.{node_of}
@@ -98,10 +98,27 @@ put_back tickets id = edit_first (is_ticket id) waiting_again tickets
 abbrev pub without_ticket : List Ticket → ℕ → List Ticket
 without_ticket tickets id = drop_first (is_ticket id) tickets
 
--- ---- what holds of all tickets: none is searched for more than four times
+-- ---- what holds of all tickets
 
+-- the numbers rise, from this one on
+abbrev pub AreRisingFrom : ℕ → List Ticket → Type 0
+AreRisingFrom least [] = Unit {0}
+AreRisingFrom least (t ∷ ts) = (least ≤ t.id) × AreRisingFrom (t.id + 1) ts
+
+-- each number is greater than those before it
+abbrev pub AreRising : List Ticket → Type 0
+AreRising tickets = AreRisingFrom 0 tickets
+
+-- a ticket is searched for at most four times, and while it waits it was searched for fewer times
 abbrev pub has_tries_left : Ticket → Bool
 has_tries_left t = if t.taken then nat_le t.tries 4 else nat_lt t.tries 4
 
 abbrev pub all_have_tries : List Ticket → Bool
 all_have_tries tickets = list_all has_tries_left tickets
+
+pub record AreInOrder (last : ℕ) (tickets : List Ticket) : Type 0 where
+  -- the numbers rise, and none is above the last that was given
+  pub rising : AreRising tickets
+  pub given : list_all (λ t. nat_le t.id last) tickets ≡ true
+  -- none is searched for too often
+  pub tries : all_have_tries tickets ≡ true

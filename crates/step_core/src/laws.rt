@@ -1,8 +1,10 @@
 //! What holds of every step of a kind.
-ghost use Rattle.std.specs.Prelude.{◌<◌, ◌∷◌, [], length};
+ghost use Rattle.std.specs.Prelude.{◌≡◌, ◌<◌, ◌∷◌, [], length};
+ghost use Rattle.step_core.specs.Consistent.{IsConsistent};
+ghost use Rattle.step_core.specs.declared.event.Event.{Event};
 ghost use Rattle.step_core.specs.declared.event.Event.TheVariants.{Reload};
 ghost use Rattle.step_core.specs.declared.reload.LinkReload.{LinkReload};
-ghost use Rattle.step_core.specs.Laws.{MovesAlone};
+ghost use Rattle.step_core.specs.Laws.{AreAlike, MovesAlone};
 ghost use Rattle.step_core.specs.States.{State};
 ghost use Rattle.step_core.specs.Steps.{step};
 
@@ -11,4 +13,11 @@ ghost use Rattle.step_core.specs.Steps.{step};
 #[tactic(auto, using(crate::proofs::Reloading::moves_alone))]
 pub fn reload_moves_one_link()
     ensures { (s : State) (entry : LinkReload) → entry.link < length s.te.links → MovesAlone entry s (step s (Reload (entry ∷ []))).state }
+{}
+
+/// The order in which paths, records and names stand is no part of what is known: states that differ in it alone give the
+/// same reply to each event, and differ in it alone after it. So each peer is sent the same.
+pub fn order_makes_no_difference()
+    ensures replies { (s t : State) (event : Event) → IsConsistent s → AreAlike s t → (step s event).reply ≡ (step t event).reply }
+    ensures states { (s t : State) (event : Event) → IsConsistent s → AreAlike s t → AreAlike (step s event).state (step t event).state }
 {}

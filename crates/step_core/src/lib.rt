@@ -40,7 +40,7 @@ pub use base::Base;
 pub use commit_core::{LspName, Purpose, Ticket};
 pub use event::{Event, Reply};
 pub use job::Job;
-pub use laws::reload_moves_one_link;
+pub use laws::{order_makes_no_difference, reload_moves_one_link};
 pub use lsp_base::Why;
 pub use names::AwaitedName;
 pub use peer::{PEER_LIMIT, Peer};

@@ -12,8 +12,11 @@ ghost use Rattle.step_core.specs.Sound.{IsSoundGrant};
 use crate::base::{Base, copies};
 use crate::event::{Event, Reply};
 use crate::network::Network;
+use crate::peer::Peer;
 use crate::peer_list::PeerList;
 use crate::ticket_table::TicketTable;
+use commit_core::Ticket;
+use lsp_base::LspBase;
 use pcep_word::Priority;
 use sequence::Sequence;
 use std::alloc::{AllocError, Global};
@@ -160,6 +163,24 @@ impl Tables {
     {
         self.network.te_base()
     }
+
+    fn lsps(&self) -> &LspBase
+        ensures { result.now.content ≡ self.now.base }
+    {
+        self.network.lsps()
+    }
+
+    fn peers(&self) -> &[Peer]
+        ensures { result.now ≡ self.now.peers }
+    {
+        self.peers.as_slice()
+    }
+
+    fn tickets(&self) -> &[Ticket]
+        ensures { result.now ≡ self.now.tickets }
+    {
+        self.tickets.as_slice()
+    }
 }
 
 /// Tests whether the SRP-IDs that the peers are given next are above their last ones, as they were so far.
@@ -257,6 +278,27 @@ impl State {
         ensures { result.now ≡ self.now.te }
     {
         self.tables.te_base()
+    }
+
+    /// The paths and the records of LSPs.
+    pub fn lsps(&self) -> &LspBase
+        ensures { result.now.content ≡ self.now.base }
+    {
+        self.tables.lsps()
+    }
+
+    /// The peers in the order of their coming, with their sessions and what waits to be sent to each.
+    pub fn peers(&self) -> &[Peer]
+        ensures { result.now ≡ self.now.peers }
+    {
+        self.tables.peers()
+    }
+
+    /// The tickets in rising order of their numbers.
+    pub fn tickets(&self) -> &[Ticket]
+        ensures { result.now ≡ self.now.tickets }
+    {
+        self.tables.tickets()
     }
 
     /// What is known, in plain lists.

@@ -1,7 +1,6 @@
 //! Tickets, in the order in which they were asked for.
 ghost use Rattle.std.specs.Prelude.{◌≡◌, ◌<◌, ◌≤◌, ◌+◌, ◌++◌, ◌∷◌, [], All, true, OnOk, OnErr, IfSome, option_copied};
-ghost use Rattle.step_core.specs.TicketTables.{AreRising};
-ghost use Rattle.step_core.specs.Tickets.{first_waiting, ticket_at, is_update_of, is_update_asked, is_initiation_of, is_name_asked, take_first, put_back, without_ticket, has_tries_left, is_waiting};
+ghost use Rattle.step_core.specs.Tickets.{AreRising, first_waiting, ticket_at, is_update_of, is_update_asked, is_initiation_of, is_name_asked, take_first, put_back, without_ticket, has_tries_left, is_waiting};
 
 use commit_core::{Purpose, Ticket};
 use indexmap::IndexMap;

@@ -1,5 +1,5 @@
 //! The TED as its link text says it, and look-ups in it.
-ghost use Rattle.std.specs.Prelude.{◌≡◌, ◌≢◌, ◌<◌, ◌≤◌, ◌↔◌, ℕ, IsTrue, IfOk, IfSome, All, AllPairs, map, slice_get, length};
+ghost use Rattle.std.specs.Prelude.{◌≡◌, ◌≢◌, ◌<◌, ◌≤◌, ◌↔◌, ℕ, IsTrue, IfOk, IfSome, IsSome, All, AllPairs, map, option_map, slice_get, length};
 ghost use Rattle.te_base.specs.Base.{IsLinkAmong};
 ghost use Rattle.te_base.specs.Faults.{Gives};
 ghost use Rattle.te_base.specs.LinkText.{base_of, base_of_tables, base_of_tree};
@@ -51,7 +51,7 @@ impl Model for TeBase {
     ghost invariant = { λ b. IsSound (base_in b.parts) };
 }
 
-/// The nodes and links of these tables.
+/// Reads the nodes and links of these tables.
 fn parts_of(alloc: Global, nodes: &[&Table], links: &[&Table]) -> Result<Parts, TeFault>
     ensures { Gives base_in result (base_of_tables (map (λ t. table_view t.now) nodes.now) (map (λ t. table_view t.now) links.now)) }
 {
@@ -93,7 +93,7 @@ fn read_parts(alloc: Global, text: &str) -> Result<Parts, TeFault>
 }
 
 impl TeBase {
-    /// What the text says, or its first fault in the order that `TeFault` tells. Nodes and links are
+    /// Reads what the text says, or gives its first fault in the order of `TeFault`. Nodes and links are
     /// numbered from 0 in the order of the text.
     pub fn read(alloc: Global, text: &str) -> Result<TeBase, TeFault>
         ensures { Gives (λ b. b) result (base_of text.now) }
@@ -102,7 +102,7 @@ impl TeBase {
         Ok(TeBase { parts })
     }
 
-    /// The link of a number, None past the last.
+    /// Looks up the link of a number, None past the last.
     pub fn link(&self, number: LinkNumber) -> Option<Link>
         ensures link { result ≡ slice_get self.now.links number }
         ensures sound { IfSome result (IsLinkAmong (length self.now.nodes)) }
@@ -110,7 +110,7 @@ impl TeBase {
         self.parts.links.as_slice().get(number).copied()
     }
 
-    /// How many links there are, at most 4,096.
+    /// Counts the links, at most 4,096.
     pub fn link_count(&self) -> usize
         ensures count { result ≡ length self.now.links }
         ensures few { result ≤ 4096 }
@@ -118,7 +118,7 @@ impl TeBase {
         self.parts.links.as_slice().len()
     }
 
-    /// How many nodes there are, at most 1,024.
+    /// Counts the nodes, at most 1,024.
     pub fn node_count(&self) -> usize
         ensures count { result ≡ length self.now.nodes }
         ensures few { result ≤ 1024 }
@@ -126,7 +126,15 @@ impl TeBase {
         self.parts.nodes.len()
     }
 
-    /// All links, each at its number.
+    /// Looks up the name and the id of a node, None past the last.
+    pub fn node(&self, number: NodeNumber) -> Option<(&str, Ipv4)>
+        ensures node { option_map (λ n. record { name = n.0.now; id = n.1 }) result ≡ slice_get self.now.nodes number }
+        ensures found { IsSome result ↔ (number < length self.now.nodes) }
+    {
+        self.parts.nodes.get(number)
+    }
+
+    /// Lends all links, each at its number.
     pub fn links(&self) -> &[Link]
         ensures links { result.now ≡ self.now.links }
         ensures few { length result.now ≤ 4096 }
@@ -143,7 +151,7 @@ impl TeBase {
         &self.parts.owners
     }
 
-    /// The node that owns an address: the one that has it as its own, as the local address of a link
+    /// Finds the node that owns an address: the one that has it as its own, as the local address of a link
     /// that leaves it, or as the remote address of a link that reaches it. None where no node does.
     pub fn owner(&self, address: Ipv4) -> Option<NodeNumber>
         ensures owner { result ≡ owner_of self.now.owners address }
@@ -153,7 +161,7 @@ impl TeBase {
         self.parts.owners.node(address)
     }
 
-    /// The links that a route uses from a start to an end, in order (RFC 3209 section 4.3.3 for an
+    /// Lists the links that a route uses from a start to an end, in order (RFC 3209 section 4.3.3 for an
     /// explicit route, 4.4 for a recorded one).
     ///
     /// From the owner of the start, each address leads to its owner over the link from the current node
@@ -175,14 +183,14 @@ impl TeBase {
         walk_parts(alloc, &self.parts, start, hops, end)
     }
 
-    /// The values of all links, each at its link's number.
+    /// Lists the values of all links, each at its link's number.
     pub fn values(&self, alloc: Global) -> Result<Vec<LinkValues>, AllocError>
         ensures { IfOk result (λ v. v.items ≡ values_in self.now) }
     {
         all_values(alloc, self.parts.links.as_slice())
     }
 
-    /// The values that the text, read again, gives all links, each at its link's number. A fault is what `read` says of
+    /// Lists the values that the text, read again, gives all links, each at its link's number. A fault is what `read` says of
     /// the text, and `OtherLinks` where it says other nodes, or other ends or addresses of links.
     pub fn reload(&self, alloc: Global, text: &str) -> Result<Vec<LinkValues>, TeFault>
         ensures values { Gives (λ v. v.items) result (reloaded self.now text.now) }

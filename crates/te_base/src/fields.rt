@@ -31,7 +31,7 @@ pub(crate) struct LinkFields<'a> {
     pub reservable: i64,
 }
 
-/// The value at a key.
+/// Looks up the value at a key.
 fn field<'a>(table: &'a Table, key: &str) -> Option<&'a Value>
     ensures { option_map (λ v. view v.now) result ≡ get_member key.now (table_view table.now) }
 {
@@ -108,7 +108,7 @@ fn all_tables(alloc: Global, array: &Array) -> Result<Vec<&Table>, TeFault>
     Ok(tables)
 }
 
-/// The tables of the array at a key, and none where the key is absent.
+/// Lists the tables of the array at a key, and none where the key is absent.
 pub(crate) fn tables<'a>(
     alloc: Global,
     document: &'a Table,

@@ -7,7 +7,7 @@ use crate::network::{Link, LinkNumber, NodeNumber};
 use keyed_list::{Keyed, KeyedList, Test};
 use pcep_word::Ipv4;
 
-/// The bucket of the links that leave a node.
+/// Returns the bucket of the links that leave a node.
 fn bucket_of_node(node: NodeNumber) -> u16
     ensures { result ≡ node_bucket node }
 {

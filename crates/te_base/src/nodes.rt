@@ -1,5 +1,5 @@
 //! The nodes of the TED, by number and by name.
-ghost use Rattle.std.specs.Prelude.{◌≡◌, ◌++◌, ◌∷◌, ℕ, [], Some, None, length, map, slice_get, OnOk};
+ghost use Rattle.std.specs.Prelude.{◌≡◌, ◌++◌, ◌∷◌, ℕ, [], Some, None, length, map, option_map, slice_get, OnOk};
 ghost use Rattle.std.specs.declared.alloc.Global.{Global};
 ghost use Rattle.std.specs.declared.string.String.{String};
 ghost use Rattle.std.specs.Cmp.Lexicographic.{pointwise};
@@ -73,6 +73,14 @@ impl NodeTable {
         ensures { result ≡ length self.now }
     {
         self.ids.len()
+    }
+
+    /// Looks up the name and the id of a node, None past the last.
+    pub fn get(&self, number: NodeNumber) -> Option<(&str, Ipv4)>
+        ensures { option_map (λ n. record { name = n.0.now; id = n.1 }) result ≡ slice_get self.now number }
+    {
+        let (name, id) = self.ids.get_index(number)?;
+        Some((name.as_str(), *id))
     }
 
     /// Finds the number of the node with this name.

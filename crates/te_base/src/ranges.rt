@@ -49,7 +49,7 @@ pub(crate) fn node_of(alloc: Global, fields: &NodeFields) -> Result<Node, TeFaul
     Ok(Node { name, id })
 }
 
-/// The addresses of the link at the node that it leaves and at the one that it reaches. The names of both are
+/// Reads the addresses of the link at the node that it leaves and at the one that it reaches. The names of both are
 /// judged first.
 #[tactic(auto, unfolding(crate::specs::Ranges::link_addresses))]
 pub(crate) fn link_addresses(fields: &LinkFields) -> Result<(Ipv4, Ipv4), TeFault>

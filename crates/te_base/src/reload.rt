@@ -42,7 +42,7 @@ pub(crate) fn is_same(parts: &Parts, others: &Parts) -> bool
         && all_same_ends(parts.links.as_slice(), others.links.as_slice())
 }
 
-/// The values of each link.
+/// Lists the values of each link.
 pub(crate) fn all_values(alloc: Global, links: &[Link]) -> Result<Vec<LinkValues>, AllocError>
     requires { All (λ l. AreInRange (values_of l)) links.now }
     ensures { IfOk result (λ values. values.items ≡ map values_of links.now) }

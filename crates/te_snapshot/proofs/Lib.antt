@@ -5,3 +5,4 @@ pub mod Lists
 pub mod Arcs
 pub mod Moved
 pub mod Rows
+pub mod Pages

@@ -7,3 +7,4 @@ pub mod Room
 pub mod Left
 pub mod Own
 pub mod Admissible
+pub mod Pages

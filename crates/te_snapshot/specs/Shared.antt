@@ -5,8 +5,8 @@ use Rattle.te_snapshot.specs.declared.snapshot.Snapshot.TheInside.{Inside}
 use Rattle.te_snapshot.specs.Network.{NetworkState, state_of}
 
 abbrev pub state_in : Inside → NetworkState
-state_in s = state_of (arc_value (arc_value s.table).topology) (arc_value s.table).unreserved.items
+state_in s = state_of (arc_value (arc_value s.shared).topology) (arc_value s.shared).unreserved
 
 -- there are numbers for each link
 abbrev pub IsWhole : Inside → Type 0
-IsWhole s = length (arc_value s.table).unreserved.items ≡ length (arc_value (arc_value s.table).topology).links
+IsWhole s = length (arc_value s.shared).unreserved ≡ length (arc_value (arc_value s.shared).topology).links

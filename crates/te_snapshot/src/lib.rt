@@ -2,15 +2,16 @@
 //!
 //! A `Topology` is made from a `TeBase`, or from another one with other values of its links, and never changes: the
 //! links, the links that leave each node and those that enter it, and the owners of addresses. A `Snapshot` joins it with
-//! a table of unreserved bandwidth, eight numbers a link, one for each priority. Both are shared: a snapshot is copied by
-//! counting one more owner, so it can be searched while the network is booked on. `OwnShares` says what a tunnel holds
+//! a `Table` of unreserved bandwidth, eight numbers a link, one for each priority. Both are shared: a snapshot is copied by
+//! counting one more owner, so it can be searched while the network is booked on. Tables share the pages of 64 links in
+//! which they agree; `Marks` says which pages are out of date. `OwnShares` says what a tunnel holds
 //! already.
 //!
 //! The layer above may rely on each snapshot being sound: at most 1,024 nodes and 4,096 links, each link
 //! from one node to another with metrics from 1 to 16,777,215, and eight numbers for each link. The
 //! definitions stand in `specs/`: `Network` has the lists, `Leaving` the links that leave or enter a node, and
 //! `Room` says whether a link bears a bandwidth beside what the tunnel holds there, and `Admissible` which paths
-//! constraints allow. `route` has the tests of a path that a search and a verdict share.
+//! constraints allow. `Pages` says how a table holds its rows. `route` has the tests of a path that a search and a verdict share.
 //!
 //! ```text
 //! fn snapshot_of(alloc: Global, te: &TeBase, unreserved: Vec<[i64; 8]>) -> Result<Snapshot, AllocError>
@@ -24,15 +25,19 @@
 #![tactic(auto)]
 
 mod leaving;
+mod marks;
 mod outgoing;
 mod own;
 mod route;
 mod snapshot;
 mod spans;
+mod table;
 mod topology;
 
+pub use marks::Marks;
 pub use outgoing::Outgoing;
 pub use own::{OwnShare, OwnShares, own_share};
 pub use route::{colours_pass, cost_of, is_within, keeps_other_bounds, node_of};
 pub use snapshot::Snapshot;
+pub use table::Table;
 pub use topology::Topology;

@@ -6,6 +6,7 @@ ghost use Rattle.te_base.specs.Owners.{owner_of};
 ghost use Rattle.te_snapshot.specs.Network.{state_of};
 ghost use Rattle.te_snapshot.specs.Room.{left};
 
+use crate::table::Table;
 use crate::topology::Topology;
 use pcep_word::{Ipv4, Priority};
 use sequence::PlainData;
@@ -14,18 +15,18 @@ use std::marker::Model;
 use std::sync::Arc;
 use te_base::{Link, LinkNumber, NodeNumber};
 
-/// What snapshots share.
+/// What copies of a snapshot share.
 #[derive(Drop)]
-struct Table {
+struct Shared {
     topology: Arc<Topology, Global>,
-    unreserved: Vec<[i64; 8]>,
+    unreserved: Table,
 }
 
 /// A network and the unreserved bandwidth of its links at a moment, in bytes per second for each priority.
 /// It never changes. A contract sees it as a `NetworkState`, with eight numbers for each link.
 #[derive(Drop)]
 pub struct Snapshot {
-    table: Arc<Table, Global>,
+    shared: Arc<Shared, Global>,
 }
 
 impl Model for Snapshot {
@@ -51,21 +52,42 @@ impl Snapshot {
         requires { length unreserved.items ≡ length (arc_value topology).links }
         ensures { IfOk result (λ s. s ≡ state_of (arc_value topology) unreserved.items) }
     {
-        let table = Arc::new(
+        let _few = topology.links();
+        let table = Table::new(alloc, &unreserved)?;
+        Snapshot::of(alloc, topology, table)
+    }
+
+    /// The network with this table.
+    pub fn of(
+        alloc: Global,
+        topology: Arc<Topology, Global>,
+        unreserved: Table,
+    ) -> Result<Snapshot, AllocError>
+        requires { length unreserved ≡ length (arc_value topology).links }
+        ensures { IfOk result (λ s. s ≡ state_of (arc_value topology) unreserved) }
+    {
+        let shared = Arc::new(
             alloc,
-            Table {
+            Shared {
                 topology,
                 unreserved,
             },
         )?;
-        Ok(Snapshot { table })
+        Ok(Snapshot { shared })
     }
 
     /// The network.
     pub fn topology(&self) -> &Topology
         ensures { result.now ≡ self.now.network }
     {
-        &self.table.topology
+        &self.shared.topology
+    }
+
+    /// The network, shared: takes no memory.
+    pub fn shared_topology(&self) -> Result<Arc<Topology, Global>, AllocError>
+        ensures { IfOk result (λ t. arc_value t ≡ self.now.network) }
+    {
+        Arc::try_clone(&self.shared.topology)
     }
 
     /// What is unreserved on a link at a priority, in bytes per second; None where there is no such link.
@@ -77,11 +99,11 @@ impl Snapshot {
     }
 
     /// What is unreserved on each link: eight numbers at the link's number, by priority.
-    pub fn table(&self) -> &[[i64; 8]]
+    pub fn table(&self) -> &Table
         ensures table { result.now ≡ self.now.unreserved }
         ensures whole { length result.now ≡ length self.now.network.links }
     {
-        &self.table.unreserved
+        &self.shared.unreserved
     }
 }
 
@@ -89,7 +111,7 @@ impl PlainData for Snapshot {
     /// The same snapshot, shared: takes no memory.
     fn copy(&self) -> Result<Snapshot, AllocError> {
         Ok(Snapshot {
-            table: Arc::try_clone(&self.table)?,
+            shared: Arc::try_clone(&self.shared)?,
         })
     }
 }

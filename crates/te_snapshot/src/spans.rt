@@ -54,27 +54,24 @@ fn add_all(arcs: &mut Arcs, lists: &[Vec<Outgoing>]) -> Result<(), AllocError>
     Ok(())
 }
 
-/// The link with the values that it has among these links.
-fn arc_now(arc: &Outgoing, links: &[Link]) -> Outgoing
-    ensures { result ≡ arc_now links.now arc.now }
+/// Sets the values of a link to those that it has among these links.
+#[inline(always)]
+fn set_values(arc: &mut Outgoing, links: &[Link])
+    ensures { arc.new ≡ arc_now links.now arc.old }
 {
-    match links.get(arc.number) {
-        Some(link) => Outgoing {
-            igp: link.igp,
-            te: link.te,
-            colour: link.colour,
-            ..*arc
-        },
-        None => *arc,
+    if let Some(link) = links.get(arc.number) {
+        arc.igp = link.igp;
+        arc.te = link.te;
+        arc.colour = link.colour;
     }
 }
 
 fn all_now(alloc: Global, arcs: &[Outgoing], links: &[Link]) -> Result<Vec<Outgoing>, AllocError>
     ensures { IfOk result (λ all. all.items ≡ map (arc_now links.now) arcs.now) }
 {
-    let mut all = Vec::with_capacity(alloc, arcs.len())?;
-    for arc in arcs {
-        all.push(arc_now(arc, links))?;
+    let mut all = arcs.to_vec(alloc)?;
+    for place in 0..all.len() {
+        set_values(&mut all[place], links);
     }
     Ok(all)
 }

@@ -1,5 +1,5 @@
 //! Each end of a connection.
-use super::fakes::{Beat, Beats, Faulty, Noon, Slow, Tap};
+use super::fakes::{Beat, Beats, Failing, Faulty, Noon, Slow, Tap};
 use super::*;
 use engine_core::Fault;
 use server_talk::{Ended, connection};
@@ -14,7 +14,8 @@ struct Case {
     last: Beat,
     /// So many writes succeed.
     writes: u64,
-    /// What the store answers so many Downs by.
+    /// What the store answers so many of these events by.
+    failing: Failing,
     fault: Fault,
     faults: u32,
     is_closing: bool,
@@ -28,6 +29,7 @@ struct Case {
 const CLOSED: Case = Case {
     last: Beat::Nothing,
     writes: 9,
+    failing: Failing::Downs,
     fault: Fault::OutOfMemory,
     faults: 0,
     is_closing: false,
@@ -36,7 +38,7 @@ const CLOSED: Case = Case {
     rolls: 0,
 };
 
-const CASES: [Case; 9] = [
+const CASES: [Case; 10] = [
     CLOSED,
     Case {
         last: Beat::Fault,
@@ -66,6 +68,17 @@ const CASES: [Case; 9] = [
         fault: Fault::HistoryFull,
         faults: 1,
         ended: Ended::ReadFault,
+        rolls: 1,
+        ..CLOSED
+    },
+    // its session finds the history full, which is rolled, so that the next one comes up
+    Case {
+        last: Beat::Nothing,
+        failing: Failing::Ups,
+        fault: Fault::HistoryFull,
+        faults: 1,
+        ended: Ended::SessionEnded,
+        downs: 0,
         rolls: 1,
         ..CLOSED
     },
@@ -110,6 +123,7 @@ fn ends<R: Wait + Abort>(rt: &R, alloc: Global, case: Case) -> Result<(), Fail> 
     };
     let mut store = Faulty {
         calls: Vec::new(alloc),
+        failing: case.failing,
         fault: case.fault,
         faults: case.faults,
         downs: 0,
@@ -137,6 +151,7 @@ fn each_end_hangs_up(rt: HostRuntime) -> Result<(), Fail> {
 fn done(alloc: Global) -> Faulty {
     Faulty {
         calls: Vec::new(alloc),
+        failing: Failing::Downs,
         fault: Fault::OutOfMemory,
         faults: 0,
         downs: 0,

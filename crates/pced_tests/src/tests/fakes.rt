@@ -1,14 +1,16 @@
 //! Readers, writers, watches and stores that do what a test wants.
 use engine_core::{Call, Desk, Event, Fault, Reply, Store};
 use history_core::{LinkReload, SharedEvent};
+use script_lines::ViewLine;
 use sequence::Sequence;
-use server_talk::{Patient, Plan, PlanFault, TAKEN_WITHIN_MS, Watch};
+use server_talk::{Network, Patient, Plan, PlanFault, Show, TAKEN_WITHIN_MS, Watch};
 use std::alloc::{AllocError, Global};
 use std::cell::Cell;
 use std::collections::VecDeque;
 use std::io;
 use std::io::{ErrorKind, Read, Write};
 use std::time::Duration;
+use te_base::{LinkValues, TeFault};
 
 /// What a read gives. At the end of the list the peer has closed.
 #[derive(Clone, Copy)]
@@ -59,7 +61,7 @@ impl<'a> Patient for Given<'a> {
     fn set_patience(&mut self, _most: Duration) {}
 }
 
-/// A link text that gives no link other values, or has a fault.
+/// A link text that gives two links, or has a fault: the first link the values that it has, the second other ones.
 #[derive(Drop)]
 pub struct Text {
     pub alloc: Global,
@@ -70,8 +72,48 @@ impl Plan for Text {
     fn read(&self) -> Result<Sequence<LinkReload>, PlanFault> {
         match self.fault {
             Some(fault) => Err(fault),
-            None => Ok(Sequence::from_vec(Vec::new(self.alloc))),
+            None => match entries(self.alloc) {
+                Ok(links) => Ok(links),
+                Err(_) => Err(PlanFault::Te(TeFault::OutOfMemory)),
+            },
         }
+    }
+}
+
+/// The values of a link of so much bandwidth.
+fn values_with(metric: u64, reservable: u64) -> Result<LinkValues, AllocError> {
+    LinkValues::new(metric, 10, 0, reservable).ok_or(AllocError)
+}
+
+fn entries(alloc: Global) -> Result<Sequence<LinkReload>, AllocError> {
+    let mut links = Vec::new(alloc);
+    links.push(LinkReload {
+        link: 0,
+        values: values_with(10, 1_000_000)?,
+    })?;
+    links.push(LinkReload {
+        link: 1,
+        values: values_with(20, 400_000)?,
+    })?;
+    Ok(Sequence::from_vec(links))
+}
+
+impl Network for Text {
+    /// Of two links, the second of which bears less than is reported.
+    fn links(&self) -> Result<(Vec<LinkValues>, Vec<[i64; 8]>), AllocError> {
+        let mut values = Vec::new(self.alloc);
+        let mut left = Vec::new(self.alloc);
+        for amounts in [[1, 2, 3, 4, 5, 6, 7, 8], [-1; 8]] {
+            values.push(values_with(10, 1_000_000)?)?;
+            left.push(amounts)?;
+        }
+        Ok((values, left))
+    }
+}
+
+impl Show for Text {
+    fn show(&self, alloc: Global, _line: &ViewLine) -> Result<Vec<u8>, AllocError> {
+        Ok(Vec::new(alloc))
     }
 }
 
@@ -139,10 +181,29 @@ impl Watch for Slow {
     fn ring(&self, _peer: u32) {}
 }
 
-/// A store that replies Done to all, but first answers so many Downs by a fault.
+/// Of which kind events are that a store answers by a fault.
+#[derive(Clone, Copy, PartialEq, Eq)]
+pub enum Failing {
+    Ups,
+    Downs,
+    Asks,
+}
+
+impl Failing {
+    fn has(self, event: &Event) -> bool {
+        match self {
+            Failing::Ups => matches!(event, Event::Up { .. }),
+            Failing::Downs => matches!(event, Event::Down { .. }),
+            Failing::Asks => matches!(event, Event::Ask { .. }),
+        }
+    }
+}
+
+/// A store that replies Done to all, but first answers so many events of a kind by a fault.
 #[derive(Drop)]
 pub struct Faulty {
     pub calls: Vec<Call>,
+    pub failing: Failing,
     pub fault: Fault,
     pub faults: u32,
     pub downs: u32,
@@ -173,7 +234,7 @@ impl Store for Faulty {
 
     fn submit(&mut self, event: Event) -> Result<(), Fault> {
         let is_down = matches!(event, Event::Down { .. });
-        if is_down && self.faults > 0 {
+        if self.failing.has(&event) && self.faults > 0 {
             self.faults -= 1;
             return Err(self.fault);
         }

@@ -1,5 +1,5 @@
 //! An operator's lines.
-use super::fakes::{Beat, Beats, Faulty, Given, Noon, Tap, Text};
+use super::fakes::{Beat, Beats, Failing, Faulty, Given, Noon, Tap, Text};
 use super::*;
 use engine_core::Fault;
 use server_talk::{LINE_LIMIT, OperatorEnd, Patient, PlanFault, operate};
@@ -11,7 +11,8 @@ use te_base::TeFault;
 fn store_in(alloc: Global) -> Faulty {
     Faulty {
         calls: Vec::new(alloc),
-        fault: Fault::OutOfMemory,
+        failing: Failing::Asks,
+        fault: Fault::HistoryFull,
         faults: 0,
         downs: 0,
         rolls: 0,
@@ -75,6 +76,37 @@ fn lines_are_answered_and_bad_ones_by_number(rt: HostRuntime) -> Result<(), Fail
     Ok(())
 }
 
+/// Where the history is full it is rolled, and the line is answered then; where it is still full, that is said.
+#[test]
+fn a_full_history_is_rolled_for_a_line(rt: HostRuntime) -> Result<(), Fail> {
+    let alloc = rt.alloc();
+    let table: [(u32, &[u8]); 2] = [(1, b"done\ndone\n"), (2, b"history full\ndone\n")];
+    for (faults, want) in table {
+        let mut writer = Tap {
+            left: 99,
+            most: usize::MAX,
+            bytes: Vec::new(alloc),
+        };
+        let mut store = store_in(alloc);
+        store.faults = faults;
+        let end = operate(
+            &rt,
+            alloc,
+            &mut Given {
+                bytes: b"update 1 1\nupdate 1 1\n",
+            },
+            &mut writer,
+            &Noon { is_closing: false },
+            &Text { alloc, fault: None },
+            &mut store,
+        );
+        assert_eq!(rt; end, Ok(OperatorEnd::InputEnded));
+        assert_eq!(rt; writer.bytes.as_slice(), want);
+        assert_eq!(rt; store.rolls, 1);
+    }
+    Ok(())
+}
+
 #[test]
 fn a_long_line_is_bad_and_the_next_is_heard(rt: HostRuntime) -> Result<(), Fail> {
     let alloc = rt.alloc();
@@ -131,15 +163,21 @@ fn a_read_without_bytes_is_made_again(rt: HostRuntime) -> Result<(), Fail> {
 fn a_reload_is_told_its_reply_or_why_there_is_none(rt: HostRuntime) -> Result<(), Fail> {
     let alloc = rt.alloc();
     let table: [(Option<PlanFault>, &[u8]); 4] = [
-        (None, b"done\nbad line 2\n"),
-        (Some(PlanFault::Device), b"device fault\nbad line 2\n"),
+        (
+            None,
+            b"done\nbad line 2\nlink 1 igp 10 20 reservable 1000000 400000\nbelow zero 1\n",
+        ),
+        (
+            Some(PlanFault::Device),
+            b"device fault\nbad line 2\ndevice fault\n",
+        ),
         (
             Some(PlanFault::Te(TeFault::OtherLinks)),
-            b"te fault 10\nbad line 2\n",
+            b"te fault 10\nbad line 2\nte fault 10\n",
         ),
         (
             Some(PlanFault::Te(TeFault::OutOfMemory)),
-            b"out of memory\nbad line 2\n",
+            b"out of memory\nbad line 2\nout of memory\n",
         ),
     ];
     for (fault, want) in table {
@@ -153,7 +191,7 @@ fn a_reload_is_told_its_reply_or_why_there_is_none(rt: HostRuntime) -> Result<()
             &rt,
             alloc,
             &mut Given {
-                bytes: b"reload\nreload 0 1 1 0 1\n",
+                bytes: b"reload\nreload 0 1 1 0 1\nreload check\n",
             },
             &mut writer,
             &Noon { is_closing: false },

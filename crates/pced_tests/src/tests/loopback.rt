@@ -101,6 +101,7 @@ fn serve<
         sessions: Sessions::Count(1),
         keep_seconds: 60,
         settle_seconds: 0,
+        descriptors: None,
     };
     let routers = Routers {
         known: &None,
@@ -113,6 +114,7 @@ fn serve<
     match serve_run(
         rt,
         listener,
+        None,
         te,
         &plan,
         orders,

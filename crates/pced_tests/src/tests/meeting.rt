@@ -55,7 +55,7 @@ impl<'a, R: Clock> Gate for Holding<'a, R> {
 
 /// What a turn came to.
 #[derive(Clone, Copy, Debug, PartialEq, Eq)]
-enum Came {
+pub enum Came {
     Idle,
     Granted(u32),
     Again,
@@ -64,7 +64,7 @@ enum Came {
     Alone,
 }
 
-fn came_to(worked: &Worked) -> Came {
+pub fn came_to(worked: &Worked) -> Came {
     match worked {
         Worked::Idle => Came::Idle,
         Worked::Done { reply, .. } => match reply {
@@ -130,7 +130,7 @@ fn event_of(alloc: Global, line: &str) -> Result<Event, Fail> {
 }
 
 /// Submits the event of an operator's line.
-fn ask<R: Wait, S: Ledger, G: Ledger, B: Room>(
+pub fn ask<R: Wait, S: Ledger, G: Ledger, B: Room>(
     rt: &R,
     alloc: Global,
     shared: &Shared<S, G, B>,

@@ -1,8 +1,11 @@
 //! A database that two seats share, and what becomes of it in each case.
-ghost use Rattle.std.specs.Prelude.{◌≡◌};
+ghost use Rattle.std.specs.Prelude.{◌≡◌, IfSome};
+ghost use Rattle.history_core.specs.Histories.{steps_of};
 
 use super::meeting::{ask_and_meet, both_are_granted, is_refused_without_a_seat};
 use super::others::{are_down, visit_all};
+use super::refused::{are_audited, call_all};
+use super::reloads::{reload_beside_searches, replays};
 use super::*;
 use place_tokens::{Room, Unopened};
 use shared_pce::{Seat, Shared};
@@ -21,6 +24,10 @@ enum Case {
     SeatMissing,
     /// Connections fail beside one that doesn't.
     OthersFail,
+    /// Links are reloaded while searches run.
+    LinksReload,
+    /// Calls are refused memory, and made again.
+    MemoryRefused,
 }
 
 /// What is done before the audit.
@@ -46,24 +53,42 @@ fn act<
         Case::WorkersMeet => ask_and_meet(rt, alloc, shared, first, second),
         Case::SeatMissing => meeting::come_up(rt, shared, second, 1),
         Case::OthersFail => visit_all(rt, alloc, shared, first),
+        Case::LinksReload => reload_beside_searches(rt, alloc, shared, first, second),
+        Case::MemoryRefused => call_all(rt, alloc, shared, first),
+    }
+}
+
+/// A database of which nothing was reported, where there is memory for it.
+fn quiet_database(alloc: Global) -> Option<Database>
+    ensures { IfSome result (λ database. steps_of database ≡ 0) }
+{
+    let Ok(te) = TeBase::read(alloc, DIAMOND) else {
+        return None;
+    };
+    match Database::new(alloc, te) {
+        Ok(database) => Some(database),
+        Err(_) => None,
     }
 }
 
 /// Drops them.
 fn let_go<S: Ledger, G: Ledger, B: Room>(_shared: Shared<S, G, B>, _seats: Vec<Seat<S, G, B>>) {}
 
-/// The audit.
-fn close<R: Abort, S: Ledger, G: Ledger, B: Room>(
+/// The audit. True: there was memory for the seats.
+fn closed<R: Abort, S: Ledger, G: Ledger, B: Room>(
     rt: &R,
     case: Case,
     shared: Shared<S, G, B>,
     seats: Vec<Seat<S, G, B>>,
-) -> Result<(), Fail> {
+) -> Result<bool, Fail> {
     match case {
-        Case::WorkersMeet => both_are_granted(rt, shared, seats),
-        Case::SeatMissing => is_refused_without_a_seat(rt, shared, seats),
-        Case::OthersFail => are_down(rt, shared, seats),
+        Case::WorkersMeet => both_are_granted(rt, shared, seats)?,
+        Case::SeatMissing => is_refused_without_a_seat(rt, shared, seats)?,
+        Case::OthersFail => are_down(rt, shared, seats)?,
+        Case::LinksReload => replays(rt, shared, seats)?,
+        Case::MemoryRefused => are_audited(rt, shared, seats)?,
     }
+    Ok(true)
 }
 
 fn on_shared<
@@ -78,21 +103,20 @@ fn on_shared<
     steps: Blank,
     grants: Blank,
     room: Unopened,
-) -> Result<(), Fail>
+) -> Result<bool, Fail>
     requires steps { (steps.name ≡ S.name) × (steps.parts ≡ S.parts) × (steps.parts ≡ 2) }
     requires grants { (grants.name ≡ G.name) × (grants.parts ≡ G.parts) × (grants.parts ≡ 2) }
     requires room { (room.table ≡ B.table) × (room.seats ≡ B.seats) × (room.seats ≡ 2) }
 {
-    let (shared, mut seats) = Shared::<S, G, B>::new(
-        alloc,
-        new_database(alloc)?,
-        2,
-        steps,
-        grants,
-        room,
-    )?;
+    let Some(database) = quiet_database(alloc) else {
+        return Ok(false);
+    };
+    let Ok((shared, mut seats)) = Shared::<S, G, B>::new(alloc, database, 2, steps, grants, room)
+    else {
+        return Ok(false);
+    };
     match act(rt, alloc, case, &shared, seats.as_mut_slice()) {
-        Ok(()) => close(rt, case, shared, seats),
+        Ok(()) => closed(rt, case, shared, seats),
         Err(fail) => {
             let_go(shared, seats);
             Err(fail)
@@ -100,14 +124,29 @@ fn on_shared<
     }
 }
 
-/// Runs a case over two seats.
+/// Runs a case over two seats: whether there was memory to make them.
+fn run_once<R: Threads + Wait + Clock + Abort + Sync>(
+    rt: &R,
+    alloc: Global,
+    case: Case,
+) -> Result<bool, Fail> {
+    let Ok(room) = Unopened::new(alloc, 2) else {
+        return Ok(false);
+    };
+    on_shared::<Brand, Brand, Brand, _>(rt, alloc, case, Blank::new(2), Blank::new(2), room)
+}
+
+/// Runs a case over two seats, which are made again where memory was refused.
 fn run<R: Threads + Wait + Clock + Abort + Sync>(
     rt: &R,
     alloc: Global,
     case: Case,
 ) -> Result<(), Fail> {
-    let room = Unopened::new(alloc, 2)?;
-    on_shared::<Brand, Brand, Brand, _>(rt, alloc, case, Blank::new(2), Blank::new(2), room)
+    if run_once(rt, alloc, case)? || run_once(rt, alloc, case)? {
+        Ok(())
+    } else {
+        Err(Fail::new("no memory"))
+    }
 }
 
 #[test]
@@ -123,4 +162,14 @@ fn a_seat_is_missing(rt: HostRuntime) -> Result<(), Fail> {
 #[test]
 fn others_go_on_after_a_fault(rt: HostRuntime) -> Result<(), Fail> {
     run(&rt, rt.alloc(), Case::OthersFail)
+}
+
+#[test]
+fn searches_go_by_their_own_snapshot(rt: HostRuntime) -> Result<(), Fail> {
+    run(&rt, rt.alloc(), Case::LinksReload)
+}
+
+#[test]
+fn a_call_is_made_again(rt: HostRuntime) -> Result<(), Fail> {
+    run(&rt, rt.alloc(), Case::MemoryRefused)
 }

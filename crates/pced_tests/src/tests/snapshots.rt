@@ -85,7 +85,7 @@ fn left_in(snapshot: &Snapshot) -> [Option<i64>; 3] {
 
 fn is_next_the_same(database: &mut Database, first: &Snapshot) -> Result<bool, Fail> {
     let next = taken(database)?;
-    Ok(next.table() == first.table())
+    Ok(left_in(&next) == left_in(first))
 }
 
 fn left_of_next(database: &mut Database) -> Result<[Option<i64>; 3], Fail> {

@@ -1,6 +1,6 @@
-use Rattle.std.proofs.Common.{◌≤◌, max, arith}
-use Rattle.bandwidth_book.specs.Held.{most}
-use Rattle.bandwidth_book.proofs.Moved.{most_moved}
+use Rattle.std.proofs.Common.{◌≡◌, ◌≤◌, ◌+◌, false, slice_index, max, sym, ap, ◌∙◌, arith, rules}
+use Rattle.bandwidth_book.specs.Held.{changes_held, most}
+use Rattle.bandwidth_book.proofs.Moved.{held_stays, most_moved}
 use Rattle.bandwidth_book.proofs.link_entries.move_in.Goals as goal
 
 pub exchange-requires-clause-small : goal.exchange-requires-clause-small
@@ -11,3 +11,8 @@ exchange-requires-clause-small c = λ p h.
     let w = c.requires.within p h in
     let t = c.requires.small p h in
     omega (arith, m, a, one, w, t)
+
+pub returns-then-not-changes_held-clause-sums : goal.returns-then-not-changes_held-clause-sums
+returns-then-not-changes_held-clause-sums c = λ p h.
+    let fixed : changes_held c.args.motion ≡ false = search rules in
+    ap (λ hs. slice_index c.args.sums.now p + most hs p) (sym (c.move_one.ensures.held ∙ held_stays c.args.motion c.args.held c.args.entry.now.held fixed))

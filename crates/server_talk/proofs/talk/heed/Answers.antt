@@ -8,11 +8,11 @@ use Rattle.server_talk.proofs.talk.heed.Goals as goal
 pub returns-in-Err-clause-heeded : goal.returns-in-Err-clause-heeded
 returns-in-Err-clause-heeded g c = λ start unread blank left read written s k.
     heeded (ways g.D.Store.moves g.D.Store.same_but_calls g.D.Store.is_full g.D.Store.rolls) (g.W.Watch.tells c.args.watch.now) (g.W.Watch.may_close c.args.watch.now) c.serve-served.result c.args.talk.now.peer start c.args.store.now c.serve-served.new.store c.make_room.new.store
-    unread blank left read written c.args.piece.now c.now_ms-now_ms.result c.args.talk.now.client c.serve-served.new.client c.now_ms-now_ms.ensures c.serve-served.ensures.served
+    unread blank left read written c.args.piece.now c.args.talk.now.served_ms c.moment_ms-now_ms.result c.args.talk.now.client c.serve-served.new.client c.moment_ms-now_ms.ensures.rises c.moment_ms-now_ms.ensures.told c.serve-served.ensures.served
     (λ (calls : List Call) went. c.make_room.ensures start calls (Empties calls c.serve-served.new.store c.forget.new.self went c.forget.ensures.same)) s k
 
 pub returns-in_default-clause-heeded : goal.returns-in_default-clause-heeded
 returns-in_default-clause-heeded g c = λ start unread blank left read written s k.
     heeded (ways g.D.Store.moves g.D.Store.same_but_calls g.D.Store.is_full g.D.Store.rolls) (g.W.Watch.tells c.args.watch.now) (g.W.Watch.may_close c.args.watch.now) c.serve-served.result c.args.talk.now.peer start c.args.store.now c.serve-served.new.store c.forget.new.self
-    unread blank left read written c.args.piece.now c.now_ms-now_ms.result c.args.talk.now.client c.serve-served.new.client c.now_ms-now_ms.ensures c.serve-served.ensures.served
+    unread blank left read written c.args.piece.now c.args.talk.now.served_ms c.moment_ms-now_ms.result c.args.talk.now.client c.serve-served.new.client c.moment_ms-now_ms.ensures.rises c.moment_ms-now_ms.ensures.told c.serve-served.ensures.served
     (λ (calls : List Call) went. Empties calls c.serve-served.new.store c.forget.new.self went c.forget.ensures.same) s k

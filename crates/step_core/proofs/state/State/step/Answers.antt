@@ -1,11 +1,12 @@
-use Rattle.std.proofs.Common.{◌≡◌, ◌&&◌, true, ◌∙◌, sym, subst}
+use Rattle.std.proofs.Common.{◌≡◌, ◌∙◌, sym, subst}
 use Rattle.std.specs.Prelude.{IfOk, OnOk, OnErr}
 use Rattle.std.specs.List.{list_all}
 use Rattle.std.proofs.lemmas.Bool.{and_parts}
 use Rattle.step_core.specs.Consistent.{IsConsistent, has_srps_left}
 use Rattle.step_core.specs.States.{State}
 use Rattle.step_core.specs.Steps.{step}
-use Rattle.step_core.proofs.ConsistentSteps.{consistent_by, free_next, none_above_by, rising_by}
+use Rattle.step_core.proofs.ConsistentGrants.{free_next}
+use Rattle.step_core.proofs.ConsistentSteps.{consistent_by, none_above_by, rising_by}
 use Rattle.step_core.proofs.SoundSteps.{sound_by_step}
 use Rattle.step_core.proofs.StepLaws.{others_stay-by, counts_rise-by}
 use Rattle.step_core.proofs.state.State.step.Goals as goal

@@ -1,5 +1,6 @@
 use Rattle.std.proofs.Common.{subst}
-use Rattle.step_core.specs.TicketTables.{AreRising, TicketTable}
+use Rattle.step_core.specs.Tickets.{AreRising}
+use Rattle.step_core.specs.TicketTables.{TicketTable}
 use Rattle.step_core.proofs.TicketEntries.{rising}
 use Rattle.step_core.proofs.ticket_table.TicketTable.as_slice.Goals as goal
 

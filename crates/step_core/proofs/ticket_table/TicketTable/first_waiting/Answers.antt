@@ -1,6 +1,6 @@
 use Rattle.std.proofs.Common.{◌≡◌, Some, subst, rules}
-use Rattle.step_core.specs.Tickets.{first_waiting}
-use Rattle.step_core.specs.TicketTables.{AreRising, TicketTable}
+use Rattle.step_core.specs.Tickets.{AreRising, first_waiting}
+use Rattle.step_core.specs.TicketTables.{TicketTable}
 use Rattle.step_core.proofs.TicketEntries.{least, rising}
 use Rattle.step_core.proofs.ticket_table.TicketTable.first_waiting.Goals as goal
 

@@ -1,0 +1,101 @@
+//! An operator that asks a running server.
+ghost use Rattle.std.specs.Prelude.{◌≡◌, ◌++◌, codes, OnOk, IfOk, IfSome};
+ghost use Rattle.std.specs.Io.KnownBytes.{Appends, IsAtEnd};
+ghost use Rattle.control_socket.specs.Answers.{is_line, outcome_of};
+
+use crate::waits::is_gone;
+use std::alloc::Global;
+use std::io::{Read, Write};
+use std::net::{Net, Shutdown};
+use std::os::unix::net::UnixStream;
+use std::time::{Clock, Duration};
+use std::{io, thread};
+
+/// The longest wait for an answer, or for more of it, in milliseconds.
+const ANSWER_WAIT_MS: u64 = 30_000;
+
+/// How often it is looked whether a server has ended, and the wait in between in milliseconds: a minute in all.
+const END_LOOKS: u32 = 1200;
+
+const END_WAIT_MS: u64 = 50;
+
+/// What an answer says.
+#[derive(Clone, Copy, PartialEq, Eq, Debug)]
+pub enum Outcome {
+    /// The line was heard, and this is all that is said to it.
+    Answered,
+    /// The line was a bad one.
+    Refused,
+    /// The answer isn't there, or its last line has no end.
+    BrokenOff,
+}
+
+/// Whether the text is one line: no line break stands in it.
+pub fn is_line(text: &str) -> bool
+    ensures { result ≡ is_line text.now }
+{
+    !text.as_bytes().contains(&b'\n')
+}
+
+/// What an answer says to the line. To `end` nothing is said.
+pub fn outcome_of(line: &str, answer: &[u8]) -> Outcome
+    ensures { result ≡ outcome_of line.now answer.now }
+{
+    if line == "end" && answer.is_empty() {
+        return Outcome::Answered;
+    }
+    if !answer.ends_with(b"\n") {
+        return Outcome::BrokenOff;
+    }
+    if answer.starts_with(b"bad line ") {
+        return Outcome::Refused;
+    }
+    Outcome::Answered
+}
+
+/// Sends a line.
+fn send<W: Write>(writer: &mut W, line: &str) -> io::Result<()>
+    ensures { OnOk result (Appends (W.contents writer.old) (W.contents writer.new) (line.now ++ codes "\n")) }
+{
+    writer.write_all(line.as_bytes())?;
+    writer.write_all(b"\n")
+}
+
+/// All that comes, up to its end.
+fn receive<R: Read>(alloc: Global, reader: &mut R) -> io::Result<Vec<u8>>
+    ensures bytes { IfOk result (λ answer. IfSome (R.remaining reader.old) (λ bytes. answer.items ≡ bytes)) }
+    ensures end { OnOk result (IsAtEnd (R.remaining reader.new)) }
+{
+    let mut answer = Vec::new(alloc);
+    reader.read_to_end(&mut answer)?;
+    Ok(answer)
+}
+
+/// What the server at the path answers a line. A connection carries one line: once it has ended, the answer is whole.
+pub fn tell<R: Net>(rt: &R, alloc: Global, path: &str, line: &str) -> io::Result<Vec<u8>> {
+    let stream = UnixStream::connect(rt, path)?;
+    stream.set_read_timeout(Some(Duration::from_millis(ANSWER_WAIT_MS)))?;
+    stream.set_write_timeout(Some(Duration::from_millis(ANSWER_WAIT_MS)))?;
+    send(&mut &stream, line)?;
+    stream.shutdown(Shutdown::Write)?;
+    receive(alloc, &mut &stream)
+}
+
+/// Whether no server listens at the path.
+fn is_nobody_there<R: Net>(rt: &R, path: &str) -> bool {
+    match UnixStream::connect(rt, path) {
+        Ok(_) => false,
+        Err(error) => is_gone(error.kind()),
+    }
+}
+
+/// Waits until no server listens at the path any more, a minute at most. Gives whether that has come.
+pub fn await_end<R: Net + Clock>(rt: &R, path: &str) -> bool {
+    for _look in 0..END_LOOKS {
+        if is_nobody_there(rt, path) {
+            return true;
+        }
+        thread::sleep(rt, Duration::from_millis(END_WAIT_MS));
+    }
+    false
+}

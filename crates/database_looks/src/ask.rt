@@ -1,0 +1,32 @@
+//! An operator's question as a look.
+use crate::book::{see_book, see_network};
+use crate::counts::see_counts;
+use crate::look::Look;
+use crate::lsps::{see_link, see_lsp, see_lsps};
+use crate::peers::{see_peers, see_tickets};
+use crate::steps::see_steps;
+use history_core::Database;
+use pce_seen::{Ask, Seen};
+use std::alloc::{AllocError, Global};
+
+impl Look for Ask {
+    ghost use Rattle.database_looks.specs.Looks.{Sees};
+
+    type Seen = Seen;
+
+    ghost sees = { Sees };
+
+    fn see(&self, alloc: Global, database: &Database) -> Result<Seen, AllocError> {
+        match *self {
+            Ask::Status => Ok(Seen::Counts(see_counts(database))),
+            Ask::Book => Ok(Seen::Book(see_book(alloc, database)?)),
+            Ask::Peers => Ok(Seen::Peers(see_peers(alloc, database)?)),
+            Ask::Tickets => Ok(Seen::Tickets(see_tickets(alloc, database)?)),
+            Ask::Lsps { peer, from } => Ok(Seen::Lsps(see_lsps(alloc, database, peer, from)?)),
+            Ask::Lsp { peer, plsp } => Ok(Seen::Lsp(see_lsp(alloc, database, peer, plsp)?)),
+            Ask::Link { link } => Ok(Seen::Link(see_link(alloc, database, link)?)),
+            Ask::Steps { last } => Ok(Seen::Steps(see_steps(alloc, database, last)?)),
+            Ask::Path { .. } => Ok(Seen::Network(see_network(alloc, database)?)),
+        }
+    }
+}

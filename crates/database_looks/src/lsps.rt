@@ -1,0 +1,100 @@
+//! LSPs with their paths, and a link with the paths over it.
+ghost use Rattle.std.specs.Prelude.{◌≡◌, ◌<◌, Some, length, slice_get, IfOk};
+ghost use Rattle.te_base.specs.Base.{IsLinkAmong};
+ghost use Rattle.pce_seen.specs.Lsps.{held_on, lsp_in};
+ghost use Rattle.database_looks.specs.Looks.{IsUse, SeesLink, SeesLsps};
+
+use crate::left::left_on;
+use crate::nodes::node_at;
+use history_core::Database;
+use pce_seen::{HeldPath, KnownLsp, LinkUse, LspPage, held_on, lsp_of, page_of};
+use pcep_objects::Plsp;
+use std::alloc::{AllocError, Global};
+use te_base::{Link, LinkNumber, Node, TeBase};
+
+/// Sees a page of LSPs, of one peer or of all, from a place on.
+pub(crate) fn see_lsps(
+    alloc: Global,
+    database: &Database,
+    peer: Option<u32>,
+    from: u64,
+) -> Result<LspPage, AllocError>
+    ensures { IfOk result (SeesLsps peer from database.now) }
+{
+    page_of(alloc, database.state().lsps(), database.steps(), peer, from)
+}
+
+/// Sees one LSP.
+pub(crate) fn see_lsp(
+    alloc: Global,
+    database: &Database,
+    peer: u32,
+    plsp: Plsp,
+) -> Result<Option<KnownLsp>, AllocError>
+    ensures { IfOk result (λ seen. seen ≡ lsp_in database.now.state.base peer plsp) }
+{
+    lsp_of(alloc, database.state().lsps(), peer, plsp)
+}
+
+/// Copies the ends of a link.
+fn ends_of(alloc: Global, te: &TeBase, link: &Link) -> Result<(Node, Node), AllocError>
+    requires from { link.now.from < length te.now.nodes }
+    requires to { link.now.to < length te.now.nodes }
+    ensures from { IfOk result (λ ends. slice_get te.now.nodes link.now.from ≡ Some ends.0) }
+    ensures to { IfOk result (λ ends. slice_get te.now.nodes link.now.to ≡ Some ends.1) }
+{
+    let from = node_at(alloc, te, link.from)?;
+    match node_at(alloc, te, link.to) {
+        Ok(to) => Ok((from, to)),
+        Err(error) => {
+            drop(from);
+            Err(error)
+        }
+    }
+}
+
+/// Joins a link with its ends, what is left of it and the paths over it.
+fn use_of(link: Link, ends: (Node, Node), left: [i64; 8], paths: Vec<HeldPath>) -> LinkUse
+    ensures { result ≡ record { link = link; from = ends.0; to = ends.1; left = left; paths = paths } }
+{
+    let (from, to) = ends;
+    LinkUse {
+        link,
+        from,
+        to,
+        left,
+        paths,
+    }
+}
+
+/// Sees a link that is there.
+fn see_use(
+    alloc: Global,
+    database: &Database,
+    number: LinkNumber,
+    link: Link,
+) -> Result<LinkUse, AllocError>
+    requires link { slice_get database.now.state.te.links number ≡ Some link }
+    requires among { IsLinkAmong (length database.now.state.te.nodes) link }
+    ensures { IfOk result (IsUse database.now number) }
+{
+    let paths = held_on(alloc, database.state().lsps().paths(), number)?;
+    let left = left_on(database, number);
+    let ends = ends_of(alloc, database.te_base(), &link)?;
+    Ok(use_of(link, ends, left, paths))
+}
+
+/// Sees a link with the paths over it; `None` where there is no such link.
+pub(crate) fn see_link(
+    alloc: Global,
+    database: &Database,
+    link: u64,
+) -> Result<Option<LinkUse>, AllocError>
+    ensures { IfOk result (SeesLink link database.now) }
+{
+    let number = link as usize;
+    match database.te_base().link(number) {
+        Some(link) => Ok(Some(see_use(alloc, database, number, link)?)),
+        None => Ok(None),
+    }
+}

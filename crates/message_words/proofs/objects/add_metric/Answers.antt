@@ -1,0 +1,5 @@
+use Rattle.message_words.proofs.objects.add_metric.Goals as goal
+
+-- the numbers that are written are those of the definition
+pub returns : goal.returns
+returns c = rw c.value-value.ensures.value at c.write.ensures.bytes

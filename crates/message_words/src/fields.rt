@@ -1,0 +1,244 @@
+//! The fields that objects and messages share.
+
+ghost use Rattle.std.specs.Prelude.{◌≡◌, Some};
+ghost use Rattle.std.specs.List.{list_all};
+ghost use Rattle.hex.specs.Hex.{encode_lower};
+ghost use Rattle.message_words.specs.Fields.{Adds, bit, word_digits, state_word, flag_words, lsp_field_words, is_plain, name_words, identifier_words, loose_mark, hop_words, hops_words, named_word, excluded, included_any, included_all, colour_words, capability_words, vector_words};
+
+use pcep_objects::{Capabilities, Colours, Hop, Identifiers, NoPathVector, Operational, Plsp};
+use pcep_word::Ipv4;
+use std::alloc::{AllocError, Global};
+use std::fmt;
+use std::fmt::Write;
+
+/// The fields of an LSP object that have a fixed length.
+#[derive(Clone, Copy)]
+pub struct LspFields {
+    pub plsp: Plsp,
+    pub delegate: bool,
+    pub sync: bool,
+    pub remove: bool,
+    pub admin: bool,
+    pub operational: Operational,
+    pub created: bool,
+}
+
+/// A flag, which is written as 0 or 1.
+#[derive(Clone, Copy)]
+pub struct Bit(pub bool);
+
+impl fmt::Display for Bit {
+    ghost output = { λ b. Some (bit b.0) };
+
+    fn fmt<W: fmt::Write>(&self, f: &mut fmt::Formatter<W>) -> fmt::Result {
+        match self.0 {
+            false => f.write_str("0"),
+            true => f.write_str("1"),
+        }
+    }
+}
+
+/// Adds bytes in hexadecimal digits of lower case.
+pub fn add_hex(alloc: Global, bytes: &[u8], text: &mut String) -> Result<(), AllocError>
+    ensures { Adds result text.old text.new (encode_lower bytes.now) }
+{
+    let digits = hex::encode(alloc, bytes)?;
+    text.push_str(digits.as_str())
+}
+
+/// Adds a word of 32 bits in eight digits.
+fn add_word(alloc: Global, word: u32, text: &mut String) -> Result<(), AllocError>
+    ensures { Adds result text.old text.new (word_digits word) }
+{
+    add_hex(alloc, &word.to_be_bytes(), text)
+}
+
+fn state_word(operational: Operational) -> &'static str
+    ensures { result.now ≡ state_word operational }
+{
+    match operational {
+        Operational::Down => "down",
+        Operational::Up => "up",
+        Operational::Active => "active",
+        Operational::GoingDown => "going-down",
+        Operational::GoingUp => "going-up",
+    }
+}
+
+fn add_flags(fields: LspFields, text: &mut String) -> Result<(), AllocError>
+    ensures { Adds result text.old text.new (flag_words fields) }
+{
+    let (delegate, sync) = (Bit(fields.delegate), Bit(fields.sync));
+    let (remove, admin) = (Bit(fields.remove), Bit(fields.admin));
+    write!(
+        text,
+        " delegate {delegate} sync {sync} remove {remove} admin {admin}"
+    )
+}
+
+/// Adds `LSP plsp-id 1 delegate 1 sync 0 remove 0 admin 1 oper up create 0`.
+pub fn add_lsp_fields(fields: LspFields, text: &mut String) -> Result<(), AllocError>
+    ensures { Adds result text.old text.new (lsp_field_words fields) }
+{
+    let plsp = fields.plsp.number();
+    let (state, create) = (state_word(fields.operational), Bit(fields.created));
+    write!(text, "LSP plsp-id {plsp}")?;
+    add_flags(fields, text)?;
+    write!(text, " oper {state} create {create}")
+}
+
+/// Whether the byte is a printed character of ASCII or a space, and no quotation mark.
+fn is_plain(byte: u8) -> bool
+    ensures { result ≡ is_plain byte }
+{
+    (0x20..=0x7e).contains(&byte) && byte != b'"'
+}
+
+/// Whether a name is written as it stands.
+fn are_plain(name: &[u8]) -> bool
+    ensures { result ≡ list_all is_plain name.now }
+{
+    name.iter().all(|byte| is_plain(*byte))
+}
+
+/// Adds ` name "t1"`, or a name with other bytes in digits.
+pub fn add_name(alloc: Global, name: &[u8], text: &mut String) -> Result<(), AllocError>
+    ensures { Adds result text.old text.new (name_words name.now) }
+{
+    if are_plain(name) {
+        text.push_str(" name \"")?;
+        add_plain(name, text)?;
+        return text.push_str("\"");
+    }
+    text.push_str(" name 0x")?;
+    add_hex(alloc, name, text)
+}
+
+/// Adds a name of plain bytes, which are UTF-8: the fault doesn't come.
+fn add_plain(name: &[u8], text: &mut String) -> Result<(), AllocError>
+    ensures { Adds result text.old text.new name.now }
+{
+    match str::from_utf8(name) {
+        Ok(name) => text.push_str(name),
+        Err(_) => Err(AllocError),
+    }
+}
+
+/// Adds the fields of IPV4-LSP-IDENTIFIERS, where they are there.
+pub fn add_identifiers(
+    identifiers: Option<Identifiers>,
+    text: &mut String,
+) -> Result<(), AllocError>
+    ensures { Adds result text.old text.new (identifier_words identifiers) }
+{
+    let Some(found) = identifiers else {
+        return Ok(());
+    };
+    let (sender, extended, endpoint) = (found.sender, Ipv4(found.extended), found.endpoint);
+    let (lsp, tunnel) = (found.lsp, found.tunnel);
+    write!(text, " sender {sender} lsp-id {lsp} tunnel-id {tunnel}")?;
+    write!(text, " extended-tunnel-id {extended} endpoint {endpoint}")
+}
+
+fn loose_mark(loose: bool) -> &'static str
+    ensures { result.now ≡ loose_mark loose }
+{
+    if loose { "(loose)" } else { "" }
+}
+
+/// Adds a hop: `10.0.1.1/32`, with `(loose)` behind it where it is, or any other subobject by its first byte and
+/// what follows its length.
+fn add_hop(alloc: Global, hop: &Hop, text: &mut String) -> Result<(), AllocError>
+    ensures { Adds result text.old text.new (hop_words hop.now) }
+{
+    match hop {
+        Hop::Host(address, loose) => {
+            let (address, mark) = (*address, loose_mark(*loose));
+            write!(text, " {address}/32{mark}")
+        }
+        Hop::Other(first, rest) => {
+            text.push_str(" 0x")?;
+            add_hex(alloc, &[*first], text)?;
+            text.push_str(":")?;
+            add_hex(alloc, rest.as_slice(), text)
+        }
+    }
+}
+
+/// Adds the hops of a route, each behind a space.
+pub fn add_hops(alloc: Global, hops: &[Hop], text: &mut String) -> Result<(), AllocError>
+    ensures { Adds result text.old text.new (hops_words hops.now) }
+{
+    for hop in hops {
+        add_hop(alloc, hop, text)?;
+    }
+    Ok(())
+}
+
+/// Adds a name and a word of 32 bits in digits.
+fn add_named_word(alloc: Global, name: &str, word: u32, text: &mut String) -> Result<(), AllocError>
+    ensures { Adds result text.old text.new (named_word name.now word) }
+{
+    text.push_str(name)?;
+    add_word(alloc, word, text)
+}
+
+#[tactic(auto, unfolding(crate::specs::Fields::excluded))]
+fn add_excluded(alloc: Global, word: u32, text: &mut String) -> Result<(), AllocError>
+    ensures { Adds result text.old text.new (excluded word) }
+{
+    add_named_word(alloc, " exclude-any ", word, text)
+}
+
+#[tactic(auto, unfolding(crate::specs::Fields::included_any))]
+fn add_included_any(alloc: Global, word: u32, text: &mut String) -> Result<(), AllocError>
+    ensures { Adds result text.old text.new (included_any word) }
+{
+    add_named_word(alloc, " include-any ", word, text)
+}
+
+#[tactic(auto, unfolding(crate::specs::Fields::included_all))]
+fn add_included_all(alloc: Global, word: u32, text: &mut String) -> Result<(), AllocError>
+    ensures { Adds result text.old text.new (included_all word) }
+{
+    add_named_word(alloc, " include-all ", word, text)
+}
+
+/// Adds the colours that bind a path, in digits.
+#[tactic(auto, unfolding(crate::specs::Fields::colour_words))]
+pub fn add_colours(alloc: Global, colours: Colours, text: &mut String) -> Result<(), AllocError>
+    ensures { Adds result text.old text.new (colour_words colours) }
+{
+    add_excluded(alloc, colours.exclude_any, text)?;
+    add_included_any(alloc, colours.include_any, text)?;
+    add_included_all(alloc, colours.include_all, text)
+}
+
+/// Adds the flags of STATEFUL-PCE-CAPABILITY, where it is there.
+pub fn add_capabilities(
+    capabilities: Option<Capabilities>,
+    text: &mut String,
+) -> Result<(), AllocError>
+    ensures { Adds result text.old text.new (capability_words capabilities) }
+{
+    let Some(found) = capabilities else {
+        return Ok(());
+    };
+    let (update, create) = (Bit(found.update), Bit(found.create));
+    write!(text, " lsp-update {update} lsp-instantiation {create}")
+}
+
+/// Adds the flags of NO-PATH-VECTOR, where it is there.
+pub fn add_vector(vector: Option<NoPathVector>, text: &mut String) -> Result<(), AllocError>
+    ensures { Adds result text.old text.new (vector_words vector) }
+{
+    let Some(found) = vector else {
+        return Ok(());
+    };
+    let (unavailable, destination) = (Bit(found.pce_unavailable), Bit(found.unknown_destination));
+    let source = Bit(found.unknown_source);
+    write!(
+        text,
+        " pce-unavailable {unavailable} unknown-destination {destination} unknown-source {source}"
+    )
+}

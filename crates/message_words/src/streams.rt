@@ -1,0 +1,149 @@
+//! Lines of hexadecimal digits, and what the messages in them say.
+
+ghost use Rattle.std.specs.Prelude.{◌<◌, ◌≢◌, [], length};
+
+use crate::decoding::add_decoded;
+use hex::FromHexError;
+use std::alloc::{AllocError, Global};
+use std::fmt::Write;
+
+/// The bytes of digits with spaces anywhere; None: there are none, or it is something else.
+fn bytes_in(alloc: Global, digits: &str) -> Result<Option<Vec<u8>>, AllocError> {
+    let plain: Vec<u8> = digits
+        .as_bytes()
+        .iter()
+        .copied()
+        .filter(|byte| *byte != b' ')
+        .collect(alloc)?;
+    if plain.is_empty() {
+        return Ok(None);
+    }
+    match hex::decode(alloc, &plain) {
+        Ok(bytes) => Ok(Some(bytes)),
+        Err(FromHexError::OutOfMemory) => Err(AllocError),
+        Err(_) => Ok(None),
+    }
+}
+
+/// A line with bytes of a peer.
+#[derive(Clone, Copy)]
+struct PeerLine<'a> {
+    word: &'a str,
+    peer: &'a str,
+    digits: &'a str,
+}
+
+/// A line `out PEER HEX`, `msg PEER HEX` or `report PEER HEX`.
+fn peer_line(line: &str) -> Option<PeerLine<'_>> {
+    let (word, rest) = line.split_once(' ')?;
+    if word != "out" && word != "msg" && word != "report" {
+        return None;
+    }
+    let (peer, digits) = rest.split_once(' ')?;
+    Some(PeerLine { word, peer, digits })
+}
+
+/// Cuts the bytes behind their first message, by the length in its header; all of them where that is none.
+fn cut_message(bytes: &[u8]) -> (&[u8], &[u8])
+    requires { bytes.now ≢ [] }
+    ensures { length result.1.now < length bytes.now }
+{
+    if bytes.len() >= 4 {
+        let size = usize::from(bytes[2]) * 256 + usize::from(bytes[3]);
+        if 4 <= size && size < bytes.len() {
+            return bytes.split_at(size);
+        }
+    }
+    (bytes, &[])
+}
+
+/// Adds what each message of the bytes says, each from a line of its own on.
+fn add_messages(alloc: Global, bytes: &[u8], text: &mut String) -> Result<(), AllocError> {
+    let mut rest = bytes;
+    while !rest.is_empty() {
+        let (message, after) = cut_message(rest);
+        if !text.is_empty() {
+            text.push_str("\n")?;
+        }
+        add_decoded(alloc, message, text)?;
+        rest = after;
+    }
+    Ok(())
+}
+
+/// Adds each line of the words from a new line on, as a comment.
+fn add_comments(words: &str, text: &mut String) -> Result<(), AllocError> {
+    for line in words.lines() {
+        write!(text, "\n# {line}")?;
+    }
+    Ok(())
+}
+
+fn add_commented(alloc: Global, bytes: &[u8], text: &mut String) -> Result<(), AllocError> {
+    let mut words = String::new(alloc);
+    add_commented_by(alloc, bytes, &mut words, text)
+}
+
+fn add_commented_by(
+    alloc: Global,
+    bytes: &[u8],
+    words: &mut String,
+    text: &mut String,
+) -> Result<(), AllocError> {
+    add_messages(alloc, bytes, words)?;
+    add_comments(words.as_str(), text)
+}
+
+fn add_peer_messages(
+    alloc: Global,
+    line: PeerLine<'_>,
+    bytes: &[u8],
+    text: &mut String,
+) -> Result<(), AllocError> {
+    let PeerLine { word, peer, .. } = line;
+    write!(text, "{word} {peer}")?;
+    add_messages(alloc, bytes, text)
+}
+
+/// Adds a line whose digits are the messages of a peer, or the line as it stands where they are no bytes.
+fn add_peer_line(
+    alloc: Global,
+    line: &str,
+    found: PeerLine<'_>,
+    text: &mut String,
+) -> Result<(), AllocError> {
+    match bytes_in(alloc, found.digits)? {
+        Some(bytes) => add_peer_messages(alloc, found, &bytes, text),
+        None => text.push_str(line),
+    }
+}
+
+/// Adds a line of digits alone, or any other line as it stands.
+fn add_bare_line(alloc: Global, line: &str, text: &mut String) -> Result<(), AllocError> {
+    match bytes_in(alloc, line)? {
+        Some(bytes) => add_messages(alloc, &bytes, text),
+        None => text.push_str(line),
+    }
+}
+
+/// Adds what a line of a script or of its output says, to an empty text: its messages in words where it is of digits, alone
+/// or behind `out`, `msg` or `report` and a peer, which stand in front; any other line as it stands. The last line has no
+/// line break.
+pub fn add_line(alloc: Global, line: &str, text: &mut String) -> Result<(), AllocError> {
+    match peer_line(line) {
+        Some(found) => add_peer_line(alloc, line, found, text),
+        None => add_bare_line(alloc, line, text),
+    }
+}
+
+/// Adds a line of a script's output, and behind `out PEER HEX` its messages in words, each of their lines as a comment.
+pub fn add_explained(alloc: Global, line: &str, text: &mut String) -> Result<(), AllocError> {
+    text.push_str(line)?;
+    let Some(found) = peer_line(line) else {
+        return Ok(());
+    };
+    match bytes_in(alloc, found.digits)? {
+        Some(bytes) => add_commented(alloc, &bytes, text),
+        None => Ok(()),
+    }
+}

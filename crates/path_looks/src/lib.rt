@@ -1,0 +1,20 @@
+//! CSPF on a snapshot for an operator's eyes: nothing is booked. `path_on` answers a path of least cost, or what stands in
+//! its way: the first of bandwidth, colours and bounds without which there is a path, or all of them together
+//! (`specs/Paths.antt`). `full_links` names the links of that path that are too full, and the priority at which each is.
+//!
+//! ```text
+//! fn cost_of(alloc: Global, snapshot: &Snapshot, wanted: &Constraints) -> Result<Option<u64>, AllocError> {
+//!     match path_on(alloc, snapshot, wanted)? {
+//!         PathAnswer::Path(found) => Ok(Some(found.cost)),
+//!         _ => Ok(None),
+//!     }
+//! }
+//! ```
+#![tactic(auto)]
+
+mod answer;
+mod full;
+
+pub use answer::{Obstacle, PathAnswer, path_on};
+pub use full::{FullLink, full_links};
+pub use path_finder::Found;

@@ -1,0 +1,11 @@
+-- The paths of an LSP are found by it.
+use Rattle.std.proofs.Common.{◌≡◌, ℕ, Bool, true, ◌||◌}
+use Rattle.lsp_base.specs.Base.{is_path_of}
+use Rattle.lsp_base.specs.Tables.{PicksFrom}
+use Rattle.lsp_base.specs.declared.path.Path.{Path}
+
+or_left : (a b : Bool) → a ≡ true → (a || b) ≡ true
+or_left a b is = rw is
+
+pub picks_own : (peer plsp : ℕ) → PicksFrom (is_path_of peer plsp) peer plsp
+picks_own peer plsp = record { of = λ x is. or_left (is_path_of peer plsp x) (is_path_of peer 0 x) is }

@@ -1,0 +1,15 @@
+-- What is asked for behind what was seen.
+use Rattle.std.specs.Prelude.{ℕ, Option, Some, None}
+use Rattle.pce_seen.specs.declared.ask.Ask.{Ask}
+use Rattle.pce_seen.specs.declared.ask.Ask.TheVariants as ask
+use Rattle.pce_seen.specs.declared.seen.Seen.{Seen}
+use Rattle.pce_seen.specs.declared.seen.Seen.TheVariants as seen
+
+abbrev pub next_page : Option ℕ → Option ℕ → Option Ask
+next_page peer None = None
+next_page peer (Some from) = Some (ask.Lsps peer from)
+
+-- behind a page of LSPs the next one of the same peer; nothing else has pages
+abbrev pub next_ask : Ask → Seen → Option Ask
+next_ask (ask.Lsps peer from) (seen.Lsps page) = next_page peer page.next
+next_ask a s = None

@@ -1,0 +1,29 @@
+//! What an operator asks of a running server (`Ask`), and what is seen of its database in one look (`Seen`), as plain
+//! data. `database_looks` says what of a database is seen, `pce_view` what is shown of it.
+//!
+//! - `ask`: what is asked for
+//! - `lsps`: LSPs with their paths, and the paths over a link
+//! - `peers`, `steps`: routers with their sessions, kept steps of the history
+//! - `seen`: the network, its counts, and one type for all that is seen
+//! - `taking`: LSPs taken out of the LSP-DB, in pages (`specs/Lsps.antt`)
+//!
+//! ```text
+//! fn first_page(peer: u32) -> Ask {
+//!     Ask::Lsps { peer: Some(peer), from: 0 }
+//! }
+//! ```
+#![tactic(auto)]
+
+mod ask;
+mod lsps;
+mod peers;
+mod seen;
+mod steps;
+mod taking;
+
+pub use ask::Ask;
+pub use lsps::{HeldPath, KnownLsp, LinkUse, LspPage, PAGE_LIMIT};
+pub use peers::{KnownPeer, LspOwner, SeenPeers};
+pub use seen::{Book, Counts, Network, Seen};
+pub use steps::{EventKind, KnownStep, LastSteps, Outcome};
+pub use taking::{held_on, lsp_of, page_of};

@@ -1,0 +1,32 @@
+//! Routers with their sessions.
+
+/// A router that the database knows.
+#[derive(Clone, Copy)]
+pub struct KnownPeer {
+    pub peer: u32,
+    pub is_up: bool,
+    /// It has not yet reported all of its LSPs (RFC 8231 section 5.6).
+    pub is_synchronizing: bool,
+    /// The number of its last session.
+    pub session: u64,
+    /// It takes updates (RFC 8231 section 7.1.1).
+    pub may_update: bool,
+    /// It takes initiations (RFC 8281 section 4.1).
+    pub may_create: bool,
+    /// Messages wait to be sent to it.
+    pub has_waiting_messages: bool,
+}
+
+/// Whose an LSP is, and whether it is delegated.
+#[derive(Clone, Copy)]
+pub struct LspOwner {
+    pub peer: u32,
+    pub is_delegated: bool,
+}
+
+/// The peers in the order of their coming, and whose each LSP is, in the order of the records.
+#[derive(Drop)]
+pub struct SeenPeers {
+    pub peers: Vec<KnownPeer>,
+    pub lsps: Vec<LspOwner>,
+}

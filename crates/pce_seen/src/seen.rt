@@ -1,0 +1,55 @@
+//! The network, its counts, and all that is seen.
+use crate::lsps::{KnownLsp, LinkUse, LspPage};
+use crate::peers::SeenPeers;
+use crate::steps::LastSteps;
+use commit_core::Ticket;
+use te_base::{Link, Node};
+use te_snapshot::Snapshot;
+
+/// How much there is of what.
+#[derive(Clone, Copy)]
+pub struct Counts {
+    /// All steps that were ever taken.
+    pub steps: u64,
+    /// How many of them were grants.
+    pub grants: u64,
+    /// The steps before the last roll.
+    pub rolled: u64,
+    /// The steps that are kept since.
+    pub kept: u64,
+    pub nodes: u64,
+    pub links: u64,
+    pub sessions_up: u64,
+    pub lsps: u64,
+    pub paths: u64,
+    pub tickets: u64,
+}
+
+/// The nodes and links by their numbers, and what is left of each link at the eight priorities, in bytes per second.
+#[derive(Drop)]
+pub struct Book {
+    pub nodes: Vec<Node>,
+    pub links: Vec<Link>,
+    pub left: Vec<[i64; 8]>,
+}
+
+/// The nodes, and what a path search reads.
+#[derive(Drop)]
+pub struct Network {
+    pub nodes: Vec<Node>,
+    pub snapshot: Snapshot,
+}
+
+/// What is seen in one look.
+#[derive(Drop)]
+pub enum Seen {
+    Counts(Counts),
+    Book(Book),
+    Peers(SeenPeers),
+    Tickets(Vec<Ticket>),
+    Lsps(LspPage),
+    Lsp(Option<KnownLsp>),
+    Link(Option<LinkUse>),
+    Steps(LastSteps),
+    Network(Network),
+}

@@ -1,0 +1,95 @@
+//! What operators are shown: one look after another at the database, each as a table or as JSON.
+ghost use Rattle.std.specs.Prelude.{◌≡◌, ◌++◌, IfOk, OnOk};
+ghost use Rattle.pce_server.specs.Shows.{form_of, line_end, AddsPage, IsShown};
+
+use crate::context::Context;
+use crate::network::ServedNetwork;
+use pce_seen::Ask;
+use pce_view::{Form, Surroundings, answer_text};
+use place_tokens::Room;
+use script_lines::ViewLine;
+use server_talk::{Plan, Show, Watch};
+use std::alloc::{AllocError, Global};
+use std::sync::Wait;
+use std::sync::ledger::Ledger;
+use std::time::Clock;
+
+/// The version that is shown.
+const VERSION: &str = "0.1.0";
+
+/// The form that a line asks for.
+fn form_of(is_json: bool) -> Form
+    ensures { result ≡ form_of is_json }
+{
+    if is_json { Form::Json } else { Form::Table }
+}
+
+/// Ends the line of a document of JSON.
+fn end_line(form: Form, text: &mut Vec<u8>) -> Result<(), AllocError>
+    ensures { OnOk result (text.new.items ≡ text.old.items ++ line_end form) }
+{
+    if form == Form::Json {
+        text.push(b'\n')?;
+    }
+    Ok(())
+}
+
+/// Adds a page, with the end of its line.
+fn add_text(form: Form, page: Vec<u8>, text: &mut Vec<u8>) -> Result<(), AllocError>
+    ensures { OnOk result (text.new.items ≡ text.old.items ++ (page.items ++ line_end form)) }
+{
+    text.extend_from_slice(&page)?;
+    end_line(form, text)
+}
+
+/// Adds what one look shows, and gives what the next one asks for.
+fn add_page<R: Wait + Clock, S: Ledger, G: Ledger, B: Room>(
+    context: &Context<'_, R, S, G, B>,
+    form: Form,
+    around: &Surroundings<'_>,
+    ask: &Ask,
+    text: &mut Vec<u8>,
+) -> Result<Option<Ask>, AllocError>
+    ensures { IfOk result (λ next. AddsPage form around.now ask.now next text.old.items text.new.items) }
+{
+    let seen = context.shared.look(context.rt, ask)?;
+    let page = answer_text(context.alloc, form, around, ask, &seen)?;
+    add_text(form, page, text)?;
+    Ok(ask.next(&seen))
+}
+
+/// What is shown from this ask on, up to the last page.
+fn show_pages<R: Wait + Clock, S: Ledger, G: Ledger, B: Room>(
+    context: &Context<'_, R, S, G, B>,
+    form: Form,
+    around: &Surroundings<'_>,
+    first: Ask,
+) -> Result<Vec<u8>, AllocError>
+    ensures { IfOk result (λ text. IsShown form around.now first text.items) }
+{
+    let mut text = Vec::new(context.alloc);
+    let mut ask = first;
+    for _page in 0..u64::MAX {
+        match add_page(context, form, around, &ask, &mut text)? {
+            Some(next) => ask = next,
+            None => return Ok(text),
+        }
+    }
+    Err(AllocError)
+}
+
+impl<'a, 'c, 'p, R: Wait + Clock, S: Ledger, G: Ledger, B: Room, P: Plan> Show
+    for ServedNetwork<'a, 'c, 'p, R, P, S, G, B> {
+    ghost use Rattle.pce_view.specs.declared.answer.Surroundings.{Surroundings};
+    ghost use Rattle.pce_server.specs.Shows.{form_of, IsShown};
+
+    ghost shows = { λ _ line text. (around : Surroundings) × IsShown (form_of line.is_json) around line.ask text };
+
+    fn show(&self, _alloc: Global, line: &ViewLine) -> Result<Vec<u8>, AllocError> {
+        let around = Surroundings {
+            version: VERSION,
+            uptime_ms: self.context.moments().now_ms(),
+        };
+        show_pages(self.context, form_of(line.is_json), &around, line.ask)
+    }
+}

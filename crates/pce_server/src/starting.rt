@@ -1,0 +1,49 @@
+//! What a run says as it starts, and how many connections have a place in it.
+ghost use Rattle.std.specs.Prelude.{◌≤◌};
+ghost use Rattle.pce_server.specs.Ranges.{AreSessions, AreOrders};
+
+use crate::log_lines::LogLine;
+use crate::server::{AT_ONCE, Orders, Sessions};
+use server_talk::peer_of;
+use std::net::TcpListener;
+use te_base::TeBase;
+
+/// So many descriptors a run may have beside those of its connections.
+const OTHER_DESCRIPTORS: u64 = 128;
+
+/// How many connections have a place, at most.
+pub(crate) fn live_of(sessions: Sessions) -> u64
+    requires { AreSessions sessions }
+    ensures { (1 ≤ result) × (result ≤ 64) }
+{
+    match sessions {
+        Sessions::Count(count) => count.min(AT_ONCE as u64),
+        Sessions::Endless => AT_ONCE as u64,
+    }
+}
+
+/// That there are too few descriptors for as many connections as may live and as many that end, of three each.
+pub(crate) fn few_descriptors(orders: Orders) -> Option<LogLine>
+    requires { AreOrders orders }
+{
+    let limit = orders.descriptors?;
+    if limit < 6 * live_of(orders.sessions) + OTHER_DESCRIPTORS {
+        Some(LogLine::FewDescriptors { limit })
+    } else {
+        None
+    }
+}
+
+/// Where routers may connect, and to how large a network.
+pub(crate) fn listening_line(listener: &TcpListener, te: &TeBase) -> LogLine {
+    let (address, port) = match listener.local_addr() {
+        Ok(local) => (peer_of(local), local.port()),
+        Err(_) => (0, 0),
+    };
+    LogLine::Listening {
+        address,
+        port,
+        nodes: te.node_count(),
+        links: te.link_count(),
+    }
+}

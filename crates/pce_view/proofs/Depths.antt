@@ -1,0 +1,168 @@
+-- What is written nests few levels, and is read again.
+use Rattle.std.proofs.Common.{◌≡◌, ◌∙◌, ℕ, ◌+◌, ◌-◌, ◌^◌, ◌≤◌, min, ℤ, Bool, true, false, if◌then◌else◌, List, [], ◌∷◌, ◌++◌, Option, None, Some, option_and_then, ap, sym, arith, append-nil}
+use Rattle.std.specs.Str.{is_utf8}
+use Rattle.json.specs.Json.{Json, document, value, if_last, max_depth, string, null}
+use Rattle.json.specs.Lex.{tokens}
+use Rattle.json.specs.Tree.{json_tokens, depth, items_depth}
+use Rattle.json.proofs.Printed.Trees.{value-json_tokens}
+use Rattle.te_base.specs.declared.network.Link.{Link}
+use Rattle.te_base.specs.declared.network.Node.{Node}
+use Rattle.lsp_base.specs.declared.path.Path.{Path}
+use Rattle.pce_seen.specs.declared.lsps.HeldPath.{HeldPath}
+use Rattle.pce_seen.specs.declared.lsps.KnownLsp.{KnownLsp}
+use Rattle.pce_seen.specs.declared.lsps.LinkUse.{LinkUse}
+use Rattle.pce_seen.specs.declared.lsps.LspPage.{LspPage}
+use Rattle.pce_seen.specs.declared.peers.KnownPeer.{KnownPeer}
+use Rattle.pce_seen.specs.declared.peers.LspOwner.{LspOwner}
+use Rattle.commit_core.specs.declared.ticket.Ticket.{Ticket}
+use Rattle.path_looks.specs.declared.answer.Obstacle.{Obstacle}
+use Rattle.path_looks.specs.declared.answer.PathAnswer.{PathAnswer}
+use Rattle.path_looks.specs.declared.full.FullLink.{FullLink}
+use Rattle.pce_seen.specs.declared.seen.Counts.{Counts}
+use Rattle.pce_seen.specs.declared.steps.KnownStep.{KnownStep}
+use Rattle.pce_view.specs.Fields.{address_or_null, amounts, lsp_id, name_or_null, obstacle_json, srp_id, text_or_null, whole_or_null, wholes}
+use Rattle.pce_view.specs.Views.{book_json, counted_json, delegated_of, full_items, full_json, held_items, held_json, link_json, links_json, lsp_items, lsp_json, lsp_or_null, lsps_of, node_json, nodes_json, page_json, path_answer_json, path_items, path_json, peer_items, peers_json, status_json, step_items, step_json, steps_json, ticket_items, ticket_json, tickets_json, use_json, use_or_null}
+use Rattle.pce_view.specs.Words.{cost_in, links_in, obstacle_of, outcome_number, purpose_name, purpose_plsp, purpose_request}
+
+pub document-of_tokens : (text : List ℕ) (j : Json) → tokens text ≡ json_tokens j → depth j ≤ max_depth → document text ≡ Some j
+document-of_tokens text j is shallow =
+    ap (option_and_then (λ p. if_last p.0 p.1))
+    (ap (value max_depth) (is ∙ sym (append-nil (json_tokens j))) ∙ value-json_tokens j max_depth [] shallow)
+
+amounts_shallow : (ns : List ℤ) → items_depth (amounts ns) ≤ 0
+amounts_shallow [] = omega arith
+amounts_shallow (n ∷ ns) = omega (arith, amounts_shallow ns)
+
+wholes_shallow : (ns : List ℕ) → items_depth (wholes ns) ≤ 0
+wholes_shallow [] = omega arith
+wholes_shallow (n ∷ ns) = omega (arith, wholes_shallow ns)
+
+whole_or_shallow : (n : Option ℕ) → depth (whole_or_null n) ≤ 0
+whole_or_shallow None = omega arith
+whole_or_shallow (Some n) = omega arith
+
+address_or_shallow : (a : Option ℕ) → depth (address_or_null a) ≤ 0
+address_or_shallow None = omega arith
+address_or_shallow (Some a) = omega arith
+
+text_by : (b : Bool) (bytes : List ℕ) → depth (if b then string bytes else null) ≤ 0
+text_by true bytes = omega arith
+text_by false bytes = omega arith
+
+text_or_shallow : (bytes : List ℕ) → depth (text_or_null bytes) ≤ 0
+text_or_shallow bytes = text_by (is_utf8 bytes) bytes
+
+pub status_shallow : (version : List ℕ) (uptime : ℕ) (counts : Counts) → depth (status_json version uptime counts) ≤ max_depth
+unfolding status_json
+status_shallow version uptime counts = omega arith
+
+node_shallow : (n : ℕ) (node : Node) → depth (node_json n node) ≤ 1
+unfolding node_json
+node_shallow n node = omega arith
+
+nodes_shallow : (n : ℕ) (nodes : List Node) → items_depth (nodes_json n nodes) ≤ 1
+nodes_shallow n [] = omega arith
+nodes_shallow n (node ∷ nodes) = omega (arith, node_shallow n node, nodes_shallow (n + 1) nodes)
+
+link_shallow : (nodes : List Node) (n : ℕ) (link : Link) (left : List ℤ) → depth (link_json nodes n link left) ≤ 2
+unfolding link_json
+link_shallow nodes n link left = omega (arith, amounts_shallow left)
+
+links_shallow : (nodes : List Node) (n : ℕ) (links : List Link) (lefts : List (List ℤ)) → items_depth (links_json nodes n links lefts) ≤ 2
+links_shallow nodes n [] lefts = omega arith
+links_shallow nodes n (link ∷ links) [] = omega arith
+links_shallow nodes n (link ∷ links) (left ∷ lefts) = omega (arith, link_shallow nodes n link left, links_shallow nodes (n + 1) links lefts)
+
+pub book_shallow : (nodes : List Node) (links : List Link) (lefts : List (List ℤ)) → depth (book_json nodes links lefts) ≤ max_depth
+book_shallow nodes links lefts = omega (arith, nodes_shallow 0 nodes, links_shallow nodes 0 links lefts)
+
+peer_shallow : (peer : KnownPeer) (lsps delegated : ℕ) → depth (counted_json peer lsps delegated) ≤ 1
+unfolding counted_json
+peer_shallow peer lsps delegated = omega arith
+
+peer_items_shallow : (owners : List LspOwner) (peers : List KnownPeer) → items_depth (peer_items owners peers) ≤ 1
+peer_items_shallow owners [] = omega arith
+peer_items_shallow owners (peer ∷ peers) = omega (arith, peer_shallow peer (lsps_of owners peer.peer) (delegated_of owners peer.peer), peer_items_shallow owners peers)
+
+pub peers_shallow : (owners : List LspOwner) (peers : List KnownPeer) → depth (peers_json owners peers) ≤ max_depth
+peers_shallow owners peers = omega (arith, peer_items_shallow owners peers)
+
+path_shallow : (x : Path) → depth (path_json x) ≤ 2
+unfolding path_json
+path_shallow x = omega (arith, whole_or_shallow (lsp_id x.part), whole_or_shallow (srp_id x.part), wholes_shallow x.links)
+
+path_items_shallow : (xs : List Path) → items_depth (path_items xs) ≤ 2
+path_items_shallow [] = omega arith
+path_items_shallow (x ∷ xs) = omega (arith, path_shallow x, path_items_shallow xs)
+
+lsp_shallow : (l : KnownLsp) → depth (lsp_json l) ≤ 4
+unfolding lsp_json
+lsp_shallow l = omega (arith, text_or_shallow ((l.known).lsp).name, address_or_shallow (((l.known).lsp).constraints).source, address_or_shallow (((l.known).lsp).constraints).destination, path_items_shallow l.paths)
+
+lsp_items_shallow : (ls : List KnownLsp) → items_depth (lsp_items ls) ≤ 4
+lsp_items_shallow [] = omega arith
+lsp_items_shallow (l ∷ ls) = omega (arith, lsp_shallow l, lsp_items_shallow ls)
+
+pub page_shallow : (from : ℕ) (page : LspPage) → depth (page_json from page) ≤ max_depth
+page_shallow from page = omega (arith, whole_or_shallow page.next, lsp_items_shallow page.lsps.items)
+
+pub lsp_or_shallow : (l : Option KnownLsp) → depth (lsp_or_null l) ≤ max_depth
+lsp_or_shallow None = omega arith
+lsp_or_shallow (Some l) = omega (arith, lsp_shallow l)
+
+held_shallow : (h : HeldPath) → depth (held_json h) ≤ 1
+unfolding held_json
+held_shallow h = omega (arith, whole_or_shallow (lsp_id h.part), whole_or_shallow (srp_id h.part))
+
+held_items_shallow : (hs : List HeldPath) → items_depth (held_items hs) ≤ 1
+held_items_shallow [] = omega arith
+held_items_shallow (h ∷ hs) = omega (arith, held_shallow h, held_items_shallow hs)
+
+use_shallow : (n : ℕ) (u : LinkUse) → depth (use_json n u) ≤ 3
+unfolding use_json
+use_shallow n u = omega (arith, amounts_shallow u.left, held_items_shallow u.paths.items)
+
+pub use_or_shallow : (n : ℕ) (u : Option LinkUse) → depth (use_or_null n u) ≤ max_depth
+use_or_shallow n None = omega arith
+use_or_shallow n (Some u) = omega (arith, use_shallow n u)
+
+name_or_shallow : (n : Option (List ℕ)) → depth (name_or_null n) ≤ 0
+name_or_shallow None = omega arith
+name_or_shallow (Some bytes) = text_or_shallow bytes
+
+ticket_shallow : (t : Ticket) → depth (ticket_json t) ≤ 1
+unfolding ticket_json
+ticket_shallow t = omega (arith, whole_or_shallow (purpose_plsp t.purpose), name_or_shallow (purpose_name t.purpose), whole_or_shallow (purpose_request t.purpose), address_or_shallow (t.constraints).source, address_or_shallow (t.constraints).destination)
+
+ticket_items_shallow : (ts : List Ticket) → items_depth (ticket_items ts) ≤ 1
+ticket_items_shallow [] = omega arith
+ticket_items_shallow (t ∷ ts) = omega (arith, ticket_shallow t, ticket_items_shallow ts)
+
+pub tickets_shallow : (ts : List Ticket) → depth (tickets_json ts) ≤ max_depth
+tickets_shallow ts = omega (arith, ticket_items_shallow ts)
+
+step_shallow : (place : ℕ) (x : KnownStep) → depth (step_json place x) ≤ 1
+unfolding step_json
+step_shallow place x = omega (arith, address_or_shallow x.peer, whole_or_shallow (outcome_number x.outcome))
+
+step_items_shallow : (first n : ℕ) (xs : List KnownStep) → items_depth (step_items first n xs) ≤ 1
+step_items_shallow first n [] = omega arith
+step_items_shallow first n (x ∷ xs) = omega (arith, step_shallow (min (first + n) (2 ^ 64 - 1)) x, step_items_shallow first (n + 1) xs)
+
+pub steps_shallow : (first : ℕ) (xs : List KnownStep) → depth (steps_json first xs) ≤ max_depth
+steps_shallow first xs = omega (arith, step_items_shallow first 0 xs)
+
+full_shallow : (f : FullLink) → depth (full_json f) ≤ 1
+unfolding full_json
+full_shallow f = omega arith
+
+full_items_shallow : (fs : List FullLink) → items_depth (full_items fs) ≤ 1
+full_items_shallow [] = omega arith
+full_items_shallow (f ∷ fs) = omega (arith, full_shallow f, full_items_shallow fs)
+
+obstacle_shallow : (o : Option Obstacle) → depth (obstacle_json o) ≤ 0
+obstacle_shallow None = omega arith
+obstacle_shallow (Some by) = omega arith
+
+pub path_answer_shallow : (a : PathAnswer) (full : List FullLink) → depth (path_answer_json a full) ≤ max_depth
+path_answer_shallow a full = omega (arith, obstacle_shallow (obstacle_of a), whole_or_shallow (cost_in a), wholes_shallow (links_in a), full_items_shallow full)

@@ -1,0 +1,11 @@
+use Rattle.std.proofs.Common.{◌≡◌, ◌++◌, drop}
+use Rattle.json.specs.Tree.{json_tokens, items_tokens}
+use Rattle.json.specs.Json.{array}
+use Rattle.pce_view.specs.Views.{lsp_items}
+use Rattle.pce_view.proofs.lsps.put_lsps.Given as goal
+
+-- the tokens so far and those of what is left make the whole
+abbrev pub invariant-loop-seen : goal.invariant-loop-seen
+invariant-loop-seen l =
+    (l.writer.before ≡ l.fn.writer.before)
+    × (l.writer.tokens ++ items_tokens (lsp_items (drop l.seen-index l.lsps)) ≡ l.fn.writer.tokens ++ json_tokens (array (lsp_items l.lsps)))

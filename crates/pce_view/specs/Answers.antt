@@ -1,0 +1,70 @@
+-- What is said to an operator's question, of what was seen.
+use Rattle.std.specs.Prelude.{ℕ, ℤ, ◌≡◌, List, Option, Some, None}
+use Rattle.json.specs.Json.{document, null}
+use Rattle.pcep_word.specs.Priority.{InForce}
+use Rattle.pcep_objects.specs.declared.object.MetricType.TheVariants.{Te}
+use Rattle.lsp_base.specs.declared.lsp.Constraints.{Constraints}
+use Rattle.te_snapshot.specs.Network.{NetworkState}
+use Rattle.path_looks.specs.Paths.{any_colours, full_links, no_bounds, IsPathAnswer}
+use Rattle.path_looks.specs.declared.answer.PathAnswer.{PathAnswer}
+use Rattle.pce_seen.specs.declared.ask.Ask.{Ask}
+use Rattle.pce_seen.specs.declared.ask.Ask.TheVariants as ask
+use Rattle.pce_seen.specs.declared.seen.Network.{Network}
+use Rattle.pce_seen.specs.declared.seen.Seen.{Seen}
+use Rattle.pce_seen.specs.declared.seen.Seen.TheVariants as seen
+use Rattle.pce_view.specs.declared.answer.Form.{Form}
+use Rattle.pce_view.specs.declared.answer.Form.TheVariants.{Table, Json}
+use Rattle.pce_view.specs.declared.answer.Surroundings.{Surroundings}
+use Rattle.pce_view.specs.Views.{book_json, lsp_or_null, page_json, path_answer_json, peers_json, status_json, steps_json, tickets_json, use_or_null}
+use Rattle.pce_view.specs.Words.{links_in}
+
+-- the place at which the page of LSPs that is asked for starts
+abbrev pub place_of : Ask → ℕ
+place_of (ask.Lsps peer from) = from
+place_of a = 0
+
+-- the number of the link that is asked for
+abbrev pub number_of_link : Ask → ℕ
+number_of_link (ask.Link link) = link
+number_of_link a = 0
+
+-- what is asked of a path: the least TE metric, of no colour and with no bound
+abbrev pub wanted : ℕ → ℕ → ℕ → InForce → Constraints
+wanted from to bandwidth priorities = record {
+  source = Some from;
+  destination = Some to;
+  bandwidth = bandwidth;
+  priorities = priorities;
+  colours = any_colours;
+  minimise = Te;
+  bound = None;
+  hop_bound = None;
+  other_bounds = no_bounds;
+}
+
+-- a path of least cost on the snapshot, or what stands in its way, as JSON
+pub record IsPathText (s : NetworkState) (c : Constraints) (text : List ℕ) : Type 0 where
+  pub answer : PathAnswer
+  pub holds : IsPathAnswer s c answer
+  pub reads : document text ≡ Some (path_answer_json answer (full_links s.unreserved c (links_in answer)))
+
+abbrev pub IsNetworkText : Ask → Network → List ℕ → Type 0
+IsNetworkText (ask.Path from to bandwidth priorities) n text = IsPathText n.snapshot (wanted from to bandwidth priorities) text
+IsNetworkText a n text = document text ≡ Some null
+
+-- a reader of JSON reads the text as exactly what was seen
+abbrev pub IsJsonOf : Surroundings → Ask → Seen → List ℕ → Type 0
+IsJsonOf around a (seen.Counts counts) text = document text ≡ Some (status_json around.version.now around.uptime_ms counts)
+IsJsonOf around a (seen.Book book) text = document text ≡ Some (book_json book.nodes.items book.links.items book.left.items)
+IsJsonOf around a (seen.Peers peers) text = document text ≡ Some (peers_json peers.lsps.items peers.peers.items)
+IsJsonOf around a (seen.Tickets tickets) text = document text ≡ Some (tickets_json tickets.items)
+IsJsonOf around a (seen.Lsps page) text = document text ≡ Some (page_json (place_of a) page)
+IsJsonOf around a (seen.Lsp lsp) text = document text ≡ Some (lsp_or_null lsp)
+IsJsonOf around a (seen.Link found) text = document text ≡ Some (use_or_null (number_of_link a) found)
+IsJsonOf around a (seen.Steps steps) text = document text ≡ Some (steps_json steps.first steps.steps.items)
+IsJsonOf around a (seen.Network network) text = IsNetworkText a network text
+
+-- the text for programs; of that for people nothing is claimed
+abbrev pub AnswersAs : Form → Surroundings → Ask → Seen → List ℕ → Type 0
+AnswersAs Json around a s text = IsJsonOf around a s text
+AnswersAs Table around a s text = Unit {0}

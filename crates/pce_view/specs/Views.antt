@@ -1,0 +1,257 @@
+-- The JSON value of what is seen.
+use Rattle.std.specs.Prelude.{ℕ, ◌+◌, ◌-◌, ◌^◌, min, ℤ, ◌==◌, ◌&&◌, Bool, List, [], ◌∷◌, codes, count_by, is_some, Option, Some, None}
+use Rattle.json.specs.Json.{Json, null, boolean, string, array, object, Items, no_items, item, Members, no_members, member}
+use Rattle.hex.specs.Hex.{encode_lower}
+use Rattle.te_base.specs.declared.network.Link.{Link}
+use Rattle.te_base.specs.declared.network.Node.{Node}
+use Rattle.lsp_base.specs.declared.path.Path.{Path}
+use Rattle.commit_core.specs.declared.ticket.Ticket.{Ticket}
+use Rattle.pce_seen.specs.declared.lsps.HeldPath.{HeldPath}
+use Rattle.pce_seen.specs.declared.lsps.KnownLsp.{KnownLsp}
+use Rattle.pce_seen.specs.declared.lsps.LinkUse.{LinkUse}
+use Rattle.pce_seen.specs.declared.lsps.LspPage.{LspPage}
+use Rattle.pce_seen.specs.declared.peers.KnownPeer.{KnownPeer}
+use Rattle.pce_seen.specs.declared.peers.LspOwner.{LspOwner}
+use Rattle.pce_seen.specs.declared.seen.Counts.{Counts}
+use Rattle.pce_seen.specs.declared.steps.KnownStep.{KnownStep}
+use Rattle.path_looks.specs.declared.answer.PathAnswer.{PathAnswer}
+use Rattle.path_looks.specs.declared.full.FullLink.{FullLink}
+use Rattle.pce_view.specs.Fields.{address, address_or_null, amounts, lsp_id, name_at, name_or_null, obstacle_json, srp_id, text_or_null, whole_or_null, wholes}
+use Rattle.pce_view.specs.Json.{whole}
+use Rattle.pce_view.specs.Words.{cost_in, event_word, is_found, links_in, obstacle_of, outcome_number, outcome_word, purpose_name, purpose_plsp, purpose_request, purpose_word}
+
+-- how much there is of what
+unfoldable pub status_json : List ℕ → ℕ → Counts → Json
+status_json version uptime counts = object
+    (member (codes "version") (string version)
+    (member (codes "uptime_ms") (whole uptime)
+    (member (codes "steps") (whole counts.steps)
+    (member (codes "grants") (whole counts.grants)
+    (member (codes "rolled_steps") (whole counts.rolled)
+    (member (codes "kept_steps") (whole counts.kept)
+    (member (codes "nodes") (whole counts.nodes)
+    (member (codes "links") (whole counts.links)
+    (member (codes "sessions_up") (whole counts.sessions_up)
+    (member (codes "lsps") (whole counts.lsps)
+    (member (codes "paths") (whole counts.paths)
+    (member (codes "tickets") (whole counts.tickets)
+    no_members))))))))))))
+
+unfoldable pub node_json : ℕ → Node → Json
+node_json number node = object
+    (member (codes "node") (whole number)
+    (member (codes "name") (string node.name)
+    (member (codes "router_id") (address node.id)
+    no_members)))
+
+-- each node, from this number on
+abbrev pub nodes_json : ℕ → List Node → Items
+nodes_json number [] = no_items
+nodes_json number (node ∷ nodes) = item (node_json number node) (nodes_json (number + 1) nodes)
+
+-- a link by its number, its ends, and what is left of it at the eight priorities
+unfoldable pub link_json : List Node → ℕ → Link → List ℤ → Json
+link_json nodes number link left = object
+    (member (codes "link") (whole number)
+    (member (codes "from") (string (name_at nodes link.from))
+    (member (codes "to") (string (name_at nodes link.to))
+    (member (codes "local_address") (address link.local)
+    (member (codes "remote_address") (address link.remote)
+    (member (codes "igp_metric") (whole link.igp)
+    (member (codes "te_metric") (whole link.te)
+    (member (codes "colour") (whole link.colour)
+    (member (codes "reservable_bytes_per_second") (whole link.reservable)
+    (member (codes "unreserved_bytes_per_second") (array (amounts left))
+    no_members))))))))))
+
+-- each link with what is left of it, from this number on
+abbrev pub links_json : List Node → ℕ → List Link → List (List ℤ) → Items
+links_json nodes number [] lefts = no_items
+links_json nodes number (link ∷ links) [] = no_items
+links_json nodes number (link ∷ links) (left ∷ lefts) = item (link_json nodes number link left) (links_json nodes (number + 1) links lefts)
+
+abbrev pub book_json : List Node → List Link → List (List ℤ) → Json
+book_json nodes links left = object
+    (member (codes "nodes") (array (nodes_json 0 nodes))
+    (member (codes "links") (array (links_json nodes 0 links left))
+    no_members))
+
+-- how many LSPs are the peer's, and how many of these are delegated
+abbrev pub lsps_of : List LspOwner → ℕ → ℕ
+lsps_of owners peer = count_by (λ o. o.peer == peer) owners
+
+abbrev pub delegated_of : List LspOwner → ℕ → ℕ
+delegated_of owners peer = count_by (λ o. o.peer == peer && o.is_delegated) owners
+
+unfoldable pub counted_json : KnownPeer → ℕ → ℕ → Json
+counted_json p lsps delegated = object
+    (member (codes "peer") (address p.peer)
+    (member (codes "is_up") (boolean p.is_up)
+    (member (codes "is_synchronizing") (boolean p.is_synchronizing)
+    (member (codes "session") (whole p.session)
+    (member (codes "may_update") (boolean p.may_update)
+    (member (codes "may_create") (boolean p.may_create)
+    (member (codes "has_waiting_messages") (boolean p.has_waiting_messages)
+    (member (codes "lsps") (whole lsps)
+    (member (codes "delegated_lsps") (whole delegated)
+    no_members)))))))))
+
+-- a peer with its session, and how many LSPs are its own
+abbrev pub peer_json : List LspOwner → KnownPeer → Json
+peer_json owners p = counted_json p (lsps_of owners p.peer) (delegated_of owners p.peer)
+
+abbrev pub peer_items : List LspOwner → List KnownPeer → Items
+peer_items owners [] = no_items
+peer_items owners (peer ∷ peers) = item (peer_json owners peer) (peer_items owners peers)
+
+abbrev pub peers_json : List LspOwner → List KnownPeer → Json
+peers_json owners peers = object (member (codes "peers") (array (peer_items owners peers)) no_members)
+
+-- a path of an LSP: reported under an LSP ID, or granted under an SRP-ID
+unfoldable pub path_json : Path → Json
+path_json x = object
+    (member (codes "lsp_id") (whole_or_null (lsp_id x.part))
+    (member (codes "srp_id") (whole_or_null (srp_id x.part))
+    (member (codes "is_fresh") (boolean x.fresh)
+    (member (codes "hold_priority") (whole x.hold)
+    (member (codes "bandwidth_bytes_per_second") (whole x.bandwidth)
+    (member (codes "links") (array (wholes x.links))
+    no_members))))))
+
+abbrev pub path_items : List Path → Items
+path_items [] = no_items
+path_items (x ∷ xs) = item (path_json x) (path_items xs)
+
+unfoldable pub lsp_json : KnownLsp → Json
+lsp_json l = object
+    (member (codes "peer") (address (l.known).peer)
+    (member (codes "plsp_id") (whole (l.known).plsp)
+    (member (codes "name") (text_or_null ((l.known).lsp).name)
+    (member (codes "name_hex") (string (encode_lower ((l.known).lsp).name))
+    (member (codes "is_delegated") (boolean ((l.known).lsp).delegated)
+    (member (codes "is_created") (boolean ((l.known).lsp).created)
+    (member (codes "is_removing") (boolean (is_some ((l.known).lsp).removing))
+    (member (codes "setup_priority") (whole ((((l.known).lsp).constraints).priorities).setup)
+    (member (codes "hold_priority") (whole ((((l.known).lsp).constraints).priorities).hold)
+    (member (codes "bandwidth_bytes_per_second") (whole (((l.known).lsp).constraints).bandwidth)
+    (member (codes "source") (address_or_null (((l.known).lsp).constraints).source)
+    (member (codes "destination") (address_or_null (((l.known).lsp).constraints).destination)
+    (member (codes "paths") (array (path_items l.paths))
+    no_members)))))))))))))
+
+abbrev pub lsp_items : List KnownLsp → Items
+lsp_items [] = no_items
+lsp_items (l ∷ ls) = item (lsp_json l) (lsp_items ls)
+
+-- a page of LSPs: the place of its first record, that of the next page, and at which count of steps it was seen
+abbrev pub page_json : ℕ → LspPage → Json
+page_json from page = object
+    (member (codes "from") (whole from)
+    (member (codes "next") (whole_or_null page.next)
+    (member (codes "steps") (whole page.steps)
+    (member (codes "lsps") (array (lsp_items page.lsps.items))
+    no_members))))
+
+-- one LSP, or nothing
+abbrev pub lsp_or_null : Option KnownLsp → Json
+lsp_or_null None = null
+lsp_or_null (Some l) = lsp_json l
+
+-- a path over a link
+unfoldable pub held_json : HeldPath → Json
+held_json h = object
+    (member (codes "peer") (address h.peer)
+    (member (codes "plsp_id") (whole h.plsp)
+    (member (codes "lsp_id") (whole_or_null (lsp_id h.part))
+    (member (codes "srp_id") (whole_or_null (srp_id h.part))
+    (member (codes "hold_priority") (whole h.hold)
+    (member (codes "bandwidth_bytes_per_second") (whole h.bandwidth)
+    no_members))))))
+
+abbrev pub held_items : List HeldPath → Items
+held_items [] = no_items
+held_items (h ∷ hs) = item (held_json h) (held_items hs)
+
+-- a link with its ends, what is left of it, and the paths over it
+unfoldable pub use_json : ℕ → LinkUse → Json
+use_json number u = object
+    (member (codes "link") (whole number)
+    (member (codes "from") (string (u.from).name)
+    (member (codes "to") (string (u.to).name)
+    (member (codes "local_address") (address (u.link).local)
+    (member (codes "remote_address") (address (u.link).remote)
+    (member (codes "igp_metric") (whole (u.link).igp)
+    (member (codes "te_metric") (whole (u.link).te)
+    (member (codes "colour") (whole (u.link).colour)
+    (member (codes "reservable_bytes_per_second") (whole (u.link).reservable)
+    (member (codes "unreserved_bytes_per_second") (array (amounts u.left))
+    (member (codes "paths") (array (held_items u.paths.items))
+    no_members)))))))))))
+
+abbrev pub use_or_null : ℕ → Option LinkUse → Json
+use_or_null number None = null
+use_or_null number (Some u) = use_json number u
+
+unfoldable pub ticket_json : Ticket → Json
+ticket_json t = object
+    (member (codes "ticket") (whole t.id)
+    (member (codes "peer") (address t.peer)
+    (member (codes "session") (whole t.session)
+    (member (codes "purpose") (string (purpose_word t.purpose))
+    (member (codes "plsp_id") (whole_or_null (purpose_plsp t.purpose))
+    (member (codes "name") (name_or_null (purpose_name t.purpose))
+    (member (codes "request_id") (whole_or_null (purpose_request t.purpose))
+    (member (codes "source") (address_or_null (t.constraints).source)
+    (member (codes "destination") (address_or_null (t.constraints).destination)
+    (member (codes "bandwidth_bytes_per_second") (whole (t.constraints).bandwidth)
+    (member (codes "setup_priority") (whole ((t.constraints).priorities).setup)
+    (member (codes "hold_priority") (whole ((t.constraints).priorities).hold)
+    (member (codes "tries") (whole t.tries)
+    (member (codes "is_taken") (boolean t.taken)
+    no_members))))))))))))))
+
+abbrev pub ticket_items : List Ticket → Items
+ticket_items [] = no_items
+ticket_items (t ∷ ts) = item (ticket_json t) (ticket_items ts)
+
+abbrev pub tickets_json : List Ticket → Json
+tickets_json ts = object (member (codes "tickets") (array (ticket_items ts)) no_members)
+
+-- a kept step by its place among all steps
+unfoldable pub step_json : ℕ → KnownStep → Json
+step_json place x = object
+    (member (codes "step") (whole place)
+    (member (codes "event") (string (event_word x.event))
+    (member (codes "peer") (address_or_null x.peer)
+    (member (codes "outcome") (string (outcome_word x.outcome))
+    (member (codes "number") (whole_or_null (outcome_number x.outcome))
+    no_members)))))
+
+-- each step, from this number on behind the first
+abbrev pub step_items : ℕ → ℕ → List KnownStep → Items
+step_items first number [] = no_items
+step_items first number (x ∷ xs) = item (step_json (min (first + number) (2 ^ 64 - 1)) x) (step_items first (number + 1) xs)
+
+abbrev pub steps_json : ℕ → List KnownStep → Json
+steps_json first xs = object (member (codes "steps") (array (step_items first 0 xs)) no_members)
+
+-- a link that is too full at a priority
+unfoldable pub full_json : FullLink → Json
+full_json f = object
+    (member (codes "link") (whole f.link)
+    (member (codes "priority") (whole f.priority)
+    no_members))
+
+abbrev pub full_items : List FullLink → Items
+full_items [] = no_items
+full_items (f ∷ fs) = item (full_json f) (full_items fs)
+
+-- a path; or what stands in its way, with the path that there is without it and its links that are too full
+abbrev pub path_answer_json : PathAnswer → List FullLink → Json
+path_answer_json a full = object
+    (member (codes "is_found") (boolean (is_found a))
+    (member (codes "obstacle") (obstacle_json (obstacle_of a))
+    (member (codes "cost") (whole_or_null (cost_in a))
+    (member (codes "links") (array (wholes (links_in a)))
+    (member (codes "full_links") (array (full_items full))
+    no_members)))))

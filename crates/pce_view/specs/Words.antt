@@ -1,0 +1,112 @@
+-- Words for what is seen.
+use Rattle.std.specs.Prelude.{ℕ, Bool, true, false, List, [], codes, Option, Some, None}
+use Rattle.lsp_base.specs.Whys.{number_of}
+use Rattle.commit_core.specs.declared.ticket.Purpose.{Purpose}
+use Rattle.commit_core.specs.declared.ticket.Purpose.TheVariants.{Update, Initiate, Answer}
+use Rattle.pce_seen.specs.declared.steps.EventKind.{EventKind}
+use Rattle.pce_seen.specs.declared.steps.EventKind.TheVariants as kind
+use Rattle.pce_seen.specs.declared.steps.Outcome.{Outcome}
+use Rattle.pce_seen.specs.declared.steps.Outcome.TheVariants as outcome
+use Rattle.path_looks.specs.declared.answer.Obstacle.{Obstacle}
+use Rattle.path_looks.specs.declared.answer.Obstacle.TheVariants as obstacle
+use Rattle.path_looks.specs.declared.answer.PathAnswer.{PathAnswer}
+use Rattle.path_looks.specs.declared.answer.PathAnswer.TheVariants.{Path, Blocked, NoWay}
+
+-- what a ticket asks a path for
+abbrev pub purpose_word : Purpose → List ℕ
+purpose_word (Update plsp) = codes "update"
+purpose_word (Initiate name constraints) = codes "initiate"
+purpose_word (Answer request plsp constraints) = codes "answer"
+
+abbrev pub purpose_plsp : Purpose → Option ℕ
+purpose_plsp (Update plsp) = Some plsp
+purpose_plsp (Initiate name constraints) = None
+purpose_plsp (Answer request plsp constraints) = plsp
+
+abbrev pub purpose_name : Purpose → Option (List ℕ)
+purpose_name (Update plsp) = None
+purpose_name (Initiate name constraints) = Some name
+purpose_name (Answer request plsp constraints) = None
+
+abbrev pub purpose_request : Purpose → Option ℕ
+purpose_request (Update plsp) = None
+purpose_request (Initiate name constraints) = None
+purpose_request (Answer request plsp constraints) = Some request
+
+abbrev pub event_word : EventKind → List ℕ
+event_word kind.Up = codes "up"
+event_word kind.Report = codes "report"
+event_word kind.Marker = codes "marker"
+event_word kind.Down = codes "down"
+event_word kind.Expire = codes "expire"
+event_word kind.Ask = codes "ask"
+event_word kind.Take = codes "take"
+event_word kind.Commit = codes "commit"
+event_word kind.Drain = codes "drain"
+event_word kind.Refused = codes "refused"
+event_word kind.Return = codes "return"
+event_word kind.Delete = codes "delete"
+event_word kind.Reload = codes "reload"
+
+abbrev pub booked_word : Bool → List ℕ
+booked_word false = codes "booked"
+booked_word true = codes "booked wants"
+
+abbrev pub outcome_word : Outcome → List ℕ
+outcome_word outcome.Done = codes "done"
+outcome_word (outcome.Booked wants) = booked_word wants
+outcome_word (outcome.Asked ticket) = codes "asked"
+outcome_word (outcome.Job ticket) = codes "job"
+outcome_word outcome.Idle = codes "idle"
+outcome_word (outcome.Granted srp) = codes "granted"
+outcome_word outcome.Answered = codes "answered"
+outcome_word outcome.Again = codes "again"
+outcome_word outcome.NoPath = codes "nopath"
+outcome_word outcome.GivenUp = codes "givenup"
+outcome_word outcome.Gone = codes "gone"
+outcome_word (outcome.Removing srp) = codes "removing"
+outcome_word (outcome.Out messages) = codes "out"
+outcome_word (outcome.Refused why) = codes "refused"
+
+-- the number of a ticket or a request, how many messages there are, or why it was refused
+abbrev pub outcome_number : Outcome → Option ℕ
+outcome_number outcome.Done = None
+outcome_number (outcome.Booked wants) = None
+outcome_number (outcome.Asked ticket) = Some ticket
+outcome_number (outcome.Job ticket) = Some ticket
+outcome_number outcome.Idle = None
+outcome_number (outcome.Granted srp) = Some srp
+outcome_number outcome.Answered = None
+outcome_number outcome.Again = None
+outcome_number outcome.NoPath = None
+outcome_number outcome.GivenUp = None
+outcome_number outcome.Gone = None
+outcome_number (outcome.Removing srp) = Some srp
+outcome_number (outcome.Out messages) = Some messages
+outcome_number (outcome.Refused why) = Some (number_of why)
+
+abbrev pub obstacle_word : Obstacle → List ℕ
+obstacle_word obstacle.Bandwidth = codes "bandwidth"
+obstacle_word obstacle.Colours = codes "colours"
+obstacle_word obstacle.Bounds = codes "bounds"
+obstacle_word obstacle.Several = codes "several"
+
+abbrev pub is_found : PathAnswer → Bool
+is_found (Path found) = true
+is_found (Blocked by found) = false
+is_found NoWay = false
+
+abbrev pub obstacle_of : PathAnswer → Option Obstacle
+obstacle_of (Path found) = None
+obstacle_of (Blocked by found) = Some by
+obstacle_of NoWay = None
+
+abbrev pub cost_in : PathAnswer → Option ℕ
+cost_in (Path found) = Some found.cost
+cost_in (Blocked by found) = Some found.cost
+cost_in NoWay = None
+
+abbrev pub links_in : PathAnswer → List ℕ
+links_in (Path found) = found.links
+links_in (Blocked by found) = found.links
+links_in NoWay = []

@@ -1,0 +1,254 @@
+//! What is said to an operator's question, of what was seen.
+ghost use Rattle.std.specs.Prelude.{◌≡◌, Some, IfOk};
+ghost use Rattle.json.specs.Json.{document, null};
+ghost use Rattle.pce_view.specs.Answers.{number_of_link, place_of, wanted, AnswersAs, IsJsonOf, IsNetworkText, IsPathText};
+ghost use Rattle.path_looks.specs.Paths.{full_links, IsPathAnswer};
+ghost use Rattle.pce_view.specs.Words.{links_in};
+
+use crate::book::book_text;
+use crate::closing::closed;
+use crate::columns::add_aligned;
+use crate::link::link_text;
+use crate::lsp_tables::{add_link_use, add_one_lsp, add_page};
+use crate::lsps::{lsp_text, page_text};
+use crate::path::path_text;
+use crate::peers::peers_text;
+use crate::status::status_text;
+use crate::steps::steps_text;
+use crate::tables::{add_answer, add_book, add_peers, add_status, add_steps, add_tickets};
+use crate::tickets::tickets_text;
+use crate::words::links_in;
+use json::Writer;
+use lsp_base::{Constraints, OtherBounds};
+use path_looks::{FullLink, PathAnswer, full_links, path_on};
+use pce_seen::{Ask, Network, Seen};
+use pcep_objects::{Colours, MetricType};
+use pcep_word::{Bandwidth, Ipv4, Priorities};
+use std::alloc::{AllocError, Global};
+use te_snapshot::Snapshot;
+
+/// For whom a text is.
+#[derive(Clone, Copy)]
+pub enum Form {
+    /// For people: columns.
+    Table,
+    /// For programs: one document of JSON (RFC 8259).
+    Json,
+}
+
+/// What the server knows beside its database.
+#[derive(Clone, Copy)]
+pub struct Surroundings<'a> {
+    pub version: &'a str,
+    /// Since the run began.
+    pub uptime_ms: u64,
+}
+
+/// The place at which the page of LSPs that is asked for starts.
+fn place_of(ask: &Ask) -> u64
+    ensures { result ≡ place_of ask.now }
+{
+    match ask {
+        Ask::Lsps { from, .. } => *from,
+        _ => 0,
+    }
+}
+
+/// The number of the link that is asked for.
+fn number_of_link(ask: &Ask) -> u64
+    ensures { result ≡ number_of_link ask.now }
+{
+    match ask {
+        Ask::Link { link } => *link,
+        _ => 0,
+    }
+}
+
+/// What is asked of a path: the least TE metric, of no colour and with no bound.
+fn wanted(from: Ipv4, to: Ipv4, bandwidth: Bandwidth, priorities: Priorities) -> Constraints
+    ensures { result ≡ wanted from to bandwidth priorities }
+{
+    Constraints {
+        source: Some(from),
+        destination: Some(to),
+        bandwidth,
+        priorities,
+        colours: Colours {
+            exclude_any: 0,
+            include_any: 0,
+            include_all: 0,
+        },
+        minimise: MetricType::Te,
+        bound: None,
+        hop_bound: None,
+        other_bounds: OtherBounds {
+            igp: None,
+            te: None,
+        },
+    }
+}
+
+/// Searches for a path, and lists its links that are too full.
+fn search(
+    alloc: Global,
+    snapshot: &Snapshot,
+    wanted: &Constraints,
+) -> Result<(PathAnswer, Vec<FullLink>), AllocError>
+    ensures answer { IfOk result (λ found. IsPathAnswer snapshot.now wanted.now found.0) }
+    ensures full { IfOk result (λ found. found.1.items ≡ full_links snapshot.now.unreserved wanted.now (links_in found.0)) }
+{
+    let answer = path_on(alloc, snapshot, wanted)?;
+    match full_links(alloc, snapshot, wanted, links_in(&answer)) {
+        Ok(full) => Ok((answer, full)),
+        Err(error) => {
+            drop(answer);
+            Err(error)
+        }
+    }
+}
+
+/// Searches for a path and writes it, or what stands in its way, as JSON.
+fn found_text(
+    alloc: Global,
+    snapshot: &Snapshot,
+    wanted: &Constraints,
+) -> Result<Vec<u8>, AllocError>
+    ensures { IfOk result (λ text. IsPathText snapshot.now wanted.now text.items) }
+{
+    let (answer, full) = search(alloc, snapshot, wanted)?;
+    path_text(alloc, &answer, &full)
+}
+
+/// Writes `null`.
+fn null_text(alloc: Global) -> Result<Vec<u8>, AllocError>
+    ensures { IfOk result (λ text. document text.items ≡ Some null) }
+{
+    let mut writer = Writer::new(Vec::new(alloc));
+    writer.null()?;
+    Ok(closed(writer))
+}
+
+/// Writes what was found on a network as JSON.
+fn network_text(alloc: Global, ask: &Ask, network: &Network) -> Result<Vec<u8>, AllocError>
+    ensures { IfOk result (λ text. IsNetworkText ask.now network.now text.items) }
+{
+    match *ask {
+        Ask::Path {
+            from,
+            to,
+            bandwidth,
+            priorities,
+        } => found_text(
+            alloc,
+            &network.snapshot,
+            &wanted(from, to, bandwidth, priorities),
+        ),
+        _ => null_text(alloc),
+    }
+}
+
+/// Writes what was seen as JSON.
+fn json_text(
+    alloc: Global,
+    around: &Surroundings<'_>,
+    ask: &Ask,
+    seen: &Seen,
+) -> Result<Vec<u8>, AllocError>
+    ensures { IfOk result (λ text. IsJsonOf around.now ask.now seen.now text.items) }
+{
+    match seen {
+        Seen::Counts(counts) => status_text(alloc, around.version, around.uptime_ms, counts),
+        Seen::Book(book) => book_text(alloc, book),
+        Seen::Peers(peers) => peers_text(alloc, peers),
+        Seen::Tickets(tickets) => tickets_text(alloc, tickets),
+        Seen::Lsps(page) => page_text(alloc, place_of(ask), page),
+        Seen::Lsp(lsp) => lsp_text(alloc, lsp),
+        Seen::Link(found) => link_text(alloc, number_of_link(ask), found),
+        Seen::Steps(steps) => steps_text(alloc, steps),
+        Seen::Network(network) => network_text(alloc, ask, network),
+    }
+}
+
+/// Searches for a path and adds it, or what stands in its way.
+fn add_found(
+    alloc: Global,
+    text: &mut String,
+    network: &Network,
+    wanted: &Constraints,
+) -> Result<(), AllocError> {
+    let (answer, full) = search(alloc, &network.snapshot, wanted)?;
+    add_answer(text, &network.nodes, &network.snapshot, &answer, &full)
+}
+
+fn add_network(
+    alloc: Global,
+    text: &mut String,
+    ask: &Ask,
+    network: &Network,
+) -> Result<(), AllocError> {
+    match *ask {
+        Ask::Path {
+            from,
+            to,
+            bandwidth,
+            priorities,
+        } => add_found(
+            alloc,
+            text,
+            network,
+            &wanted(from, to, bandwidth, priorities),
+        ),
+        _ => Ok(()),
+    }
+}
+
+/// Adds what was seen in rows of cells.
+fn add_rows(
+    alloc: Global,
+    text: &mut String,
+    around: &Surroundings<'_>,
+    ask: &Ask,
+    seen: &Seen,
+) -> Result<(), AllocError> {
+    match seen {
+        Seen::Counts(counts) => add_status(text, around.version, around.uptime_ms, counts),
+        Seen::Book(book) => add_book(text, book),
+        Seen::Peers(peers) => add_peers(text, peers),
+        Seen::Tickets(tickets) => add_tickets(text, tickets),
+        Seen::Lsps(page) => add_page(text, place_of(ask), page),
+        Seen::Lsp(lsp) => add_one_lsp(text, lsp),
+        Seen::Link(found) => add_link_use(alloc, text, number_of_link(ask), found),
+        Seen::Steps(steps) => add_steps(text, steps),
+        Seen::Network(network) => add_network(alloc, text, ask, network),
+    }
+}
+
+/// Writes what was seen in columns.
+fn columns_text(
+    alloc: Global,
+    around: &Surroundings<'_>,
+    ask: &Ask,
+    seen: &Seen,
+) -> Result<Vec<u8>, AllocError> {
+    let mut rows = String::new(alloc);
+    add_rows(alloc, &mut rows, around, ask, seen)?;
+    let mut text = String::new(alloc);
+    add_aligned(alloc, &mut text, &rows)?;
+    Ok(text.into_bytes())
+}
+
+/// Says what was seen to an operator's question. Where it is a path that is asked for, it is searched for here.
+pub fn answer_text(
+    alloc: Global,
+    form: Form,
+    around: &Surroundings<'_>,
+    ask: &Ask,
+    seen: &Seen,
+) -> Result<Vec<u8>, AllocError>
+    ensures { IfOk result (λ text. AnswersAs form around.now ask.now seen.now text.items) }
+{
+    match form {
+        Form::Json => json_text(alloc, around, ask, seen),
+        Form::Table => columns_text(alloc, around, ask, seen),
+    }
+}

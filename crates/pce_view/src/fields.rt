@@ -1,0 +1,292 @@
+//! Objects of JSON, each written from a list of its members.
+ghost use Rattle.std.specs.Prelude.{◌≡◌, ◌++◌, ◌∷◌, [], OnOk};
+ghost use Rattle.hex.specs.Hex.{encode_lower};
+ghost use Rattle.json.specs.Tree.{json_tokens, members_tokens};
+ghost use Rattle.json.specs.Json.{Json, Members, array, member, no_members, object, string};
+ghost use Rattle.json.specs.Token.{end_object};
+ghost use Rattle.pce_view.specs.Words.{purpose_name};
+ghost use Rattle.pce_view.specs.Fields.{address, address_or_null, amounts, field_json, lsp_id, members_json, members_then, name_at, name_or_null, obstacle_json, srp_id, text_or_null, whole_or_null, wholes};
+
+use crate::words::{
+    cost_in, event_word, is_found, links_in, obstacle_of, obstacle_word, outcome_number,
+    outcome_word, purpose_plsp, purpose_request, purpose_word,
+};
+use commit_core::Purpose;
+use json::Writer;
+use lsp_base::Part;
+use path_looks::{Obstacle, PathAnswer};
+use pce_seen::{EventKind, Outcome};
+use pcep_objects::Plsp;
+use pcep_word::{Bandwidth, Ipv4, Priorities, Priority};
+use sequence::Sequence;
+use std::alloc::{AllocError, Global};
+use std::str;
+use te_base::{LinkNumber, Name, Node};
+
+/// The value of a member. What needs a call to be read is read where it is written, so that a table of members has no
+/// calls.
+#[derive(Clone, Copy)]
+pub(crate) enum Field<'a> {
+    Whole(u64),
+    WholeOr(Option<u64>),
+    Text(&'a str),
+    Flag(bool),
+    Address(Ipv4),
+    AddressOr(Option<Ipv4>),
+    /// The address of a peer.
+    Peer(u32),
+    PeerOr(Option<u32>),
+    Plsp(Plsp),
+    Rate(Bandwidth),
+    Level(Priority),
+    Setup(Priorities),
+    Hold(Priorities),
+    /// The LSP ID of a reported path.
+    LspId(Part),
+    /// The SRP-ID of a granted path.
+    SrpId(Part),
+    /// Whether a number is there.
+    IsThere(Option<u32>),
+    /// The name of a node.
+    Node(&'a Name),
+    /// The name of the node of a number.
+    NodeAt(&'a [Node], usize),
+    /// Bytes as a text, where they are UTF-8.
+    Name(&'a Sequence<u8>),
+    Hex(&'a Sequence<u8>),
+    /// What a ticket asks a path for.
+    PurposeWord(&'a Purpose),
+    PurposePlsp(&'a Purpose),
+    PurposeName(&'a Purpose),
+    PurposeRequest(&'a Purpose),
+    Event(EventKind),
+    Outcome(Outcome),
+    OutcomeNumber(Outcome),
+    IsFound(&'a PathAnswer),
+    ObstacleOf(&'a PathAnswer),
+    CostOf(&'a PathAnswer),
+    LinksOf(&'a PathAnswer),
+    Amounts(&'a [i64; 8]),
+    Links(&'a Sequence<LinkNumber>),
+}
+
+/// A member of an object.
+#[derive(Clone, Copy)]
+pub(crate) struct Member<'a> {
+    pub name: &'a str,
+    pub value: Field<'a>,
+}
+
+fn put_address(alloc: Global, writer: &mut Writer, at: Ipv4) -> Result<(), AllocError>
+    ensures before { writer.new.before ≡ writer.old.before }
+    ensures written { OnOk result (writer.new.tokens ≡ writer.old.tokens ++ json_tokens (address at)) }
+{
+    let text = at.text(alloc)?;
+    writer.string(&text)
+}
+
+fn put_address_or(alloc: Global, writer: &mut Writer, at: Option<Ipv4>) -> Result<(), AllocError>
+    ensures before { writer.new.before ≡ writer.old.before }
+    ensures written { OnOk result (writer.new.tokens ≡ writer.old.tokens ++ json_tokens (address_or_null at)) }
+{
+    match at {
+        Some(at) => put_address(alloc, writer, at),
+        None => writer.null(),
+    }
+}
+
+fn put_whole_or(writer: &mut Writer, number: Option<u64>) -> Result<(), AllocError>
+    ensures before { writer.new.before ≡ writer.old.before }
+    ensures written { OnOk result (writer.new.tokens ≡ writer.old.tokens ++ json_tokens (whole_or_null number)) }
+{
+    match number {
+        Some(number) => writer.u64(number),
+        None => writer.null(),
+    }
+}
+
+fn put_name(writer: &mut Writer, bytes: &[u8]) -> Result<(), AllocError>
+    ensures before { writer.new.before ≡ writer.old.before }
+    ensures written { OnOk result (writer.new.tokens ≡ writer.old.tokens ++ json_tokens (text_or_null bytes.now)) }
+{
+    match str::from_utf8(bytes) {
+        Ok(text) => writer.string(text),
+        Err(_) => writer.null(),
+    }
+}
+
+fn put_hex(alloc: Global, writer: &mut Writer, bytes: &[u8]) -> Result<(), AllocError>
+    ensures before { writer.new.before ≡ writer.old.before }
+    ensures written { OnOk result (writer.new.tokens ≡ writer.old.tokens ++ json_tokens (string (encode_lower bytes.now))) }
+{
+    let text = hex::encode(alloc, bytes)?;
+    writer.string(&text)
+}
+
+fn put_amounts(writer: &mut Writer, numbers: &[i64; 8]) -> Result<(), AllocError>
+    ensures before { writer.new.before ≡ writer.old.before }
+    ensures written { OnOk result (writer.new.tokens ≡ writer.old.tokens ++ json_tokens (array (amounts numbers.now))) }
+{
+    writer.begin_array()?;
+    for n in numbers {
+        writer.i64(*n)?;
+    }
+    writer.end_array()
+}
+
+fn put_numbers(writer: &mut Writer, numbers: &[usize]) -> Result<(), AllocError>
+    ensures before { writer.new.before ≡ writer.old.before }
+    ensures written { OnOk result (writer.new.tokens ≡ writer.old.tokens ++ json_tokens (array (wholes numbers.now))) }
+{
+    writer.begin_array()?;
+    for n in numbers {
+        writer.u64(*n as u64)?;
+    }
+    writer.end_array()
+}
+
+fn put_peer_or(alloc: Global, writer: &mut Writer, peer: Option<u32>) -> Result<(), AllocError>
+    ensures before { writer.new.before ≡ writer.old.before }
+    ensures written { OnOk result (writer.new.tokens ≡ writer.old.tokens ++ json_tokens (address_or_null peer)) }
+{
+    match peer {
+        Some(peer) => put_address(alloc, writer, Ipv4(peer)),
+        None => writer.null(),
+    }
+}
+
+/// The LSP ID of a path that the peer reported.
+pub(crate) fn lsp_id(part: Part) -> Option<u64>
+    ensures { result ≡ lsp_id part }
+{
+    match part {
+        Part::Reported(id) => Some(id as u64),
+        Part::Granted(_) => None,
+    }
+}
+
+/// The SRP-ID of a path that was granted.
+pub(crate) fn srp_id(part: Part) -> Option<u64>
+    ensures { result ≡ srp_id part }
+{
+    match part {
+        Part::Reported(_) => None,
+        Part::Granted(srp) => Some(srp as u64),
+    }
+}
+
+/// The name of a node; empty where there is no such node.
+pub(crate) fn name_at(nodes: &[Node], number: usize) -> &str
+    ensures { result.now ≡ name_at nodes.now number }
+{
+    match nodes.get(number) {
+        Some(node) => node.name.as_str(),
+        None => "",
+    }
+}
+
+fn put_purpose_name(writer: &mut Writer, purpose: &Purpose) -> Result<(), AllocError>
+    ensures before { writer.new.before ≡ writer.old.before }
+    ensures written { OnOk result (writer.new.tokens ≡ writer.old.tokens ++ json_tokens (name_or_null (purpose_name purpose.now))) }
+{
+    match purpose {
+        Purpose::Initiate { name, .. } => put_name(writer, name.as_slice()),
+        Purpose::Update { .. } | Purpose::Answer { .. } => writer.null(),
+    }
+}
+
+fn put_obstacle(writer: &mut Writer, obstacle: Option<Obstacle>) -> Result<(), AllocError>
+    ensures before { writer.new.before ≡ writer.old.before }
+    ensures written { OnOk result (writer.new.tokens ≡ writer.old.tokens ++ json_tokens (obstacle_json obstacle)) }
+{
+    match obstacle {
+        Some(by) => writer.string(obstacle_word(by)),
+        None => writer.null(),
+    }
+}
+
+fn put_value(alloc: Global, writer: &mut Writer, value: &Field<'_>) -> Result<(), AllocError>
+    ensures before { writer.new.before ≡ writer.old.before }
+    ensures written { OnOk result (writer.new.tokens ≡ writer.old.tokens ++ json_tokens (field_json value.now)) }
+{
+    match value {
+        Field::Whole(n) => writer.u64(*n),
+        Field::WholeOr(n) => put_whole_or(writer, *n),
+        Field::Text(text) => writer.string(text),
+        Field::Flag(flag) => writer.boolean(*flag),
+        Field::Address(at) => put_address(alloc, writer, *at),
+        Field::AddressOr(at) => put_address_or(alloc, writer, *at),
+        Field::Peer(peer) => put_address(alloc, writer, Ipv4(*peer)),
+        Field::PeerOr(peer) => put_peer_or(alloc, writer, *peer),
+        Field::Plsp(plsp) => writer.u64(plsp.number() as u64),
+        Field::Rate(bandwidth) => writer.u64(bandwidth.value()),
+        Field::Level(priority) => writer.u64(priority.number() as u64),
+        Field::Setup(priorities) => writer.u64(priorities.setup().number() as u64),
+        Field::Hold(priorities) => writer.u64(priorities.hold().number() as u64),
+        Field::LspId(part) => put_whole_or(writer, lsp_id(*part)),
+        Field::SrpId(part) => put_whole_or(writer, srp_id(*part)),
+        Field::IsThere(number) => writer.boolean(number.is_some()),
+        Field::Node(name) => writer.string(name.as_str()),
+        Field::NodeAt(nodes, number) => writer.string(name_at(nodes, *number)),
+        Field::Name(bytes) => put_name(writer, bytes.as_slice()),
+        Field::Hex(bytes) => put_hex(alloc, writer, bytes.as_slice()),
+        Field::PurposeWord(purpose) => writer.string(purpose_word(purpose)),
+        Field::PurposePlsp(purpose) => put_whole_or(writer, purpose_plsp(purpose)),
+        Field::PurposeName(purpose) => put_purpose_name(writer, purpose),
+        Field::PurposeRequest(purpose) => put_whole_or(writer, purpose_request(purpose)),
+        Field::Event(event) => writer.string(event_word(*event)),
+        Field::Outcome(outcome) => writer.string(outcome_word(*outcome)),
+        Field::OutcomeNumber(outcome) => put_whole_or(writer, outcome_number(*outcome)),
+        Field::IsFound(answer) => writer.boolean(is_found(answer)),
+        Field::ObstacleOf(answer) => put_obstacle(writer, obstacle_of(answer)),
+        Field::CostOf(answer) => put_whole_or(writer, cost_in(answer)),
+        Field::LinksOf(answer) => put_numbers(writer, links_in(answer)),
+        Field::Amounts(numbers) => put_amounts(writer, numbers),
+        Field::Links(numbers) => put_numbers(writer, numbers.as_slice()),
+    }
+}
+
+/// Writes these members of an object that is open; others and its end follow.
+pub(crate) fn put_members(
+    alloc: Global,
+    writer: &mut Writer,
+    members: &[Member<'_>],
+) -> Result<(), AllocError>
+    ensures before { writer.new.before ≡ writer.old.before }
+    ensures written { OnOk result ((others : Members) → writer.new.tokens ++ members_tokens others ≡ writer.old.tokens ++ members_tokens (members_then members.now others)) }
+{
+    for member in members {
+        writer.key(member.name)?;
+        put_value(alloc, writer, &member.value)?;
+    }
+    Ok(())
+}
+
+/// Writes an object with these members.
+pub(crate) fn put_object(
+    alloc: Global,
+    writer: &mut Writer,
+    members: &[Member<'_>],
+) -> Result<(), AllocError>
+    ensures before { writer.new.before ≡ writer.old.before }
+    ensures written { OnOk result (writer.new.tokens ≡ writer.old.tokens ++ json_tokens (object (members_json members.now))) }
+{
+    writer.begin_object()?;
+    put_members(alloc, writer, members)?;
+    writer.end_object()
+}
+
+/// Opens an object with these members and one more, whose value is to follow and then the object's end.
+pub(crate) fn begin_with(
+    alloc: Global,
+    writer: &mut Writer,
+    members: &[Member<'_>],
+    name: &str,
+) -> Result<(), AllocError>
+    ensures before { writer.new.before ≡ writer.old.before }
+    ensures written { OnOk result ((value : Json) → writer.new.tokens ++ (json_tokens value ++ end_object ∷ []) ≡ writer.old.tokens ++ json_tokens (object (members_then members.now (member name.now value no_members)))) }
+{
+    writer.begin_object()?;
+    put_members(alloc, writer, members)?;
+    writer.key(name)
+}

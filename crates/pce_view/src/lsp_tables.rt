@@ -1,0 +1,169 @@
+//! Tables for people: LSPs, and a link with the paths over it.
+use crate::columns::{add_links, add_name, add_percent, add_rate};
+use crate::fields::{lsp_id, srp_id};
+use crate::tables::{add_end, add_priorities};
+use lsp_base::{Lsp, Path};
+use pce_seen::{HeldPath, KnownLsp, LinkUse, LspPage};
+use pcep_word::Ipv4;
+use std::alloc::{AllocError, Global};
+use std::fmt::Write;
+
+fn add_flag(text: &mut String, is: bool, word: &str) -> Result<(), AllocError> {
+    if is { text.push_str(word) } else { Ok(()) }
+}
+
+/// Adds what state an LSP is in.
+fn add_state(text: &mut String, lsp: &Lsp, paths: &[Path]) -> Result<(), AllocError> {
+    add_flag(text, lsp.delegated, "delegated ")?;
+    add_flag(text, lsp.created, "created ")?;
+    add_flag(text, lsp.removing.is_some(), "removing ")?;
+    add_flag(text, paths.iter().any(|path| !path.fresh), "stale ")?;
+    add_flag(text, paths.is_empty(), "down")
+}
+
+/// Adds which of an LSP's paths a path is: `lsp N` of a reported one, `srp N` of a granted one.
+fn add_part(text: &mut String, path: &Path) -> Result<(), AllocError> {
+    match (lsp_id(path.part), srp_id(path.part)) {
+        (Some(id), _) => write!(text, "lsp {id}\t"),
+        (None, Some(srp)) => write!(text, "srp {srp}\t"),
+        (None, None) => text.push_str("-\t"),
+    }
+}
+
+/// Adds a path to the line of its LSP, or to a line of its own.
+fn add_path(text: &mut String, is_first: bool, path: &Path) -> Result<(), AllocError> {
+    if !is_first {
+        text.push_str("\t\t\t\t\t\t\t\t")?;
+    }
+    add_part(text, path)?;
+    add_links(text, path.links.as_slice())?;
+    text.push('\n')
+}
+
+fn add_paths(text: &mut String, paths: &[Path]) -> Result<(), AllocError> {
+    if paths.is_empty() {
+        return text.push_str("-\t-\n");
+    }
+    for (place, path) in paths.iter().enumerate() {
+        add_path(text, place == 0, path)?;
+    }
+    Ok(())
+}
+
+fn add_lsp(text: &mut String, seen: &KnownLsp) -> Result<(), AllocError> {
+    let peer = Ipv4(seen.known.peer);
+    let plsp = seen.known.plsp.number();
+    let lsp = &seen.known.lsp;
+    write!(text, "{peer}\t{plsp}\t")?;
+    add_name(text, lsp.name.as_slice())?;
+    text.push('\t')?;
+    add_state(text, lsp, seen.paths.as_slice())?;
+    text.push('\t')?;
+    add_priorities(text, lsp.constraints.priorities)?;
+    add_rate(text, lsp.constraints.bandwidth.value() as i64)?;
+    text.push('\t')?;
+    add_end(text, lsp.constraints.source)?;
+    add_end(text, lsp.constraints.destination)?;
+    add_paths(text, seen.paths.as_slice())
+}
+
+const LSP_HEAD: &str = "PEER\tPLSP\tNAME\tSTATE\tSETUP/HOLD\tBANDWIDTH\tFROM\tTO\tPATH\tLINKS\n";
+
+/// Adds a line for each path of each LSP of a page; the head stands on the first page.
+pub(crate) fn add_page(text: &mut String, from: u64, page: &LspPage) -> Result<(), AllocError> {
+    if from == 0 {
+        text.push_str(LSP_HEAD)?;
+    }
+    for seen in &page.lsps {
+        add_lsp(text, seen)?;
+    }
+    Ok(())
+}
+
+/// Adds one LSP.
+pub(crate) fn add_one_lsp(text: &mut String, seen: &Option<KnownLsp>) -> Result<(), AllocError> {
+    match seen {
+        Some(seen) => {
+            text.push_str(LSP_HEAD)?;
+            add_lsp(text, seen)
+        }
+        None => text.push_str("no such LSP\n"),
+    }
+}
+
+fn add_held(text: &mut String, held: &HeldPath) -> Result<(), AllocError> {
+    let peer = Ipv4(held.peer);
+    let plsp = held.plsp.number();
+    let hold = held.hold.number();
+    write!(text, "{peer}\t{plsp}\t{hold}\t")?;
+    add_rate(text, held.bandwidth.value() as i64)?;
+    text.push('\n')
+}
+
+/// Orders paths by what they hold, the greatest first: what is missing to the greatest number, and the place of each.
+fn add_order(order: &mut Vec<(u64, usize)>, paths: &[HeldPath]) -> Result<(), AllocError> {
+    for (place, held) in paths.iter().enumerate() {
+        order.push((u64::MAX - held.bandwidth.value(), place))?;
+    }
+    order.sort()
+}
+
+/// Adds a line for each path, the one that holds most first.
+fn add_each_held(alloc: Global, text: &mut String, paths: &[HeldPath]) -> Result<(), AllocError> {
+    let mut order = Vec::new(alloc);
+    add_order(&mut order, paths)?;
+    for (_, place) in &order {
+        if let Some(held) = paths.get(*place) {
+            add_held(text, held)?;
+        }
+    }
+    Ok(())
+}
+
+fn add_use(
+    alloc: Global,
+    text: &mut String,
+    number: u64,
+    seen: &LinkUse,
+) -> Result<(), AllocError> {
+    let from = seen.from.name.as_str();
+    let to = seen.to.name.as_str();
+    let local = seen.link.local;
+    let remote = seen.link.remote;
+    let igp = seen.link.igp;
+    let te = seen.link.te;
+    let colour = seen.link.colour;
+    write!(
+        text,
+        "link\t{number}\nfrom\t{from} {local}\nto\t{to} {remote}\n"
+    )?;
+    write!(
+        text,
+        "metrics\tIGP {igp}, TE {te}\ncolour\t{colour:#010x}\nreservable\t"
+    )?;
+    add_rate(text, seen.link.reservable.min(1 << 48) as i64)?;
+    text.push('\n')?;
+    for (priority, left) in seen.left.iter().enumerate() {
+        write!(text, "left at {priority}\t")?;
+        add_rate(text, *left)?;
+        text.push('\t')?;
+        add_percent(text, seen.link.reservable, *left)?;
+        text.push_str(" reserved")?;
+        text.push('\n')?;
+    }
+    text.push_str("\x0cPEER\tPLSP\tHOLD\tBANDWIDTH\n")?;
+    add_each_held(alloc, text, &seen.paths)
+}
+
+/// Adds a link with the paths over it.
+pub(crate) fn add_link_use(
+    alloc: Global,
+    text: &mut String,
+    number: u64,
+    seen: &Option<LinkUse>,
+) -> Result<(), AllocError> {
+    match seen {
+        Some(seen) => add_use(alloc, text, number, seen),
+        None => text.push_str("no such link\n"),
+    }
+}

@@ -1,0 +1,167 @@
+//! Words for what is seen.
+ghost use Rattle.std.specs.Prelude.{◌≡◌};
+ghost use Rattle.pce_view.specs.Words.{booked_word, cost_in, event_word, is_found, links_in, obstacle_of, obstacle_word, outcome_number, outcome_word, purpose_plsp, purpose_request, purpose_word};
+
+use commit_core::Purpose;
+use path_looks::{Obstacle, PathAnswer};
+use pce_seen::{EventKind, Outcome};
+use te_base::LinkNumber;
+
+/// Says what a ticket asks a path for.
+pub(crate) fn purpose_word(purpose: &Purpose) -> &'static str
+    ensures { result.now ≡ purpose_word purpose.now }
+{
+    match purpose {
+        Purpose::Update { .. } => "update",
+        Purpose::Initiate { .. } => "initiate",
+        Purpose::Answer { .. } => "answer",
+    }
+}
+
+/// The PLSP-ID of the LSP that a path is asked for.
+pub(crate) fn purpose_plsp(purpose: &Purpose) -> Option<u64>
+    ensures { result ≡ purpose_plsp purpose.now }
+{
+    match purpose {
+        Purpose::Update { plsp } => Some(plsp.number() as u64),
+        Purpose::Initiate { .. } => None,
+        Purpose::Answer {
+            plsp: Some(plsp),
+            ..
+        } => Some(plsp.number() as u64),
+        Purpose::Answer { plsp: None, .. } => None,
+    }
+}
+
+/// The Request-ID of the request that a path answers.
+pub(crate) fn purpose_request(purpose: &Purpose) -> Option<u64>
+    ensures { result ≡ purpose_request purpose.now }
+{
+    match purpose {
+        Purpose::Answer { request, .. } => Some(*request as u64),
+        Purpose::Update { .. } | Purpose::Initiate { .. } => None,
+    }
+}
+
+/// Names a kind of event.
+pub(crate) fn event_word(event: EventKind) -> &'static str
+    ensures { result.now ≡ event_word event }
+{
+    match event {
+        EventKind::Up => "up",
+        EventKind::Report => "report",
+        EventKind::Marker => "marker",
+        EventKind::Down => "down",
+        EventKind::Expire => "expire",
+        EventKind::Ask => "ask",
+        EventKind::Take => "take",
+        EventKind::Commit => "commit",
+        EventKind::Drain => "drain",
+        EventKind::Refused => "refused",
+        EventKind::Return => "return",
+        EventKind::Delete => "delete",
+        EventKind::Reload => "reload",
+    }
+}
+
+fn booked_word(wants_path: bool) -> &'static str
+    ensures { result.now ≡ booked_word wants_path }
+{
+    if wants_path { "booked wants" } else { "booked" }
+}
+
+/// Names what came of a step.
+pub(crate) fn outcome_word(outcome: Outcome) -> &'static str
+    ensures { result.now ≡ outcome_word outcome }
+{
+    match outcome {
+        Outcome::Done => "done",
+        Outcome::Booked { wants_path } => booked_word(wants_path),
+        Outcome::Asked(_) => "asked",
+        Outcome::Job(_) => "job",
+        Outcome::Idle => "idle",
+        Outcome::Granted(_) => "granted",
+        Outcome::Answered => "answered",
+        Outcome::Again => "again",
+        Outcome::NoPath => "nopath",
+        Outcome::GivenUp => "givenup",
+        Outcome::Gone => "gone",
+        Outcome::Removing(_) => "removing",
+        Outcome::Out { .. } => "out",
+        Outcome::Refused(_) => "refused",
+    }
+}
+
+/// The number that goes with what came of a step: of a ticket or a request, of messages, or why it was refused.
+pub(crate) fn outcome_number(outcome: Outcome) -> Option<u64>
+    ensures { result ≡ outcome_number outcome }
+{
+    match outcome {
+        Outcome::Asked(ticket) | Outcome::Job(ticket) => Some(ticket),
+        Outcome::Granted(srp) | Outcome::Removing(srp) => Some(srp as u64),
+        Outcome::Out { messages } => Some(messages),
+        Outcome::Refused(why) => Some(why.number() as u64),
+        Outcome::Done
+        | Outcome::Booked { .. }
+        | Outcome::Idle
+        | Outcome::Answered
+        | Outcome::Again
+        | Outcome::NoPath
+        | Outcome::GivenUp
+        | Outcome::Gone => None,
+    }
+}
+
+/// Names an obstacle.
+pub(crate) fn obstacle_word(by: Obstacle) -> &'static str
+    ensures { result.now ≡ obstacle_word by }
+{
+    match by {
+        Obstacle::Bandwidth => "bandwidth",
+        Obstacle::Colours => "colours",
+        Obstacle::Bounds => "bounds",
+        Obstacle::Several => "several",
+    }
+}
+
+/// Tests whether there is a path.
+pub(crate) fn is_found(answer: &PathAnswer) -> bool
+    ensures { result ≡ is_found answer.now }
+{
+    match answer {
+        PathAnswer::Path(_) => true,
+        PathAnswer::Blocked { .. } | PathAnswer::NoWay => false,
+    }
+}
+
+/// What stands in the way of a path.
+pub(crate) fn obstacle_of(answer: &PathAnswer) -> Option<Obstacle>
+    ensures { result ≡ obstacle_of answer.now }
+{
+    match answer {
+        PathAnswer::Blocked { by, .. } => Some(*by),
+        PathAnswer::Path(_) | PathAnswer::NoWay => None,
+    }
+}
+
+/// The cost of the path, or of that which there is without the obstacle.
+pub(crate) fn cost_in(answer: &PathAnswer) -> Option<u64>
+    ensures { result ≡ cost_in answer.now }
+{
+    match answer {
+        PathAnswer::Path(found) | PathAnswer::Blocked { path: found, .. } => Some(found.cost),
+        PathAnswer::NoWay => None,
+    }
+}
+
+/// The links of the path, or of that which there is without the obstacle.
+pub(crate) fn links_in(answer: &PathAnswer) -> &[LinkNumber]
+    ensures { result.now ≡ links_in answer.now }
+{
+    match answer {
+        PathAnswer::Path(found) | PathAnswer::Blocked { path: found, .. } => {
+            found.links.as_slice()
+        }
+        PathAnswer::NoWay => &[],
+    }
+}

@@ -1,0 +1,182 @@
+//! `pced tell`: lines for a running server, each on a connection of its own, and what it answers.
+ghost use Rattle.std.specs.Prelude.{◌≡◌, ◌++◌, IfOk, codes, string_bytes};
+ghost use Rattle.pced.specs.Statuses.{tell_fault};
+ghost use Rattle.pced.specs.Tells.{sent};
+
+use crate::arguments::TellWords;
+use control_socket::{Outcome, await_end, is_line, outcome_of, tell};
+use std::alloc::{AllocError, Global};
+use std::io::{ErrorKind, Write};
+use std::net::Net;
+use std::rt::Runtime;
+use std::time::Clock;
+use std::{error, fmt, io};
+
+/// Why lines weren't all told. `Display` gives the text for standard error.
+#[derive(Clone, Copy, Debug, PartialEq, Eq)]
+pub enum TellFault {
+    /// A line break stands in a line.
+    BadArgument,
+    /// No server listens at the path.
+    Nobody,
+    /// The answer breaks off, or doesn't come.
+    BrokenOff,
+    /// Standard input or standard output fails.
+    Device,
+    OutOfMemory,
+}
+
+impl fmt::Display for TellFault {
+    fn fmt<W: fmt::Write>(&self, f: &mut fmt::Formatter<W>) -> fmt::Result {
+        f.write_str(match *self {
+            TellFault::BadArgument => "bad argument",
+            TellFault::Nobody => "nobody listens",
+            TellFault::BrokenOff => "answer broken off",
+            TellFault::Device => "device fault",
+            TellFault::OutOfMemory => "out of memory",
+        })
+    }
+}
+
+impl error::Error for TellFault {}
+
+/// What came of the lines that were told.
+#[derive(Clone, Copy, Debug, PartialEq, Eq)]
+pub enum Told {
+    AllHeard,
+    /// A line was bad.
+    SomeRefused,
+}
+
+/// The fault of an exchange with the server that failed by this kind.
+fn tell_fault(kind: ErrorKind) -> TellFault
+    ensures { result ≡ tell_fault kind }
+{
+    match kind {
+        ErrorKind::OutOfMemory => TellFault::OutOfMemory,
+        ErrorKind::BrokenPipe
+        | ErrorKind::ConnectionReset
+        | ErrorKind::TimedOut
+        | ErrorKind::WouldBlock => TellFault::BrokenOff,
+        _ => TellFault::Nobody,
+    }
+}
+
+/// What is sent for a line.
+fn sent(alloc: Global, is_json: bool, line: &str) -> Result<String, AllocError>
+    ensures { IfOk result (λ text. string_bytes text ≡ sent is_json line.now) }
+{
+    if is_json {
+        format!(in alloc; "json {line}")
+    } else {
+        String::from_str(alloc, line)
+    }
+}
+
+/// What came of a line that was heard. One that asked for the end has come to it once the server is gone.
+fn heard<R: Net + Clock>(rt: &R, path: &str, line: &str) -> Result<Told, TellFault> {
+    if line == "end" && !await_end(rt, path) {
+        return Err(TellFault::BrokenOff);
+    }
+    Ok(Told::AllHeard)
+}
+
+/// Tells a line, and writes what it is answered.
+fn tell_line<R: Net + Clock, O: Write>(
+    rt: &R,
+    alloc: Global,
+    path: &str,
+    line: &str,
+    writer: &mut O,
+) -> Result<Told, TellFault> {
+    let answer = match tell(rt, alloc, path, line) {
+        Ok(answer) => answer,
+        Err(error) => return Err(tell_fault(error.kind())),
+    };
+    if writer.write_all(&answer).is_err() || writer.flush().is_err() {
+        return Err(TellFault::Device);
+    }
+    match outcome_of(line, &answer) {
+        Outcome::Answered => heard(rt, path, line),
+        Outcome::Refused => Ok(Told::SomeRefused),
+        Outcome::BrokenOff => Err(TellFault::BrokenOff),
+    }
+}
+
+/// Tells a line, as the words ask for it.
+fn tell_one<R: Net + Clock, O: Write>(
+    rt: &R,
+    alloc: Global,
+    words: &TellWords<'_>,
+    line: &str,
+    writer: &mut O,
+) -> Result<Told, TellFault> {
+    if !is_line(line) {
+        return Err(TellFault::BadArgument);
+    }
+    match sent(alloc, words.is_json, line) {
+        Ok(text) => tell_line(rt, alloc, words.path, &text, writer),
+        Err(_) => Err(TellFault::OutOfMemory),
+    }
+}
+
+/// What came of these lines and of one more.
+fn told_too(all: Told, one: Told) -> Told {
+    match one {
+        Told::AllHeard => all,
+        Told::SomeRefused => Told::SomeRefused,
+    }
+}
+
+/// Tells the lines of the words, in their order.
+fn tell_words<R: Net + Clock, O: Write>(
+    rt: &R,
+    alloc: Global,
+    words: &TellWords<'_>,
+    writer: &mut O,
+) -> Result<Told, TellFault> {
+    let mut all = Told::AllHeard;
+    for line in words.lines.iter() {
+        let one = tell_one(rt, alloc, words, line, writer)?;
+        all = told_too(all, one);
+    }
+    Ok(all)
+}
+
+/// The fault of standard input that failed by this kind.
+fn input_fault(error: &io::Error) -> TellFault {
+    match error.kind() {
+        ErrorKind::OutOfMemory => TellFault::OutOfMemory,
+        _ => TellFault::Device,
+    }
+}
+
+/// Tells each line of standard input once it has come, up to its end.
+fn tell_input<R: Runtime<A = Global> + Net, O: Write>(
+    rt: &R,
+    words: &TellWords<'_>,
+    writer: &mut O,
+) -> Result<Told, TellFault> {
+    let mut all = Told::AllHeard;
+    for line in rt.lines(rt.alloc()) {
+        let one = match line {
+            Ok(line) => tell_one(rt, rt.alloc(), words, &line, writer)?,
+            Err(error) => return Err(input_fault(&error)),
+        };
+        all = told_too(all, one);
+    }
+    Ok(all)
+}
+
+/// Tells the lines of the words; where there are none, those of standard input. The first fault ends it.
+pub fn tell_all<R: Runtime<A = Global> + Net>(
+    rt: &R,
+    words: &TellWords<'_>,
+) -> Result<Told, TellFault> {
+    let mut writer = io::writer(rt);
+    if words.lines.is_empty() {
+        tell_input(rt, words, &mut writer)
+    } else {
+        tell_words(rt, rt.alloc(), words, &mut writer)
+    }
+}

@@ -1,0 +1,133 @@
+//! Links that are reloaded while a search for a path runs.
+use super::meeting::{Came, ask, came_to, come_up};
+use super::*;
+use history_core::{Event, LinkReload, Reply};
+use place_tokens::Room;
+use sequence::Sequence;
+use shared_pce::{Fault, Gate, Quiet, Seat, Shared};
+use std::process::Abort;
+use std::sync::Wait;
+use std::sync::ledger::Ledger;
+use te_base::LinkValues;
+
+/// Submits a reload of one link, and says whether it was made.
+fn is_reloaded<R: Wait, S: Ledger, G: Ledger, B: Room>(
+    rt: &R,
+    alloc: Global,
+    shared: &Shared<S, G, B>,
+    seat: &mut Seat<S, G, B>,
+    entry: LinkReload,
+) -> Result<bool, Fault> {
+    let mut links = Vec::new(alloc);
+    links.push(entry)?;
+    let links = Sequence::from_vec(links);
+    let reply = shared.submit(rt, seat, Event::Reload { links })?;
+    Ok(matches!(reply, Reply::Done))
+}
+
+/// Reloads a link once a ticket was taken, and before its path is sought.
+#[derive(Drop)]
+struct Reloading<'a, R: Wait, S: Ledger, G: Ledger, B: Room> {
+    rt: &'a R,
+    alloc: Global,
+    shared: &'a Shared<S, G, B>,
+    seat: &'a mut Seat<S, G, B>,
+    entry: LinkReload,
+    is_done: bool,
+}
+
+impl<'a, R: Wait, S: Ledger, G: Ledger, B: Room> Gate for Reloading<'a, R, S, G, B> {
+    fn computing(&mut self, _ticket: u64) {
+        let made = is_reloaded(self.rt, self.alloc, self.shared, self.seat, self.entry);
+        self.is_done = matches!(made, Ok(true));
+    }
+}
+
+/// What a search comes to during which this link is given these values.
+fn came_beside<R: Wait, S: Ledger, G: Ledger, B: Room>(
+    rt: &R,
+    alloc: Global,
+    shared: &Shared<S, G, B>,
+    worker: &mut Seat<S, G, B>,
+    seat: &mut Seat<S, G, B>,
+    link: usize,
+    values: Option<LinkValues>,
+) -> Result<Came, Fail> {
+    let Some(values) = values else {
+        return Err(Fail::new("numbers out of their ranges"));
+    };
+    let mut gate = Reloading {
+        rt,
+        alloc,
+        shared,
+        seat,
+        entry: LinkReload { link, values },
+        is_done: false,
+    };
+    let came = came_to(&shared.work_one(rt, worker, &mut gate)?);
+    if gate.is_done {
+        Ok(came)
+    } else {
+        Err(Fail::new("the link is reloaded"))
+    }
+}
+
+/// What is left of each link at the best priority.
+fn left_now<R: Wait, S: Ledger, G: Ledger, B: Room>(
+    rt: &R,
+    shared: &Shared<S, G, B>,
+) -> Result<[i64; 4], Fail> {
+    let mut best = [0i64; 4];
+    let table = shared.left(rt)?;
+    for (link, amounts) in table.iter().enumerate().take(4) {
+        best[link] = amounts[0];
+    }
+    Ok(best)
+}
+
+/// A search goes by the links of the moment when its ticket was taken: the way over B is granted, though it costs more by
+/// then. The next search goes by those of now, over C; of that way a link bears too little at the commit, so it is sought
+/// again, and found over B.
+pub fn reload_beside_searches<R: Wait + Abort, S: Ledger, G: Ledger, B: Room>(
+    rt: &R,
+    alloc: Global,
+    shared: &Shared<S, G, B>,
+    worker: &mut Seat<S, G, B>,
+    seat: &mut Seat<S, G, B>,
+) -> Result<(), Fail> {
+    come_up(rt, shared, worker, 1)?;
+    let first = "initiate 1 t1 10.0.0.1 10.0.0.4 600000 7 0";
+    ask(rt, alloc, shared, worker, first)?;
+    let dear = LinkValues::new(90, 90, 0, 1_000_000);
+    let came = came_beside(rt, alloc, shared, worker, seat, 0, dear)?;
+    let left = left_now(rt, shared)?;
+    assert_eq!(rt;
+        (came, left),
+        (Came::Granted(1), [400_000, 400_000, 1_000_000, 1_000_000])
+    );
+    let second = "initiate 1 t2 10.0.0.1 10.0.0.4 300000 7 0";
+    ask(rt, alloc, shared, worker, second)?;
+    let narrow = LinkValues::new(20, 20, 0, 100_000);
+    let came = came_beside(rt, alloc, shared, worker, seat, 2, narrow)?;
+    assert_eq!(rt; came, Came::Again);
+    let came = came_to(&shared.work_one(rt, worker, &mut Quiet)?);
+    let left = left_now(rt, shared)?;
+    assert_eq!(rt;
+        (came, left),
+        (Came::Granted(2), [100_000, 100_000, 100_000, 1_000_000])
+    );
+    Ok(())
+}
+
+/// The audit, with both reloads in the history.
+pub fn replays<R: Abort, S: Ledger, G: Ledger, B: Room>(
+    rt: &R,
+    shared: Shared<S, G, B>,
+    seats: Vec<Seat<S, G, B>>,
+) -> Result<(), Fail> {
+    let Ok(audit) = shared.close(seats) else {
+        return Err(Fail::new("the audit failed"));
+    };
+    assert_eq!(rt; (audit.steps, audit.grants), (12, 2));
+    Ok(())
+}
