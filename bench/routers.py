@@ -1,4 +1,4 @@
-"""Routers, and a running server, for `bench/serve`, `bench/soak` and `bench/storm`."""
+"""Routers, and a running server, for `bench/serve`, `bench/soak`, `bench/storm` and `bench/http`."""
 import multiprocessing
 import os
 import socket
@@ -94,12 +94,12 @@ class Router:
 
 
 class Server:
-    """PROGRAM serve on a network with so many workers; LOG takes what it says on standard error."""
+    """PROGRAM serve on a network with so many workers, and with other words; LOG takes what it says on standard error."""
 
-    def __init__(self, program, te=f"{ROOT}/examples/diamond.toml", workers=2, log=subprocess.DEVNULL):
+    def __init__(self, program, te=f"{ROOT}/examples/diamond.toml", workers=2, log=subprocess.DEVNULL, more=()):
         words = [program, "serve", "--te", te, "--listen", f"127.0.0.1:{PORT}"]
         self.process = subprocess.Popen(
-            words + ["--workers", str(workers), "--endless"],
+            words + ["--workers", str(workers), "--endless", *more],
             stdin=subprocess.PIPE, stdout=subprocess.PIPE, stderr=log,
         )
         for _ in range(200):

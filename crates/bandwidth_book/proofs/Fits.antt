@@ -1,7 +1,8 @@
 -- What one more path reserves.
-use Rattle.std.proofs.Common.{◌≡◌, ◌≤◌, ◌<◌, ◌^◌, ℕ, zero, suc, ◌==◌, get_or, drop, ◌+◌, ◌-◌, Bool, true, false, ◌||◌, ◌&&◌, nat_le, nat_lt, not, max, int_le, pos, ◌-ℤ◌, List, [], ◌∷◌, ◌++◌, length, refl, sym, ap, subst, ◌∙◌, arith, inl, inr, true≢false, if◌then◌else◌}
-use Rattle.std.proofs.lemmas.Bool.{cases_Bool}
+use Rattle.std.proofs.Common.{◌≡◌, ◌≤◌, ◌<◌, ◌^◌, ℕ, zero, suc, ◌==◌, get_or, drop, ◌+◌, ◌-◌, Bool, true, false, ◌||◌, ◌&&◌, nat_le, nat_lt, not, max, int_le, pos, ◌-ℤ◌, ◌≤ℤ◌, T, List, [], ◌∷◌, ◌++◌, length, refl, sym, ap, subst, ◌∙◌, arith, inl, inr, true≢false, if◌then◌else◌}
+use Rattle.std.proofs.lemmas.Bool.{cases_Bool, or_cases, or_left, or_right}
 use Rattle.std.proofs.lemmas.Bool.Decides.{nat_tests}
+use Rattle.std.proofs.lemmas.Int.{ints}
 use Rattle.std.specs.List.{All, list_all, list_any, range_with_len}
 use Rattle.lsp_base.specs.Shares.{fits_at, has_link, is_of_tunnel, reservable, reserved, rises, share, tunnels_of, unreserved}
 use Rattle.std.proofs.lemmas.List.Elements.{All-head, All-tail}
@@ -115,6 +116,25 @@ fits_at_is links paths g l p b s sum eb es er low has =
     let first : nat_le b s ≡ not (rises paths g l p) = not_less b s ∙ (λ i. not (nat_lt (es i) (sym w2 i))) in
     let amount : sum + (b - s) ≡ reserved (paths ++ g ∷ []) l p = (let r = reserved_with paths g l p in omega (arith, r, w2, es, er)) in
     λ i. first i || int_le (pos 0) (pos (reservable links l) -ℤ pos (amount i))
+
+is_true : (b : Bool) → T b → b ≡ true
+is_true true t = refl
+is_true false t = absurd t
+
+-- what is left beside a path that shares nothing is left beside one that shares
+left_beside_share : (able sum b s : ℕ) → int_le (pos 0) (pos able -ℤ pos (sum + (b - 0))) ≡ true → int_le (pos 0) (pos able -ℤ pos (sum + (b - s))) ≡ true
+left_beside_share able sum b s h =
+    let given : pos 0 ≤ℤ (pos able -ℤ pos (sum + (b - 0))) = record { le = subst T (sym h) tt } in
+    let wanted : pos 0 ≤ℤ (pos able -ℤ pos (sum + (b - s))) = omega (arith, ints, given) in
+    is_true (int_le (pos 0) (pos able -ℤ pos (sum + (b - s)))) wanted.le
+
+-- a bandwidth that is borne where nothing is shared is borne whatever is
+pub borne_beside_share : (able sum b s : ℕ) → (nat_le b 0 || int_le (pos 0) (pos able -ℤ pos (sum + (b - 0)))) ≡ true → (nat_le b s || int_le (pos 0) (pos able -ℤ pos (sum + (b - s)))) ≡ true
+borne_beside_share able sum b s h =
+    elim (or_cases (nat_le b 0) (int_le (pos 0) (pos able -ℤ pos (sum + (b - 0)))) h) [
+      | inl none ↦ (let low : nat_le b s ≡ true = grind (arith, nat_tests, none) in or_left (nat_le b s) _ low)
+      | inr left ↦ or_right (nat_le b s) _ (left_beside_share able sum b s left)
+    ]
 
 -- ---- the priorities in turn
 

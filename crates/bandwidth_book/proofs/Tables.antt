@@ -57,7 +57,7 @@ pub if_ok : {A E : Type 0} (r : Result A E) (P Q : A → Type 0) → IfOk r P �
 if_ok (Ok x) P Q h f = f x h
 if_ok (Err e) P Q h f = h
 
--- the row of a table with the marked pages made anew
+-- the row of a table with the marked rows made anew
 pub row_now : (links : List Link) (held : ℕ → Tunnel → List Held) (marks : Marks) (sums : List (List ℕ)) (table now : List (List ℤ)) (l : ℕ) → l < length links → AreFresh links held marks table
     → ((paths : List Path) → IsHeldOn (held l) l paths → left_beside links sums l ≡ left_on links paths l)
     → row now l ≡ (if is_marked marks l then left_beside links sums l else row table l) → IsRowOf links held l (row now l)
@@ -69,7 +69,7 @@ row_now links held marks sums table now l less fresh left is = λ paths s.
 
 -- ---- rows that stay
 
--- a page that isn't marked wasn't
+-- a row that isn't marked wasn't
 pub was_free : (before after : Bool) → (before ≡ true → after ≡ true) → after ≡ false → before ≡ false
 was_free true after kept free = absurd (true≢false (sym (kept refl) ∙ free))
 was_free false after kept free = refl

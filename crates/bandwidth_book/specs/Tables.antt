@@ -16,7 +16,7 @@ use Rattle.bandwidth_book.specs.Paths.{IsHeldBy, held_by}
 abbrev pub AreLeft : List Link → List Path → List (List ℤ) → Type 0
 AreLeft links paths table = (l p : ℕ) → l < length links → p < 8 → left table l p ≡ unreserved links paths l p
 
--- the network n, with what is left of its links beside each list of paths that holds this much on so many
+-- the network n, with what is left of its links beside each list of paths that holds `held` on the first `count`
 -- of them
 pub record IsLeftOver (n : Network) (count : ℕ) (held : ℕ → Tunnel → List Held) (s : NetworkState) : Type 0 where
   pub network : s.network ≡ n
@@ -30,6 +30,6 @@ IsHeldOn held l paths = (t : Tunnel) (h : Held) → times h (held t) ≡ times h
 abbrev pub IsRowOf : List Link → (ℕ → Tunnel → List Held) → ℕ → List ℤ → Type 0
 IsRowOf links held l row = (paths : List Path) → IsHeldOn (held l) l paths → row ≡ left_on links paths l
 
--- each row on a page that isn't marked says so
+-- each row that isn't marked says so
 abbrev pub AreFresh : List Link → (ℕ → Tunnel → List Held) → Marks → List (List ℤ) → Type 0
 AreFresh links held marks table = (l : ℕ) → l < length links → is_marked marks l ≡ false → IsRowOf links held l (row table l)

@@ -26,7 +26,7 @@ pub struct Book {
     pub(crate) is_kept: bool,
     /// Whether its network has the links of now.
     pub(crate) is_current: bool,
-    /// The pages of its table with a link on which something changed since.
+    /// The rows of its table on whose links something changed since.
     pub(crate) marks: Marks,
     pub(crate) ledgers: Ledgers,
     /// The paths for which room was promised since the last change. An entry without paths stands nowhere else.

@@ -43,4 +43,3 @@ mod tunnels;
 mod values;
 
 pub use book::Book;
-pub use te_snapshot::{OwnShare, OwnShares, Snapshot, Topology};

@@ -100,11 +100,16 @@ fn bears_at(
     ensures { (paths : List Path) → IsHeldBy (count ledgers.now) (held_at ledgers.now) paths
         → result ≡ fits_at links.now paths path.now link priority }
 {
-    let share = share_at(ledgers, &path.tunnel, link, priority);
     let sums = sums_at(ledgers, link);
     let reservable = reservable_of(links, link);
     let sum = sums[priority.number() as usize];
-    is_borne(path.bandwidth.value(), share, reservable, sum)
+    let bandwidth = path.bandwidth.value();
+    // where the link bears it beside all that is reserved, the tunnel's share isn't looked up
+    if is_borne(bandwidth, 0, reservable, sum) {
+        return true;
+    }
+    let share = share_at(ledgers, &path.tunnel, link, priority);
+    is_borne(bandwidth, share, reservable, sum)
 }
 
 /// Tests whether a link of the path bears it at each priority from holding to setup.

@@ -21,7 +21,7 @@ use std::sync::Arc;
 use te_base::{Link, LinkNumber};
 use te_snapshot::{Marks, Snapshot, Table, Topology};
 
-/// A snapshot to begin with, of which each page is to be made anew.
+/// A snapshot to begin with, of which each row is to be made anew.
 pub(crate) fn first_snapshot(
     alloc: Global,
     topology: Arc<Topology, Global>,
@@ -33,7 +33,7 @@ pub(crate) fn first_snapshot(
     Snapshot::new(alloc, topology, rows)
 }
 
-/// Marks the pages of a path's links.
+/// Marks the rows of a path's links.
 fn mark_links(marks: &mut Marks, links: &[LinkNumber])
     ensures marked { All (λ l. is_marked marks.new l ≡ true) links.now }
     ensures kept { (l : ℕ) → is_marked marks.old l ≡ true → is_marked marks.new l ≡ true }
@@ -43,7 +43,7 @@ fn mark_links(marks: &mut Marks, links: &[LinkNumber])
     }
 }
 
-/// Marks the pages of the links of each path.
+/// Marks the rows of the links of each path.
 pub(crate) fn mark_paths(marks: &mut Marks, paths: &[Path])
     ensures marked { All (λ x. All (λ l. is_marked marks.new l ≡ true) x.links) paths.now }
     ensures kept { (l : ℕ) → is_marked marks.old l ≡ true → is_marked marks.new l ≡ true }
@@ -63,7 +63,7 @@ fn all_sums(ledgers: &Ledgers) -> &[[u64; 8]]
     &ledgers.sums
 }
 
-/// What is left of every link: the last snapshot's table, with the marked pages made anew.
+/// What is left of every link: the last snapshot's table, with the marked rows made anew.
 fn table_now(
     alloc: Global,
     last: &Snapshot,
@@ -110,9 +110,9 @@ impl Book {
     }
 
     /// The network, with what is left of every link at each priority, in bytes per second. Where no path and no value
-    /// changed since the last one it is that one, shared, and takes no memory; else only the pages with a link on which
-    /// something changed are made anew, and the network where a link has other values. Later changes leave it as it is.
-    /// Where memory is refused nothing has changed.
+    /// changed since the last one it is that one, shared, and takes no memory; else the pages with a link on which
+    /// something changed are copied and those links' rows made anew, and the network where a link has other values. Later
+    /// changes leave it as it is. Where memory is refused nothing has changed.
     pub fn snapshot(&mut self) -> Result<Snapshot, AllocError>
         ensures network { IfOk result (λ s. s.network ≡ network_of self.old) }
         ensures whole { IfOk result (λ s. (paths : List Path) → StandsFor self.old paths → s ≡ state_beside (network_of self.old) paths) }

@@ -36,7 +36,7 @@ cannot_be_granted lsps v = nat_le 16384 (length lsps.paths) || v.srp_in_use
 abbrev pub accepted : Lsps → Ticket → PeerView → Verdict
 accepted lsps t v = if is_request t.purpose then Answer else (if cannot_be_granted lsps v then GivenUp else Grant)
 
--- no offer: where paths came or went since the ticket was taken, it is searched for again
+-- no offer: where paths came or went, or links were reloaded, since the ticket was taken, it is searched for again
 abbrev pub judged : Ticket → Option Path → Lsps → Base → PeerView → Verdict
 judged t None lsps te v = if v.changes == t.seen then NoPath else unless_tried t NoPath
 judged t (Some g) lsps te v = if is_acceptable te lsps.paths t.constraints g then accepted lsps t v else unless_tried t GivenUp

@@ -141,6 +141,7 @@ pub fn judge(
     ensures found_is_accepted { IsFoundNow te.now base.now.content ticket.now (option_copied offer.entry)
         → is_gone base.now.content ticket.now view ≡ false → result ≡ accepted base.now.content ticket.now view }
 {
+    // for the proof alone: a setup priority is at most 7
     let _setup = ticket.constraints.priorities.setup().number();
     verdict_of(ticket, offer, base, book, te, view)
 }

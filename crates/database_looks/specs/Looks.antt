@@ -1,10 +1,9 @@
 -- What each look sees of a database.
-use Rattle.std.specs.Prelude.{ℕ, ◌≡◌, ◌≤◌, ◌-◌, ◌+◌, not, List, length, map, filter, drop, slice_get, Option, Some, None}
+use Rattle.std.specs.Prelude.{ℕ, ◌≡◌, ◌≤◌, ◌-◌, ◌+◌, List, length, map, filter, drop, slice_get, Option, Some, None}
 use Rattle.lsp_base.specs.declared.effect.Record.{Record}
 use Rattle.te_snapshot.specs.Left.{all_left, left_on, state_beside}
 use Rattle.te_snapshot.specs.Network.{network_of}
 use Rattle.step_core.specs.declared.peer.Peer.{Peer}
-use Rattle.step_core.specs.States.{is_nothing}
 use Rattle.history_core.specs.Histories.{Content, steps_of, grants_of}
 use Rattle.pce_seen.specs.Lsps.{IsPage, held_on, lsp_in}
 use Rattle.pce_seen.specs.declared.ask.Ask.{Ask}
@@ -20,6 +19,7 @@ use Rattle.pce_seen.specs.declared.seen.Counts.{Counts}
 use Rattle.pce_seen.specs.declared.seen.Network.{Network}
 use Rattle.pce_seen.specs.declared.seen.Seen.{Seen}
 use Rattle.pce_seen.specs.declared.seen.Seen.TheVariants as seen
+use Rattle.database_looks.specs.Origins.{SeesOrigins}
 use Rattle.database_looks.specs.Steps.{known_step}
 
 -- how much there is of what
@@ -57,7 +57,7 @@ known_peer p = record {
   session = p.session;
   may_update = (p.capabilities).update;
   may_create = (p.capabilities).create;
-  has_waiting_messages = not (is_nothing p.outgoing);
+  waiting_messages = length p.outgoing;
 }
 
 abbrev pub owner_of_lsp : Record → LspOwner
@@ -101,5 +101,7 @@ Sees (ask.Lsps peer from) d (seen.Lsps page) = SeesLsps peer from d page
 Sees (ask.Lsp peer plsp) d (seen.Lsp lsp) = lsp ≡ lsp_in d.state.base peer plsp
 Sees (ask.Link link) d (seen.Link found) = SeesLink link d found
 Sees (ask.Steps last) d (seen.Steps steps) = SeesSteps last d steps
+Sees (ask.LinkLine link) d (seen.Link found) = SeesLink link d found
+Sees (ask.Why peer plsp) d (seen.Origins origins) = SeesOrigins peer plsp d origins
 Sees (ask.Path from to bandwidth priorities) d (seen.Network network) = SeesNetwork d network
 Sees a d s = ⊥

@@ -3,6 +3,7 @@ use crate::book::{see_book, see_network};
 use crate::counts::see_counts;
 use crate::look::Look;
 use crate::lsps::{see_link, see_lsp, see_lsps};
+use crate::origins::see_origins;
 use crate::peers::{see_peers, see_tickets};
 use crate::steps::see_steps;
 use history_core::Database;
@@ -26,6 +27,8 @@ impl Look for Ask {
             Ask::Lsp { peer, plsp } => Ok(Seen::Lsp(see_lsp(alloc, database, peer, plsp)?)),
             Ask::Link { link } => Ok(Seen::Link(see_link(alloc, database, link)?)),
             Ask::Steps { last } => Ok(Seen::Steps(see_steps(alloc, database, last)?)),
+            Ask::LinkLine { link } => Ok(Seen::Link(see_link(alloc, database, link)?)),
+            Ask::Why { peer, plsp } => Ok(Seen::Origins(see_origins(alloc, database, peer, plsp)?)),
             Ask::Path { .. } => Ok(Seen::Network(see_network(alloc, database)?)),
         }
     }

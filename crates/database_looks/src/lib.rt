@@ -19,9 +19,13 @@ mod left;
 mod look;
 mod lsps;
 mod nodes;
+mod numbers;
+mod origins;
 mod peers;
 mod steps;
 
 pub use book::BookLook;
 pub use left::LeftLook;
 pub use look::Look;
+pub use numbers::NumbersLook;
+pub use steps::kind_of;

@@ -20,7 +20,7 @@ fn known_peer(peer: &Peer) -> KnownPeer
         session: peer.session,
         may_update: peer.capabilities.update,
         may_create: peer.capabilities.create,
-        has_waiting_messages: !peer.outgoing.is_empty(),
+        waiting_messages: peer.outgoing.len() as u64,
     }
 }
 

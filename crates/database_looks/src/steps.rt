@@ -8,7 +8,8 @@ use pce_seen::{EventKind, KnownStep, LastSteps, Outcome};
 use std::alloc::{AllocError, Global};
 use step_core::Event;
 
-fn kind_of(event: &Event) -> EventKind
+/// Names the kind of an event.
+pub fn kind_of(event: &Event) -> EventKind
     ensures { result ≡ kind_of event.now }
 {
     match event {

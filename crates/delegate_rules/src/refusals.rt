@@ -5,9 +5,7 @@ ghost use Rattle.delegate_rules.specs.Refusals.{has_no_other, record_ended, reco
 
 use crate::reported::has_no_path;
 use keyed_list::Test;
-use lsp_base::{
-    Effect, GrantAs, Lsp, LspBase, Path, Record, RecordChange, RecordRule, is_removed_as,
-};
+use lsp_base::{Effect, GrantAs, LspBase, Path, Record, RecordChange, RecordRule, is_removed_as};
 use pcep_objects::Plsp;
 use sequence::PlainData;
 use std::alloc::{AllocError, Global};
@@ -63,14 +61,8 @@ fn records_ended(
 fn removal_cleared(known: &Record) -> Result<RecordChange, AllocError>
     ensures { IfOk result (λ change. change ≡ removal_cleared known.now) }
 {
-    let lsp = Lsp {
-        name: known.lsp.name.copy()?,
-        delegated: known.lsp.delegated,
-        created: known.lsp.created,
-        constraints: known.lsp.constraints,
-        tunnel: known.lsp.tunnel,
-        removing: None,
-    };
+    let mut lsp = known.lsp.copy()?;
+    lsp.removing = None;
     Ok(RecordChange {
         plsp: known.plsp,
         lsp: Some(lsp),

@@ -169,7 +169,7 @@ abbrev pub turned : {W : Type 0} → ℕ → Option Input → Client → (Client
 turned peer None c again go_on = go_on c
 turned peer (Some given) c again go_on = on_input peer given c again
 
--- all that the session gives, in order, in so many turns at most
+-- all that the session gives, in order, in at most n turns
 abbrev pub turns : {W : Type 0} → ℕ → ℕ → Client → (Client → Plan W) → Plan W
 turns zero peer c go_on = go_on c
 turns (suc most) peer c go_on =

@@ -21,7 +21,7 @@ pub record LentMoves (old : Lent) (made : List Call) (new : Lent) : Type 0 where
   pub steps : Steps old.database.now made new.database.now
   pub added : new.calls.items ≡ old.calls.items ++ made
 
--- the database of the same loan is rolled: so many steps were taken before its base
+-- the database of the same loan is rolled, and `steps` steps were taken before its base
 pub record LentRolls (old : Lent) (steps : ℕ) (new : Lent) : Type 0 where
   pub same_loan : new.database.ghost_name ≡ old.database.ghost_name
   pub rolled : new.database.now ≡ rolled_up old.database.now

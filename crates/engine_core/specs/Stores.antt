@@ -51,7 +51,7 @@ ServesOrEnds (Err fault) moves is_full old new client after plan = EndsAt moves 
 
 -- ---- room for more steps
 
--- the history was full and is rolled, so many steps taken before its base; None: nothing has changed
+-- Some n: the history was full and is rolled, with n steps before its base; None: nothing has changed
 abbrev pub MakesRoom : {S : Type 0} → (S → List Call → S → Type 0) → (S → Type 0) → (S → ℕ → S → Type 0) → S → S → Option ℕ → Type 0
 MakesRoom moves is_full rolls old new None = moves old [] new
 MakesRoom moves is_full rolls old new (Some steps) = is_full old × rolls old steps new

@@ -41,7 +41,7 @@ pub trait Store {
     /// No further step can be kept.
     ghost is_full: { Self → Type 0 };
 
-    /// The one is the other with its history rolled: so many steps were taken before its base.
+    /// The one is the other with its history rolled, and n steps were taken before its base.
     ghost rolls: { Self → ℕ → Self → Type 0 };
 
     /// Submits an event. It is added to the list with the reply that it got; after a fault nothing is.

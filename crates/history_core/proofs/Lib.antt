@@ -1,3 +1,4 @@
 pub mod Sounding
 pub mod Replaying
 pub mod Rolling
+pub mod Orders

@@ -43,8 +43,8 @@ step_limit = 1048576
 abbrev pub last_step : ℕ
 last_step = 2 ^ 62
 
--- what a database is seen as: a state, with the kept steps that led to it from the base; before the base so many
--- steps were taken, so many of them grants; and the network of the link text, from which all steps began
+-- what a database is seen as: a state, with the kept steps that led to it from the base; how many steps were taken
+-- before the base, and how many of them were grants; and the network of the link text, from which all steps began
 pub record Content : Type 0 where
   pub state : State
   pub history : List Step
@@ -70,7 +70,7 @@ pub record ReplaysFrom (start : State) (history : List Step) (state : State) : T
   pub legal : IsLegalFrom start history
   pub leads : replay start history ≡ state
 
--- so many steps, so many of them grants, led to the state from the network of the link text, of which nothing was
+-- `count` steps, `granted` of them grants, led to the state from the network of the link text, of which nothing was
 -- reported yet
 pub record IsPast (text : Base) (past : List Step) (count granted : ℕ) (state : State) : Type 0 where
   pub steps : length past ≡ count

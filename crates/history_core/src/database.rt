@@ -70,8 +70,8 @@ impl Model for Database {
     ghost invariant = { λ d. IsKept d.state d.history.items d.base d.text d.rolled d.rolled_grants d.grants };
 }
 
-/// For how many more steps room is made where so many are kept: for all that may be, with the first of them, so that no
-/// later step moves those before it. Memory that isn't written yet costs nothing but its addresses.
+/// For how many more steps room is made, by the number of those kept: for all that may be, with the first of them, so
+/// that no later step moves those before it. Memory that isn't written yet costs nothing but its addresses.
 fn wanted_room(kept: usize) -> usize
     ensures { 1 ≤ result }
 {
@@ -199,8 +199,8 @@ impl Database {
         Ok(())
     }
 
-    /// The same, and the steps that were kept are given, oldest first: to let go of a million of them takes
-    /// time, which may be spent once a lock is free.
+    /// The same, and gives the steps that were kept, oldest first: dropping a million of them takes time, which may be
+    /// spent once a lock is free.
     pub fn take_rolled(&mut self) -> Result<Vec<Step>, AllocError>
         ensures rolled { OnOk result (self.new ≡ rolled_up self.old) }
         ensures given { IfOk result (λ steps. steps.items ≡ self.old.history) }
@@ -218,7 +218,8 @@ impl Database {
     /// What was known at the last roll, before the first of the kept steps; before the first roll, that
     /// nothing was reported of the network of the link text. Takes no memory.
     pub fn base(&self) -> &Base
-        ensures { state_over self.now.state.te result.now ≡ self.now.base }
+        ensures known { state_over self.now.state.te result.now ≡ self.now.base }
+        ensures values { result.now.values ≡ values_in self.now.base.te }
     {
         &self.base
     }

@@ -3,7 +3,7 @@
 //! every value of `Database` it holds that its history replays: from its base, on one thread, its events
 //! give these very briefs and lead to its state (`specs/Histories.antt`). So what `unreserved` answers is
 //! what the reports leave of a link. At most 1,048,576 steps are kept; a roll makes the state the base, and
-//! lets go of the steps before it, which stay counted. All steps ever taken, those before the base too, are
+//! drops the steps before it, which stay counted. All steps ever taken, those before the base too, are
 //! one legal and sound history from the network of the link text, of which nothing was reported (`one_history`).
 //!
 //! ```text
@@ -25,7 +25,7 @@ mod step;
 
 pub use database::{Database, LAST_STEP, STEP_LIMIT};
 pub use fault::Fault;
-pub use laws::{network_stays, one_history};
+pub use laws::{network_stays, one_history, order_makes_no_difference};
 pub use step::{Brief, Step};
 pub use step_core::{
     Base, Event, Job, LinkReload, LspName, Purpose, Reply, SharedEvent, Ticket, Why,

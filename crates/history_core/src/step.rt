@@ -25,7 +25,7 @@ pub enum Brief {
     Gone,
     /// The SRP-ID of the removal.
     Removing(u32),
-    /// So many messages were handed out to be sent.
+    /// How many messages were handed out to be sent.
     Out { messages: u64 },
     Refused(Why),
 }

@@ -50,7 +50,6 @@ pub use lsp::{Constraints, Lsp, OtherBounds};
 pub use names::is_same_name;
 pub use passes::RecordRule;
 pub use path::Path;
-pub use pcep_word::Priorities;
 pub use pending::{GrantAs, is_created, is_delegated, is_pending, is_removed_as};
 pub use tunnel::{Part, Tunnel};
 pub use why::{Ends, Why};

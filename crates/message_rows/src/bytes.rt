@@ -4,7 +4,7 @@ use anyhow::Result;
 use std::alloc::{AllocError, Global};
 use std::fmt::Write;
 
-/// Appends the bytes so many times.
+/// Appends the bytes `count` times.
 fn append_often(piece: &[u8], count: u16, bytes: &mut Vec<u8>) -> Result<(), AllocError> {
     for _ in 0..count {
         bytes.extend_from_slice(piece)?;
@@ -12,13 +12,13 @@ fn append_often(piece: &[u8], count: u16, bytes: &mut Vec<u8>) -> Result<(), All
     Ok(())
 }
 
-/// Appends the bytes of the digits, so many times.
+/// Appends the bytes of the digits `count` times.
 fn append_digits(alloc: Global, digits: &str, count: u16, bytes: &mut Vec<u8>) -> Result<()> {
     let piece = hex::decode(alloc, digits)?;
     Ok(append_often(&piece, count, bytes)?)
 }
 
-/// Appends the bytes of a word: of digits, or of a number, a star and the digits that stand so often.
+/// Appends the bytes of a word: of digits, or of a number, a star and the digits that it repeats.
 fn append_word(alloc: Global, word: &str, bytes: &mut Vec<u8>) -> Result<()> {
     match word.split_once('*') {
         Some((count, digits)) => append_digits(alloc, digits, count.parse::<u16>()?, bytes),

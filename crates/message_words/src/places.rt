@@ -24,7 +24,7 @@ pub struct Place {
 enum Look {
     /// It has the fault.
     Here,
-    /// It hasn't, and has so many bytes.
+    /// It hasn't, and this is its length in bytes.
     Next(usize),
     /// It can't be passed over.
     Nowhere,

@@ -2,5 +2,5 @@ pub mod Passing
 pub mod Walks
 pub mod Sides
 pub mod Limits
-pub mod Told
+pub mod QuickAnswers
 pub mod Answers

@@ -15,7 +15,7 @@ InRange links nodes = All (λ l. (l.from < nodes) × (l.to < nodes)) links
 abbrev pub HasMetrics : List Link → Type 0
 HasMetrics links = All (λ l. (0 < l.te) × (l.te < 2 ^ 24) × (0 < l.igp) × (l.igp < 2 ^ 24)) links
 
--- the links lead from a to b, each one open, and cost so much
+-- the links lead from a to b, each one open, and their costs add up to `cost`
 abbrev pub Leads : Query → List Link → ℕ → List ℕ → ℕ → ℕ → Type 0
 Leads q links a [] b cost = (a ≡ b) × (cost ≡ 0)
 Leads q links a (n ∷ ns) b cost = (l : Link) × (price : ℕ) × (rest : ℕ) × (slice_get links n ≡ Some l) × (l.from ≡ a) × (toll q n l ≡ Some price) × Leads q links l.to ns b rest × (cost ≡ price + rest)
@@ -71,7 +71,7 @@ pub record IsNext (q : Query) (links : List Link) (old new : List ℕ) (limit : 
   pub reaches : (n : ℕ) (l : Link) → slice_get links n ≡ Some l → Reaches q old new limit n l
   pub made : (v : ℕ) → (slice_index new v ≡ slice_index old v) ⊎ IsMade q links old v (slice_index new v)
 
--- each walk of at most so many links to the destination, of less than the limit, costs at least what the row says
+-- each walk of at most `most` links to the destination, of less than the limit, costs at least what the row says
 pub record IsBelow (q : Query) (links : List Link) (destination limit : ℕ) (row : List ℕ) (most : ℕ) : Type 0 where
   pub each : (v : ℕ) (ns : List ℕ) (cost : ℕ) → Leads q links v ns destination cost → cost < limit → length ns ≤ most → slice_index row v ≤ cost
 
@@ -83,13 +83,13 @@ pub record IsFront (q : Query) (links : List Link) (source destination limit : �
   pub small : paid ≤ 2 ^ 24 * left
   pub least : (ns : List ℕ) (cost : ℕ) → Leads q links source ns destination cost → cost < limit → length ns ≤ used + left → paid + slice_index row at ≤ cost
 
--- a walk of at most so many links, and none of at most so many costs less
+-- a walk of at most `hops` links, and none of at most `hops` links costs less
 pub record IsLeastWalk (q : Query) (links : List Link) (source destination limit hops : ℕ) (path : List ℕ) (cost : ℕ) : Type 0 where
   pub leads : Leads q links source path destination cost
   pub short : length path ≤ hops
   pub under : cost < limit
   pub least : (ns : List ℕ) (other : ℕ) → Leads q links source ns destination other → length ns ≤ hops → cost ≤ other
 
--- each walk of at most so many links costs at least the limit
+-- each walk of at most `hops` links costs at least the limit
 pub record NoneWithin (q : Query) (links : List Link) (source destination limit hops : ℕ) : Type 0 where
   pub each : (ns : List ℕ) (cost : ℕ) → Leads q links source ns destination cost → length ns ≤ hops → limit ≤ cost

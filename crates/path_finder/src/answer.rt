@@ -48,6 +48,7 @@ fn between(
     ensures some { IfOk result (λ r. IfSome r (λ f. IsLeast (searched query.now) query.now.constraints.now query.now.own.now f.links f.cost)) }
     ensures none { IfOk result (λ r. IfNone r (IsImpossible (searched query.now) query.now.constraints.now query.now.own.now)) }
 {
+    // for the proof alone: the links of a topology are among its nodes
     let _links = query.topology.links();
     if source == destination {
         return Ok(None);
@@ -154,7 +155,7 @@ fn find_counting(
 /// A path from the source to the destination that the snapshot admits, of least cost, with its cost, if it keeps
 /// the other bounds.
 ///
-/// `None` where an end is not told or no node owns its address, where both ends are one node, where no path is
+/// `None` where an end is missing or no node owns its address, where both ends are one node, where no path is
 /// admissible, and where the least path that was found breaks an other bound. Where several paths are least, any
 /// of them is answered. It takes no lock, and keeps nothing.
 pub fn find(

@@ -1,5 +1,6 @@
 //! What a search finds.
-use sequence::Sequence;
+use sequence::{PlainData, Sequence};
+use std::alloc::AllocError;
 use te_base::LinkNumber;
 
 /// A path and its cost.
@@ -11,10 +12,22 @@ pub struct Found {
     pub cost: u64,
 }
 
-/// What a quick search tells.
+impl PlainData for Found {
+    fn copy(&self) -> Result<Found, AllocError> {
+        Ok(Found {
+            links: self.links.copy()?,
+            cost: self.cost,
+        })
+    }
+}
+
+/// What the quick search answers.
 #[derive(Debug, Drop)]
-pub(crate) enum Told {
+pub(crate) enum QuickAnswer {
+    /// A least walk.
     Least(Found),
+    /// No walk costs less than the limit.
     Nothing,
+    /// Neither was shown.
     Unknown,
 }

@@ -1,4 +1,4 @@
-//! A path of least cost that keeps every constraint, found on a snapshot.
+//! CSPF (constrained shortest path first): a path of least cost that keeps every constraint, found on a snapshot.
 //!
 //! `find` searches from both ends, and then tests what it found: its labels show that no path is cheaper, and the
 //! path's links that it may be taken and costs that much. The search itself needs no proof and may be changed

@@ -95,7 +95,7 @@ fn arcs_at<'a>(query: &Query<'a>, direction: Direction, node: NodeNumber) -> &'a
     }
 }
 
-/// Remembers the walk over a node that costs so much from here and so much from there, where it is the cheapest.
+/// Remembers the walk over a node, by its costs on both sides of it, where it is the cheapest.
 #[inline(always)]
 fn join(met: &mut Met, node: NodeNumber, here: u32, there: u32)
     requires { here < met.old.cost }

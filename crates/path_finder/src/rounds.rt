@@ -146,6 +146,7 @@ fn step_back(
     requires front { IsFront query.now links.now ends.source ends.destination ends.limit next.now (count.used + 1) count.left path.old.items front.at front.paid }
     ensures { IfOk result (λ f. IsFront query.now links.now ends.source ends.destination ends.limit row.now count.used (count.left + 1) path.new.items f.at f.paid) }
 {
+    // for the proof alone: counts and limits are in their types' ranges
     let _count = count;
     let _ends = ends;
     let cost = next[front.at];
@@ -170,7 +171,7 @@ fn is_same(next: &[u32], row: &[u32]) -> bool
     next == row
 }
 
-/// The front of a least walk of at most so many links more than the row knows.
+/// The front of a least walk of at most `count.left` links more than the row knows.
 fn extend(
     alloc: Global,
     query: &Query<'_>,
@@ -292,7 +293,7 @@ fn from_first(
     Ok(whole(row, ends, front, path))
 }
 
-/// A least walk of at most so many links, where one costs less than the limit.
+/// A least walk of at most `hops` links, where one costs less than the limit.
 pub(crate) fn by_rounds(
     alloc: Global,
     query: &Query<'_>,

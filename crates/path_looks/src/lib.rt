@@ -1,6 +1,7 @@
 //! CSPF on a snapshot for an operator's eyes: nothing is booked. `path_on` answers a path of least cost, or what stands in
 //! its way: the first of bandwidth, colours and bounds without which there is a path, or all of them together
-//! (`specs/Paths.antt`). `full_links` names the links of that path that are too full, and the priority at which each is.
+//! (`specs/Paths.antt`). `full_links` names the links of that path that are too full, and the priority at which each is,
+//! `tightest` the link of a path on which least is left.
 //!
 //! ```text
 //! fn cost_of(alloc: Global, snapshot: &Snapshot, wanted: &Constraints) -> Result<Option<u64>, AllocError> {
@@ -14,7 +15,9 @@
 
 mod answer;
 mod full;
+mod link_room;
 
 pub use answer::{Obstacle, PathAnswer, path_on};
 pub use full::{FullLink, full_links};
+pub use link_room::{LinkRoom, tightest};
 pub use path_finder::Found;

@@ -17,7 +17,7 @@ use Rattle.pce_engine.proofs.Joins.{goes_more, breaks}
 abbrev pub IsUnbroken : List ℕ → ℕ → ℕ → Type 0
 IsUnbroken bytes start end = (j : ℕ) → start ≤ j → j < end → (get_or bytes j 0 == 10) ≡ false
 
--- so many of the bytes lead there, for answers that the searches may give
+-- the first n of the bytes lead there, for answers that the searches may give
 abbrev pub Led : List ℕ → ℕ → List ℕ → Machine → List ℕ → Machine → Type 0
 Led bytes count old m text n = (answers : Searches) × Goes answers (take count bytes) old m text n
 

@@ -35,6 +35,15 @@ pub enum Ask {
     Steps {
         last: u64,
     },
+    /// The line of one link among those of all.
+    LinkLine {
+        link: u64,
+    },
+    /// By which kept steps the paths of an LSP came.
+    Why {
+        peer: u32,
+        plsp: Plsp,
+    },
     /// A path that nobody asks the network for: nothing is booked.
     Path {
         from: Ipv4,

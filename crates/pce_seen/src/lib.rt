@@ -5,6 +5,8 @@
 //! - `lsps`: LSPs with their paths, and the paths over a link
 //! - `peers`, `steps`: routers with their sessions, kept steps of the history
 //! - `seen`: the network, its counts, and one type for all that is seen
+//! - `origins`: by which steps the paths of an LSP came
+//! - `tunnels`: the tunnels of the paths over a link
 //! - `taking`: LSPs taken out of the LSP-DB, in pages (`specs/Lsps.antt`)
 //!
 //! ```text
@@ -16,14 +18,18 @@
 
 mod ask;
 mod lsps;
+mod origins;
 mod peers;
 mod seen;
 mod steps;
 mod taking;
+mod tunnels;
 
 pub use ask::Ask;
 pub use lsps::{HeldPath, KnownLsp, LinkUse, LspPage, PAGE_LIMIT};
+pub use origins::{LspOrigins, Origin, TracedPath};
 pub use peers::{KnownPeer, LspOwner, SeenPeers};
 pub use seen::{Book, Counts, Network, Seen};
 pub use steps::{EventKind, KnownStep, LastSteps, Outcome};
-pub use taking::{held_on, lsp_of, page_of};
+pub use taking::{held_on, lsp_of, page_of, paths_of};
+pub use tunnels::tunnels_on;

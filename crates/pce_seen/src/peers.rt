@@ -13,8 +13,8 @@ pub struct KnownPeer {
     pub may_update: bool,
     /// It takes initiations (RFC 8281 section 4.1).
     pub may_create: bool,
-    /// Messages wait to be sent to it.
-    pub has_waiting_messages: bool,
+    /// So many messages wait to be sent to it.
+    pub waiting_messages: u64,
 }
 
 /// Whose an LSP is, and whether it is delegated.

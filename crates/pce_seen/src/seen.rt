@@ -1,5 +1,6 @@
 //! The network, its counts, and all that is seen.
 use crate::lsps::{KnownLsp, LinkUse, LspPage};
+use crate::origins::LspOrigins;
 use crate::peers::SeenPeers;
 use crate::steps::LastSteps;
 use commit_core::Ticket;
@@ -51,5 +52,6 @@ pub enum Seen {
     Lsp(Option<KnownLsp>),
     Link(Option<LinkUse>),
     Steps(LastSteps),
+    Origins(Option<LspOrigins>),
     Network(Network),
 }

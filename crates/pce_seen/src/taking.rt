@@ -31,7 +31,7 @@ impl Test<Path> for PathOf {
 
 /// Copies the paths of an LSP, in their order.
 #[tactic(auto, using(crate::proofs::Pages::picks_own))]
-fn paths_of(
+pub fn paths_of(
     alloc: Global,
     lsps: &LspBase,
     peer: u32,

@@ -3,3 +3,4 @@ pub mod Faults
 pub mod Expiries
 pub mod Texts
 pub mod Shows
+pub mod Counting

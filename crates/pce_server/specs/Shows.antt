@@ -3,9 +3,12 @@ use Rattle.std.specs.Prelude.{◌≡◌, ℕ, Bool, true, false, List, [], ◌++
 use Rattle.history_core.specs.Histories.{Content, Replays}
 use Rattle.pce_seen.specs.Asks.{next_ask}
 use Rattle.pce_seen.specs.declared.ask.Ask.{Ask}
+use Rattle.pce_seen.specs.declared.seen.Book.{Book}
 use Rattle.pce_seen.specs.declared.seen.Seen.{Seen}
-use Rattle.database_looks.specs.Looks.{Sees}
-use Rattle.pce_view.specs.Answers.{AnswersAs}
+use Rattle.database_looks.specs.Looks.{counts_in, Sees, SeesBook}
+use Rattle.pce_view.specs.Answers.{AnswersAs, IsJsonOf}
+use Rattle.pce_view.specs.Metrics.{metrics}
+use Rattle.server_counts.specs.declared.counters.Counters.{Counters}
 use Rattle.pce_view.specs.declared.answer.Form.{Form}
 use Rattle.pce_view.specs.declared.answer.Form.TheVariants.{Table, Json}
 use Rattle.pce_view.specs.declared.answer.Surroundings.{Surroundings}
@@ -36,3 +39,23 @@ AddsPage form around a next old new = (text : List ℕ) × IsPageOf form around 
 pub data IsShown (form : Form) (around : Surroundings) : Ask → List ℕ → Type 0 where
   Ends : (a : Ask) (text : List ℕ) → IsPageOf form around a None text → IsShown form around a (text ++ line_end form)
   Goes_on : (a next : Ask) (text rest : List ℕ) → IsPageOf form around a (Some next) text → IsShown form around next rest → IsShown form around a ((text ++ line_end form) ++ rest)
+
+-- a document of JSON: what one look at a database saw whose history replays
+pub record IsDocument (a : Ask) (text : List ℕ) : Type 0 where
+  pub around : Surroundings
+  pub d : Content
+  pub seen : Seen
+  pub replays : Replays d
+  pub sees : Sees a d seen
+  pub reads : IsJsonOf around a seen text
+
+-- the metrics: what one look at a database saw whose history replays, and some counts
+pub record IsMetrics (text : List ℕ) : Type 0 where
+  pub around : Surroundings
+  pub d : Content
+  pub book : Book
+  pub counters : Counters
+  pub memory : Option ℕ
+  pub replays : Replays d
+  pub sees : SeesBook d book
+  pub says : text ≡ metrics around (counts_in d) book counters memory

@@ -8,6 +8,7 @@ use crate::log_lines::{LogLine, Reason};
 use crate::run::RunFault;
 use crate::server::Sessions;
 use place_tokens::Room;
+use server_counts::Counted;
 use server_rules::{FailedAccept, failed_accept};
 use server_talk::peer_of;
 use std::net::{Net, SocketAddr, TcpListener, TcpStream};
@@ -17,11 +18,11 @@ use std::thread;
 use std::thread::Threads;
 use std::time::{Clock, Duration};
 
-/// So long the acceptor pauses after an accept that failed for want of descriptors, memory or the network, in
+/// The pause of the acceptor after an accept that failed for want of descriptors, memory or the network, in
 /// milliseconds.
 const FAILURE_PAUSE_MS: u64 = 50;
 
-/// So long the acceptor waits for the seat of a connection that ends, in milliseconds.
+/// The wait of the acceptor for the seat of a connection that ends, in milliseconds.
 const SEAT_WAIT_MS: u64 = 1000;
 
 /// What an accept gave.
@@ -64,11 +65,12 @@ fn slot_for<R: Wait + Clock, S: Ledger, G: Ledger, B: Room>(
     Some(slot)
 }
 
-/// Says that a connection of the peer was let go unheard.
+/// Says that a connection of the peer was closed unheard.
 fn tell_unheard<R: Wait + Clock, S: Ledger, G: Ledger, B: Room>(
     context: &Context<'_, R, S, G, B>,
     peer: u32,
 ) {
+    context.note_end(peer, usize::MAX, Reason::Unheard);
     context.say(LogLine::Ended {
         peer,
         reason: Reason::Unheard,
@@ -99,6 +101,7 @@ pub(crate) fn accept_all<
                         continue;
                     }
                     left = one_fewer(left);
+                    context.count(Counted::Accepted);
                     let Some(slot) = slot_for(context, peer) else {
                         drop(stream);
                         tell_unheard(context, peer);

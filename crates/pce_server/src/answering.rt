@@ -36,7 +36,7 @@ impl<'a, O: Write> Write for OperatorOutput<'a, O> {
 }
 
 /// Answers an operator's lines from this seat, and gives why no more are heard. Links that a reload leaves below zero are
-/// logged, and the seat keeps no receipts of rolled steps while it waits for a line.
+/// logged.
 pub(crate) fn answer_operator<
     R: Wait + Clock,
     S: Ledger,
@@ -54,7 +54,7 @@ pub(crate) fn answer_operator<
 ) -> Result<OperatorEnd, AllocError> {
     let mut store = ReloadNoted {
         context,
-        store: Seated::folding(context.rt, context.alloc, context.shared, seat),
+        store: Seated::new(context.rt, context.alloc, context.shared, seat),
     };
     let network = ServedNetwork { context, plan };
     let mut output = OperatorOutput {

@@ -4,6 +4,7 @@ use crate::expiry::Parting;
 use crate::log_lines::{LogLine, Reason};
 use crate::noted::{Noted, Notes, has_down};
 use crate::overheard::{Heard, PeerTimers, Said};
+use engine_core::Store;
 use place_tokens::Room;
 use seated_store::Seated;
 use server_talk::{Ended, PolledSocket, Watch, connection, part, prepare};
@@ -23,7 +24,7 @@ struct Departure {
 }
 
 /// Why a session has ended that no other thread ended: by the last messages and its number of refusal.
-fn reason_by(heard: &Heard<'_>, said: &Said<'_>, refused: Option<u8>) -> Reason {
+fn reason_by<R: Wait>(heard: &Heard<'_, R>, said: &Said<'_, R>, refused: Option<u8>) -> Reason {
     if let Some(number) = refused {
         return Reason::Refused(number);
     }
@@ -69,8 +70,8 @@ fn receive<R: Wait + Clock, S: Ledger, G: Ledger, B: Room>(
         keepalive: 0,
         dead: 0,
     });
-    let mut heard = Heard::new(socket, &timers);
-    let mut said = Said::new(stream);
+    let mut heard = Heard::new(context.rt, context.counters, socket, &timers);
+    let mut said = Said::new(context.rt, context.counters, stream);
     let mut store = Noted {
         notes: Notes {
             context,
@@ -91,6 +92,7 @@ fn receive<R: Wait + Clock, S: Ledger, G: Ledger, B: Room>(
         &moments,
         &mut store,
     );
+    context.count_calls(store.calls());
     let by_session = reason_by(&heard, &said, store.notes.refused);
     Departure {
         parting: Parting {
@@ -129,6 +131,16 @@ fn may_part<R: Wait + Clock, S: Ledger, G: Ledger, B: Room>(
         && (context.run.is_closing() || context.wakers.may_part(context.rt, slot))
 }
 
+/// Notes that a connection is let go unheard.
+fn let_go<R: Wait + Clock, S: Ledger, G: Ledger, B: Room>(
+    context: &Context<'_, R, S, G, B>,
+    peer: u32,
+    slot: usize,
+) -> Reason {
+    context.note_end(peer, slot, Reason::Unheard);
+    Reason::Unheard
+}
+
 /// Serves a peer, sees to its being forgotten, and parts from it; says why its connection ended. Where its socket can't be
 /// prepared, or there is no room for the entry of its end, nothing is said to it.
 fn host<
@@ -144,14 +156,15 @@ fn host<
     seat: &mut Seat<S, G, B>,
 ) -> Reason {
     let Ok(socket) = connected(context, stream, slot) else {
-        return Reason::Unheard;
+        return let_go(context, peer, slot);
     };
     if context.peers.connected(context.rt, peer).is_err() {
-        return Reason::Unheard;
+        return let_go(context, peer, slot);
     }
     let left = receive(context, socket, stream, peer, slot, seat);
     let now_ms = context.moments().now_ms();
     context.peers.ended(context.rt, peer, left.parting, now_ms);
+    context.note_end(peer, slot, left.reason);
     if may_part(context, left.parting, slot) {
         part(stream, &context.moments());
     }

@@ -1,21 +1,29 @@
 //! What each thread of a run is lent.
+ghost use Rattle.std.specs.Prelude.{IfOk};
+ghost use Rattle.history_core.specs.Histories.{Content, Replays};
+
+use crate::counting::{count_calls, end_reason};
 use crate::expiry::Peers;
 use crate::grant_gate::GrantGate;
-use crate::log_lines::LogLine;
+use crate::log_lines::{LogLine, Reason};
 use crate::log_queue::LogQueue;
 use crate::network::LinkEnds;
 use crate::run::{Run, RunFault};
 use crate::seat_pool::SeatPool;
+use crate::timed_look::TimedLook;
 use crate::wakers::Wakers;
+use engine_core::{Call, Reply};
 use pcep_word::Ipv4;
 use place_tokens::Room;
+use server_counts::{Counted, Counters, Timed, Visit, Visits, Waits};
 use server_talk::Watch;
-use shared_pce::Shared;
-use std::alloc::Global;
-use std::sync::Wait;
+use shared_pce::{Look, Shared};
+use std::alloc::{AllocError, Global};
+use std::cell::Cell;
 use std::sync::atomic::{AtomicU64, Ordering};
 use std::sync::ledger::Ledger;
-use std::time::{Clock, Instant};
+use std::sync::{Mutex, Wait};
+use std::time::{Clock, Duration, Instant};
 use te_base::TeBase;
 
 /// The moments of a run, whether it or a connection is to end, and its wakers.
@@ -30,15 +38,24 @@ pub(crate) struct Moments<'a, R: Clock> {
     pub slot: Option<usize>,
 }
 
+impl<'a, R: Clock> Moments<'a, R> {
+    /// Since the run began; nothing where there is no clock.
+    fn elapsed(&self) -> Duration {
+        match self.start {
+            Some(start) => start.elapsed(self.rt).unwrap_or(Duration::ZERO),
+            None => Duration::ZERO,
+        }
+    }
+
+    /// The moment, in microseconds since the run began.
+    pub fn now_us(&self) -> u64 {
+        u64::try_from(self.elapsed().as_micros()).unwrap_or(u64::MAX)
+    }
+}
+
 impl<'a, R: Wait + Clock> Watch for Moments<'a, R> {
     fn now_ms(&self) -> u64 {
-        let Some(start) = self.start else {
-            return 0;
-        };
-        match start.elapsed(self.rt) {
-            Ok(elapsed) => u64::try_from(elapsed.as_millis()).unwrap_or(u64::MAX),
-            Err(_) => 0,
-        }
+        u64::try_from(self.elapsed().as_millis()).unwrap_or(u64::MAX)
     }
 
     fn is_closing(&self) -> bool {
@@ -68,14 +85,20 @@ pub(crate) struct Context<'a, R: Clock, S: Ledger, G: Ledger, B: Room> {
     pub grants: &'a GrantGate,
     /// Only routers whose address a node of this network owns are heard; all, where there is none.
     pub known: &'a Option<TeBase>,
-    /// So many connections of others came.
+    /// What the server counts. Its lock is held for a few additions.
+    pub counters: &'a Mutex<Counters>,
+    /// When paths were asked for.
+    pub waits: &'a Mutex<Waits>,
+    /// Since when each peer is up or down.
+    pub visits: &'a Mutex<Visits>,
+    /// The number of connections of others that came.
     pub strangers: &'a AtomicU64,
     /// The ends of each link.
     pub ends: &'a [LinkEnds],
     pub start: Option<Instant>,
-    /// So long a peer that went down is kept, in milliseconds.
+    /// The time for which a peer that went down is kept, in milliseconds.
     pub keep_ms: u64,
-    /// So many seats there are for connections that have a place, and for those that gave theirs up. Their slots come
+    /// The number of seats for connections that have a place, and for those that gave theirs up. Their slots come
     /// first.
     pub seats: usize,
 }
@@ -110,6 +133,92 @@ impl<'a, R: Clock, S: Ledger, G: Ledger, B: Room> Context<'a, R, S, G, B> {
         self.log.say(self.rt, line, self.moments().now_ms());
     }
 
+    /// Counts this once more.
+    pub fn count(&self, what: Counted)
+    where
+        R: Wait,
+    {
+        self.counters.lock(self.rt).add(what);
+    }
+
+    /// Counts each call.
+    pub fn count_calls(&self, calls: &[Call])
+    where
+        R: Wait,
+    {
+        if !calls.is_empty() {
+            count_calls(&mut self.counters.lock(self.rt), calls);
+        }
+    }
+
+    fn note_wait(&self, wait: Option<u64>)
+    where
+        R: Wait,
+    {
+        if let Some(us) = wait {
+            self.counters.lock(self.rt).observe(Timed::Wait, us);
+        }
+    }
+
+    /// Notes that a path was asked for at a moment, in microseconds, where that was the last of these calls.
+    pub fn note_ask(&self, calls: &[Call], asked_us: u64)
+    where
+        R: Wait,
+    {
+        let Some(call) = calls.last() else {
+            return;
+        };
+        if let Reply::Asked(ticket) = &call.reply {
+            let wait = self.waits.lock(self.rt).asked(*ticket, asked_us);
+            self.note_wait(wait);
+        }
+    }
+
+    /// Notes that a ticket was settled.
+    pub fn note_verdict(&self, ticket: u64, now_us: u64)
+    where
+        R: Wait,
+    {
+        let wait = self.waits.lock(self.rt).settled(ticket, now_us);
+        self.note_wait(wait);
+    }
+
+    /// Notes and counts that the connection of a seat's slot ended.
+    pub fn note_end(&self, peer: u32, slot: usize, reason: Reason)
+    where
+        R: Wait,
+    {
+        let end = end_reason(reason);
+        self.count(Counted::Ended(end));
+        let now_ms = self.moments().now_ms();
+        self.visits.lock(self.rt).ended(peer, slot, now_ms, end);
+    }
+
+    /// Looks at the database, and times for how long that held its lock.
+    pub fn look<L: Look>(&self, look: &L) -> Result<L::Seen, AllocError>
+    where
+        R: Wait,
+        ensures { IfOk result (λ seen. (d : Content) × Replays d × L.sees look.now d seen) }
+    {
+        let timed = TimedLook {
+            moments: self.moments(),
+            look,
+            held_us: Cell::new(0),
+        };
+        let seen = self.shared.look(self.rt, &timed);
+        let held_us = timed.held_us.get();
+        self.counters.lock(self.rt).observe(Timed::Look, held_us);
+        seen
+    }
+
+    /// Since when each peer is up or down.
+    pub fn all_visits(&self) -> Result<Vec<(u32, Visit)>, AllocError>
+    where
+        R: Wait,
+    {
+        self.visits.lock(self.rt).copies(self.alloc)
+    }
+
     /// Whether a router of this address is heard. Another is counted.
     pub fn is_known(&self, address: u32) -> bool
     where
@@ -121,6 +230,7 @@ impl<'a, R: Clock, S: Ledger, G: Ledger, B: Room> Context<'a, R, S, G, B> {
         };
         if !is_known {
             let before = self.strangers.fetch_add(1, Ordering::SeqCst);
+            self.count(Counted::Stranger);
             self.say(LogLine::Stranger {
                 address,
                 count: before.saturating_add(1),

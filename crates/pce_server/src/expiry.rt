@@ -1,9 +1,13 @@
 //! When peers are forgotten: what happens to them is noted here, and what is due of them is submitted.
 ghost use Rattle.std.specs.Prelude.{◌≡◌};
 ghost use Rattle.server_rules.specs.Peers.{Adds};
+ghost use Rattle.database_looks.specs.Steps.{kind_of};
 ghost use Rattle.pce_server.specs.Expiries.{event_of, happening_of, is_owed, NotesDown, NotesEnd};
 
+use crate::counting::count_step;
+use pce_seen::EventKind;
 use place_tokens::Room;
+use server_counts::Counters;
 use server_rules::{Due, Expiry, Owing};
 use server_talk::{Ended, Watch};
 use shared_pce::{Event, Fault, Seat, Shared};
@@ -58,7 +62,7 @@ impl Peers {
         self.expiry.lock(rt).owes_a_down()
     }
 
-    /// Submits what is due of a peer, where anything is, if peers are kept for so long. Meanwhile nothing else is
+    /// Submits what is due of a peer, where anything is, if peers are kept for this time. Meanwhile nothing else is
     /// noted: a session that comes up is noted before its Down is submitted, so no peer is forgotten for a Down that
     /// is older than its last. After a fault it stays due, and what is due of another peer comes first next time.
     pub fn settle<R: Wait, W: Watch, S: Ledger, G: Ledger, B: Room>(
@@ -67,6 +71,7 @@ impl Peers {
         watch: &W,
         shared: &Shared<S, G, B>,
         seat: &mut Seat<S, G, B>,
+        counters: &Mutex<Counters>,
         keep_ms: u64,
     ) -> Result<Settled, Fault> {
         let mut expiry = self.expiry.lock(rt);
@@ -74,7 +79,8 @@ impl Peers {
             return Ok(Settled::Nothing);
         };
         match shared.submit(rt, seat, event_of(due)) {
-            Ok(_reply) => {
+            Ok(reply) => {
+                count_step(&mut counters.lock(rt), kind_of_due(due), &reply);
                 note_settled(&mut expiry, due, watch.now_ms());
                 Ok(Settled::One(due))
             }
@@ -125,6 +131,16 @@ fn note_settled(expiry: &mut Expiry, due: Due, now_ms: u64)
     match due.what {
         Owing::Down => expiry.submitted(due.peer, now_ms),
         Owing::Expire => expiry.forgotten(due.peer),
+    }
+}
+
+/// What kind of event is submitted of a peer.
+fn kind_of_due(due: Due) -> EventKind
+    ensures { result ≡ kind_of (event_of due) }
+{
+    match due.what {
+        Owing::Down => EventKind::Down,
+        Owing::Expire => EventKind::Expire,
     }
 }
 

@@ -9,8 +9,8 @@ use std::fmt;
 /// The target of all lines.
 const TARGET: &str = "pce_server";
 
-/// So many kinds of lines there are.
-pub(crate) const KINDS: usize = 17;
+/// The number of kinds of lines.
+pub(crate) const KINDS: usize = 18;
 
 /// Why a connection ended.
 #[derive(Clone, Copy, PartialEq, Eq, Debug)]
@@ -27,7 +27,7 @@ pub(crate) enum Reason {
     RunEnds,
     /// The state refused its session, by this number.
     Refused(u8),
-    /// It was let go unheard.
+    /// It was closed unheard.
     Unheard,
 }
 
@@ -68,7 +68,7 @@ pub(crate) enum LogLine {
         timers: PeerTimers,
         capabilities: Option<Capabilities>,
     },
-    /// The peer has reported all of its LSPs, so many, so long after it came up.
+    /// The peer has reported all of its LSPs: how many, and how long after it came up.
     InSync {
         peer: u32,
         lsps: usize,
@@ -83,7 +83,7 @@ pub(crate) enum LogLine {
     Forgotten {
         peer: u32,
     },
-    /// The history was rolled: so many steps were taken before what is kept.
+    /// The history was rolled: how many steps were taken before what is kept.
     Rolled {
         steps: u64,
     },
@@ -97,6 +97,8 @@ pub(crate) enum LogLine {
     OperatorGone,
     /// The control socket can't be heard.
     ControlGone,
+    /// Viewers can't be served.
+    ViewersGone,
     /// The state refused an event of the peer, by this number.
     Refused {
         peer: u32,
@@ -104,12 +106,12 @@ pub(crate) enum LogLine {
     },
     /// Paths may be granted from now on.
     Settled,
-    /// A connection came from an address that no node owns. So many did.
+    /// A connection came from an address that no node owns, and how many did.
     Stranger {
         address: u32,
         count: u64,
     },
-    /// A reload left a link below zero: so much is left of it at its worst priority.
+    /// A reload left a link below zero: what is left of it at its worst priority.
     BelowZero {
         link: usize,
         local: u32,
@@ -120,12 +122,12 @@ pub(crate) enum LogLine {
     FewDescriptors {
         limit: u64,
     },
-    /// So many lines of this kind were withheld.
+    /// How many lines of this kind were withheld.
     Withheld {
         kind: usize,
         lines: u64,
     },
-    /// So many lines found no room while nobody read the log.
+    /// How many lines found no room while nobody read the log.
     Lost {
         lines: u64,
     },
@@ -150,6 +152,7 @@ fn subject(kind: usize) -> &'static str {
         13 => "below zero",
         14 => "control socket",
         15 => "few descriptors",
+        16 => "viewers",
         _ => "log",
     }
 }
@@ -174,7 +177,8 @@ impl LogLine {
             LogLine::BelowZero { .. } => 13,
             LogLine::ControlGone => 14,
             LogLine::FewDescriptors { .. } => 15,
-            LogLine::Withheld { .. } | LogLine::Lost { .. } => 16,
+            LogLine::ViewersGone => 16,
+            LogLine::Withheld { .. } | LogLine::Lost { .. } => 17,
         }
     }
 
@@ -193,6 +197,7 @@ impl LogLine {
             | LogLine::WorkerFault(_)
             | LogLine::OperatorGone
             | LogLine::ControlGone
+            | LogLine::ViewersGone
             | LogLine::Stranger { .. }
             | LogLine::BelowZero { .. }
             | LogLine::FewDescriptors { .. }
@@ -291,6 +296,7 @@ impl fmt::Display for LogLine {
             LogLine::WorkerFault(fault) => write!(f, "worker: {fault}"),
             LogLine::OperatorGone => f.write_str("operator gone"),
             LogLine::ControlGone => f.write_str("control socket gone"),
+            LogLine::ViewersGone => f.write_str("viewers gone"),
             LogLine::Refused { peer, number } => {
                 let peer = Dotted(peer);
                 write!(f, "refused {number} {peer}")

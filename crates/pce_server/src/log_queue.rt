@@ -7,10 +7,10 @@ use std::mem;
 use std::sync::{Condvar, CondvarTimeouts, Mutex, Wait};
 use std::time::{Clock, Duration};
 
-/// So many lines wait to be written, at most. More are counted.
+/// The number of lines that wait to be written, at most. More are counted.
 const LINES: usize = 1024;
 
-/// So long the writing thread waits for a line, in milliseconds.
+/// The wait of the writing thread for a line, in milliseconds.
 const LINE_WAIT_MS: u64 = 250;
 
 /// The lines that wait to be written, the oldest first.
@@ -19,7 +19,7 @@ struct Queue {
     lines: Vec<LogLine>,
     /// The rate of each kind.
     rates: Vec<LineRate>,
-    /// So many lines found no room.
+    /// The number of lines that found no room.
     lost: u64,
     is_over: bool,
 }

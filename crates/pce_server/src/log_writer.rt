@@ -17,7 +17,7 @@ use std::time::{Clock, Duration};
 /// The descriptor of standard error.
 const STANDARD_ERROR: RawFd = 2;
 
-/// So long a wait for standard error takes, in milliseconds.
+/// The wait for standard error, in milliseconds.
 const READY_WAIT_MS: u64 = 250;
 
 /// Standard error, which may be a pipe that nobody reads.

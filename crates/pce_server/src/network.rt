@@ -10,7 +10,7 @@ use std::time::Clock;
 use step_core::LinkReload;
 use te_base::{LinkValues, TeBase};
 
-/// A link text, and the database that goes by it.
+/// A link text, and the database whose links have its values.
 #[derive(Drop)]
 pub(crate) struct ServedNetwork<'a, 'c, 'p, R: Clock, P: Plan, S: Ledger, G: Ledger, B: Room> {
     pub context: &'a Context<'c, R, S, G, B>,

@@ -47,6 +47,14 @@ impl<'a, 'c, 't, R: Wait + Clock, S: Ledger, G: Ledger, B: Room> Notes<'a, 'c, '
     fn rise(&mut self, capabilities: Option<Capabilities>) {
         self.context.peers.up(self.context.rt, self.peer);
         self.up_ms = self.now_ms();
+        let noted = self
+            .context
+            .visits
+            .lock(self.context.rt)
+            .came_up(self.peer, self.slot, self.up_ms);
+        if noted.is_err() {
+            self.context.say(LogLine::MemoryRefused);
+        }
         self.context.say(LogLine::Up {
             peer: self.peer,
             timers: self.timers.get(),
@@ -140,7 +148,17 @@ impl<'a, 'c, 't, R: Wait + Clock, S: Ledger, G: Ledger, B: Room, D: Desk + Drop>
         if matches!(event, Event::Down { .. }) {
             self.notes.lose_sync();
         }
-        self.store.submit(event)
+        let is_ask = matches!(event, Event::Ask { .. });
+        let asked_us = if is_ask {
+            self.notes.context.moments().now_us()
+        } else {
+            0
+        };
+        let submitted = self.store.submit(event);
+        if is_ask && submitted.is_ok() {
+            self.notes.context.note_ask(self.store.calls(), asked_us);
+        }
+        submitted
     }
 
     fn calls(&self) -> &[Call] {
@@ -148,6 +166,7 @@ impl<'a, 'c, 't, R: Wait + Clock, S: Ledger, G: Ledger, B: Room, D: Desk + Drop>
     }
 
     fn forget(&mut self) {
+        self.notes.context.count_calls(self.store.calls());
         self.notes.note_all(self.store.calls());
         self.store.forget();
     }

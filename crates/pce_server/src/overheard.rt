@@ -1,12 +1,14 @@
 //! A peer's socket whose first and last bytes are kept for the log: its timers, and how its session ended.
+use server_counts::{Counters, MessageStream, Way};
 use server_talk::{Patient, PolledSocket};
 use std::cell::Cell;
 use std::io;
 use std::io::{Read, Write};
 use std::net::TcpStream;
+use std::sync::{Mutex, Wait};
 use std::time::Duration;
 
-/// So many bytes a Close has, and the front of an Open with its timers (RFC 5440 sections 6.2 and 6.8).
+/// The number of bytes of a Close, and of the front of an Open with its timers (RFC 5440 sections 6.2 and 6.8).
 const KEPT: usize = 12;
 
 /// A message's header and its object's, as a Close begins (RFC 5440 section 6.8).
@@ -50,9 +52,28 @@ impl Tail {
     }
 }
 
+/// Counts the messages of a stream.
+#[derive(Drop)]
+struct MessageCount<'a, R> {
+    rt: &'a R,
+    counters: &'a Mutex<Counters>,
+    way: Way,
+    stream: MessageStream,
+}
+
+impl<'a, R: Wait> MessageCount<'a, R> {
+    fn hear(&mut self, piece: &[u8]) {
+        if !piece.is_empty() {
+            let mut counters = self.counters.lock(self.rt);
+            self.stream.hear(self.way, piece, &mut counters);
+        }
+    }
+}
+
 /// What a peer says.
 #[derive(Drop)]
-pub(crate) struct Heard<'a> {
+pub(crate) struct Heard<'a, R> {
+    messages: MessageCount<'a, R>,
     socket: PolledSocket<'a>,
     head: [u8; KEPT],
     count: usize,
@@ -61,9 +82,20 @@ pub(crate) struct Heard<'a> {
     timers: &'a Cell<PeerTimers>,
 }
 
-impl<'a> Heard<'a> {
-    pub fn new(socket: PolledSocket<'a>, timers: &'a Cell<PeerTimers>) -> Heard<'a> {
+impl<'a, R: Wait> Heard<'a, R> {
+    pub fn new(
+        rt: &'a R,
+        counters: &'a Mutex<Counters>,
+        socket: PolledSocket<'a>,
+        timers: &'a Cell<PeerTimers>,
+    ) -> Heard<'a, R> {
         Heard {
+            messages: MessageCount {
+                rt,
+                counters,
+                way: Way::In,
+                stream: MessageStream::new(),
+            },
             socket,
             head: [0; KEPT],
             count: 0,
@@ -88,6 +120,7 @@ impl<'a> Heard<'a> {
     }
 
     fn note(&mut self, piece: &[u8]) {
+        self.messages.hear(piece);
         self.tail.push_all(piece);
         self.note_head(piece);
         self.timers.set(PeerTimers {
@@ -97,7 +130,7 @@ impl<'a> Heard<'a> {
     }
 }
 
-impl<'a> Read for Heard<'a> {
+impl<'a, R: Wait> Read for Heard<'a, R> {
     fn read(&mut self, buf: &mut [u8]) -> io::Result<usize> {
         let count = self.socket.read(buf)?;
         self.note(&buf[..count]);
@@ -105,7 +138,7 @@ impl<'a> Read for Heard<'a> {
     }
 }
 
-impl<'a> Patient for Heard<'a> {
+impl<'a, R: Wait> Patient for Heard<'a, R> {
     fn set_patience(&mut self, most: Duration) {
         self.socket.set_patience(most);
     }
@@ -113,14 +146,21 @@ impl<'a> Patient for Heard<'a> {
 
 /// What is said to a peer.
 #[derive(Drop)]
-pub(crate) struct Said<'a> {
+pub(crate) struct Said<'a, R> {
+    messages: MessageCount<'a, R>,
     stream: &'a TcpStream,
     tail: Tail,
 }
 
-impl<'a> Said<'a> {
-    pub fn new(stream: &'a TcpStream) -> Said<'a> {
+impl<'a, R: Wait> Said<'a, R> {
+    pub fn new(rt: &'a R, counters: &'a Mutex<Counters>, stream: &'a TcpStream) -> Said<'a, R> {
         Said {
+            messages: MessageCount {
+                rt,
+                counters,
+                way: Way::Out,
+                stream: MessageStream::new(),
+            },
             stream,
             tail: Tail { bytes: [0; KEPT] },
         }
@@ -132,11 +172,12 @@ impl<'a> Said<'a> {
     }
 }
 
-impl<'a> Write for Said<'a> {
+impl<'a, R: Wait> Write for Said<'a, R> {
     fn write(&mut self, buf: &[u8]) -> io::Result<usize> {
         let mut stream = self.stream;
         let count = stream.write(buf)?;
         self.tail.push_all(&buf[..count]);
+        self.messages.hear(&buf[..count]);
         Ok(count)
     }
 

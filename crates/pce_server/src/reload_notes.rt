@@ -133,8 +133,10 @@ impl<'a, 'c, R: Wait + Clock, S: Ledger, G: Ledger, B: Room, D: Desk + Drop> Sto
             Ok(lines) => lines,
             Err(_) => return Err(Fault::OutOfMemory),
         };
+        let asked_us = self.context.moments().now_us();
         let submitted = self.store.submit(event);
         if submitted.is_ok() {
+            self.context.note_ask(self.store.calls(), asked_us);
             self.say_all(&lines);
         }
         submitted
@@ -145,6 +147,7 @@ impl<'a, 'c, R: Wait + Clock, S: Ledger, G: Ledger, B: Room, D: Desk + Drop> Sto
     }
 
     fn forget(&mut self) {
+        self.context.count_calls(self.store.calls());
         self.store.forget();
     }
 

@@ -82,7 +82,7 @@ impl<S: Ledger, G: Ledger, B: Room> SeatPool<S, G, B> {
         self.freed.notify_all();
     }
 
-    /// Has all seats that rest here let go of receipts of rolled slots.
+    /// Has all seats that rest here drop their receipts of rolled steps.
     pub fn fold<R: Wait>(&self, rt: &R, shared: &Shared<S, G, B>) {
         let mut slots = self.slots.lock(rt);
         for slot in slots.iter_mut() {

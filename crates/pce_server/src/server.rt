@@ -16,11 +16,13 @@ use crate::network::{LinkEnds, ends_of};
 use crate::run::{Run, RunFault};
 use crate::seat_pool::SeatPool;
 use crate::starting::{few_descriptors, listening_line, live_of};
+use crate::viewers::{ViewerListener, show_views};
 use crate::wakers::Wakers;
 use crate::workers::{keep_time, work};
 use history_core::Database;
 use log::{Log, warn};
 use place_tokens::{Room, Unopened};
+use server_counts::{Counters, Visits, Waits};
 use server_rules::Settling;
 use server_talk::{OperatorEnd, Patient, Plan, bound_accepts};
 use shared_pce::{Audit, Fault, Seat, Shared};
@@ -29,21 +31,21 @@ use std::io::Write;
 use std::marker::Brand;
 use std::net::{Net, TcpListener, TcpStream};
 use std::os::unix::net::UnixListener;
-use std::sync::Wait;
 use std::sync::atomic::AtomicU64;
 use std::sync::ledger::{Blank, Ledger};
+use std::sync::{Mutex, Wait};
 use std::thread;
 use std::thread::Threads;
 use std::time::{Clock, Instant};
 use te_base::TeBase;
 
-/// So many connections have a place, at most.
+/// The number of connections that have a place, at most.
 pub const AT_ONCE: usize = 64;
 
 /// How many connections a run accepts.
 #[derive(Clone, Copy, PartialEq, Eq, Debug)]
 pub enum Sessions {
-    /// So many in all. The run ends when these and the operator's lines have ended.
+    /// This number in all. The run ends when these and the operator's lines have ended.
     Count(u64),
     /// Any number, until the operator's lines end; with a control socket, until one of them asks for the end. Then each
     /// session that lives is closed.
@@ -53,16 +55,26 @@ pub enum Sessions {
 /// What a run is told.
 #[derive(Clone, Copy, Debug)]
 pub struct Orders {
-    /// So many threads search for paths.
+    /// The number of threads that search for paths.
     pub workers: u64,
     pub sessions: Sessions,
-    /// So long a peer whose session ended is kept, in seconds (the State Timeout of RFC 8231 section 5.6).
+    /// The time for which a peer whose session ended is kept, in seconds (the State Timeout of RFC 8231 section 5.6).
     pub keep_seconds: u64,
-    /// No ticket is taken before so many seconds have passed since the start, or each router that is to be waited for is
+    /// The time in seconds from the start for which no ticket is taken, unless each router that is to be waited for is
     /// in sync.
     pub settle_seconds: u64,
-    /// So many descriptors the process may have, where that is known.
+    /// The number of descriptors that the process may have, where that is known.
     pub descriptors: Option<u64>,
+}
+
+/// Where a run is reached.
+#[derive(Drop)]
+pub struct Listeners<'a> {
+    pub routers: &'a TcpListener,
+    /// The control socket, where there is one.
+    pub control: Option<&'a UnixListener>,
+    /// Where viewers connect, if they may.
+    pub viewers: Option<ViewerListener<'a>>,
 }
 
 /// Which routers are heard, and which are waited for.
@@ -76,17 +88,17 @@ pub struct Routers<'a> {
 
 /// Serves routers and operator over a network of which nothing was reported yet, until both have ended, and closes
 /// the database. What happens is logged by a thread of its own, so that no other waits for whoever reads the log. At most
-/// 64 connections have a place. Where all are taken, who comes has one that isn't up yet ended, or is let go.
+/// 64 connections have a place. Where all are taken, who comes has one that isn't up yet ended, or is closed.
 ///
 /// With a control socket more operators are heard, four at once, and an endless run ends by the line `end` alone, whoever
-/// says it. One that fails ends alone.
+/// says it. One that fails ends alone. Viewers are shown what stands until the run is over; they change nothing, and a
+/// run goes on without them.
 ///
 /// After a fault that ends the run, sessions are closed and connections accepted no more. Where the writer fails, the run
 /// goes on without an operator.
 pub fn serve_run<R, I: Patient, O: Write, P: Plan + Sync>(
     rt: &R,
-    listener: &TcpListener,
-    control: Option<&UnixListener>,
+    listeners: &Listeners<'_>,
     te: TeBase,
     plan: &P,
     orders: Orders,
@@ -104,12 +116,14 @@ where
         + Sync,
     requires orders { AreOrders orders }
 {
-    let seats = 2 * live_of(orders.sessions) + orders.workers + 2 + control_seats(control);
+    let seats = 2 * live_of(orders.sessions)
+        + orders.workers
+        + 2
+        + control_seats(listeners.control);
     let (steps, grants) = (Blank::new(seats), Blank::new(seats));
     let room = Unopened::new(rt.alloc(), seats)?;
     seated_run::<Brand, Brand, Brand, R, I, O, P>(
-        rt, listener, control, te, orders, routers, seats, reader, writer, plan, steps, grants,
-        room,
+        rt, listeners, te, orders, routers, seats, reader, writer, plan, steps, grants, room,
     )
 }
 
@@ -123,8 +137,7 @@ fn seated_run<
     P: Plan + Sync,
 >(
     rt: &R,
-    listener: &TcpListener,
-    control: Option<&UnixListener>,
+    listeners: &Listeners<'_>,
     te: TeBase,
     orders: Orders,
     routers: Routers<'_>,
@@ -151,7 +164,7 @@ where
     requires room { (room.table ≡ B.table) × (room.seats ≡ B.seats) × (room.seats ≡ seats) }
 {
     let alloc = rt.alloc();
-    let listening = listening_line(listener, &te);
+    let listening = listening_line(listeners.routers, &te);
     let ends = ends_of(alloc, &te)?;
     let database = Database::new(alloc, te)?;
     let (shared, all) = Shared::<S, G, B>::new(alloc, database, seats, steps, grants, room)?;
@@ -162,8 +175,7 @@ where
         log.say(rt, line, 0);
     }
     serve_all(
-        rt, alloc, &shared, &pool, &log, &ends, listener, control, orders, routers, reader, writer,
-        plan,
+        rt, alloc, &shared, &pool, &log, &ends, listeners, orders, routers, reader, writer, plan,
     )?;
     close(shared, pool.into_seats(alloc)?)
 }
@@ -195,8 +207,7 @@ fn serve_all<
     pool: &SeatPool<S, G, B>,
     log: &LogQueue,
     ends: &[LinkEnds],
-    listener: &TcpListener,
-    control: Option<&UnixListener>,
+    listeners: &Listeners<'_>,
     orders: Orders,
     routers: Routers<'_>,
     reader: &mut I,
@@ -213,7 +224,7 @@ where
         + Sync,
     requires orders { AreOrders orders }
 {
-    if bound_accepts(listener).is_err() {
+    if bound_accepts(listeners.routers).is_err() {
         return Err(RunFault::Device);
     }
     let run = Run::new();
@@ -223,6 +234,9 @@ where
     let settling = Settling::new(alloc, routers.settle_for, orders.settle_seconds * 1000)?;
     let grants = GrantGate::new(settling);
     let strangers = AtomicU64::new(0);
+    let counters = Mutex::new(Counters::new());
+    let waits = Mutex::new(Waits::new());
+    let visits = Mutex::new(Visits::new(alloc));
     let context = Context {
         rt,
         alloc,
@@ -234,6 +248,9 @@ where
         log,
         grants: &grants,
         known: routers.known,
+        counters: &counters,
+        waits: &waits,
+        visits: &visits,
         strangers: &strangers,
         ends,
         start: Instant::now(rt).ok(),
@@ -243,7 +260,16 @@ where
     let output = ErrorOutput::new(rt, alloc)?;
     let lines = log.room(alloc)?;
     run_threads(
-        &context, output, lines, listener, control, orders, reader, writer, plan,
+        &context,
+        output,
+        lines,
+        listeners.routers,
+        listeners.control,
+        listeners.viewers.as_ref(),
+        orders,
+        reader,
+        writer,
+        plan,
     );
     if peers.owes_a_down(rt) {
         run.cut(rt, RunFault::Store(Fault::OutOfMemory));
@@ -268,8 +294,9 @@ fn run_threads<
     context: &Context<'_, R, S, G, B>,
     output: ErrorOutput,
     lines: Vec<LogLine>,
-    listener: &TcpListener,
+    routers: &TcpListener,
     control: Option<&UnixListener>,
+    viewers: Option<&ViewerListener<'_>>,
     orders: Orders,
     reader: &mut I,
     writer: &mut O,
@@ -304,13 +331,18 @@ where
         }
         let keeper = scope.spawn(move || keep_time(context, keeper_at));
         let sessions = orders.sessions;
-        let acceptor = scope.spawn(move || accept_all(context, listener, sessions));
+        let acceptor = scope.spawn(move || accept_all(context, routers, sessions));
         let door = match control {
             Some(control) => scope.spawn(move || hear_controls(operators, control)).ok(),
             None => None,
         };
         if control.is_some() && door.is_none() {
             context.say(LogLine::ControlGone);
+        }
+        if let Some(viewers) = viewers {
+            if scope.spawn(move || show_views(context, viewers)).is_err() {
+                context.say(LogLine::ViewersGone);
+            }
         }
         if log.is_err() || !has_worker || keeper.is_err() || acceptor.is_err() {
             context.cut(RunFault::Device);

@@ -15,7 +15,7 @@ use std::sync::ledger::Ledger;
 use std::time::Clock;
 
 /// The version that is shown.
-const VERSION: &str = "0.1.0";
+pub(crate) const VERSION: &str = "0.1.0";
 
 /// The form that a line asks for.
 fn form_of(is_json: bool) -> Form
@@ -52,7 +52,7 @@ fn add_page<R: Wait + Clock, S: Ledger, G: Ledger, B: Room>(
 ) -> Result<Option<Ask>, AllocError>
     ensures { IfOk result (λ next. AddsPage form around.now ask.now next text.old.items text.new.items) }
 {
-    let seen = context.shared.look(context.rt, ask)?;
+    let seen = context.look(ask)?;
     let page = answer_text(context.alloc, form, around, ask, &seen)?;
     add_text(form, page, text)?;
     Ok(ask.next(&seen))
@@ -86,9 +86,11 @@ impl<'a, 'c, 'p, R: Wait + Clock, S: Ledger, G: Ledger, B: Room, P: Plan> Show
     ghost shows = { λ _ line text. (around : Surroundings) × IsShown (form_of line.is_json) around line.ask text };
 
     fn show(&self, _alloc: Global, line: &ViewLine) -> Result<Vec<u8>, AllocError> {
+        let visits = self.context.all_visits()?;
         let around = Surroundings {
             version: VERSION,
             uptime_ms: self.context.moments().now_ms(),
+            visits: &visits,
         };
         show_pages(self.context, form_of(line.is_json), &around, line.ask)
     }

@@ -8,7 +8,7 @@ use server_talk::peer_of;
 use std::net::TcpListener;
 use te_base::TeBase;
 
-/// So many descriptors a run may have beside those of its connections.
+/// The number of descriptors that a run may have beside those of its connections.
 const OTHER_DESCRIPTORS: u64 = 128;
 
 /// How many connections have a place, at most.

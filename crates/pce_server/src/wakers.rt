@@ -80,7 +80,7 @@ pub(crate) struct Wakers {
 }
 
 impl Wakers {
-    /// Room for so many places, and for as many connections that gave theirs up.
+    /// Room for this number of places, and for as many connections that gave theirs up.
     pub fn new(alloc: Global, places: usize) -> Result<Wakers, AllocError> {
         Ok(Wakers {
             table: Mutex::new(Table {
@@ -176,5 +176,5 @@ impl Wakers {
     }
 }
 
-/// So many places there are at most.
+/// The number of places, at most.
 const MOST: usize = 1024;

@@ -1,41 +1,44 @@
 //! The workers, who search for paths, and the keeper of time.
-use crate::context::Context;
+use crate::context::{Context, Moments};
+use crate::counting::count_worked;
 use crate::expiry::Settled;
 use crate::grant_gate::GrantGateLook;
 use crate::log_lines::LogLine;
 use crate::run::RunFault;
+use pce_seen::EventKind;
 use place_tokens::Room;
+use server_counts::{Counted, ReplyKind, Timed};
 use server_rules::Owing;
 use server_talk::Watch;
-use shared_pce::{Fault, Quiet, Seat, Worked};
+use shared_pce::{Fault, Gate, Reply, Seat, Worked};
 use std::alloc::AllocError;
 use std::sync::Wait;
 use std::sync::ledger::Ledger;
 use std::thread;
 use std::time::{Clock, Duration};
 
-/// So long a worker sleeps where nothing wakes it, in milliseconds.
+/// The sleep of a worker that nothing wakes, in milliseconds.
 const WORK_WAIT_MS: u64 = 250;
 
-/// So long it sleeps where no ticket may be taken yet, in milliseconds.
+/// Its sleep where no ticket may be taken yet, in milliseconds.
 const GATE_WAIT_MS: u64 = 20;
 
-/// So many faults of a worker in a row end the run.
+/// The number of faults of a worker in a row that ends the run.
 const FAULTS: u32 = 4;
 
-/// So long a worker pauses after a fault, in milliseconds, for memory to come back.
+/// The pause of a worker after a fault, in milliseconds, for memory to come back.
 const FAULT_PAUSE_MS: u64 = 50;
 
-/// So long the keeper of time sleeps between two looks, in milliseconds.
+/// The sleep of the keeper of time between two looks, in milliseconds.
 const KEEPER_WAIT_MS: u64 = 50;
 
-/// So often the Downs that are owed are tried at the end of a run.
+/// The number of times that the Downs that are owed are tried at the end of a run.
 const LAST_TRIES: u32 = 100;
 
-/// The history is rolled where so many steps are kept, of the 1,048,576 that it holds.
+/// The number of kept steps at which the history is rolled, of the 1,048,576 that it holds.
 const ROLL_AT: u64 = 1_000_000;
 
-/// Says that the history was rolled, and has the seats that rest let go of their receipts. False where memory was refused.
+/// Says that the history was rolled, and has the seats that rest drop their receipts. False where memory was refused.
 fn tell_rolled<R: Wait + Clock, S: Ledger, G: Ledger, B: Room>(
     context: &Context<'_, R, S, G, B>,
     rolled: Result<Option<u64>, AllocError>,
@@ -66,6 +69,16 @@ fn tend<R: Wait + Clock, S: Ledger, G: Ledger, B: Room>(context: &Context<'_, R,
     let _is_rolled = tell_rolled(context, context.shared.roll_if(context.rt, ROLL_AT));
 }
 
+/// Has a seat whose thread has nothing to do drop its receipts of rolled steps, where it keeps any.
+fn rest<R: Wait + Clock, S: Ledger, G: Ledger, B: Room>(
+    context: &Context<'_, R, S, G, B>,
+    seat: &mut Seat<S, G, B>,
+) {
+    if !seat.receipts().is_empty() {
+        context.shared.fold(context.rt, seat);
+    }
+}
+
 /// Has the connection of the router for which a path was sought look for what it has to say.
 fn ring_for<R: Wait + Clock, S: Ledger, G: Ledger, B: Room>(
     context: &Context<'_, R, S, G, B>,
@@ -93,7 +106,62 @@ fn may_grant<R: Wait + Clock, S: Ledger, G: Ledger, B: Room>(
     }
 }
 
-/// A turn of a worker that has failed so often in a row: sleeps until a ticket waits, and works at one. Where none comes,
+/// Keeps the moment at which a search begins.
+#[derive(Drop)]
+struct SearchTimer<'a, R: Clock> {
+    moments: Moments<'a, R>,
+    since_us: u64,
+}
+
+impl<'a, R: Clock> SearchTimer<'a, R> {
+    fn new<S: Ledger, G: Ledger, B: Room>(context: &Context<'a, R, S, G, B>) -> SearchTimer<'a, R> {
+        SearchTimer {
+            moments: context.moments(),
+            since_us: 0,
+        }
+    }
+}
+
+impl<'a, R: Clock> Gate for SearchTimer<'a, R> {
+    fn computing(&mut self, _ticket: u64) {
+        self.since_us = self.moments.now_us();
+    }
+}
+
+/// Counts and times a worker's turn, whose search began at this moment, in microseconds.
+fn note_worked<R: Wait + Clock, S: Ledger, G: Ledger, B: Room>(
+    context: &Context<'_, R, S, G, B>,
+    worked: &Worked,
+    had_job: bool,
+    since_us: u64,
+) {
+    count_worked(&mut context.counters.lock(context.rt), worked, had_job);
+    let Worked::Done { job, reply } = worked else {
+        return;
+    };
+    let now_us = context.moments().now_us();
+    let took_us = now_us.saturating_sub(since_us);
+    context
+        .counters
+        .lock(context.rt)
+        .observe(Timed::Search, took_us);
+    if !matches!(reply, Reply::Again) {
+        context.note_verdict(job.ticket.id, now_us);
+    }
+}
+
+/// Counts the steps of a worker's turn that failed: a ticket was taken, where the seat has come to have a job in its hand.
+fn count_taken<R: Wait + Clock, S: Ledger, G: Ledger, B: Room>(
+    context: &Context<'_, R, S, G, B>,
+    seat: &mut Seat<S, G, B>,
+    had_job: bool,
+) {
+    if !had_job && seat.hand().is_some() {
+        context.count(Counted::Step(EventKind::Take, ReplyKind::Job));
+    }
+}
+
+/// A turn of a worker that has failed this number of times in a row: sleeps until a ticket waits, and works at one. Where none comes,
 /// it looks at the history, and its seat drops its receipts of rolled steps. Gives the fault, if one came. After a fault the
 /// ticket may be in the seat's hand, so the turn doesn't wait for another.
 fn worker_turn<R: Wait + Clock, S: Ledger, G: Ledger, B: Room>(
@@ -108,16 +176,20 @@ fn worker_turn<R: Wait + Clock, S: Ledger, G: Ledger, B: Room>(
     }
     if faults == 0 && !context.shared.await_work(rt, most) {
         tend(context);
-        context.shared.fold(rt, seat);
+        rest(context, seat);
         return None;
     }
-    let fault = match context.shared.work_one(rt, seat, &mut Quiet) {
+    let had_job = seat.hand().is_some();
+    let mut timer = SearchTimer::new(context);
+    let fault = match context.shared.work_one(rt, seat, &mut timer) {
         Ok(worked) => {
+            note_worked(context, &worked, had_job, timer.since_us);
             ring_for(context, &worked);
             return None;
         }
         Err(fault) => fault,
     };
+    count_taken(context, seat, had_job);
     if fault == Fault::HistoryFull {
         let _is_rolled = make_room(context);
     }
@@ -169,12 +241,13 @@ fn tell_settled<R: Wait + Clock, S: Ledger, G: Ledger, B: Room>(
         return false;
     };
     if due.what == Owing::Expire {
+        context.visits.lock(context.rt).forgotten(due.peer);
         context.say(LogLine::Forgotten { peer: due.peer });
     }
     true
 }
 
-/// Submits what is due of a peer that is kept for so long, or waits a while where nothing is, or memory is refused.
+/// Submits what is due of a peer that is kept for this time, or waits a while where nothing is, or memory is refused.
 fn settle<R: Wait + Clock, S: Ledger, G: Ledger, B: Room>(
     context: &Context<'_, R, S, G, B>,
     seat: &mut Seat<S, G, B>,
@@ -185,6 +258,7 @@ fn settle<R: Wait + Clock, S: Ledger, G: Ledger, B: Room>(
         &context.moments(),
         context.shared,
         seat,
+        context.counters,
         keep_ms,
     );
     let is_on = match settled {
@@ -196,6 +270,7 @@ fn settle<R: Wait + Clock, S: Ledger, G: Ledger, B: Room>(
         }
     };
     if !is_on {
+        rest(context, seat);
         thread::sleep(context.rt, Duration::from_millis(KEEPER_WAIT_MS));
     }
 }

@@ -1,5 +1,5 @@
 -- What is written nests few levels, and is read again.
-use Rattle.std.proofs.Common.{◌≡◌, ◌∙◌, ℕ, ◌+◌, ◌-◌, ◌^◌, ◌≤◌, min, ℤ, Bool, true, false, if◌then◌else◌, List, [], ◌∷◌, ◌++◌, Option, None, Some, option_and_then, ap, sym, arith, append-nil}
+use Rattle.std.proofs.Common.{◌≡◌, ◌∙◌, ℕ, ◌+◌, ◌-◌, ◌^◌, ◌≤◌, min, ℤ, nat_eq, Bool, true, false, if◌then◌else◌, List, [], ◌∷◌, ◌++◌, Option, None, Some, option_and_then, ap, sym, arith, append-nil}
 use Rattle.std.specs.Str.{is_utf8}
 use Rattle.json.specs.Json.{Json, document, value, if_last, max_depth, string, null}
 use Rattle.json.specs.Lex.{tokens}
@@ -12,17 +12,24 @@ use Rattle.pce_seen.specs.declared.lsps.HeldPath.{HeldPath}
 use Rattle.pce_seen.specs.declared.lsps.KnownLsp.{KnownLsp}
 use Rattle.pce_seen.specs.declared.lsps.LinkUse.{LinkUse}
 use Rattle.pce_seen.specs.declared.lsps.LspPage.{LspPage}
+use Rattle.pce_seen.specs.declared.origins.LspOrigins.{LspOrigins}
+use Rattle.pce_seen.specs.declared.origins.TracedPath.{TracedPath}
 use Rattle.pce_seen.specs.declared.peers.KnownPeer.{KnownPeer}
 use Rattle.pce_seen.specs.declared.peers.LspOwner.{LspOwner}
 use Rattle.commit_core.specs.declared.ticket.Ticket.{Ticket}
 use Rattle.path_looks.specs.declared.answer.Obstacle.{Obstacle}
 use Rattle.path_looks.specs.declared.answer.PathAnswer.{PathAnswer}
 use Rattle.path_looks.specs.declared.full.FullLink.{FullLink}
+use Rattle.path_looks.specs.declared.link_room.LinkRoom.{LinkRoom}
 use Rattle.pce_seen.specs.declared.seen.Counts.{Counts}
 use Rattle.pce_seen.specs.declared.steps.KnownStep.{KnownStep}
-use Rattle.pce_view.specs.Fields.{address_or_null, amounts, lsp_id, name_or_null, obstacle_json, srp_id, text_or_null, whole_or_null, wholes}
-use Rattle.pce_view.specs.Views.{book_json, counted_json, delegated_of, full_items, full_json, held_items, held_json, link_json, links_json, lsp_items, lsp_json, lsp_or_null, lsps_of, node_json, nodes_json, page_json, path_answer_json, path_items, path_json, peer_items, peers_json, status_json, step_items, step_json, steps_json, ticket_items, ticket_json, tickets_json, use_json, use_or_null}
-use Rattle.pce_view.specs.Words.{cost_in, links_in, obstacle_of, outcome_number, purpose_name, purpose_plsp, purpose_request}
+use Rattle.std.specs.Map.{lookup}
+use Rattle.server_counts.specs.declared.kinds.EndReason.{EndReason}
+use Rattle.server_counts.specs.declared.visits.Visit.{Visit}
+use Rattle.pce_view.specs.declared.moments.Moments.{Moments}
+use Rattle.pce_view.specs.Fields.{address_or_null, amounts, end_json, left_or_null, lsp_id, name_or_null, obstacle_json, srp_id, text_or_null, whole_or_null, wholes, word_or_null}
+use Rattle.pce_view.specs.Views.{book_json, counted_json, delegated_of, full_items, full_json, held_items, held_json, line_items, line_json, lines_json, link_json, links_json, lsp_items, lsp_json, lsp_or_null, lsps_of, moments_of, node_json, nodes_json, origins_or_null, page_json, path_answer_json, path_items, path_json, peer_items, peers_json, status_json, step_items, step_json, steps_json, ticket_items, ticket_json, tickets_json, traced_items, traced_json, use_json}
+use Rattle.pce_view.specs.Words.{cost_in, link_in, links_in, obstacle_of, origin_step, origin_ticket, origin_word, outcome_number, purpose_name, purpose_plsp, purpose_request}
 
 pub document-of_tokens : (text : List ℕ) (j : Json) → tokens text ≡ json_tokens j → depth j ≤ max_depth → document text ≡ Some j
 document-of_tokens text j is shallow =
@@ -76,16 +83,25 @@ links_shallow nodes n (link ∷ links) (left ∷ lefts) = omega (arith, link_sha
 pub book_shallow : (nodes : List Node) (links : List Link) (lefts : List (List ℤ)) → depth (book_json nodes links lefts) ≤ max_depth
 book_shallow nodes links lefts = omega (arith, nodes_shallow 0 nodes, links_shallow nodes 0 links lefts)
 
-peer_shallow : (peer : KnownPeer) (lsps delegated : ℕ) → depth (counted_json peer lsps delegated) ≤ 1
+end_shallow : (e : Option EndReason) → depth (end_json e) ≤ 0
+end_shallow None = omega arith
+end_shallow (Some reason) = omega arith
+
+peer_shallow : (peer : KnownPeer) (lsps delegated : ℕ) (m : Moments) → depth (counted_json peer lsps delegated m) ≤ 1
 unfolding counted_json
-peer_shallow peer lsps delegated = omega arith
+peer_shallow peer lsps delegated m = omega (arith, whole_or_shallow m.since_ms_ago, whole_or_shallow m.end_ms_ago, end_shallow m.end, whole_or_shallow m.number)
 
-peer_items_shallow : (owners : List LspOwner) (peers : List KnownPeer) → items_depth (peer_items owners peers) ≤ 1
-peer_items_shallow owners [] = omega arith
-peer_items_shallow owners (peer ∷ peers) = omega (arith, peer_shallow peer (lsps_of owners peer.peer) (delegated_of owners peer.peer), peer_items_shallow owners peers)
+peer_items_shallow : (now_ms : ℕ) (visits : List (ℕ × Visit)) (owners : List LspOwner) (peers : List KnownPeer) → items_depth (peer_items now_ms visits owners peers) ≤ 1
+peer_items_shallow now_ms visits owners [] = omega arith
+peer_items_shallow now_ms visits owners (peer ∷ peers) =
+    omega (
+      arith,
+      peer_shallow peer (lsps_of owners peer.peer) (delegated_of owners peer.peer) (moments_of now_ms (lookup (nat_eq peer.peer) visits)),
+      peer_items_shallow now_ms visits owners peers,
+    )
 
-pub peers_shallow : (owners : List LspOwner) (peers : List KnownPeer) → depth (peers_json owners peers) ≤ max_depth
-peers_shallow owners peers = omega (arith, peer_items_shallow owners peers)
+pub peers_shallow : (now_ms : ℕ) (visits : List (ℕ × Visit)) (owners : List LspOwner) (peers : List KnownPeer) → depth (peers_json now_ms visits owners peers) ≤ max_depth
+peers_shallow now_ms visits owners peers = omega (arith, peer_items_shallow now_ms visits owners peers)
 
 path_shallow : (x : Path) → depth (path_json x) ≤ 2
 unfolding path_json
@@ -118,13 +134,20 @@ held_items_shallow : (hs : List HeldPath) → items_depth (held_items hs) ≤ 1
 held_items_shallow [] = omega arith
 held_items_shallow (h ∷ hs) = omega (arith, held_shallow h, held_items_shallow hs)
 
-use_shallow : (n : ℕ) (u : LinkUse) → depth (use_json n u) ≤ 3
+pub use_shallow : (n : ℕ) (u : LinkUse) (hs : List HeldPath) → depth (use_json n u hs) ≤ max_depth
 unfolding use_json
-use_shallow n u = omega (arith, amounts_shallow u.left, held_items_shallow u.paths.items)
+use_shallow n u hs = omega (arith, amounts_shallow u.left, held_items_shallow hs)
 
-pub use_or_shallow : (n : ℕ) (u : Option LinkUse) → depth (use_or_null n u) ≤ max_depth
-use_or_shallow n None = omega arith
-use_or_shallow n (Some u) = omega (arith, use_shallow n u)
+line_shallow : (n : ℕ) (u : LinkUse) → depth (line_json n u) ≤ 2
+unfolding line_json
+line_shallow n u = omega (arith, amounts_shallow u.left)
+
+line_items_shallow : (n : ℕ) (u : Option LinkUse) → items_depth (line_items n u) ≤ 2
+line_items_shallow n None = omega arith
+line_items_shallow n (Some u) = omega (arith, line_shallow n u)
+
+pub lines_shallow : (n : ℕ) (u : Option LinkUse) → depth (lines_json n u) ≤ max_depth
+lines_shallow n u = omega (arith, line_items_shallow n u)
 
 name_or_shallow : (n : Option (List ℕ)) → depth (name_or_null n) ≤ 0
 name_or_shallow None = omega arith
@@ -164,5 +187,25 @@ obstacle_shallow : (o : Option Obstacle) → depth (obstacle_json o) ≤ 0
 obstacle_shallow None = omega arith
 obstacle_shallow (Some by) = omega arith
 
-pub path_answer_shallow : (a : PathAnswer) (full : List FullLink) → depth (path_answer_json a full) ≤ max_depth
-path_answer_shallow a full = omega (arith, obstacle_shallow (obstacle_of a), whole_or_shallow (cost_in a), wholes_shallow (links_in a), full_items_shallow full)
+left_or_shallow : (room : Option LinkRoom) → depth (left_or_null room) ≤ 0
+left_or_shallow None = omega arith
+left_or_shallow (Some room) = omega arith
+
+pub path_answer_shallow : (a : PathAnswer) (room : Option LinkRoom) (full : List FullLink) → depth (path_answer_json a room full) ≤ max_depth
+path_answer_shallow a room full = omega (arith, obstacle_shallow (obstacle_of a), whole_or_shallow (cost_in a), wholes_shallow (links_in a), whole_or_shallow (link_in room), left_or_shallow room, full_items_shallow full)
+
+word_or_shallow : (word : Option (List ℕ)) → depth (word_or_null word) ≤ 0
+word_or_shallow None = omega arith
+word_or_shallow (Some word) = omega arith
+
+traced_shallow : (x : TracedPath) → depth (traced_json x) ≤ 2
+unfolding traced_json
+traced_shallow x = omega (arith, whole_or_shallow (lsp_id (x.path).part), whole_or_shallow (srp_id (x.path).part), wholes_shallow (x.path).links, word_or_shallow (origin_word x.origin), whole_or_shallow (origin_step x.origin), whole_or_shallow (origin_ticket x.origin))
+
+traced_items_shallow : (xs : List TracedPath) → items_depth (traced_items xs) ≤ 2
+traced_items_shallow [] = omega arith
+traced_items_shallow (x ∷ xs) = omega (arith, traced_shallow x, traced_items_shallow xs)
+
+pub origins_or_shallow : (o : Option LspOrigins) → depth (origins_or_null o) ≤ max_depth
+origins_or_shallow None = omega arith
+origins_or_shallow (Some o) = omega (arith, traced_items_shallow o.paths.items)

@@ -6,7 +6,11 @@ use Rattle.pcep_objects.specs.declared.object.MetricType.TheVariants.{Te}
 use Rattle.lsp_base.specs.declared.lsp.Constraints.{Constraints}
 use Rattle.te_snapshot.specs.Network.{NetworkState}
 use Rattle.path_looks.specs.Paths.{any_colours, full_links, no_bounds, IsPathAnswer}
+use Rattle.path_looks.specs.Tightest.{tightest}
 use Rattle.path_looks.specs.declared.answer.PathAnswer.{PathAnswer}
+use Rattle.pce_seen.specs.Tunnels.{IsByTunnel}
+use Rattle.pce_seen.specs.declared.lsps.HeldPath.{HeldPath}
+use Rattle.pce_seen.specs.declared.lsps.LinkUse.{LinkUse}
 use Rattle.pce_seen.specs.declared.ask.Ask.{Ask}
 use Rattle.pce_seen.specs.declared.ask.Ask.TheVariants as ask
 use Rattle.pce_seen.specs.declared.seen.Network.{Network}
@@ -15,7 +19,7 @@ use Rattle.pce_seen.specs.declared.seen.Seen.TheVariants as seen
 use Rattle.pce_view.specs.declared.answer.Form.{Form}
 use Rattle.pce_view.specs.declared.answer.Form.TheVariants.{Table, Json}
 use Rattle.pce_view.specs.declared.answer.Surroundings.{Surroundings}
-use Rattle.pce_view.specs.Views.{book_json, lsp_or_null, page_json, path_answer_json, peers_json, status_json, steps_json, tickets_json, use_or_null}
+use Rattle.pce_view.specs.Views.{book_json, lines_json, lsp_or_null, origins_or_null, page_json, path_answer_json, peers_json, status_json, steps_json, tickets_json, use_json}
 use Rattle.pce_view.specs.Words.{links_in}
 
 -- the place at which the page of LSPs that is asked for starts
@@ -26,6 +30,7 @@ place_of a = 0
 -- the number of the link that is asked for
 abbrev pub number_of_link : Ask → ℕ
 number_of_link (ask.Link link) = link
+number_of_link (ask.LinkLine link) = link
 number_of_link a = 0
 
 -- what is asked of a path: the least TE metric, of no colour and with no bound
@@ -46,22 +51,38 @@ wanted from to bandwidth priorities = record {
 pub record IsPathText (s : NetworkState) (c : Constraints) (text : List ℕ) : Type 0 where
   pub answer : PathAnswer
   pub holds : IsPathAnswer s c answer
-  pub reads : document text ≡ Some (path_answer_json answer (full_links s.unreserved c (links_in answer)))
+  pub reads : document text ≡ Some (path_answer_json answer (tightest s.unreserved c (links_in answer)) (full_links s.unreserved c (links_in answer)))
 
 abbrev pub IsNetworkText : Ask → Network → List ℕ → Type 0
 IsNetworkText (ask.Path from to bandwidth priorities) n text = IsPathText n.snapshot (wanted from to bandwidth priorities) text
 IsNetworkText a n text = document text ≡ Some null
 
+-- a link, and the tunnels on it by what they hold there
+pub record IsUseText (number : ℕ) (u : LinkUse) (text : List ℕ) : Type 0 where
+  pub tunnels : List HeldPath
+  pub by_tunnel : IsByTunnel u.paths.items tunnels
+  pub reads : document text ≡ Some (use_json number u tunnels)
+
+abbrev pub IsLinkText : ℕ → Option LinkUse → List ℕ → Type 0
+IsLinkText number None text = document text ≡ Some null
+IsLinkText number (Some u) text = IsUseText number u text
+
+-- the line of a link, or the link with its tunnels
+abbrev pub IsOneLinkText : Ask → Option LinkUse → List ℕ → Type 0
+IsOneLinkText (ask.LinkLine link) found text = document text ≡ Some (lines_json link found)
+IsOneLinkText a found text = IsLinkText (number_of_link a) found text
+
 -- a reader of JSON reads the text as exactly what was seen
 abbrev pub IsJsonOf : Surroundings → Ask → Seen → List ℕ → Type 0
 IsJsonOf around a (seen.Counts counts) text = document text ≡ Some (status_json around.version.now around.uptime_ms counts)
 IsJsonOf around a (seen.Book book) text = document text ≡ Some (book_json book.nodes.items book.links.items book.left.items)
-IsJsonOf around a (seen.Peers peers) text = document text ≡ Some (peers_json peers.lsps.items peers.peers.items)
+IsJsonOf around a (seen.Peers peers) text = document text ≡ Some (peers_json around.uptime_ms around.visits.now peers.lsps.items peers.peers.items)
 IsJsonOf around a (seen.Tickets tickets) text = document text ≡ Some (tickets_json tickets.items)
 IsJsonOf around a (seen.Lsps page) text = document text ≡ Some (page_json (place_of a) page)
 IsJsonOf around a (seen.Lsp lsp) text = document text ≡ Some (lsp_or_null lsp)
-IsJsonOf around a (seen.Link found) text = document text ≡ Some (use_or_null (number_of_link a) found)
+IsJsonOf around a (seen.Link found) text = IsOneLinkText a found text
 IsJsonOf around a (seen.Steps steps) text = document text ≡ Some (steps_json steps.first steps.steps.items)
+IsJsonOf around a (seen.Origins origins) text = document text ≡ Some (origins_or_null origins)
 IsJsonOf around a (seen.Network network) text = IsNetworkText a network text
 
 -- the text for programs; of that for people nothing is claimed

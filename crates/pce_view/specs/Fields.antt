@@ -11,8 +11,11 @@ use Rattle.pce_view.specs.declared.fields.Field.{Field}
 use Rattle.pce_view.specs.declared.fields.Field.TheVariants as field
 use Rattle.pce_view.specs.declared.fields.Member.{Member}
 use Rattle.path_looks.specs.declared.answer.Obstacle.{Obstacle}
+use Rattle.path_looks.specs.declared.link_room.LinkRoom.{LinkRoom}
+use Rattle.server_counts.specs.declared.kinds.EndReason.{EndReason}
+use Rattle.pce_view.specs.CountedWords.{end_word}
 use Rattle.pce_view.specs.Json.{whole, signed}
-use Rattle.pce_view.specs.Words.{cost_in, event_word, is_found, links_in, obstacle_of, obstacle_word, outcome_number, outcome_word, purpose_name, purpose_plsp, purpose_request, purpose_word}
+use Rattle.pce_view.specs.Words.{cost_in, event_word, is_found, link_in, links_in, obstacle_of, obstacle_word, origin_step, origin_ticket, origin_word, outcome_number, outcome_word, purpose_name, purpose_plsp, purpose_request, purpose_word}
 
 abbrev pub amounts : List ℤ → Items
 amounts [] = no_items
@@ -56,6 +59,21 @@ abbrev pub obstacle_json : Option Obstacle → Json
 obstacle_json None = null
 obstacle_json (Some by) = string (obstacle_word by)
 
+-- a word, or nothing
+abbrev pub word_or_null : Option (List ℕ) → Json
+word_or_null None = null
+word_or_null (Some word) = string word
+
+-- what is left of a link, or nothing
+abbrev pub left_or_null : Option LinkRoom → Json
+left_or_null None = null
+left_or_null (Some room) = signed room.left
+
+-- why a connection ended, where one did
+abbrev pub end_json : Option EndReason → Json
+end_json None = null
+end_json (Some reason) = string (end_word reason)
+
 -- a node's name; empty where there is no such node
 abbrev pub name_or_none : Option Node → List ℕ
 name_or_none None = []
@@ -85,6 +103,7 @@ field_json (field.Node name) = string name.now
 field_json (field.NodeAt nodes number) = string (name_at nodes.now number)
 field_json (field.Name bytes) = text_or_null bytes.now
 field_json (field.Hex bytes) = string (encode_lower bytes.now)
+field_json (field.EndOf reason) = end_json reason
 field_json (field.PurposeWord purpose) = string (purpose_word purpose.now)
 field_json (field.PurposePlsp purpose) = whole_or_null (purpose_plsp purpose.now)
 field_json (field.PurposeName purpose) = name_or_null (purpose_name purpose.now)
@@ -96,6 +115,11 @@ field_json (field.IsFound answer) = boolean (is_found answer.now)
 field_json (field.ObstacleOf answer) = obstacle_json (obstacle_of answer.now)
 field_json (field.CostOf answer) = whole_or_null (cost_in answer.now)
 field_json (field.LinksOf answer) = array (wholes (links_in answer.now))
+field_json (field.TightestLink room) = whole_or_null (link_in room.now)
+field_json (field.TightestLeft room) = left_or_null room.now
+field_json (field.OriginWord origin) = word_or_null (origin_word origin)
+field_json (field.OriginStep origin) = whole_or_null (origin_step origin)
+field_json (field.OriginTicket origin) = whole_or_null (origin_ticket origin)
 field_json (field.Amounts ns) = array (amounts ns.now)
 field_json (field.Links ns) = array (wholes ns.now)
 

@@ -1,5 +1,5 @@
 -- The JSON value of what is seen.
-use Rattle.std.specs.Prelude.{ℕ, ◌+◌, ◌-◌, ◌^◌, min, ℤ, ◌==◌, ◌&&◌, Bool, List, [], ◌∷◌, codes, count_by, is_some, Option, Some, None}
+use Rattle.std.specs.Prelude.{ℕ, ◌+◌, ◌-◌, ◌^◌, min, ℤ, ◌==◌, ◌&&◌, nat_eq, Bool, List, [], ◌∷◌, codes, count_by, is_some, Option, Some, None}
 use Rattle.json.specs.Json.{Json, null, boolean, string, array, object, Items, no_items, item, Members, no_members, member}
 use Rattle.hex.specs.Hex.{encode_lower}
 use Rattle.te_base.specs.declared.network.Link.{Link}
@@ -10,15 +10,24 @@ use Rattle.pce_seen.specs.declared.lsps.HeldPath.{HeldPath}
 use Rattle.pce_seen.specs.declared.lsps.KnownLsp.{KnownLsp}
 use Rattle.pce_seen.specs.declared.lsps.LinkUse.{LinkUse}
 use Rattle.pce_seen.specs.declared.lsps.LspPage.{LspPage}
+use Rattle.pce_seen.specs.declared.origins.LspOrigins.{LspOrigins}
+use Rattle.pce_seen.specs.declared.origins.TracedPath.{TracedPath}
 use Rattle.pce_seen.specs.declared.peers.KnownPeer.{KnownPeer}
 use Rattle.pce_seen.specs.declared.peers.LspOwner.{LspOwner}
 use Rattle.pce_seen.specs.declared.seen.Counts.{Counts}
 use Rattle.pce_seen.specs.declared.steps.KnownStep.{KnownStep}
 use Rattle.path_looks.specs.declared.answer.PathAnswer.{PathAnswer}
 use Rattle.path_looks.specs.declared.full.FullLink.{FullLink}
-use Rattle.pce_view.specs.Fields.{address, address_or_null, amounts, lsp_id, name_at, name_or_null, obstacle_json, srp_id, text_or_null, whole_or_null, wholes}
+use Rattle.path_looks.specs.declared.link_room.LinkRoom.{LinkRoom}
+use Rattle.std.specs.Map.{lookup}
+use Rattle.server_counts.specs.declared.kinds.EndReason.{EndReason}
+use Rattle.server_counts.specs.declared.kinds.EndReason.TheVariants as end
+use Rattle.server_counts.specs.declared.visits.LastEnd.{LastEnd}
+use Rattle.server_counts.specs.declared.visits.Visit.{Visit}
+use Rattle.pce_view.specs.declared.moments.Moments.{Moments}
+use Rattle.pce_view.specs.Fields.{address, address_or_null, amounts, end_json, left_or_null, lsp_id, name_at, name_or_null, obstacle_json, srp_id, text_or_null, whole_or_null, wholes, word_or_null}
 use Rattle.pce_view.specs.Json.{whole}
-use Rattle.pce_view.specs.Words.{cost_in, event_word, is_found, links_in, obstacle_of, outcome_number, outcome_word, purpose_name, purpose_plsp, purpose_request, purpose_word}
+use Rattle.pce_view.specs.Words.{cost_in, event_word, is_found, link_in, links_in, obstacle_of, origin_step, origin_ticket, origin_word, outcome_number, outcome_word, purpose_name, purpose_plsp, purpose_request, purpose_word}
 
 -- how much there is of what
 unfoldable pub status_json : List ℕ → ℕ → Counts → Json
@@ -83,29 +92,49 @@ lsps_of owners peer = count_by (λ o. o.peer == peer) owners
 abbrev pub delegated_of : List LspOwner → ℕ → ℕ
 delegated_of owners peer = count_by (λ o. o.peer == peer && o.is_delegated) owners
 
-unfoldable pub counted_json : KnownPeer → ℕ → ℕ → Json
-counted_json p lsps delegated = object
+-- the number of the refusal or of the Close by which a connection ended
+abbrev pub end_number : EndReason → Option ℕ
+end_number (end.Closed number) = Some number
+end_number (end.Refused number) = Some number
+end_number _ = None
+
+abbrev pub ended_at : ℕ → Option LastEnd → Moments
+ended_at now_ms None = record { since_ms_ago = None; end_ms_ago = None; end = None; number = None }
+ended_at now_ms (Some e) = record { since_ms_ago = None; end_ms_ago = Some (now_ms - e.at_ms); end = Some e.reason; number = end_number e.reason }
+
+-- how long ago a peer came up or went down, and how long ago its last connection ended, and why
+abbrev pub moments_of : ℕ → Option Visit → Moments
+moments_of now_ms None = ended_at now_ms None
+moments_of now_ms (Some v) = record (ended_at now_ms v.last_end) { since_ms_ago = Some (now_ms - v.since_ms) }
+
+unfoldable pub counted_json : KnownPeer → ℕ → ℕ → Moments → Json
+counted_json p lsps delegated m = object
     (member (codes "peer") (address p.peer)
     (member (codes "is_up") (boolean p.is_up)
     (member (codes "is_synchronizing") (boolean p.is_synchronizing)
     (member (codes "session") (whole p.session)
     (member (codes "may_update") (boolean p.may_update)
     (member (codes "may_create") (boolean p.may_create)
-    (member (codes "has_waiting_messages") (boolean p.has_waiting_messages)
+    (member (codes "waiting_messages") (whole p.waiting_messages)
     (member (codes "lsps") (whole lsps)
     (member (codes "delegated_lsps") (whole delegated)
-    no_members)))))))))
+    (member (codes "since_ms_ago") (whole_or_null m.since_ms_ago)
+    (member (codes "last_end_ms_ago") (whole_or_null m.end_ms_ago)
+    (member (codes "last_end_reason") (end_json m.end)
+    (member (codes "last_end_number") (whole_or_null m.number)
+    no_members)))))))))))))
 
 -- a peer with its session, and how many LSPs are its own
-abbrev pub peer_json : List LspOwner → KnownPeer → Json
-peer_json owners p = counted_json p (lsps_of owners p.peer) (delegated_of owners p.peer)
+abbrev pub peer_json : ℕ → List (ℕ × Visit) → List LspOwner → KnownPeer → Json
+peer_json now_ms visits owners p =
+    counted_json p (lsps_of owners p.peer) (delegated_of owners p.peer) (moments_of now_ms (lookup (nat_eq p.peer) visits))
 
-abbrev pub peer_items : List LspOwner → List KnownPeer → Items
-peer_items owners [] = no_items
-peer_items owners (peer ∷ peers) = item (peer_json owners peer) (peer_items owners peers)
+abbrev pub peer_items : ℕ → List (ℕ × Visit) → List LspOwner → List KnownPeer → Items
+peer_items now_ms visits owners [] = no_items
+peer_items now_ms visits owners (peer ∷ peers) = item (peer_json now_ms visits owners peer) (peer_items now_ms visits owners peers)
 
-abbrev pub peers_json : List LspOwner → List KnownPeer → Json
-peers_json owners peers = object (member (codes "peers") (array (peer_items owners peers)) no_members)
+abbrev pub peers_json : ℕ → List (ℕ × Visit) → List LspOwner → List KnownPeer → Json
+peers_json now_ms visits owners peers = object (member (codes "peers") (array (peer_items now_ms visits owners peers)) no_members)
 
 -- a path of an LSP: reported under an LSP ID, or granted under an SRP-ID
 unfoldable pub path_json : Path → Json
@@ -157,7 +186,7 @@ abbrev pub lsp_or_null : Option KnownLsp → Json
 lsp_or_null None = null
 lsp_or_null (Some l) = lsp_json l
 
--- a path over a link
+-- a tunnel on a link: its path of the greatest bandwidth there
 unfoldable pub held_json : HeldPath → Json
 held_json h = object
     (member (codes "peer") (address h.peer)
@@ -172,9 +201,9 @@ abbrev pub held_items : List HeldPath → Items
 held_items [] = no_items
 held_items (h ∷ hs) = item (held_json h) (held_items hs)
 
--- a link with its ends, what is left of it, and the paths over it
-unfoldable pub use_json : ℕ → LinkUse → Json
-use_json number u = object
+-- a link with its ends, what is left of it, and the tunnels on it
+unfoldable pub use_json : ℕ → LinkUse → List HeldPath → Json
+use_json number u tunnels = object
     (member (codes "link") (whole number)
     (member (codes "from") (string (u.from).name)
     (member (codes "to") (string (u.to).name)
@@ -185,12 +214,30 @@ use_json number u = object
     (member (codes "colour") (whole (u.link).colour)
     (member (codes "reservable_bytes_per_second") (whole (u.link).reservable)
     (member (codes "unreserved_bytes_per_second") (array (amounts u.left))
-    (member (codes "paths") (array (held_items u.paths.items))
+    (member (codes "tunnels") (array (held_items tunnels))
     no_members)))))))))))
 
-abbrev pub use_or_null : ℕ → Option LinkUse → Json
-use_or_null number None = null
-use_or_null number (Some u) = use_json number u
+-- the line of one link: it stands in a list, which is empty where there is no such link
+unfoldable pub line_json : ℕ → LinkUse → Json
+line_json number u = object
+    (member (codes "link") (whole number)
+    (member (codes "from") (string (u.from).name)
+    (member (codes "to") (string (u.to).name)
+    (member (codes "local_address") (address (u.link).local)
+    (member (codes "remote_address") (address (u.link).remote)
+    (member (codes "igp_metric") (whole (u.link).igp)
+    (member (codes "te_metric") (whole (u.link).te)
+    (member (codes "colour") (whole (u.link).colour)
+    (member (codes "reservable_bytes_per_second") (whole (u.link).reservable)
+    (member (codes "unreserved_bytes_per_second") (array (amounts u.left))
+    no_members))))))))))
+
+abbrev pub line_items : ℕ → Option LinkUse → Items
+line_items number None = no_items
+line_items number (Some u) = item (line_json number u) no_items
+
+abbrev pub lines_json : ℕ → Option LinkUse → Json
+lines_json number found = object (member (codes "links") (array (line_items number found)) no_members)
 
 unfoldable pub ticket_json : Ticket → Json
 ticket_json t = object
@@ -246,12 +293,44 @@ abbrev pub full_items : List FullLink → Items
 full_items [] = no_items
 full_items (f ∷ fs) = item (full_json f) (full_items fs)
 
--- a path; or what stands in its way, with the path that there is without it and its links that are too full
-abbrev pub path_answer_json : PathAnswer → List FullLink → Json
-path_answer_json a full = object
+-- a path; or what stands in its way, with the path that there is without it and its links that are too full; and of the
+-- path's links the one on which least is left
+abbrev pub path_answer_json : PathAnswer → Option LinkRoom → List FullLink → Json
+path_answer_json a tightest full = object
     (member (codes "is_found") (boolean (is_found a))
     (member (codes "obstacle") (obstacle_json (obstacle_of a))
     (member (codes "cost") (whole_or_null (cost_in a))
     (member (codes "links") (array (wholes (links_in a)))
+    (member (codes "tightest_link") (whole_or_null (link_in tightest))
+    (member (codes "tightest_left_bytes_per_second") (left_or_null tightest)
     (member (codes "full_links") (array (full_items full))
+    no_members)))))))
+
+-- a path of an LSP, and by which kept step it came
+unfoldable pub traced_json : TracedPath → Json
+traced_json x = object
+    (member (codes "lsp_id") (whole_or_null (lsp_id (x.path).part))
+    (member (codes "srp_id") (whole_or_null (srp_id (x.path).part))
+    (member (codes "links") (array (wholes (x.path).links))
+    (member (codes "by") (word_or_null (origin_word x.origin))
+    (member (codes "step") (whole_or_null (origin_step x.origin))
+    (member (codes "ticket") (whole_or_null (origin_ticket x.origin))
+    no_members))))))
+
+abbrev pub traced_items : List TracedPath → Items
+traced_items [] = no_items
+traced_items (x ∷ xs) = item (traced_json x) (traced_items xs)
+
+-- the paths of an LSP, from which step on they were looked for, and which step is the first that is kept
+abbrev pub origins_json : LspOrigins → Json
+origins_json o = object
+    (member (codes "peer") (address o.peer)
+    (member (codes "plsp_id") (whole o.plsp)
+    (member (codes "rolled_steps") (whole o.rolled)
+    (member (codes "first_step") (whole o.first)
+    (member (codes "paths") (array (traced_items o.paths.items))
     no_members)))))
+
+abbrev pub origins_or_null : Option LspOrigins → Json
+origins_or_null None = null
+origins_or_null (Some o) = origins_json o

@@ -3,12 +3,15 @@ use Rattle.std.specs.Prelude.{ℕ, Bool, true, false, List, [], codes, Option, S
 use Rattle.lsp_base.specs.Whys.{number_of}
 use Rattle.commit_core.specs.declared.ticket.Purpose.{Purpose}
 use Rattle.commit_core.specs.declared.ticket.Purpose.TheVariants.{Update, Initiate, Answer}
+use Rattle.pce_seen.specs.declared.origins.Origin.{Origin}
+use Rattle.pce_seen.specs.declared.origins.Origin.TheVariants as origin
 use Rattle.pce_seen.specs.declared.steps.EventKind.{EventKind}
 use Rattle.pce_seen.specs.declared.steps.EventKind.TheVariants as kind
 use Rattle.pce_seen.specs.declared.steps.Outcome.{Outcome}
 use Rattle.pce_seen.specs.declared.steps.Outcome.TheVariants as outcome
 use Rattle.path_looks.specs.declared.answer.Obstacle.{Obstacle}
 use Rattle.path_looks.specs.declared.answer.Obstacle.TheVariants as obstacle
+use Rattle.path_looks.specs.declared.link_room.LinkRoom.{LinkRoom}
 use Rattle.path_looks.specs.declared.answer.PathAnswer.{PathAnswer}
 use Rattle.path_looks.specs.declared.answer.PathAnswer.TheVariants.{Path, Blocked, NoWay}
 
@@ -110,3 +113,23 @@ abbrev pub links_in : PathAnswer → List ℕ
 links_in (Path found) = found.links
 links_in (Blocked by found) = found.links
 links_in NoWay = []
+
+abbrev pub link_in : Option LinkRoom → Option ℕ
+link_in None = None
+link_in (Some room) = Some room.link
+
+-- by what a path came
+abbrev pub origin_word : Origin → Option (List ℕ)
+origin_word (origin.Report step) = Some (codes "report")
+origin_word (origin.Grant step ticket) = Some (codes "grant")
+origin_word origin.Unknown = None
+
+abbrev pub origin_step : Origin → Option ℕ
+origin_step (origin.Report step) = Some step
+origin_step (origin.Grant step ticket) = Some step
+origin_step origin.Unknown = None
+
+abbrev pub origin_ticket : Origin → Option ℕ
+origin_ticket (origin.Report step) = None
+origin_ticket (origin.Grant step ticket) = Some ticket
+origin_ticket origin.Unknown = None

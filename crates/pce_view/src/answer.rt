@@ -1,29 +1,32 @@
 //! What is said to an operator's question, of what was seen.
-ghost use Rattle.std.specs.Prelude.{◌≡◌, Some, IfOk};
-ghost use Rattle.json.specs.Json.{document, null};
-ghost use Rattle.pce_view.specs.Answers.{number_of_link, place_of, wanted, AnswersAs, IsJsonOf, IsNetworkText, IsPathText};
+ghost use Rattle.std.specs.Prelude.{◌≡◌, IfOk};
+ghost use Rattle.pce_view.specs.Answers.{number_of_link, place_of, wanted, AnswersAs, IsJsonOf, IsNetworkText, IsOneLinkText, IsPathText};
 ghost use Rattle.path_looks.specs.Paths.{full_links, IsPathAnswer};
+ghost use Rattle.path_looks.specs.Tightest.{tightest};
 ghost use Rattle.pce_view.specs.Words.{links_in};
 
 use crate::book::book_text;
-use crate::closing::closed;
+use crate::closing::null_text;
 use crate::columns::add_aligned;
-use crate::link::link_text;
-use crate::lsp_tables::{add_link_use, add_one_lsp, add_page};
+use crate::link::{line_text, link_text};
+use crate::lsp_tables::{add_link_use, add_one_lsp, add_origins, add_page};
 use crate::lsps::{lsp_text, page_text};
+use crate::origins::origins_text;
 use crate::path::path_text;
 use crate::peers::peers_text;
 use crate::status::status_text;
 use crate::steps::steps_text;
-use crate::tables::{add_answer, add_book, add_peers, add_status, add_steps, add_tickets};
+use crate::tables::{
+    add_answer, add_book, add_link_line, add_peers, add_status, add_steps, add_tickets,
+};
 use crate::tickets::tickets_text;
 use crate::words::links_in;
-use json::Writer;
 use lsp_base::{Constraints, OtherBounds};
-use path_looks::{FullLink, PathAnswer, full_links, path_on};
-use pce_seen::{Ask, Network, Seen};
+use path_looks::{FullLink, LinkRoom, PathAnswer, full_links, path_on, tightest};
+use pce_seen::{Ask, LinkUse, Network, Seen};
 use pcep_objects::{Colours, MetricType};
 use pcep_word::{Bandwidth, Ipv4, Priorities};
+use server_counts::Visit;
 use std::alloc::{AllocError, Global};
 use te_snapshot::Snapshot;
 
@@ -42,6 +45,8 @@ pub struct Surroundings<'a> {
     pub version: &'a str,
     /// Since the run began.
     pub uptime_ms: u64,
+    /// Since when each peer is up or down, in milliseconds since the run began.
+    pub visits: &'a [(u32, Visit)],
 }
 
 /// The place at which the page of LSPs that is asked for starts.
@@ -59,7 +64,7 @@ fn number_of_link(ask: &Ask) -> u64
     ensures { result ≡ number_of_link ask.now }
 {
     match ask {
-        Ask::Link { link } => *link,
+        Ask::Link { link } | Ask::LinkLine { link } => *link,
         _ => 0,
     }
 }
@@ -88,18 +93,29 @@ fn wanted(from: Ipv4, to: Ipv4, bandwidth: Bandwidth, priorities: Priorities) ->
     }
 }
 
-/// Searches for a path, and lists its links that are too full.
-fn search(
-    alloc: Global,
-    snapshot: &Snapshot,
-    wanted: &Constraints,
-) -> Result<(PathAnswer, Vec<FullLink>), AllocError>
-    ensures answer { IfOk result (λ found. IsPathAnswer snapshot.now wanted.now found.0) }
-    ensures full { IfOk result (λ found. found.1.items ≡ full_links snapshot.now.unreserved wanted.now (links_in found.0)) }
+/// What is found on a network: a path or what stands in its way, and of its links the one on which least is left and those
+/// that are too full.
+#[derive(Drop)]
+struct Finding {
+    answer: PathAnswer,
+    tightest: Option<LinkRoom>,
+    full: Vec<FullLink>,
+}
+
+/// Searches for a path, and looks at its links.
+fn search(alloc: Global, snapshot: &Snapshot, wanted: &Constraints) -> Result<Finding, AllocError>
+    ensures answer { IfOk result (λ found. IsPathAnswer snapshot.now wanted.now found.answer) }
+    ensures tightest { IfOk result (λ found. found.tightest ≡ tightest snapshot.now.unreserved wanted.now (links_in found.answer)) }
+    ensures full { IfOk result (λ found. found.full.items ≡ full_links snapshot.now.unreserved wanted.now (links_in found.answer)) }
 {
     let answer = path_on(alloc, snapshot, wanted)?;
+    let room = tightest(snapshot, wanted, links_in(&answer));
     match full_links(alloc, snapshot, wanted, links_in(&answer)) {
-        Ok(full) => Ok((answer, full)),
+        Ok(full) => Ok(Finding {
+            answer,
+            tightest: room,
+            full,
+        }),
         Err(error) => {
             drop(answer);
             Err(error)
@@ -115,17 +131,8 @@ fn found_text(
 ) -> Result<Vec<u8>, AllocError>
     ensures { IfOk result (λ text. IsPathText snapshot.now wanted.now text.items) }
 {
-    let (answer, full) = search(alloc, snapshot, wanted)?;
-    path_text(alloc, &answer, &full)
-}
-
-/// Writes `null`.
-fn null_text(alloc: Global) -> Result<Vec<u8>, AllocError>
-    ensures { IfOk result (λ text. document text.items ≡ Some null) }
-{
-    let mut writer = Writer::new(Vec::new(alloc));
-    writer.null()?;
-    Ok(closed(writer))
+    let found = search(alloc, snapshot, wanted)?;
+    path_text(alloc, &found.answer, &found.tightest, &found.full)
 }
 
 /// Writes what was found on a network as JSON.
@@ -147,6 +154,16 @@ fn network_text(alloc: Global, ask: &Ask, network: &Network) -> Result<Vec<u8>, 
     }
 }
 
+/// Writes a link as JSON: its line, or the link with the tunnels on it.
+fn one_link_text(alloc: Global, ask: &Ask, found: &Option<LinkUse>) -> Result<Vec<u8>, AllocError>
+    ensures { IfOk result (λ text. IsOneLinkText ask.now found.now text.items) }
+{
+    match *ask {
+        Ask::LinkLine { link } => line_text(alloc, link, found),
+        _ => link_text(alloc, number_of_link(ask), found),
+    }
+}
+
 /// Writes what was seen as JSON.
 fn json_text(
     alloc: Global,
@@ -159,12 +176,13 @@ fn json_text(
     match seen {
         Seen::Counts(counts) => status_text(alloc, around.version, around.uptime_ms, counts),
         Seen::Book(book) => book_text(alloc, book),
-        Seen::Peers(peers) => peers_text(alloc, peers),
+        Seen::Peers(peers) => peers_text(alloc, around.uptime_ms, around.visits, peers),
         Seen::Tickets(tickets) => tickets_text(alloc, tickets),
         Seen::Lsps(page) => page_text(alloc, place_of(ask), page),
         Seen::Lsp(lsp) => lsp_text(alloc, lsp),
-        Seen::Link(found) => link_text(alloc, number_of_link(ask), found),
+        Seen::Link(found) => one_link_text(alloc, ask, found),
         Seen::Steps(steps) => steps_text(alloc, steps),
+        Seen::Origins(origins) => origins_text(alloc, origins),
         Seen::Network(network) => network_text(alloc, ask, network),
     }
 }
@@ -176,8 +194,15 @@ fn add_found(
     network: &Network,
     wanted: &Constraints,
 ) -> Result<(), AllocError> {
-    let (answer, full) = search(alloc, &network.snapshot, wanted)?;
-    add_answer(text, &network.nodes, &network.snapshot, &answer, &full)
+    let found = search(alloc, &network.snapshot, wanted)?;
+    add_answer(
+        text,
+        &network.nodes,
+        &network.snapshot,
+        &found.answer,
+        &found.tightest,
+        &found.full,
+    )
 }
 
 fn add_network(
@@ -202,6 +227,19 @@ fn add_network(
     }
 }
 
+/// Adds a link: its line, or the link with the tunnels on it.
+fn add_one_link(
+    alloc: Global,
+    text: &mut String,
+    ask: &Ask,
+    found: &Option<LinkUse>,
+) -> Result<(), AllocError> {
+    match *ask {
+        Ask::LinkLine { link } => add_link_line(text, link, found),
+        _ => add_link_use(alloc, text, number_of_link(ask), found),
+    }
+}
+
 /// Adds what was seen in rows of cells.
 fn add_rows(
     alloc: Global,
@@ -213,12 +251,13 @@ fn add_rows(
     match seen {
         Seen::Counts(counts) => add_status(text, around.version, around.uptime_ms, counts),
         Seen::Book(book) => add_book(text, book),
-        Seen::Peers(peers) => add_peers(text, peers),
+        Seen::Peers(peers) => add_peers(text, around.uptime_ms, around.visits, peers),
         Seen::Tickets(tickets) => add_tickets(text, tickets),
         Seen::Lsps(page) => add_page(text, place_of(ask), page),
         Seen::Lsp(lsp) => add_one_lsp(text, lsp),
-        Seen::Link(found) => add_link_use(alloc, text, number_of_link(ask), found),
+        Seen::Link(found) => add_one_link(alloc, text, ask, found),
         Seen::Steps(steps) => add_steps(text, steps),
+        Seen::Origins(origins) => add_origins(text, origins),
         Seen::Network(network) => add_network(alloc, text, ask, network),
     }
 }

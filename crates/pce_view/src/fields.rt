@@ -4,21 +4,24 @@ ghost use Rattle.hex.specs.Hex.{encode_lower};
 ghost use Rattle.json.specs.Tree.{json_tokens, members_tokens};
 ghost use Rattle.json.specs.Json.{Json, Members, array, member, no_members, object, string};
 ghost use Rattle.json.specs.Token.{end_object};
-ghost use Rattle.pce_view.specs.Words.{purpose_name};
-ghost use Rattle.pce_view.specs.Fields.{address, address_or_null, amounts, field_json, lsp_id, members_json, members_then, name_at, name_or_null, obstacle_json, srp_id, text_or_null, whole_or_null, wholes};
+ghost use Rattle.pce_view.specs.Words.{origin_word, purpose_name};
+ghost use Rattle.pce_view.specs.Fields.{address, address_or_null, amounts, end_json, field_json, left_or_null, lsp_id, members_json, members_then, name_at, name_or_null, obstacle_json, srp_id, text_or_null, whole_or_null, wholes, word_or_null};
 
+use crate::counted_words::end_word;
 use crate::words::{
-    cost_in, event_word, is_found, links_in, obstacle_of, obstacle_word, outcome_number,
-    outcome_word, purpose_plsp, purpose_request, purpose_word,
+    cost_in, event_word, is_found, link_in, links_in, obstacle_of, obstacle_word, origin_step,
+    origin_ticket, origin_word, outcome_number, outcome_word, purpose_plsp, purpose_request,
+    purpose_word,
 };
 use commit_core::Purpose;
 use json::Writer;
 use lsp_base::Part;
-use path_looks::{Obstacle, PathAnswer};
-use pce_seen::{EventKind, Outcome};
+use path_looks::{LinkRoom, Obstacle, PathAnswer};
+use pce_seen::{EventKind, Origin, Outcome};
 use pcep_objects::Plsp;
 use pcep_word::{Bandwidth, Ipv4, Priorities, Priority};
 use sequence::Sequence;
+use server_counts::EndReason;
 use std::alloc::{AllocError, Global};
 use std::str;
 use te_base::{LinkNumber, Name, Node};
@@ -54,6 +57,8 @@ pub(crate) enum Field<'a> {
     /// Bytes as a text, where they are UTF-8.
     Name(&'a Sequence<u8>),
     Hex(&'a Sequence<u8>),
+    /// Why a connection ended.
+    EndOf(Option<EndReason>),
     /// What a ticket asks a path for.
     PurposeWord(&'a Purpose),
     PurposePlsp(&'a Purpose),
@@ -66,6 +71,12 @@ pub(crate) enum Field<'a> {
     ObstacleOf(&'a PathAnswer),
     CostOf(&'a PathAnswer),
     LinksOf(&'a PathAnswer),
+    TightestLink(&'a Option<LinkRoom>),
+    TightestLeft(&'a Option<LinkRoom>),
+    /// By what a path came, the place of that step, and the ticket.
+    OriginWord(Origin),
+    OriginStep(Origin),
+    OriginTicket(Origin),
     Amounts(&'a [i64; 8]),
     Links(&'a Sequence<LinkNumber>),
 }
@@ -195,12 +206,44 @@ fn put_purpose_name(writer: &mut Writer, purpose: &Purpose) -> Result<(), AllocE
     }
 }
 
+fn put_end(writer: &mut Writer, reason: Option<EndReason>) -> Result<(), AllocError>
+    ensures before { writer.new.before ≡ writer.old.before }
+    ensures written { OnOk result (writer.new.tokens ≡ writer.old.tokens ++ json_tokens (end_json reason)) }
+{
+    match reason {
+        Some(reason) => writer.string(end_word(reason)),
+        None => writer.null(),
+    }
+}
+
 fn put_obstacle(writer: &mut Writer, obstacle: Option<Obstacle>) -> Result<(), AllocError>
     ensures before { writer.new.before ≡ writer.old.before }
     ensures written { OnOk result (writer.new.tokens ≡ writer.old.tokens ++ json_tokens (obstacle_json obstacle)) }
 {
     match obstacle {
         Some(by) => writer.string(obstacle_word(by)),
+        None => writer.null(),
+    }
+}
+
+/// Writes the word of how a path came, or nothing.
+fn put_origin_word(writer: &mut Writer, origin: Origin) -> Result<(), AllocError>
+    ensures before { writer.new.before ≡ writer.old.before }
+    ensures written { OnOk result (writer.new.tokens ≡ writer.old.tokens ++ json_tokens (word_or_null (origin_word origin))) }
+{
+    match origin_word(origin) {
+        Some(word) => writer.string(word),
+        None => writer.null(),
+    }
+}
+
+/// Writes what is left of a link, or nothing.
+fn put_left_or(writer: &mut Writer, room: &Option<LinkRoom>) -> Result<(), AllocError>
+    ensures before { writer.new.before ≡ writer.old.before }
+    ensures written { OnOk result (writer.new.tokens ≡ writer.old.tokens ++ json_tokens (left_or_null room.now)) }
+{
+    match room {
+        Some(room) => writer.i64(room.left),
         None => writer.null(),
     }
 }
@@ -230,6 +273,7 @@ fn put_value(alloc: Global, writer: &mut Writer, value: &Field<'_>) -> Result<()
         Field::NodeAt(nodes, number) => writer.string(name_at(nodes, *number)),
         Field::Name(bytes) => put_name(writer, bytes.as_slice()),
         Field::Hex(bytes) => put_hex(alloc, writer, bytes.as_slice()),
+        Field::EndOf(reason) => put_end(writer, *reason),
         Field::PurposeWord(purpose) => writer.string(purpose_word(purpose)),
         Field::PurposePlsp(purpose) => put_whole_or(writer, purpose_plsp(purpose)),
         Field::PurposeName(purpose) => put_purpose_name(writer, purpose),
@@ -241,6 +285,11 @@ fn put_value(alloc: Global, writer: &mut Writer, value: &Field<'_>) -> Result<()
         Field::ObstacleOf(answer) => put_obstacle(writer, obstacle_of(answer)),
         Field::CostOf(answer) => put_whole_or(writer, cost_in(answer)),
         Field::LinksOf(answer) => put_numbers(writer, links_in(answer)),
+        Field::TightestLink(room) => put_whole_or(writer, link_in(room)),
+        Field::TightestLeft(room) => put_left_or(writer, room),
+        Field::OriginWord(origin) => put_origin_word(writer, *origin),
+        Field::OriginStep(origin) => put_whole_or(writer, origin_step(*origin)),
+        Field::OriginTicket(origin) => put_whole_or(writer, origin_ticket(*origin)),
         Field::Amounts(numbers) => put_amounts(writer, numbers),
         Field::Links(numbers) => put_numbers(writer, numbers.as_slice()),
     }

@@ -4,9 +4,12 @@
 //!
 //! - `fields`, `closing`: objects from tables of their members, and the text of a whole value
 //! - `words`: words for what is seen
-//! - `status`, `book`, `peers`, `tickets`, `lsps`, `link`, `steps`, `path`: one kind of answer each, as JSON
+//! - `moments`: how long ago a peer came up or went down
+//! - `status`, `book`, `peers`, `tickets`, `lsps`, `link`, `steps`, `origins`, `path`: one kind of answer each, as JSON
 //! - `columns`, `tables`, `lsp_tables`: the same for people
 //! - `answer`: what is said to a question
+//! - `pieces`, `families`, `counted_words`: lines of metrics
+//! - `link_metrics`, `step_metrics`, `session_metrics`, `time_metrics`, `metrics`: what was seen and counted, as metrics
 //!
 //! ```text
 //! fn status_of(alloc: Global, counts: Counts) -> Result<Vec<u8>, AllocError> {
@@ -20,16 +23,27 @@ mod answer;
 mod book;
 mod closing;
 mod columns;
+mod counted_words;
+mod families;
 mod fields;
 mod link;
+mod link_metrics;
 mod lsp_tables;
 mod lsps;
+mod metrics;
+mod moments;
+mod origins;
 mod path;
 mod peers;
+mod pieces;
+mod session_metrics;
 mod status;
+mod step_metrics;
 mod steps;
 mod tables;
 mod tickets;
+mod time_metrics;
 mod words;
 
 pub use answer::{Form, Surroundings, answer_text};
+pub use metrics::metrics_text;

@@ -1,13 +1,14 @@
-//! A link with the paths over it as JSON.
+//! A link with the tunnels on it as JSON.
 ghost use Rattle.std.specs.Prelude.{◌≡◌, ◌++◌, Some, IfOk, OnOk};
 ghost use Rattle.json.specs.Tree.{json_tokens};
-ghost use Rattle.json.specs.Json.{array, document};
-ghost use Rattle.pce_view.specs.Views.{held_items, held_json, use_json, use_or_null};
+ghost use Rattle.json.specs.Json.{array, document, item, no_items};
+ghost use Rattle.pce_view.specs.Views.{held_items, held_json, line_items, line_json, lines_json, use_json};
+ghost use Rattle.pce_view.specs.Answers.{IsLinkText, IsUseText};
 
-use crate::closing::closed;
+use crate::closing::{closed, null_text};
 use crate::fields::{Field, Member, begin_with, put_object};
 use json::Writer;
-use pce_seen::{HeldPath, LinkUse};
+use pce_seen::{HeldPath, LinkUse, tunnels_on};
 use std::alloc::{AllocError, Global};
 
 #[tactic(auto, unfolding(crate::specs::Views::held_json))]
@@ -63,9 +64,10 @@ fn put_use(
     writer: &mut Writer,
     number: u64,
     seen: &LinkUse,
+    tunnels: &[HeldPath],
 ) -> Result<(), AllocError>
     ensures before { writer.new.before ≡ writer.old.before }
-    ensures written { OnOk result (writer.new.tokens ≡ writer.old.tokens ++ json_tokens (use_json number seen.now)) }
+    ensures written { OnOk result (writer.new.tokens ≡ writer.old.tokens ++ json_tokens (use_json number seen.now tunnels.now)) }
 {
     begin_with(
         alloc,
@@ -112,37 +114,168 @@ fn put_use(
                 value: Field::Amounts(&seen.left),
             },
         ],
-        "paths",
+        "tunnels",
     )?;
-    put_each_held(alloc, writer, &seen.paths)?;
+    put_each_held(alloc, writer, tunnels)?;
     writer.end_object()?;
     Ok(())
 }
 
-fn put_use_or(
+/// Writes a link with the tunnels on it.
+fn use_text(
+    alloc: Global,
+    number: u64,
+    seen: &LinkUse,
+    tunnels: &[HeldPath],
+) -> Result<Vec<u8>, AllocError>
+    ensures { IfOk result (λ text. document text.items ≡ Some (use_json number seen.now tunnels.now)) }
+{
+    let mut writer = Writer::new(Vec::new(alloc));
+    put_use(alloc, &mut writer, number, seen, tunnels)?;
+    Ok(closed(writer))
+}
+
+/// Lists the tunnels on a link, and writes the link with them.
+fn link_with_tunnels(alloc: Global, number: u64, seen: &LinkUse) -> Result<Vec<u8>, AllocError>
+    ensures { IfOk result (λ text. IsUseText number seen.now text.items) }
+{
+    let tunnels = tunnels_on(alloc, &seen.paths)?;
+    use_text(alloc, number, seen, &tunnels)
+}
+
+/// Writes a link with the tunnels on it as JSON, or `null`.
+pub(crate) fn link_text(
+    alloc: Global,
+    number: u64,
+    seen: &Option<LinkUse>,
+) -> Result<Vec<u8>, AllocError>
+    ensures { IfOk result (λ text. IsLinkText number seen.now text.items) }
+{
+    match seen {
+        Some(seen) => link_with_tunnels(alloc, number, seen),
+        None => null_text(alloc),
+    }
+}
+
+#[tactic(auto, unfolding(crate::specs::Views::line_json))]
+fn put_line(
+    alloc: Global,
+    writer: &mut Writer,
+    number: u64,
+    seen: &LinkUse,
+) -> Result<(), AllocError>
+    ensures before { writer.new.before ≡ writer.old.before }
+    ensures written { OnOk result (writer.new.tokens ≡ writer.old.tokens ++ json_tokens (line_json number seen.now)) }
+{
+    put_object(
+        alloc,
+        writer,
+        &[
+            Member {
+                name: "link",
+                value: Field::Whole(number),
+            },
+            Member {
+                name: "from",
+                value: Field::Node(&seen.from.name),
+            },
+            Member {
+                name: "to",
+                value: Field::Node(&seen.to.name),
+            },
+            Member {
+                name: "local_address",
+                value: Field::Address(seen.link.local),
+            },
+            Member {
+                name: "remote_address",
+                value: Field::Address(seen.link.remote),
+            },
+            Member {
+                name: "igp_metric",
+                value: Field::Whole(seen.link.igp as u64),
+            },
+            Member {
+                name: "te_metric",
+                value: Field::Whole(seen.link.te as u64),
+            },
+            Member {
+                name: "colour",
+                value: Field::Whole(seen.link.colour as u64),
+            },
+            Member {
+                name: "reservable_bytes_per_second",
+                value: Field::Whole(seen.link.reservable),
+            },
+            Member {
+                name: "unreserved_bytes_per_second",
+                value: Field::Amounts(&seen.left),
+            },
+        ],
+    )
+}
+
+fn put_one_line(
+    alloc: Global,
+    writer: &mut Writer,
+    number: u64,
+    seen: &LinkUse,
+) -> Result<(), AllocError>
+    ensures before { writer.new.before ≡ writer.old.before }
+    ensures written { OnOk result (writer.new.tokens ≡ writer.old.tokens ++ json_tokens (array (item (line_json number seen.now) no_items))) }
+{
+    writer.begin_array()?;
+    put_line(alloc, writer, number, seen)?;
+    writer.end_array()
+}
+
+fn put_no_line(writer: &mut Writer) -> Result<(), AllocError>
+    ensures before { writer.new.before ≡ writer.old.before }
+    ensures written { OnOk result (writer.new.tokens ≡ writer.old.tokens ++ json_tokens (array no_items)) }
+{
+    writer.begin_array()?;
+    writer.end_array()
+}
+
+fn put_line_or(
     alloc: Global,
     writer: &mut Writer,
     number: u64,
     seen: &Option<LinkUse>,
 ) -> Result<(), AllocError>
     ensures before { writer.new.before ≡ writer.old.before }
-    ensures written { OnOk result (writer.new.tokens ≡ writer.old.tokens ++ json_tokens (use_or_null number seen.now)) }
+    ensures written { OnOk result (writer.new.tokens ≡ writer.old.tokens ++ json_tokens (array (line_items number seen.now))) }
 {
     match seen {
-        Some(seen) => put_use(alloc, writer, number, seen),
-        None => writer.null(),
+        Some(seen) => put_one_line(alloc, writer, number, seen),
+        None => put_no_line(writer),
     }
 }
 
-/// Writes a link with the paths over it as JSON, or `null`.
-pub(crate) fn link_text(
+fn put_lines(
+    alloc: Global,
+    writer: &mut Writer,
+    number: u64,
+    seen: &Option<LinkUse>,
+) -> Result<(), AllocError>
+    ensures before { writer.new.before ≡ writer.old.before }
+    ensures written { OnOk result (writer.new.tokens ≡ writer.old.tokens ++ json_tokens (lines_json number seen.now)) }
+{
+    writer.begin_object()?;
+    writer.key("links")?;
+    put_line_or(alloc, writer, number, seen)?;
+    writer.end_object()
+}
+
+/// Writes the line of a link as JSON.
+pub(crate) fn line_text(
     alloc: Global,
     number: u64,
     seen: &Option<LinkUse>,
 ) -> Result<Vec<u8>, AllocError>
-    ensures { IfOk result (λ text. document text.items ≡ Some (use_or_null number seen.now)) }
+    ensures { IfOk result (λ text. document text.items ≡ Some (lines_json number seen.now)) }
 {
     let mut writer = Writer::new(Vec::new(alloc));
-    put_use_or(alloc, &mut writer, number, seen)?;
+    put_lines(alloc, &mut writer, number, seen)?;
     Ok(closed(writer))
 }

@@ -1,9 +1,10 @@
-//! Tables for people: LSPs, and a link with the paths over it.
+//! Tables for people: LSPs, by what their paths came, and a link with the tunnels on it.
 use crate::columns::{add_links, add_name, add_percent, add_rate};
 use crate::fields::{lsp_id, srp_id};
 use crate::tables::{add_end, add_priorities};
+use crate::words::{origin_step, origin_ticket, origin_word};
 use lsp_base::{Lsp, Path};
-use pce_seen::{HeldPath, KnownLsp, LinkUse, LspPage};
+use pce_seen::{HeldPath, KnownLsp, LinkUse, LspOrigins, LspPage, TracedPath, tunnels_on};
 use pcep_word::Ipv4;
 use std::alloc::{AllocError, Global};
 use std::fmt::Write;
@@ -100,22 +101,11 @@ fn add_held(text: &mut String, held: &HeldPath) -> Result<(), AllocError> {
     text.push('\n')
 }
 
-/// Orders paths by what they hold, the greatest first: what is missing to the greatest number, and the place of each.
-fn add_order(order: &mut Vec<(u64, usize)>, paths: &[HeldPath]) -> Result<(), AllocError> {
-    for (place, held) in paths.iter().enumerate() {
-        order.push((u64::MAX - held.bandwidth.value(), place))?;
-    }
-    order.sort()
-}
-
-/// Adds a line for each path, the one that holds most first.
+/// Adds a line for each tunnel on a link, the one that holds most first.
 fn add_each_held(alloc: Global, text: &mut String, paths: &[HeldPath]) -> Result<(), AllocError> {
-    let mut order = Vec::new(alloc);
-    add_order(&mut order, paths)?;
-    for (_, place) in &order {
-        if let Some(held) = paths.get(*place) {
-            add_held(text, held)?;
-        }
+    let tunnels = tunnels_on(alloc, paths)?;
+    for held in &tunnels {
+        add_held(text, held)?;
     }
     Ok(())
 }
@@ -155,7 +145,7 @@ fn add_use(
     add_each_held(alloc, text, &seen.paths)
 }
 
-/// Adds a link with the paths over it.
+/// Adds a link with the tunnels on it.
 pub(crate) fn add_link_use(
     alloc: Global,
     text: &mut String,
@@ -166,4 +156,40 @@ pub(crate) fn add_link_use(
         Some(seen) => add_use(alloc, text, number, seen),
         None => text.push_str("no such link\n"),
     }
+}
+
+/// Adds by what a path came, where a kept step says so.
+fn add_traced(text: &mut String, unknown: &str, seen: &TracedPath) -> Result<(), AllocError> {
+    add_part(text, &seen.path)?;
+    add_links(text, seen.path.links.as_slice())?;
+    match (origin_word(seen.origin), origin_step(seen.origin)) {
+        (Some(word), Some(step)) => write!(text, "\t{word}\t{step}\t")?,
+        _ => write!(text, "\t{unknown}\t-\t")?,
+    }
+    match origin_ticket(seen.origin) {
+        Some(ticket) => writeln!(text, "{ticket}"),
+        None => text.push_str("-\n"),
+    }
+}
+
+/// Says of a path that came by none of the steps that were read where it came from: from a step that is rolled away, or
+/// from an older one.
+fn word_of_unknown(seen: &LspOrigins) -> &'static str {
+    if seen.first == seen.rolled {
+        "rolled"
+    } else {
+        "older"
+    }
+}
+
+/// Adds a line for each path of an LSP: by which kept step it came.
+pub(crate) fn add_origins(text: &mut String, seen: &Option<LspOrigins>) -> Result<(), AllocError> {
+    let Some(seen) = seen else {
+        return text.push_str("no such LSP\n");
+    };
+    text.push_str("PATH\tLINKS\tBY\tSTEP\tTICKET\n")?;
+    for path in &seen.paths {
+        add_traced(text, word_of_unknown(seen), path)?;
+    }
+    Ok(())
 }

@@ -7,7 +7,7 @@ ghost use Rattle.pce_view.specs.Views.{full_items, full_json, path_answer_json};
 use crate::closing::closed;
 use crate::fields::{Field, Member, begin_with, put_object};
 use json::Writer;
-use path_looks::{FullLink, PathAnswer};
+use path_looks::{FullLink, LinkRoom, PathAnswer};
 use std::alloc::{AllocError, Global};
 
 #[tactic(auto, unfolding(crate::specs::Views::full_json))]
@@ -42,14 +42,15 @@ fn put_each_full(alloc: Global, writer: &mut Writer, links: &[FullLink]) -> Resu
     writer.end_array()
 }
 
-fn put_answer(
+fn put_answer<'x>(
     alloc: Global,
     writer: &mut Writer,
-    answer: &PathAnswer,
+    answer: &'x PathAnswer,
+    tightest: &'x Option<LinkRoom>,
     full: &[FullLink],
 ) -> Result<(), AllocError>
     ensures before { writer.new.before ≡ writer.old.before }
-    ensures written { OnOk result (writer.new.tokens ≡ writer.old.tokens ++ json_tokens (path_answer_json answer.now full.now)) }
+    ensures written { OnOk result (writer.new.tokens ≡ writer.old.tokens ++ json_tokens (path_answer_json answer.now tightest.now full.now)) }
 {
     begin_with(
         alloc,
@@ -71,6 +72,14 @@ fn put_answer(
                 name: "links",
                 value: Field::LinksOf(answer),
             },
+            Member {
+                name: "tightest_link",
+                value: Field::TightestLink(tightest),
+            },
+            Member {
+                name: "tightest_left_bytes_per_second",
+                value: Field::TightestLeft(tightest),
+            },
         ],
         "full_links",
     )?;
@@ -83,11 +92,12 @@ fn put_answer(
 pub(crate) fn path_text(
     alloc: Global,
     answer: &PathAnswer,
+    tightest: &Option<LinkRoom>,
     full: &[FullLink],
 ) -> Result<Vec<u8>, AllocError>
-    ensures { IfOk result (λ text. document text.items ≡ Some (path_answer_json answer.now full.now)) }
+    ensures { IfOk result (λ text. document text.items ≡ Some (path_answer_json answer.now tightest.now full.now)) }
 {
     let mut writer = Writer::new(Vec::new(alloc));
-    put_answer(alloc, &mut writer, answer, full)?;
+    put_answer(alloc, &mut writer, answer, tightest, full)?;
     Ok(closed(writer))
 }

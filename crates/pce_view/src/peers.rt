@@ -6,8 +6,10 @@ ghost use Rattle.pce_view.specs.Views.{counted_json, delegated_of, lsps_of, peer
 
 use crate::closing::closed;
 use crate::fields::{Field, Member, put_object};
+use crate::moments::{Moments, moments_of};
 use json::Writer;
 use pce_seen::{KnownPeer, LspOwner, SeenPeers};
+use server_counts::{Visit, visit_in};
 use std::alloc::{AllocError, Global};
 
 /// Counts the LSPs of a peer.
@@ -34,9 +36,10 @@ fn put_counted(
     peer: &KnownPeer,
     lsps: usize,
     delegated: usize,
+    moments: Moments,
 ) -> Result<(), AllocError>
     ensures before { writer.new.before ≡ writer.old.before }
-    ensures written { OnOk result (writer.new.tokens ≡ writer.old.tokens ++ json_tokens (counted_json peer.now lsps delegated)) }
+    ensures written { OnOk result (writer.new.tokens ≡ writer.old.tokens ++ json_tokens (counted_json peer.now lsps delegated moments)) }
 {
     put_object(
         alloc,
@@ -67,8 +70,8 @@ fn put_counted(
                 value: Field::Flag(peer.may_create),
             },
             Member {
-                name: "has_waiting_messages",
-                value: Field::Flag(peer.has_waiting_messages),
+                name: "waiting_messages",
+                value: Field::Whole(peer.waiting_messages),
             },
             Member {
                 name: "lsps",
@@ -78,6 +81,22 @@ fn put_counted(
                 name: "delegated_lsps",
                 value: Field::Whole(delegated as u64),
             },
+            Member {
+                name: "since_ms_ago",
+                value: Field::WholeOr(moments.since_ms_ago),
+            },
+            Member {
+                name: "last_end_ms_ago",
+                value: Field::WholeOr(moments.end_ms_ago),
+            },
+            Member {
+                name: "last_end_reason",
+                value: Field::EndOf(moments.end),
+            },
+            Member {
+                name: "last_end_number",
+                value: Field::WholeOr(moments.number),
+            },
         ],
     )
 }
@@ -85,48 +104,64 @@ fn put_counted(
 fn put_peer(
     alloc: Global,
     writer: &mut Writer,
+    now_ms: u64,
+    visits: &[(u32, Visit)],
     owners: &[LspOwner],
     peer: &KnownPeer,
 ) -> Result<(), AllocError>
     ensures before { writer.new.before ≡ writer.old.before }
-    ensures written { OnOk result (writer.new.tokens ≡ writer.old.tokens ++ json_tokens (peer_json owners.now peer.now)) }
+    ensures written { OnOk result (writer.new.tokens ≡ writer.old.tokens ++ json_tokens (peer_json now_ms visits.now owners.now peer.now)) }
 {
     let lsps = lsps_of(owners, peer.peer);
     let delegated = delegated_of(owners, peer.peer);
-    put_counted(alloc, writer, peer, lsps, delegated)
+    let moments = moments_of(now_ms, visit_in(visits, peer.peer));
+    put_counted(alloc, writer, peer, lsps, delegated, moments)
 }
 
 fn put_peers(
     alloc: Global,
     writer: &mut Writer,
+    now_ms: u64,
+    visits: &[(u32, Visit)],
     owners: &[LspOwner],
     peers: &[KnownPeer],
 ) -> Result<(), AllocError>
     ensures before { writer.new.before ≡ writer.old.before }
-    ensures written { OnOk result (writer.new.tokens ≡ writer.old.tokens ++ json_tokens (array (peer_items owners.now peers.now))) }
+    ensures written { OnOk result (writer.new.tokens ≡ writer.old.tokens ++ json_tokens (array (peer_items now_ms visits.now owners.now peers.now))) }
 {
     writer.begin_array()?;
     for peer in peers {
-        put_peer(alloc, writer, owners, peer)?;
+        put_peer(alloc, writer, now_ms, visits, owners, peer)?;
     }
     writer.end_array()
 }
 
-fn put_all(alloc: Global, writer: &mut Writer, seen: &SeenPeers) -> Result<(), AllocError>
+fn put_all(
+    alloc: Global,
+    writer: &mut Writer,
+    now_ms: u64,
+    visits: &[(u32, Visit)],
+    seen: &SeenPeers,
+) -> Result<(), AllocError>
     ensures before { writer.new.before ≡ writer.old.before }
-    ensures written { OnOk result (writer.new.tokens ≡ writer.old.tokens ++ json_tokens (peers_json seen.now.lsps.items seen.now.peers.items)) }
+    ensures written { OnOk result (writer.new.tokens ≡ writer.old.tokens ++ json_tokens (peers_json now_ms visits.now seen.now.lsps.items seen.now.peers.items)) }
 {
     writer.begin_object()?;
     writer.key("peers")?;
-    put_peers(alloc, writer, &seen.lsps, &seen.peers)?;
+    put_peers(alloc, writer, now_ms, visits, &seen.lsps, &seen.peers)?;
     writer.end_object()
 }
 
 /// Writes the peers as JSON.
-pub(crate) fn peers_text(alloc: Global, seen: &SeenPeers) -> Result<Vec<u8>, AllocError>
-    ensures { IfOk result (λ text. document text.items ≡ Some (peers_json seen.now.lsps.items seen.now.peers.items)) }
+pub(crate) fn peers_text(
+    alloc: Global,
+    now_ms: u64,
+    visits: &[(u32, Visit)],
+    seen: &SeenPeers,
+) -> Result<Vec<u8>, AllocError>
+    ensures { IfOk result (λ text. document text.items ≡ Some (peers_json now_ms visits.now seen.now.lsps.items seen.now.peers.items)) }
 {
     let mut writer = Writer::new(Vec::new(alloc));
-    put_all(alloc, &mut writer, seen)?;
+    put_all(alloc, &mut writer, now_ms, visits, seen)?;
     Ok(closed(writer))
 }

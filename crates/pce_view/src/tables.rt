@@ -1,14 +1,17 @@
 //! Tables for people.
 use crate::columns::{add_duration, add_name, add_percent, add_rate};
+use crate::counted_words::end_word;
 use crate::fields::name_at;
+use crate::moments::{Moments, moments_of};
 use crate::peers::{delegated_of, lsps_of};
 use crate::words::{
     event_word, obstacle_word, outcome_number, outcome_word, purpose_plsp, purpose_word,
 };
 use commit_core::{Purpose, Ticket};
-use path_looks::{FullLink, PathAnswer};
-use pce_seen::{Book, Counts, KnownPeer, KnownStep, LastSteps, LspOwner, SeenPeers};
+use path_looks::{FullLink, LinkRoom, PathAnswer};
+use pce_seen::{Book, Counts, KnownPeer, KnownStep, LastSteps, LinkUse, LspOwner, SeenPeers};
 use pcep_word::{Ipv4, Priorities, Priority};
+use server_counts::{Visit, visit_in};
 use std::alloc::AllocError;
 use std::fmt::Write;
 use te_base::{Link, LinkNumber, Node};
@@ -50,42 +53,77 @@ fn yes(flag: bool) -> &'static str {
     if flag { "yes" } else { "-" }
 }
 
-fn add_peer(text: &mut String, owners: &[LspOwner], peer: &KnownPeer) -> Result<(), AllocError> {
+/// Adds how long ago that was, or a dash.
+fn add_ago(text: &mut String, ms_ago: Option<u64>) -> Result<(), AllocError> {
+    match ms_ago {
+        Some(ms_ago) => add_duration(text, ms_ago),
+        None => text.push('-'),
+    }
+}
+
+/// Adds how long ago the last connection ended, and why.
+fn add_last_end(text: &mut String, moments: Moments) -> Result<(), AllocError> {
+    add_ago(text, moments.end_ms_ago)?;
+    if let Some(reason) = moments.end {
+        let word = end_word(reason);
+        write!(text, ": {word}")?;
+    }
+    if let Some(number) = moments.number {
+        write!(text, " {number}")?;
+    }
+    text.push('\n')
+}
+
+fn add_peer(
+    text: &mut String,
+    now_ms: u64,
+    visits: &[(u32, Visit)],
+    owners: &[LspOwner],
+    peer: &KnownPeer,
+) -> Result<(), AllocError> {
     let address = Ipv4(peer.peer);
     let state = if peer.is_up { "up" } else { "down" };
     let syncing = yes(peer.is_synchronizing);
     let update = yes(peer.may_update);
     let create = yes(peer.may_create);
-    let waiting = yes(peer.has_waiting_messages);
+    let waiting = peer.waiting_messages;
+    let moments = moments_of(now_ms, visit_in(visits, peer.peer));
     let lsps = lsps_of(owners, peer.peer);
     let delegated = delegated_of(owners, peer.peer);
     let session = peer.session;
-    writeln!(
+    write!(text, "{address}\t{state}\t")?;
+    add_ago(text, moments.since_ms_ago)?;
+    write!(
         text,
-        "{address}\t{state}\t{session}\t{syncing}\t{update}\t{create}\t{waiting}\t{lsps}\t{delegated}"
-    )
+        "\t{session}\t{syncing}\t{update}\t{create}\t{waiting}\t{lsps}\t{delegated}\t"
+    )?;
+    add_last_end(text, moments)
 }
 
 /// Adds a line for each peer.
-pub(crate) fn add_peers(text: &mut String, seen: &SeenPeers) -> Result<(), AllocError> {
+pub(crate) fn add_peers(
+    text: &mut String,
+    now_ms: u64,
+    visits: &[(u32, Visit)],
+    seen: &SeenPeers,
+) -> Result<(), AllocError> {
     text.push_str(
-        "PEER\tSTATE\tSESSION\tSYNCHRONIZING\tUPDATES\tINITIATES\tMESSAGES\tLSPS\tDELEGATED\n",
+        "PEER\tSTATE\tSINCE\tSESSION\tSYNCHRONIZING\tUPDATES\tINITIATES\tMESSAGES\tLSPS\tDELEGATED\tLAST END\n",
     )?;
     for peer in &seen.peers {
-        add_peer(text, &seen.lsps, peer)?;
+        add_peer(text, now_ms, visits, &seen.lsps, peer)?;
     }
     Ok(())
 }
 
 fn add_link(
     text: &mut String,
-    nodes: &[Node],
-    number: LinkNumber,
+    from: &str,
+    to: &str,
+    number: u64,
     link: &Link,
     left: &[i64; 8],
 ) -> Result<(), AllocError> {
-    let from = name_at(nodes, link.from);
-    let to = name_at(nodes, link.to);
     let local = link.local;
     let remote = link.remote;
     let igp = link.igp;
@@ -104,18 +142,41 @@ fn add_link(
     text.push('\n')
 }
 
+const LINK_HEAD: &str =
+    "LINK\tFROM\tTO\tLOCAL\tREMOTE\tIGP\tTE\tRESERVABLE\tLEFT AT 0\tLEFT AT 7\tRESERVED\n";
+
+/// Adds the line of one link, if it is there.
+pub(crate) fn add_link_line(
+    text: &mut String,
+    number: u64,
+    seen: &Option<LinkUse>,
+) -> Result<(), AllocError> {
+    text.push_str(LINK_HEAD)?;
+    match seen {
+        Some(seen) => add_link(
+            text,
+            seen.from.name.as_str(),
+            seen.to.name.as_str(),
+            number,
+            &seen.link,
+            &seen.left,
+        ),
+        None => Ok(()),
+    }
+}
+
 /// Adds a line for each link.
 pub(crate) fn add_book(text: &mut String, book: &Book) -> Result<(), AllocError> {
-    text.push_str(
-        "LINK\tFROM\tTO\tLOCAL\tREMOTE\tIGP\tTE\tRESERVABLE\tLEFT AT 0\tLEFT AT 7\tRESERVED\n",
-    )?;
+    text.push_str(LINK_HEAD)?;
     let count = book.links.len().min(book.left.len());
     for number in 0..count {
+        let link = &book.links[number];
         add_link(
             text,
-            &book.nodes,
-            number,
-            &book.links[number],
+            name_at(&book.nodes, link.from),
+            name_at(&book.nodes, link.to),
+            number as u64,
+            link,
             &book.left[number],
         )?;
     }
@@ -248,18 +309,31 @@ fn add_full(text: &mut String, snapshot: &Snapshot, full: &[FullLink]) -> Result
     Ok(())
 }
 
+/// Adds the link of a path on which least is left.
+fn add_tightest(text: &mut String, tightest: &Option<LinkRoom>) -> Result<(), AllocError> {
+    let Some(room) = tightest else {
+        return Ok(());
+    };
+    let link = room.link;
+    write!(text, "tightest link\t{link}, left ")?;
+    add_rate(text, room.left)?;
+    text.push('\n')
+}
+
 /// Adds a path, or what stands in its way.
 pub(crate) fn add_answer(
     text: &mut String,
     nodes: &[Node],
     snapshot: &Snapshot,
     answer: &PathAnswer,
+    tightest: &Option<LinkRoom>,
     full: &[FullLink],
 ) -> Result<(), AllocError> {
     match answer {
         PathAnswer::Path(found) => {
             let cost = found.cost;
             writeln!(text, "cost\t{cost}")?;
+            add_tightest(text, tightest)?;
             add_hops(text, nodes, snapshot, found.links.as_slice())
         }
         PathAnswer::Blocked { by, path } => {

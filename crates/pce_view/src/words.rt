@@ -1,10 +1,10 @@
 //! Words for what is seen.
-ghost use Rattle.std.specs.Prelude.{◌≡◌};
-ghost use Rattle.pce_view.specs.Words.{booked_word, cost_in, event_word, is_found, links_in, obstacle_of, obstacle_word, outcome_number, outcome_word, purpose_plsp, purpose_request, purpose_word};
+ghost use Rattle.std.specs.Prelude.{◌≡◌, option_map};
+ghost use Rattle.pce_view.specs.Words.{booked_word, cost_in, event_word, is_found, link_in, links_in, obstacle_of, obstacle_word, origin_step, origin_ticket, origin_word, outcome_number, outcome_word, purpose_plsp, purpose_request, purpose_word};
 
 use commit_core::Purpose;
-use path_looks::{Obstacle, PathAnswer};
-use pce_seen::{EventKind, Outcome};
+use path_looks::{LinkRoom, Obstacle, PathAnswer};
+use pce_seen::{EventKind, Origin, Outcome};
 use te_base::LinkNumber;
 
 /// Says what a ticket asks a path for.
@@ -163,5 +163,46 @@ pub(crate) fn links_in(answer: &PathAnswer) -> &[LinkNumber]
             found.links.as_slice()
         }
         PathAnswer::NoWay => &[],
+    }
+}
+
+/// The link that has a number.
+pub(crate) fn link_in(room: &Option<LinkRoom>) -> Option<u64>
+    ensures { result ≡ link_in room.now }
+{
+    match room {
+        Some(room) => Some(room.link as u64),
+        None => None,
+    }
+}
+
+/// Names by what a path came.
+pub(crate) fn origin_word(origin: Origin) -> Option<&'static str>
+    ensures { option_map (λ word. word.now) result ≡ origin_word origin }
+{
+    match origin {
+        Origin::Report { .. } => Some("report"),
+        Origin::Grant { .. } => Some("grant"),
+        Origin::Unknown => None,
+    }
+}
+
+/// The place of the step by which a path came.
+pub(crate) fn origin_step(origin: Origin) -> Option<u64>
+    ensures { result ≡ origin_step origin }
+{
+    match origin {
+        Origin::Report { step } | Origin::Grant { step, .. } => Some(step),
+        Origin::Unknown => None,
+    }
+}
+
+/// The ticket to which a path was granted.
+pub(crate) fn origin_ticket(origin: Origin) -> Option<u64>
+    ensures { result ≡ origin_ticket origin }
+{
+    match origin {
+        Origin::Grant { ticket, .. } => Some(ticket),
+        Origin::Report { .. } | Origin::Unknown => None,
     }
 }

@@ -58,6 +58,8 @@ pub struct ServeWords<'a> {
     pub listen: &'a str,
     /// The path of the control socket, if there is to be one.
     pub control: Option<&'a str>,
+    /// Where viewers connect, as `ADDR:PORT`.
+    pub http: Option<&'a str>,
     /// The most verbose level that is logged.
     pub log: &'a str,
     /// Only routers whose address a node of the network owns are heard.
@@ -153,6 +155,14 @@ fn control_arg<'a>(alloc: Global) -> Arg<'a> {
         .help("A socket for `pced tell`, which its owner alone may use")
 }
 
+fn http_arg<'a>(alloc: Global) -> Arg<'a> {
+    Arg::new(alloc, "http")
+        .long("http")
+        .value_name("ADDR:PORT")
+        .action(ArgAction::Set)
+        .help("Where browsers and scrapers see the network, as 127.0.0.1:8080")
+}
+
 fn workers_arg<'a>(alloc: Global) -> Arg<'a> {
     Arg::new(alloc, "workers")
         .long("workers")
@@ -232,6 +242,7 @@ fn serve_command<'a>(alloc: Global) -> Result<Command<'a>, AllocError> {
         .arg(file_arg(alloc))?
         .arg(listen_arg(alloc))?
         .arg(control_arg(alloc))?
+        .arg(http_arg(alloc))?
         .arg(workers_arg(alloc))?
         .arg(sessions_arg(alloc))?
         .arg(keep_arg(alloc))?
@@ -319,6 +330,7 @@ fn serve_words<'a>(alloc: Global, matches: &ArgMatches<'a>) -> Result<ServeWords
         file: matches.get_str("te").unwrap_or(""),
         listen: matches.get_str("listen").unwrap_or(""),
         control: matches.get_str("control"),
+        http: matches.get_str("http"),
         log: matches.get_str("log").unwrap_or("info"),
         only_known: matches.get_flag("only-known"),
         settle_for: addresses_in(alloc, matches.get_strs("settle-for").unwrap_or(&[]))?,

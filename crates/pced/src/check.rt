@@ -15,7 +15,7 @@ fn add_checked(
     text: &mut String,
 ) -> Result<Option<TeFault>, AllocError> {
     match str::from_utf8(bytes) {
-        Ok(source) => check_text(alloc, source, text),
+        Ok(source) => Ok(check_text(alloc, source, text)?.map(|found| found.fault)),
         Err(error) => {
             let byte = error.valid_up_to();
             write!(text, "te fault 1: not UTF-8 at byte {byte}")?;

@@ -9,11 +9,14 @@ use crate::stamped::Stamped;
 use control_socket::{close_path, open_path};
 use log::{LevelFilter, Log, Logged};
 use pce_engine::TeFault;
-use pce_server::{Fault, FilePlan, Orders, Routers, RunFault, Sessions, serve_run};
+use pce_server::{
+    Fault, FilePlan, Listeners, Orders, Routers, RunFault, Sessions, ViewerListener, serve_run,
+};
 use pcep_word::Ipv4;
 use server_talk::{PolledInput, PolledOutput};
 use std::alloc::Global;
 use std::fs::Files;
+use std::hash::RandomState;
 use std::net::{Ipv4Addr, Net, SocketAddr, TcpListener, TcpStream};
 use std::os::unix::net::UnixListener;
 use std::rt::Runtime;
@@ -22,6 +25,7 @@ use std::sync::Wait;
 use std::thread::Threads;
 use std::{error, fmt, fs, io};
 use te_base::TeBase;
+use te_places::places_text;
 
 /// Why a server did not run to its end. `Display` gives the text for standard error.
 #[derive(Clone, Copy, Debug, PartialEq, Eq)]
@@ -136,6 +140,77 @@ fn close_control<R: Files>(rt: &R, control: &Option<UnixListener>, path: Option<
     }
 }
 
+/// The address and the port of viewers, where there are to be any.
+fn http_place_in(word: Option<&str>) -> Result<Option<SocketAddr>, ServeFault> {
+    match word {
+        Some(word) => match place_in(word) {
+            Some(place) => Ok(Some(place)),
+            None => Err(ServeFault::BadArgument),
+        },
+        None => Ok(None),
+    }
+}
+
+fn listen_http<R: Net<Listener = TcpListener, Stream = TcpStream>>(
+    rt: &R,
+    place: Option<SocketAddr>,
+) -> Result<Option<TcpListener>, ServeFault> {
+    match place {
+        Some(place) => Ok(Some(listen(rt, place)?)),
+        None => Ok(None),
+    }
+}
+
+/// Where the nodes of a link text are on a map, where that is to be shown.
+fn places_in(alloc: Global, text: &[u8], is_shown: bool) -> Result<Vec<u8>, ServeFault> {
+    if !is_shown {
+        return Ok(Vec::new(alloc));
+    }
+    let Ok(text) = str::from_utf8(text) else {
+        return Err(ServeFault::Te(TeFault::NotToml));
+    };
+    match places_text(alloc, text) {
+        Ok(places) => Ok(places),
+        Err(_) => Err(ServeFault::Run(RunFault::Store(Fault::OutOfMemory))),
+    }
+}
+
+/// Keys that nobody knows, for viewers, where they may connect.
+fn viewer_keys(files: &HostRuntime, is_wanted: bool) -> Result<Option<RandomState>, ServeFault> {
+    if !is_wanted {
+        return Ok(None);
+    }
+    match RandomState::new(files) {
+        Ok(keys) => Ok(Some(keys)),
+        Err(_) => Err(ServeFault::Device),
+    }
+}
+
+/// Where the run is reached.
+fn listeners_at<'a>(
+    routers: &'a TcpListener,
+    control: Option<&'a UnixListener>,
+    http: &'a Option<TcpListener>,
+    keys: Option<RandomState>,
+    places: &'a [u8],
+    files: &'a HostRuntime,
+) -> Listeners<'a> {
+    let viewers = match (http, keys) {
+        (Some(listener), Some(keys)) => Some(ViewerListener {
+            listener,
+            keys,
+            places,
+            files,
+        }),
+        _ => None,
+    };
+    Listeners {
+        routers,
+        control,
+        viewers,
+    }
+}
+
 /// The number of the range that is nearest to this one.
 fn within(least: u64, number: u64, most: u64) -> u64
     requires { least ≤ most }
@@ -184,6 +259,7 @@ pub fn serve<
     let Some(place) = place_in(words.listen) else {
         return Err(ServeFault::BadArgument);
     };
+    let http_place = http_place_in(words.http)?;
     let Ok(level) = LevelFilter::from_str(words.log) else {
         return Err(ServeFault::BadArgument);
     };
@@ -195,6 +271,9 @@ pub fn serve<
     let second = base_in(rt.alloc(), &text)?;
     let known = known_in(rt.alloc(), &text, words.only_known)?;
     let listener = listen(rt, place)?;
+    let http = listen_http(rt, http_place)?;
+    let places = places_in(rt.alloc(), &text, http_place.is_some())?;
+    let keys = viewer_keys(files, http.is_some())?;
     let mut input = rt.reader();
     let mut reader = match PolledInput::new(rt, rt.alloc(), &mut input) {
         Ok(reader) => reader,
@@ -220,10 +299,10 @@ pub fn serve<
         te: &second,
     };
     let control = open_control(rt, words.control)?;
+    let listeners = listeners_at(&listener, control.as_ref(), &http, keys, &places, files);
     let outcome = serve_run(
         &logged,
-        &listener,
-        control.as_ref(),
+        &listeners,
         base,
         &plan,
         orders,

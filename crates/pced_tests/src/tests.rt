@@ -16,6 +16,7 @@ mod lines;
 mod loopback;
 mod meeting;
 mod others;
+mod quiet;
 mod refused;
 mod reloads;
 mod shared;

@@ -111,7 +111,7 @@ fn end_before(asked: &Option<Asked>, requests: &mut Vec<PathRequest>) -> Result<
     ensures { Ends (ended asked.now requests.old.items) result requests.new.items }
 {
     if let Some(asked) = asked {
-        // For the prover: the types in a request.
+        // for the proof alone: the type of a field that a request has
         let _plsp: Option<Plsp> = asked.plsp;
         requests.push(request_from(asked)?)?;
     }
@@ -129,7 +129,7 @@ fn finish(
     match asked {
         None => Err(MessageFault::Refused(6, 1, About::Nothing)),
         Some(asked) => {
-            // For the prover: the types in a request.
+            // for the proof alone: the type of a field that a request has
             let _plsp: Option<Plsp> = asked.plsp;
             requests.push(request_from(&asked)?)?;
             Ok(requests)

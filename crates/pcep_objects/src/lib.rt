@@ -45,7 +45,7 @@ mod spelled;
 mod tlvs;
 mod writing;
 
-pub use bodies::{read_bandwidth, read_ero, read_lsp, read_lspa, read_rro, read_srp};
+pub use bodies::{read_bandwidth, read_ero, read_lsp, read_lspa, read_srp};
 pub use borrowed::{put_ero, put_named_lsp};
 pub use fault::{BodyFault, ObjectFault, WriteFault};
 pub use kind::Kind;
@@ -61,7 +61,5 @@ pub use request_objects::{
     EndPoints, NoPath, NoPathVector, Rp, put_end_points, put_no_path, put_rp, read_end_points,
     read_rp,
 };
-pub use session_objects::{
-    Close, Notification, Open, PcepError, put_close, put_error, put_notification, put_open,
-};
-pub use writing::{objects_are_read_again, put_fitting, what_is_read_is_normal, write_object};
+pub use session_objects::{Close, Notification, Open, PcepError, put_close, put_error, put_open};
+pub use writing::{objects_are_read_again, what_is_read_is_normal, write_object};

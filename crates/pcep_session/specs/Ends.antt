@@ -11,7 +11,7 @@ use Rattle.pcep_session.specs.declared.table.State.TheVariants.{Closed}
 abbrev pub most_turns : Contents → ℕ
 most_turns c = length c.bytes + 2
 
--- the session after so many turns
+-- the session after n turns
 abbrev pub after_turns : ℕ → Contents → Contents
 after_turns zero c = c
 after_turns (suc n) c = after_turns n (next c).after

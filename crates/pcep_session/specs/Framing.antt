@@ -12,7 +12,7 @@ message_length bytes = field 2 2 bytes
 abbrev pub is_bad : List ℕ → Bool
 is_bad bytes = not (slice_index bytes 0 / 2 ^ 5 == 1) || nat_lt (message_length bytes) 4 || not (message_length bytes % 4 == 0)
 
--- A bad header is told by its four bytes. Of a message that isn't whole nothing else is looked at.
+-- A header is bad by its four bytes alone. Of a message that isn't whole nothing else is looked at.
 unfoldable pub front_of : List ℕ → Front
 front_of bytes =
     if nat_lt (length bytes) 4 then Waiting

@@ -85,7 +85,7 @@ sent_at notices now_ms sent_ms = now_ms
 abbrev pub sending : Notices → Contents → Contents
 sending notices c = record c { sent_ms = sent_at notices c.moment_ms c.sent_ms; output = c.output ++ notices_text notices }
 
--- a message of so many bytes is handled; a bad header has none
+-- a message of `size` bytes is handled; a bad header has none
 abbrev pub received : Arrival → ℕ → Contents → Contents
 received a size c = record c {
   bytes = drop size c.bytes;

@@ -22,8 +22,8 @@ pub struct Pending {
     items: Vec<u8>,
     /// How many of the items are handled.
     start: usize,
-    /// How many bytes must wait until there is something to handle. So a byte that comes alone is told with one
-    /// comparison to leave nothing to handle.
+    /// How many bytes must wait until there is something to handle. So one comparison shows that a byte that
+    /// comes alone leaves nothing to handle.
     needed: usize,
 }
 
@@ -100,7 +100,7 @@ impl Pending {
         self.items.capacity()
     }
 
-    /// Appends one byte, as a peer's bytes may come one by one. Then some wait, and no room is let go.
+    /// Appends one byte, as a peer's bytes may come one by one. Then some wait, and no room is freed.
     #[tactic(auto, using(crate::proofs::Needed::one_more_needs))]
     fn push(&mut self, byte: u8) -> Result<(), AllocError>
         ensures ok { OnOk result (self.new ≡ self.old ++ byte ∷ []) }

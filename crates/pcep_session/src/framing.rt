@@ -12,7 +12,7 @@ pub enum Front {
     Waiting,
     /// A header that no message has.
     Bad,
-    /// A message of so many bytes, header included.
+    /// A message, and its length in bytes, header included.
     Whole(usize),
 }
 

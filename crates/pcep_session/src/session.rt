@@ -133,7 +133,7 @@ impl Session {
     }
 
     /// How many received bytes the session keeps: those that wait to be handled, and handled ones that it hasn't
-    /// let go of, never more than wait.
+    /// dropped, never more than wait.
     pub fn kept_bytes(&self) -> usize
         ensures at_least { length self.now.bytes ≤ result }
         ensures at_most { result ≤ 2 * length self.now.bytes }

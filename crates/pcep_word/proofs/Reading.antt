@@ -127,7 +127,7 @@ pub bound_is_of : (w v : ℕ) → bound_of w ≡ Some v → IsNumber w × (min (
 unfolding bound_of
 bound_is_of w v e = is_bound w v (is_number w) refl e
 
--- the greatest number of so many units
+-- the greatest number that is not above n units
 bound_greatest : (n : ℕ) → IsGreatest (λ u. (u ≤ 2 ^ 48 - 1) × (units u ≤ n)) (min (n / 2 ^ 150) (2 ^ 48 - 1))
 unfolding units
 bound_greatest n =

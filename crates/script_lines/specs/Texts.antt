@@ -12,11 +12,11 @@ use Rattle.history_core.specs.declared.step.Brief.{Brief}
 use Rattle.history_core.specs.declared.step.Brief.TheVariants as brief
 use Rattle.history_core.specs.declared.step.Step.{Step}
 
--- the text of a reply has a word of at most so many bytes, before a number
+-- the longest word of a reply's text before a number, in bytes
 abbrev pub word_bound : ℕ
 word_bound = 20
 
--- in so much room, in bytes, the text of a reply is added without asking for memory
+-- the room, in bytes, in which the text of a reply is added without asking for memory
 abbrev pub reply_room : ℕ
 reply_room = 64
 
@@ -24,7 +24,7 @@ abbrev pub booked_text : Bool → List ℕ
 booked_text false = codes "booked"
 booked_text true = codes "booked wants"
 
--- so many messages were handed out to be sent
+-- n messages were handed out to be sent
 abbrev pub out_text : ℕ → List ℕ
 out_text messages = codes "out " ++ decimal messages
 

@@ -2,7 +2,7 @@
 use Rattle.std.specs.Prelude.{ℕ, true, false, List, Option, Some, None, option_map, option_and_then, codes, if◌then◌else◌}
 use Rattle.std.specs.Str.{bytes_eq}
 use Rattle.pce_seen.specs.declared.ask.Ask.{Ask}
-use Rattle.pce_seen.specs.declared.ask.Ask.TheVariants.{Status, Book, Link, Peers, Lsps, Lsp, Tickets, Steps, Path}
+use Rattle.pce_seen.specs.declared.ask.Ask.TheVariants.{Status, Book, Link, LinkLine, Peers, Lsps, Lsp, Tickets, Steps, Path, Why}
 use Rattle.pcep_word.specs.Address.{address_of}
 use Rattle.script_lines.specs.Commands.{◌>>=◌, lsp_in, priorities_in}
 use Rattle.script_lines.specs.Words.{bandwidth_in, cut_at_space, long_number_in, peer_in}
@@ -30,7 +30,8 @@ path_ask line = do
   priorities ← priorities_in flow.1
   Some (Path from to bandwidth priorities)
 
--- `lsps PEER`, `lsp PEER PLSP`, `link N`, `history N` and `path FROM TO BW SETUP HOLD`
+-- `lsps PEER`, `lsp PEER PLSP`, `link N`, `history N`, `path FROM TO BW SETUP HOLD`, `links N` and
+-- `why PEER PLSP`
 unfoldable pub ask_with : List ℕ → List ℕ → Option Ask
 ask_with word rest =
     if bytes_eq word (codes "lsps") then option_map (λ peer. Lsps (Some peer) 0) (peer_in rest)
@@ -38,6 +39,8 @@ ask_with word rest =
     else if bytes_eq word (codes "link") then option_map (λ link. Link link) (long_number_in rest)
     else if bytes_eq word (codes "history") then option_map (λ last. Steps last) (long_number_in rest)
     else if bytes_eq word (codes "path") then path_ask rest
+    else if bytes_eq word (codes "links") then option_map (λ link. LinkLine link) (long_number_in rest)
+    else if bytes_eq word (codes "why") then option_map (λ lsp. Why lsp.0 lsp.1) (lsp_in rest)
     else None
 
 abbrev pub ask_of_words : List ℕ → Option (List ℕ × List ℕ) → Option Ask

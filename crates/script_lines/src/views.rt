@@ -1,6 +1,6 @@
 //! Lines that ask to see something. Nothing is done for them.
 ghost use Rattle.std.specs.Prelude.{◌≡◌, option_map, Some};
-ghost use Rattle.pce_seen.specs.declared.ask.Ask.TheVariants.{Link, Lsp, Lsps, Steps};
+ghost use Rattle.pce_seen.specs.declared.ask.Ask.TheVariants.{Link, LinkLine, Lsp, Lsps, Steps, Why};
 ghost use Rattle.script_lines.specs.Commands.{lsp_in};
 ghost use Rattle.script_lines.specs.Views.{ask_alone, ask_in, ask_with, json_in, path_ask, view_line_in};
 ghost use Rattle.script_lines.specs.Words.{long_number_in, peer_in};
@@ -49,6 +49,15 @@ fn lsps_ask(rest: &str) -> Option<Ask>
     }
 }
 
+fn why_ask(rest: &str) -> Option<Ask>
+    ensures { result ≡ option_map (λ lsp. Why lsp.0 lsp.1) (lsp_in rest.now) }
+{
+    match lsp_in(rest) {
+        Some((peer, plsp)) => Some(Ask::Why { peer, plsp }),
+        None => None,
+    }
+}
+
 fn lsp_ask(rest: &str) -> Option<Ask>
     ensures { result ≡ option_map (λ lsp. Lsp lsp.0 lsp.1) (lsp_in rest.now) }
 {
@@ -63,6 +72,15 @@ fn link_ask(rest: &str) -> Option<Ask>
 {
     match long_number_in(rest) {
         Some(link) => Some(Ask::Link { link }),
+        None => None,
+    }
+}
+
+fn line_ask(rest: &str) -> Option<Ask>
+    ensures { result ≡ option_map (λ link. LinkLine link) (long_number_in rest.now) }
+{
+    match long_number_in(rest) {
+        Some(link) => Some(Ask::LinkLine { link }),
         None => None,
     }
 }
@@ -107,6 +125,8 @@ fn ask_with(word: &str, rest: &str) -> Option<Ask>
         "link" => link_ask(rest),
         "history" => steps_ask(rest),
         "path" => path_ask(rest),
+        "links" => line_ask(rest),
+        "why" => why_ask(rest),
         _ => None,
     }
 }

@@ -17,7 +17,7 @@ pub record SeatedMoves (old : MutBor SeatContent) (listed : List Call) (made : L
   pub told : Tells old.now made new.now
   pub added : list ≡ listed ++ made
 
--- the history was rolled: so many steps were taken before its base. The seat and the list stay as they were
+-- the history was rolled, and `steps` steps were taken before its base. The seat and the list stay as they were
 pub record SeatedRolls (old : MutBor SeatContent) (listed : List Call) (steps : ℕ) (new : MutBor SeatContent) (list : List Call) : Type 0 where
   pub same_loan : new.ghost_name ≡ old.ghost_name
   pub same : new.now ≡ old.now

@@ -19,8 +19,6 @@ pub struct Seated<'a, R: Wait, S: Ledger, G: Ledger, B: Room> {
     shared: &'a Shared<S, G, B>,
     seat: &'a mut Seat<S, G, B>,
     calls: Vec<Call>,
-    /// The seat keeps its receipts of rolled places no longer than its list.
-    folds: bool,
 }
 
 /// The event, to be kept twice: it stands in memory once.
@@ -54,27 +52,6 @@ impl<'a, R: Wait, S: Ledger, G: Ledger, B: Room> Seated<'a, R, S, G, B> {
             shared,
             seat,
             calls: Vec::new(alloc),
-            folds: false,
-        }
-    }
-
-    /// The same of a seat that keeps its receipts of rolled places until its list is emptied, at most.
-    pub fn folding(
-        rt: &'a R,
-        alloc: Global,
-        shared: &'a Shared<S, G, B>,
-        seat: &'a mut Seat<S, G, B>,
-    ) -> Seated<'a, R, S, G, B>
-        ensures same_loan { result.seat.ghost_name ≡ seat.entry.ghost_name }
-        ensures seat { result.seat.now ≡ seat.old }
-        ensures calls { result.calls.items ≡ [] }
-    {
-        Seated {
-            rt,
-            shared,
-            seat,
-            calls: Vec::new(alloc),
-            folds: true,
         }
     }
 
@@ -133,11 +110,13 @@ impl<'a, R: Wait, S: Ledger, G: Ledger, B: Room> Store for Seated<'a, R, S, G, B
         self.calls.as_slice()
     }
 
+    /// Empties the list. Where it is empty already, nothing was done since: then the seat keeps its receipts of rolled
+    /// places no longer.
     fn forget(&mut self) {
-        self.calls.clear();
-        if self.folds {
+        if self.calls.is_empty() && !self.seat.receipts().is_empty() {
             self.shared.fold(self.rt, self.seat);
         }
+        self.calls.clear();
     }
 
     fn roll(&mut self) -> Result<u64, AllocError> {

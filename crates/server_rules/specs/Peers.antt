@@ -33,13 +33,13 @@ abbrev pub known_from : List (ℕ × Happening) → ℕ → Known
 known_from [] peer = nothing
 known_from (h ∷ past) peer = if nat_eq h.0 peer then after h.1 (known_from past peer) else known_from past peer
 
--- so long after its last Down, where there is one
+-- this time after its last Down, where there is one
 abbrev pub is_kept_out : ℕ → ℕ → Option ℕ → Bool
 is_kept_out now_ms keep_ms None = false
 is_kept_out now_ms keep_ms (Some at_ms) = nat_le at_ms now_ms && nat_le keep_ms (now_ms - at_ms)
 
 -- What is due of a peer at a moment: an owed Down first, at once; and where no session of it is up, and its last Down is
--- so long ago or longer, that it is forgotten. A connection whose session never came up doesn't count.
+-- this time ago or longer, that it is forgotten. A connection whose session never came up doesn't count.
 abbrev pub owing : ℕ → ℕ → Known → Option Owing
 owing now_ms keep_ms k =
     if k.owes_a_down then Some Down else if nat_eq k.up 0 && is_kept_out now_ms keep_ms k.last_down then Some Expire else None

@@ -36,7 +36,7 @@ AllUp taken = (k : ℕ) (c : Taken) → slice_get taken k ≡ Some c → c.is_up
 abbrev pub IsOneTooMany : List Taken → ℕ → Type 0
 IsOneTooMany taken address = IsTrue (up_of taken address) × (2 ≤ of_address taken address)
 
--- a new connection takes a free place where there is one, else that of a connection that is ended for it; it is let go
+-- a new connection takes a free place where there is one, else that of a connection that is ended for it; it is closed
 -- where its address has one too many, or all are up
 abbrev pub IsEntrance : List Taken → ℕ → ℕ → Entrance → Type 0
 IsEntrance taken address places Free = (¬ IsOneTooMany taken address) × (length taken < places)

@@ -9,7 +9,7 @@ abbrev pub is_in_sync : List (ℕ × Bool) → ℕ → Bool
 is_in_sync [] router = false
 is_in_sync (last ∷ past) router = if router == last.0 then last.1 else is_in_sync past router
 
--- it may once so long has passed since its start, or, where routers were named, while all of them are in sync
+-- it may once this time has passed since its start, or, where routers were named, while all of them are in sync
 abbrev pub has_settled : List ℕ → ℕ → List (ℕ × Bool) → ℕ → Bool
 has_settled named until_ms past now_ms = nat_le until_ms now_ms || (not (length named == 0) && list_all (is_in_sync past) named)
 

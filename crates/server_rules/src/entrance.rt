@@ -19,7 +19,7 @@ pub enum Entrance {
     Free,
     /// It takes the place of this connection, which is ended for it.
     InsteadOf(usize),
-    /// It is let go unheard.
+    /// It is closed unheard.
     Refused,
 }
 
@@ -79,7 +79,7 @@ fn first_to_end(taken: &[Taken]) -> usize
     first
 }
 
-/// What becomes of a new connection of the address, where these have places, the oldest first, of so many in all.
+/// What becomes of a new connection of the address, where these have places, the oldest first, of this number in all.
 pub fn admit(taken: &[Taken], address: u32, places: usize) -> Entrance
     requires some { 0 < places }
     requires few { length taken.now < 2 ^ 32 }

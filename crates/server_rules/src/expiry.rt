@@ -98,7 +98,7 @@ impl Expiry {
         }
     }
 
-    /// What is due of a peer at this moment, where peers are kept for so long after their last Down.
+    /// What is due of a peer at this moment, where peers are kept for this time after their last Down.
     pub fn due(&self, now_ms: u64, keep_ms: u64) -> Option<Due>
         ensures { (past : List (ℕ × Happening)) → Tells self.now past → IsDue past now_ms keep_ms result }
     {

@@ -2,10 +2,10 @@
 ghost use Rattle.std.specs.Prelude.{◌≡◌, ◌<◌, true, false, Some, None};
 ghost use Rattle.server_rules.specs.Lines.{blank, may_say, said, one_withheld};
 
-/// So many lines of one kind are written at most ..
+/// The number of lines of one kind that are written, at most ..
 pub const LINES: usize = 10;
 
-/// .. within so many milliseconds.
+/// .. within this time, in milliseconds.
 pub const WITHIN_MS: u64 = 1000;
 
 /// The lines of one kind: when the last ten were written, and how many were withheld since.

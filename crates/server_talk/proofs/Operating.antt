@@ -28,13 +28,13 @@ use Rattle.server_talk.specs.declared.pending.Pending.{Pending}
 use Rattle.server_talk.specs.declared.plan.PlanFault.{PlanFault}
 use Rattle.server_talk.specs.declared.requests.Request.{Request}
 use Rattle.server_talk.specs.declared.requests.Request.TheVariants.{Book, Check, End, Reload, Submit, View}
-use Rattle.server_talk.specs.Goings.{Goes, ways}
+use Rattle.server_talk.specs.Goings.{Goes}
 use Rattle.server_talk.specs.Goings.Goes.{Stays, Moves, Empties, Rolls}
 use Rattle.server_talk.specs.Listening.{said_of, Comes, Answered, Answers, Told, TakesLine, IsKept, SoFar, StopsAt, Stopped, HearsOn, Turns}
 use Rattle.server_talk.specs.Operators.{bad_line, unread_line, number_behind, AreOperators, IsAnswered, Listens, is_out, FailsAs, IsOver, Operated}
 use Rattle.server_talk.specs.Operators.IsAnswered.{Obeyed, Shown, Reloaded, Unread, Checked, Viewed, Refused, Starved, StillFull}
 use Rattle.server_talk.specs.Operators.Listens.{Begins, Hears, Waits}
-use Rattle.server_talk.specs.Networks.{NetworkNow}
+use Rattle.server_talk.specs.Servers.{Server}
 use Rattle.server_talk.specs.ReloadChecks.{check_text}
 use Rattle.server_talk.specs.Requests.{asks_reading, asks_step, is_operators, request_of}
 use Rattle.server_talk.specs.Visits.{Takes}
@@ -65,42 +65,61 @@ whole_piece heard piece i h =
 pub longer_front : (heard piece : List ℕ) (i : ℕ) → i < length piece → (heard ++ take i piece) ++ get_or piece i 0 ∷ [] ≡ heard ++ take (i + 1) piece
 longer_front heard piece i h = append_assoc heard (take i piece) (get_or piece i 0 ∷ []) ∙ ap (λ (front : List ℕ). heard ++ front) (sym (take_more piece i 0 h))
 
-module _ {S : Type 0} (moves : S → List Call → S → Type 0) (same_but_calls : S → S → Type 0) (rolls : S → ℕ → S → Type 0) (is_full : S → Type 0) (is_left : S → List (List ℤ) → Type 0) (network : NetworkNow) where
+-- a read that gives nothing
+pub consumed_none : (a b c : Option (List ℕ)) (heard buffer : List ℕ) (count : ℕ) → count ≡ 0 → Consumes a b heard → Consumes b c (take count buffer) → Consumes a c heard
+consumed_none a b c heard buffer count none h k =
+    subst (λ (bytes : List ℕ). Consumes a c bytes) (ap (λ (n : ℕ). heard ++ take n buffer) none ∙ append-nil heard) (Consumes-trans a b c heard (take count buffer) h k)
+
+stops_at_more : (end : OperatorEnd) (rest more : List ℕ) → StopsAt end rest → StopsAt end (rest ++ more)
+stops_at_more EndAsked rest more h = (h.0, h.1, h.2 ++ more, ap (λ (all : List ℕ). all ++ more) h.3 ∙ append_assoc h.0 (10 ∷ h.2) more)
+stops_at_more WriteFault rest more h = tt
+stops_at_more InputEnded rest more h = absurd h
+stops_at_more RunEnding rest more h = absurd h
+stops_at_more ReadFault rest more h = absurd h
+
+cause_over : (end : OperatorEnd) (may_close : Type 0) (left : Option (List ℕ)) (rest : List ℕ) → StopsAt end rest → IsOver end may_close left rest
+cause_over EndAsked may_close left rest h = (h.0, h.1, inl (h.2, h.3))
+cause_over WriteFault may_close left rest h = tt
+cause_over InputEnded may_close left rest h = absurd h
+cause_over RunEnding may_close left rest h = absurd h
+cause_over ReadFault may_close left rest h = absurd h
+
+module _ {S : Type 0} (server : Server S) where
   abbrev Heard : S → List (List ℕ) → List Call → List ℕ → S → Type 0
-  Heard start lines calls said now = Listens moves same_but_calls rolls is_full is_left network start lines calls said now
+  Heard start lines calls said now = Listens server start lines calls said now
 
   abbrev IsDone : ℕ → List ℕ → S → List Call → List ℕ → S → Type 0
-  IsDone number line old made text new = IsAnswered moves rolls is_full is_left network number line old made text new
+  IsDone number line old made text new = IsAnswered server number line old made text new
 
   abbrev Came : Result Answer CommandFault → ℕ → List ℕ → S → S → Type 0
-  Came r number line old new = Comes moves same_but_calls rolls is_full is_left network r number line old new
+  Came r number line old new = Comes server r number line old new
 
   abbrev Stands : S → List (List ℕ) → List ℕ → S → Type 0
-  Stands start lines said now = Answered moves same_but_calls rolls is_full is_left network start lines said now
+  Stands start lines said now = Answered server start lines said now
 
   abbrev Answering : Result Answer CommandFault → S → List (List ℕ) → List ℕ → List ℕ → S → Type 0
-  Answering r start lines said line now = Answers moves same_but_calls rolls is_full is_left network r start lines said line now
+  Answering r start lines said line now = Answers server r start lines said line now
 
   abbrev Tells : S → List (List ℕ) → Option (List ℕ) → Bool → S → Option (List ℕ) → Type 0
-  Tells start lines blank goes_out now written = Told moves same_but_calls rolls is_full is_left network start lines blank goes_out now written
+  Tells start lines blank goes_out now written = Told server start lines blank goes_out now written
 
   abbrev Line : Option OperatorEnd → S → List (List ℕ) → Option (List ℕ) → List ℕ → S → Option (List ℕ) → Type 0
-  Line end start lines blank line now written = TakesLine moves same_but_calls rolls is_full is_left network end start lines blank line now written
+  Line end start lines blank line now written = TakesLine server end start lines blank line now written
 
   abbrev Keeps : S → Option (List ℕ) → List ℕ → Pending → S → Option (List ℕ) → Type 0
-  Keeps start blank heard pending now written = SoFar moves same_but_calls rolls is_full is_left network start blank heard pending now written
+  Keeps start blank heard pending now written = SoFar server start blank heard pending now written
 
   abbrev Stops : OperatorEnd → S → Option (List ℕ) → List ℕ → S → Option (List ℕ) → Type 0
-  Stops end start blank heard now written = Stopped moves same_but_calls rolls is_full is_left network end start blank heard now written
+  Stops end start blank heard now written = Stopped server end start blank heard now written
 
   abbrev Hearing : Option OperatorEnd → S → Option (List ℕ) → List ℕ → Pending → S → Option (List ℕ) → Type 0
-  Hearing end start blank heard pending now written = HearsOn moves same_but_calls rolls is_full is_left network end start blank heard pending now written
+  Hearing end start blank heard pending now written = HearsOn server end start blank heard pending now written
 
   abbrev Ends : S → Option (List ℕ) → Option (List ℕ) → OperatorEnd → Type 0 → S → Option (List ℕ) → Option (List ℕ) → Type 0
-  Ends start unread blank end may_close now left written = Operated moves same_but_calls rolls is_full is_left network start unread blank end may_close now left written
+  Ends start unread blank end may_close now left written = Operated server start unread blank end may_close now left written
 
   abbrev Goings : S → List Call → S → Type 0
-  Goings start calls now = Goes (ways moves same_but_calls is_full rolls) start calls now
+  Goings start calls now = Goes server.ways start calls now
 
   -- ---- the calls of all lines
 
@@ -113,7 +132,7 @@ module _ {S : Type 0} (moves : S → List Call → S → Type 0) (same_but_calls
   goes_behind start a b first more went (Rolls before steps c d way full h) = Rolls (first ++ before) steps c d (goes_behind start a c first before went way) full h
 
   -- a full history took nothing and was rolled
-  rolled : (steps : ℕ) (a b c : S) → moves a [] b → is_full b → rolls b steps c → Goings a [] c
+  rolled : (steps : ℕ) (a b c : S) → server.ways.moves a [] b → server.ways.is_full b → server.ways.rolls b steps c → Goings a [] c
   rolled steps a b c h full k = Rolls [] steps b c (Moves [] [] a b Stays h) full k
 
   -- by a line's call the store goes on
@@ -156,35 +175,35 @@ module _ {S : Type 0} (moves : S → List Call → S → Type 0) (same_but_calls
 
   -- ---- what a line comes to
 
-  pub came_reply : (number : ℕ) (line : List ℕ) (a b : S) (of : Event) (text : List ℕ) → request_of line ≡ Some (Submit of) → Replied moves of text a b → (calls : List Call) × IsDone number line a calls (text ++ codes "\n") b
+  pub came_reply : (number : ℕ) (line : List ℕ) (a b : S) (of : Event) (text : List ℕ) → request_of line ≡ Some (Submit of) → Replied server.ways.moves of text a b → (calls : List Call) × IsDone number line a calls (text ++ codes "\n") b
   came_reply number line a b of text asks h = (
     called of h.0 ∷ [],
     subst (λ (t : List ℕ). IsDone number line a (called of h.0 ∷ []) (t ++ codes "\n") b) (sym h.2) (Obeyed of h.0 b asks h.1),
   )
 
-  pub came_table : (number : ℕ) (line : List ℕ) (a : S) (text : List ℕ) (table : List (List ℤ)) → request_of line ≡ Some Book → is_left a table → text ≡ table_text 0 table → (calls : List Call) × IsDone number line a calls text a
+  pub came_table : (number : ℕ) (line : List ℕ) (a : S) (text : List ℕ) (table : List (List ℤ)) → request_of line ≡ Some Book → server.is_left a table → text ≡ table_text 0 table → (calls : List Call) × IsDone number line a calls text a
   came_table number line a text table asks left is = ([], subst (λ (t : List ℕ). IsDone number line a [] t a) (sym is) (Shown table asks left))
 
-  pub came_check : (number : ℕ) (line : List ℕ) (a : S) (text : List ℕ) (links : List LinkReload) (values : List Values) (left : List (List ℤ)) → request_of line ≡ Some Check → network.reads (Ok links) → network.has_links values left → text ≡ check_text values left links
+  pub came_check : (number : ℕ) (line : List ℕ) (a : S) (text : List ℕ) (links : List LinkReload) (values : List Values) (left : List (List ℤ)) → request_of line ≡ Some Check → server.reads (Ok links) → server.has_links values left → text ≡ check_text values left links
       → (calls : List Call) × IsDone number line a calls text a
   came_check number line a text links values left asks given has is = ([], subst (λ (t : List ℕ). IsDone number line a [] t a) (sym is) (Checked links values left asks given has))
 
-  pub came_view : (number : ℕ) (line : List ℕ) (a : S) (view : ViewLine) (text : List ℕ) → request_of line ≡ Some (View view) → network.shows view text → (calls : List Call) × IsDone number line a calls text a
+  pub came_view : (number : ℕ) (line : List ℕ) (a : S) (view : ViewLine) (text : List ℕ) → request_of line ≡ Some (View view) → server.shows view text → (calls : List Call) × IsDone number line a calls text a
   came_view number line a view text asks h = ([], Viewed view text asks h)
 
-  pub came_starved : (number : ℕ) (line : List ℕ) (a b : S) → IsSome (request_of line) → moves a [] b → Came (Err (Store OutOfMemory)) number line a b
+  pub came_starved : (number : ℕ) (line : List ℕ) (a b : S) → IsSome (request_of line) → server.ways.moves a [] b → Came (Err (Store OutOfMemory)) number line a b
   came_starved number line a b asks h = ([], Starved b asks h)
 
-  pub came_reloaded : (number : ℕ) (line : List ℕ) (a b : S) (links : List LinkReload) (text : List ℕ) → request_of line ≡ Some Reload → network.reads (Ok links) → Replied moves (event.Reload links) text a b → (calls : List Call) × IsDone number line a calls (text ++ codes "\n") b
+  pub came_reloaded : (number : ℕ) (line : List ℕ) (a b : S) (links : List LinkReload) (text : List ℕ) → request_of line ≡ Some Reload → server.reads (Ok links) → Replied server.ways.moves (event.Reload links) text a b → (calls : List Call) × IsDone number line a calls (text ++ codes "\n") b
   came_reloaded number line a b links text asks given h = (
     called (event.Reload links) h.0 ∷ [],
     subst (λ (t : List ℕ). IsDone number line a (called (event.Reload links) h.0 ∷ []) (t ++ codes "\n") b) (sym h.2) (Reloaded links h.0 b asks given h.1),
   )
 
-  pub came_unread : (number : ℕ) (line : List ℕ) (a : S) (fault : PlanFault) → asks_reading (request_of line) ≡ true → network.reads (Err fault) → (calls : List Call) × IsDone number line a calls (unread_line fault) a
+  pub came_unread : (number : ℕ) (line : List ℕ) (a : S) (fault : PlanFault) → asks_reading (request_of line) ≡ true → server.reads (Err fault) → (calls : List Call) × IsDone number line a calls (unread_line fault) a
   came_unread number line a fault asks given = ([], Unread fault asks given)
 
-  pub came_fault : (fault : CommandFault) (number : ℕ) (line : List ℕ) (a b : S) → asks_step (request_of line) ≡ true → NotTaken moves is_full fault a b → Came (Err fault) number line a b
+  pub came_fault : (fault : CommandFault) (number : ℕ) (line : List ℕ) (a b : S) → asks_step (request_of line) ≡ true → NotTaken server.ways.moves server.ways.is_full fault a b → Came (Err fault) number line a b
   came_fault BadLine number line a b asks h = absurd h
   came_fault (Store OutOfMemory) number line a b asks h = came_starved number line a b (step_is_asked (request_of line) asks) h
   came_fault (Store HistoryFull) number line a b asks h = (asks, h.0, h.1)
@@ -218,7 +237,7 @@ module _ {S : Type 0} (moves : S → List Call → S → Type 0) (same_but_calls
   Full number line a b = Came (Err (Store HistoryFull)) number line a b
 
   -- the history was full, and was rolled
-  pub answered_after_roll : (r : Result Answer CommandFault) (steps : ℕ) (start a b c d : S) (lines : List (List ℕ)) (said line : List ℕ) → Full (number_behind lines) line a b → rolls b steps c → Came r (number_behind lines) line c d
+  pub answered_after_roll : (r : Result Answer CommandFault) (steps : ℕ) (start a b c d : S) (lines : List (List ℕ)) (said line : List ℕ) → Full (number_behind lines) line a b → server.ways.rolls b steps c → Came r (number_behind lines) line c d
       → Stands start lines said a → Answering r start lines said line d
   answered_after_roll (Ok answer) steps start a b c d lines said line full k h s =
       answered_at_once (Ok answer) start c d lines said line (λ e. cc) h (waited start a c lines said (rolled steps a b c full.1 full.2 k) s)
@@ -230,7 +249,7 @@ module _ {S : Type 0} (moves : S → List Call → S → Type 0) (same_but_calls
       heard_line start a d lines said (fault_text HistoryFull ++ codes "\n") line [] (StillFull steps b c d full.0 full.1 full.2 k h.1 h.2) s
 
   -- and memory was refused to that
-  pub answered_starved : (start a b c : S) (lines : List (List ℕ)) (said line : List ℕ) → Full (number_behind lines) line a b → moves b [] c → Stands start lines said a → Answering (Err (Store OutOfMemory)) start lines said line c
+  pub answered_starved : (start a b c : S) (lines : List (List ℕ)) (said line : List ℕ) → Full (number_behind lines) line a b → server.ways.moves b [] c → Stands start lines said a → Answering (Err (Store OutOfMemory)) start lines said line c
   answered_starved start a b c lines said line full k s =
       heard_line start b c lines said (fault_text OutOfMemory ++ codes "\n") line [] (Starved c (step_is_asked (request_of line) full.0) k) (waited start a b lines said (Moves [] [] a b Stays full.1) s)
 
@@ -258,7 +277,7 @@ module _ {S : Type 0} (moves : S → List Call → S → Type 0) (same_but_calls
   end_of_line (Err fault) start now lines blank old said line is a was = cc
 
   -- the store's list was emptied
-  pub answer_emptied : (r : Result Answer CommandFault) (start a b : S) (lines : List (List ℕ)) (said line : List ℕ) → same_but_calls a b → Answering r start lines said line a → Answering r start lines said line b
+  pub answer_emptied : (r : Result Answer CommandFault) (start a b : S) (lines : List (List ℕ)) (said line : List ℕ) → server.ways.same_but_calls a b → Answering r start lines said line a → Answering r start lines said line b
   answer_emptied (Ok (answers.Reply text)) start a b lines said line h s = waited start a b (lines ++ line ∷ []) (said ++ said_of (number_behind lines) (Ok (answers.Reply text))) (Empties [] a b Stays h) s
   answer_emptied (Ok (answers.Table text)) start a b lines said line h s = waited start a b (lines ++ line ∷ []) (said ++ said_of (number_behind lines) (Ok (answers.Table text))) (Empties [] a b Stays h) s
   answer_emptied (Ok (answers.Viewed text)) start a b lines said line h s = waited start a b (lines ++ line ∷ []) (said ++ said_of (number_behind lines) (Ok (answers.Viewed text))) (Empties [] a b Stays h) s
@@ -269,13 +288,13 @@ module _ {S : Type 0} (moves : S → List Call → S → Type 0) (same_but_calls
 
   -- both of a line that was answered, and of one that asks for the end
   pub line_taken : (r : Result Answer CommandFault) (goes_out : Bool) (number : ℕ) (start now a b : S) (lines : List (List ℕ)) (blank old new : Option (List ℕ)) (line : List ℕ) → r ≢ Ok answers.End → number ≡ number_behind lines
-      → ((said : List ℕ) → Stands start lines said now → Answering r start lines said line a) → same_but_calls a b → Takes goes_out old new (said_of number r) → Tells start lines blank true now old → Tells start (lines ++ line ∷ []) blank goes_out b new
+      → ((said : List ℕ) → Stands start lines said now → Answering r start lines said line a) → server.ways.same_but_calls a b → Takes goes_out old new (said_of number r) → Tells start lines blank true now old → Tells start (lines ++ line ∷ []) blank goes_out b new
   line_taken r goes_out number start now a b lines blank old new line other counted answer same out t =
       said_of_line r goes_out start b lines blank old new t.said line other (answer_emptied r start a b lines t.said line same (answer t.said t.answered)) t.out
       (subst (λ (n : ℕ). Takes goes_out old new (said_of n r)) counted out)
 
   pub end_taken : (r : Result Answer CommandFault) (start now a b : S) (lines : List (List ℕ)) (blank old : Option (List ℕ)) (line : List ℕ) → r ≡ Ok answers.End
-      → ((said : List ℕ) → Stands start lines said now → Answering r start lines said line a) → same_but_calls a b → Tells start lines blank true now old → (request_of line ≡ Some End) × Tells start lines blank true b old
+      → ((said : List ℕ) → Stands start lines said now → Answering r start lines said line a) → server.ways.same_but_calls a b → Tells start lines blank true now old → (request_of line ≡ Some End) × Tells start lines blank true b old
   end_taken r start now a b lines blank old line is answer same t =
       end_of_line r start b lines blank old t.said line is (answer_emptied r start a b lines t.said line same (answer t.said t.answered)) t.out
 
@@ -290,7 +309,7 @@ module _ {S : Type 0} (moves : S → List Call → S → Type 0) (same_but_calls
   }
 
   -- the store's list was emptied in between
-  pub rested : (start a b : S) (blank written : Option (List ℕ)) (heard : List ℕ) (pending : Pending) → same_but_calls a b → Keeps start blank heard pending a written → Keeps start blank heard pending b written
+  pub rested : (start a b : S) (blank written : Option (List ℕ)) (heard : List ℕ) (pending : Pending) → server.ways.same_but_calls a b → Keeps start blank heard pending a written → Keeps start blank heard pending b written
   rested start a b blank written heard pending h s = record {
     told = record { said = s.told.said; answered = waited start a b (cut heard).0 s.told.said (Empties [] a b Stays h) s.told.answered; out = s.told.out };
     kept = s.kept;
@@ -345,13 +364,6 @@ module _ {S : Type 0} (moves : S → List Call → S → Type 0) (same_but_calls
   break_stops RunEnding start now blank written heard byte ends t = absurd t
   break_stops ReadFault start now blank written heard byte ends t = absurd t
 
-  stops_at_more : (end : OperatorEnd) (rest more : List ℕ) → StopsAt moves same_but_calls rolls is_full is_left network end rest → StopsAt moves same_but_calls rolls is_full is_left network end (rest ++ more)
-  stops_at_more EndAsked rest more h = (h.0, h.1, h.2 ++ more, ap (λ (all : List ℕ). all ++ more) h.3 ∙ append_assoc h.0 (10 ∷ h.2) more)
-  stops_at_more WriteFault rest more h = tt
-  stops_at_more InputEnded rest more h = absurd h
-  stops_at_more RunEnding rest more h = absurd h
-  stops_at_more ReadFault rest more h = absurd h
-
   -- more bytes were read, which are not looked at
   pub stopped_before : (end : OperatorEnd) (start now : S) (blank written : Option (List ℕ)) (heard more : List ℕ) → Stops end start blank heard now written → Stops end start blank (heard ++ more) now written
   stopped_before end start now blank written heard more s = record {
@@ -364,18 +376,6 @@ module _ {S : Type 0} (moves : S → List Call → S → Type 0) (same_but_calls
   }
 
   -- ---- the end
-
-  -- a read that gives nothing
-  pub consumed_none : (a b c : Option (List ℕ)) (heard buffer : List ℕ) (count : ℕ) → count ≡ 0 → Consumes a b heard → Consumes b c (take count buffer) → Consumes a c heard
-  consumed_none a b c heard buffer count none h k =
-      subst (λ (bytes : List ℕ). Consumes a c bytes) (ap (λ (n : ℕ). heard ++ take n buffer) none ∙ append-nil heard) (Consumes-trans a b c heard (take count buffer) h k)
-
-  cause_over : (end : OperatorEnd) (may_close : Type 0) (left : Option (List ℕ)) (rest : List ℕ) → StopsAt moves same_but_calls rolls is_full is_left network end rest → IsOver end may_close left rest
-  cause_over EndAsked may_close left rest h = (h.0, h.1, inl (h.2, h.3))
-  cause_over WriteFault may_close left rest h = tt
-  cause_over InputEnded may_close left rest h = absurd h
-  cause_over RunEnding may_close left rest h = absurd h
-  cause_over ReadFault may_close left rest h = absurd h
 
   -- a line was the last that is heard
   pub stopped : (end : OperatorEnd) (start now : S) (unread blank left written : Option (List ℕ)) (may_close : Type 0) (heard : List ℕ) → Consumes unread left heard → Stops end start blank heard now written → Ends start unread blank end may_close now left written
@@ -412,7 +412,7 @@ module _ {S : Type 0} (moves : S → List Call → S → Type 0) (same_but_calls
 
   -- a read failed
   pub failed : (r : Option OperatorEnd) (kind : ErrorKind) (start now : S) (unread blank left written : Option (List ℕ)) (may_close : Type 0) (heard : List ℕ) (pending : Pending) → FailsAs r kind may_close → Consumes unread left heard
-      → Keeps start blank heard pending now written → Turns moves same_but_calls rolls is_full is_left network r start unread blank may_close pending now left written
+      → Keeps start blank heard pending now written → Turns server r start unread blank may_close pending now left written
   failed None kind start now unread blank left written may_close heard pending why read s = (heard, read, s)
   failed (Some ReadFault) kind start now unread blank left written may_close heard pending why read s =
       left_there ReadFault start now unread blank left written may_close heard [] pending refl (subst (λ (all : List ℕ). Consumes unread left all) (sym (append-nil heard)) read) (λ rest. tt) s
@@ -424,7 +424,7 @@ module _ {S : Type 0} (moves : S → List Call → S → Type 0) (same_but_calls
 
   -- bytes were taken up to the end, or all of them
   pub taken : (r : Option OperatorEnd) (start now : S) (unread blank left written : Option (List ℕ)) (may_close : Type 0) (heard : List ℕ) (pending : Pending) → Consumes unread left heard → Hearing r start blank heard pending now written
-      → Turns moves same_but_calls rolls is_full is_left network r start unread blank may_close pending now left written
+      → Turns server r start unread blank may_close pending now left written
   taken None start now unread blank left written may_close heard pending read s = (heard, read, s)
   taken (Some end) start now unread blank left written may_close heard pending read s = stopped end start now unread blank left written may_close heard read s
 

@@ -1,17 +1,12 @@
 -- How a store goes on, its list emptied and its history rolled in between.
 use Rattle.std.specs.Prelude.{ℕ, List, [], ◌++◌}
 use Rattle.engine_core.specs.declared.store.Call.{Call}
+use Rattle.engine_core.specs.declared.store.Store as store
 
 -- a store by the members of its trait: where calls lead, what stays while its list is emptied, when its history is full,
 -- and what a roll leaves
-pub record Ways (S : Type 0) : Type 1 where
-  pub moves : S → List Call → S → Type 0
-  pub same_but_calls : S → S → Type 0
-  pub is_full : S → Type 0
-  pub rolls : S → ℕ → S → Type 0
-
-abbrev pub ways : {S : Type 0} → (S → List Call → S → Type 0) → (S → S → Type 0) → (S → Type 0) → (S → ℕ → S → Type 0) → Ways S
-ways moves same_but_calls is_full rolls = record { moves = moves; same_but_calls = same_but_calls; is_full = is_full; rolls = rolls }
+abbrev pub Ways : Type 0 → Type 1
+Ways S = store.Ghosts S
 
 -- From its start a store goes on: calls are made, its list is emptied, and where its history is full that is rolled. All
 -- calls that were made stand here, in their order, though the list of the store lost them.

@@ -1,8 +1,9 @@
 pub mod Heard
 pub mod Goings
+pub mod Servers
+pub mod Watches
 pub mod Visits
 pub mod Requests
 pub mod ReloadChecks
-pub mod Networks
 pub mod Operators
 pub mod Listening

@@ -16,7 +16,7 @@ use Rattle.server_talk.specs.declared.pending.Pending.{Pending}
 use Rattle.server_talk.specs.declared.plan.PlanFault.{PlanFault}
 use Rattle.server_talk.specs.declared.requests.Request.{Request}
 use Rattle.server_talk.specs.declared.requests.Request.TheVariants.{End}
-use Rattle.server_talk.specs.Networks.{NetworkNow}
+use Rattle.server_talk.specs.Servers.{Server}
 use Rattle.server_talk.specs.Operators.{IsAnswered, Listens, Operated, bad_line, is_out, number_behind, unread_line}
 use Rattle.server_talk.specs.Requests.{asks_step, line_limit, request_of}
 use Rattle.server_talk.specs.Visits.{Takes}
@@ -49,17 +49,23 @@ said_of number (Ok answers.End) = []
 said_of number (Err BadLine) = bad_line number
 said_of number (Err (Store fault)) = fault_text fault ++ codes "\n"
 
-module _ {S : Type 0} (moves : S → List Call → S → Type 0) (same_but_calls : S → S → Type 0) (rolls : S → ℕ → S → Type 0) (is_full : S → Type 0) (is_left : S → List (List ℤ) → Type 0) (network : NetworkNow) where
+-- the first line of the rest asks for the end, or the writer failed
+abbrev pub StopsAt : OperatorEnd → List ℕ → Type 0
+StopsAt EndAsked rest = (line : List ℕ) × (request_of line ≡ Some End) × (more : List ℕ) × (rest ≡ line ++ 10 ∷ more)
+StopsAt WriteFault rest = ⊤
+StopsAt end rest = ⊥
+
+module _ {S : Type 0} (server : Server S) where
   -- What a line comes to at once: it is answered, it asks for the end, or a full history takes nothing.
   abbrev pub Comes : Result Answer CommandFault → ℕ → List ℕ → S → S → Type 0
   Comes (Ok answers.End) number line old new = (request_of line ≡ Some End) × (new ≡ old)
-  Comes (Err (Store HistoryFull)) number line old new = (asks_step (request_of line) ≡ true) × moves old [] new × is_full new
-  Comes answer number line old new = (calls : List Call) × IsAnswered moves rolls is_full is_left network number line old calls (said_of number answer) new
+  Comes (Err (Store HistoryFull)) number line old new = (asks_step (request_of line) ≡ true) × server.ways.moves old [] new × server.ways.is_full new
+  Comes answer number line old new = (calls : List Call) × IsAnswered server number line old calls (said_of number answer) new
 
   -- these lines were answered so far, and this is said to them
   pub record Answered (start : S) (lines : List (List ℕ)) (said : List ℕ) (now : S) : Type 0 where
     pub calls : List Call
-    pub listens : Listens moves same_but_calls rolls is_full is_left network start lines calls said now
+    pub listens : Listens server start lines calls said now
 
   -- and it went out, or some of it did
   pub record Told (start : S) (lines : List (List ℕ)) (blank : Option (List ℕ)) (goes_out : Bool) (now : S) (written : Option (List ℕ)) : Type 0 where
@@ -87,12 +93,6 @@ module _ {S : Type 0} (moves : S → List Call → S → Type 0) (same_but_calls
     pub kept : IsKept pending (cut heard).1
     pub number : pending.number ≡ number_behind (cut heard).0
 
-  -- the first line of the rest asks for the end, or the writer failed
-  abbrev pub StopsAt : OperatorEnd → List ℕ → Type 0
-  StopsAt EndAsked rest = (line : List ℕ) × (request_of line ≡ Some End) × (more : List ℕ) × (rest ≡ line ++ 10 ∷ more)
-  StopsAt WriteFault rest = ⊤
-  StopsAt end rest = ⊥
-
   -- the lines of a front are answered, and the rest is not looked at
   pub record Stopped (end : OperatorEnd) (start : S) (blank : Option (List ℕ)) (heard : List ℕ) (now : S) (written : Option (List ℕ)) : Type 0 where
     pub front : List ℕ
@@ -110,4 +110,4 @@ module _ {S : Type 0} (moves : S → List Call → S → Type 0) (same_but_calls
   -- What a turn leaves that began with all lines answered which had been heard.
   abbrev pub Turns : Option OperatorEnd → S → Option (List ℕ) → Option (List ℕ) → Type 0 → Pending → S → Option (List ℕ) → Option (List ℕ) → Type 0
   Turns None start unread blank may_close pending now left written = (heard : List ℕ) × Consumes unread left heard × SoFar start blank heard pending now written
-  Turns (Some end) start unread blank may_close pending now left written = Operated moves same_but_calls rolls is_full is_left network start unread blank end may_close now left written
+  Turns (Some end) start unread blank may_close pending now left written = Operated server start unread blank end may_close now left written

@@ -25,8 +25,8 @@ use Rattle.server_talk.specs.declared.operator.OperatorEnd.TheVariants.{InputEnd
 use Rattle.server_talk.specs.declared.plan.PlanFault.{PlanFault}
 use Rattle.server_talk.specs.declared.plan.PlanFault.TheVariants.{Device, Te}
 use Rattle.server_talk.specs.declared.requests.Request.TheVariants.{Book, Check, End, Reload, Submit, View}
-use Rattle.server_talk.specs.Goings.{Goes, ways}
-use Rattle.server_talk.specs.Networks.{NetworkNow}
+use Rattle.server_talk.specs.Goings.{Goes}
+use Rattle.server_talk.specs.Servers.{Server}
 use Rattle.server_talk.specs.ReloadChecks.{check_text}
 use Rattle.server_talk.specs.Requests.{asks_reading, asks_step, is_operators, request_of}
 use Rattle.server_talk.specs.Visits.{Takes}
@@ -56,40 +56,40 @@ AreOperators calls = All (λ call. is_operators call.event ≡ true) calls
 -- ---- what a line leads to
 
 -- The line with this number leads from `old` to these calls, to these bytes that are said, and to a store.
-pub data IsAnswered {S : Type 0} (moves : S → List Call → S → Type 0) (rolls : S → ℕ → S → Type 0) (is_full : S → Type 0) (is_left : S → List (List ℤ) → Type 0) (network : NetworkNow) (number : ℕ) (line : List ℕ) (old : S) : List Call → List ℕ → S → Type 0 where
+pub data IsAnswered {S : Type 0} (server : Server S) (number : ℕ) (line : List ℕ) (old : S) : List Call → List ℕ → S → Type 0 where
   -- the event that it asks for is submitted, once, and the text of its reply is said
-  Obeyed : (of : Event) (reply : Reply) (new : S) → request_of line ≡ Some (Submit of) → moves old (called of reply ∷ []) new
-      → IsAnswered moves rolls is_full is_left network number line old (called of reply ∷ []) (reply_text reply ++ codes "\n") new
+  Obeyed : (of : Event) (reply : Reply) (new : S) → request_of line ≡ Some (Submit of) → server.ways.moves old (called of reply ∷ []) new
+      → IsAnswered server number line old (called of reply ∷ []) (reply_text reply ++ codes "\n") new
   -- it asks for the book: what is left of each link is said
-  Shown : (table : List (List ℤ)) → request_of line ≡ Some Book → is_left old table → IsAnswered moves rolls is_full is_left network number line old [] (table_text 0 table) old
+  Shown : (table : List (List ℤ)) → request_of line ≡ Some Book → server.is_left old table → IsAnswered server number line old [] (table_text 0 table) old
   -- it asks for a reload: the values that the link text gives are submitted, once, or it is said why there are none
-  Reloaded : (links : List LinkReload) (reply : Reply) (new : S) → request_of line ≡ Some Reload → network.reads (Ok links) → moves old (called (event.Reload links) reply ∷ []) new
-      → IsAnswered moves rolls is_full is_left network number line old (called (event.Reload links) reply ∷ []) (reply_text reply ++ codes "\n") new
-  Unread : (fault : PlanFault) → asks_reading (request_of line) ≡ true → network.reads (Err fault) → IsAnswered moves rolls is_full is_left network number line old [] (unread_line fault) old
+  Reloaded : (links : List LinkReload) (reply : Reply) (new : S) → request_of line ≡ Some Reload → server.reads (Ok links) → server.ways.moves old (called (event.Reload links) reply ∷ []) new
+      → IsAnswered server number line old (called (event.Reload links) reply ∷ []) (reply_text reply ++ codes "\n") new
+  Unread : (fault : PlanFault) → asks_reading (request_of line) ≡ true → server.reads (Err fault) → IsAnswered server number line old [] (unread_line fault) old
   -- it asks what a reload would change: that is said of the values that the link text gives, and nothing is done
-  Checked : (links : List LinkReload) (values : List Values) (left : List (List ℤ)) → request_of line ≡ Some Check → network.reads (Ok links) → network.has_links values left
-      → IsAnswered moves rolls is_full is_left network number line old [] (check_text values left links) old
+  Checked : (links : List LinkReload) (values : List Values) (left : List (List ℤ)) → request_of line ≡ Some Check → server.reads (Ok links) → server.has_links values left
+      → IsAnswered server number line old [] (check_text values left links) old
   -- it asks to see something: that is said, and nothing is done
-  Viewed : (view : ViewLine) (text : List ℕ) → request_of line ≡ Some (View view) → network.shows view text → IsAnswered moves rolls is_full is_left network number line old [] text old
+  Viewed : (view : ViewLine) (text : List ℕ) → request_of line ≡ Some (View view) → server.shows view text → IsAnswered server number line old [] text old
   -- it asks for nothing: nothing is done
-  Refused : request_of line ≡ None → IsAnswered moves rolls is_full is_left network number line old [] (bad_line number) old
+  Refused : request_of line ≡ None → IsAnswered server number line old [] (bad_line number) old
   -- it asks for something, and memory is refused to that
-  Starved : (new : S) → IsSome (request_of line) → moves old [] new → IsAnswered moves rolls is_full is_left network number line old [] (fault_text OutOfMemory ++ codes "\n") new
+  Starved : (new : S) → IsSome (request_of line) → server.ways.moves old [] new → IsAnswered server number line old [] (fault_text OutOfMemory ++ codes "\n") new
   -- it asks for an event, and the history is full, also after it was rolled
-  StillFull : (steps : ℕ) (a b new : S) → asks_step (request_of line) ≡ true → moves old [] a → is_full a → rolls a steps b → moves b [] new → is_full new
-      → IsAnswered moves rolls is_full is_left network number line old [] (fault_text HistoryFull ++ codes "\n") new
+  StillFull : (steps : ℕ) (a b new : S) → asks_step (request_of line) ≡ true → server.ways.moves old [] a → server.ways.is_full a → server.ways.rolls a steps b → server.ways.moves b [] new → server.ways.is_full new
+      → IsAnswered server number line old [] (fault_text HistoryFull ++ codes "\n") new
 
 -- From `start` on an operator's lines were heard so far. Here are the lines, the calls that they led to, the bytes that
 -- were said, each in their order, and the store as it stands.
-pub data Listens {S : Type 0} (moves : S → List Call → S → Type 0) (same_but_calls : S → S → Type 0) (rolls : S → ℕ → S → Type 0) (is_full : S → Type 0) (is_left : S → List (List ℤ) → Type 0) (network : NetworkNow) (start : S) : List (List ℕ) → List Call → List ℕ → S → Type 0 where
-  Begins : Listens moves same_but_calls rolls is_full is_left network start [] [] [] start
+pub data Listens {S : Type 0} (server : Server S) (start : S) : List (List ℕ) → List Call → List ℕ → S → Type 0 where
+  Begins : Listens server start [] [] [] start
   -- one line more
   Hears : (lines : List (List ℕ)) (calls made : List Call) (said text line : List ℕ) (a b : S)
-      → Listens moves same_but_calls rolls is_full is_left network start lines calls said a → IsAnswered moves rolls is_full is_left network (number_behind lines) line a made text b
-      → Listens moves same_but_calls rolls is_full is_left network start (lines ++ line ∷ []) (calls ++ made) (said ++ text) b
+      → Listens server start lines calls said a → IsAnswered server (number_behind lines) line a made text b
+      → Listens server start (lines ++ line ∷ []) (calls ++ made) (said ++ text) b
   -- in between the store goes on without a call: its list is emptied, its history rolled
   Waits : (lines : List (List ℕ)) (calls : List Call) (said : List ℕ) (a b : S)
-      → Listens moves same_but_calls rolls is_full is_left network start lines calls said a → Goes (ways moves same_but_calls is_full rolls) a [] b → Listens moves same_but_calls rolls is_full is_left network start lines calls said b
+      → Listens server start lines calls said a → Goes server.ways a [] b → Listens server start lines calls said b
 
 -- ---- how it ends
 
@@ -124,14 +124,14 @@ IsOver WriteFault may_close left rest = ⊤
 -- An operator from `start` on, until nothing more is heard. Of the reader and the writer the known bytes are meant, at
 -- the start and now. The lines of `front` were answered, each ended by a line break, but the last of all that the reader
 -- gave; what was said to them went out, or some of it where the writer failed.
-pub record Operated {S : Type 0} (moves : S → List Call → S → Type 0) (same_but_calls : S → S → Type 0) (rolls : S → ℕ → S → Type 0) (is_full : S → Type 0) (is_left : S → List (List ℤ) → Type 0) (network : NetworkNow) (start : S) (unread blank : Option (List ℕ)) (end : OperatorEnd) (may_close : Type 0) (now : S) (left written : Option (List ℕ)) : Type 0 where
+pub record Operated {S : Type 0} (server : Server S) (start : S) (unread blank : Option (List ℕ)) (end : OperatorEnd) (may_close : Type 0) (now : S) (left written : Option (List ℕ)) : Type 0 where
   pub front : List ℕ
   pub rest : List ℕ
   pub calls : List Call
   pub said : List ℕ
   pub read : Consumes unread left (front ++ rest)
   pub whole : ((cut front).1 ≡ []) ⊎ (IsAtEnd left × (rest ≡ []))
-  pub listens : Listens moves same_but_calls rolls is_full is_left network start (lines_of front) calls said now
+  pub listens : Listens server start (lines_of front) calls said now
   pub out : Takes (is_out end) blank written said
   pub over : IsOver end may_close left rest
 

@@ -57,6 +57,6 @@ abbrev pub outlook_text : List ℕ → ℕ → List ℕ
 outlook_text [] below = codes "nothing changes\n"
 outlook_text (c ∷ changes) below = (c ∷ changes) ++ (codes "below zero " ++ (decimal below ++ codes "\n"))
 
--- Links have these values, and so much is left of each at each priority; the entries are what a link text gives.
+-- Links have these values, and this is left of each at each priority; the entries are what a link text gives.
 abbrev pub check_text : List Values → List (List ℤ) → List LinkReload → List ℕ
 check_text values left entries = outlook_text (changes_text values entries) (below_count values left entries)

@@ -43,7 +43,7 @@ asks_reading (Some Check) = true
 asks_reading (Some Reload) = true
 asks_reading asked = false
 
--- a line has so many bytes at most
+-- the number of bytes that a line has, at most
 abbrev pub line_limit : ℕ
 line_limit = 4096
 

@@ -15,6 +15,7 @@ use Rattle.engine_core.specs.declared.store.Call.{Call}
 use Rattle.server_talk.specs.declared.talk.Ended.{Ended}
 use Rattle.server_talk.specs.declared.talk.Ended.TheVariants.{PeerClosed, SessionEnded, ReadFault, WriteFault, StoreFault}
 use Rattle.server_talk.specs.Goings.{Goes, Ways}
+use Rattle.server_talk.specs.Watches.{WatchNow}
 
 -- ---- the session of a visit
 
@@ -29,22 +30,22 @@ IsUnexplained reason = (reason ≡ Some 1) ⊎ (reason ≡ None)
 -- A session of a peer so far: the bytes that it heard, the calls that it led to, the bytes that it said, and what it has
 -- come to, with the moment at which it was served last. Of the watch it is known which moments it tells, and whether the
 -- run may be told to end.
-pub data Talks (tells : ℕ → Type 0) (may_close : Type 0) (peer : ℕ) : List ℕ → List Call → List ℕ → ℕ → Client → Type 0 where
+pub data Talks (watch : WatchNow) (peer : ℕ) : List ℕ → List Call → List ℕ → ℕ → Client → Type 0 where
   -- it begins at a moment that the watch tells
-  Begins : (now_ms : ℕ) → tells now_ms → Talks tells may_close peer [] [] [] now_ms (new_client now_ms)
+  Begins : (now_ms : ℕ) → watch.tells now_ms → Talks watch peer [] [] [] now_ms (new_client now_ms)
   -- it is served with bytes, as the engine's table says, at a moment that the watch tells and that isn't before the last
-  Serves : (heard said piece : List ℕ) (before made : List Call) (at_ms now_ms : ℕ) (c d : Client) → tells now_ms → at_ms ≤ now_ms
-      → Talks tells may_close peer heard before said at_ms c → LeadsTo (served peer piece now_ms c) made (Returns d) → Talks tells may_close peer (heard ++ piece) (before ++ made) said now_ms d
+  Serves : (heard said piece : List ℕ) (before made : List Call) (at_ms now_ms : ℕ) (c d : Client) → watch.tells now_ms → at_ms ≤ now_ms
+      → Talks watch peer heard before said at_ms c → LeadsTo (served peer piece now_ms c) made (Returns d) → Talks watch peer (heard ++ piece) (before ++ made) said now_ms d
   -- the same up to a fault, which ends it
-  Breaks : (heard said piece : List ℕ) (before made : List Call) (at_ms now_ms : ℕ) (c d : Client) (rest : Plan Client) → tells now_ms → at_ms ≤ now_ms
-      → Talks tells may_close peer heard before said at_ms c → LeadsTo (served peer piece now_ms c) made (Reaches d rest) → Talks tells may_close peer (heard ++ piece) (before ++ made) said now_ms (ending None None d)
+  Breaks : (heard said piece : List ℕ) (before made : List Call) (at_ms now_ms : ℕ) (c d : Client) (rest : Plan Client) → watch.tells now_ms → at_ms ≤ now_ms
+      → Talks watch peer heard before said at_ms c → LeadsTo (served peer piece now_ms c) made (Reaches d rest) → Talks watch peer (heard ++ piece) (before ++ made) said now_ms (ending None None d)
   -- it says what it has to say
   Says : (heard said : List ℕ) (before : List Call) (at_ms : ℕ) (c : Client)
-      → Talks tells may_close peer heard before said at_ms c → Talks tells may_close peer heard before (said ++ c.session.output) at_ms (spoken c)
+      → Talks watch peer heard before said at_ms c → Talks watch peer heard before (said ++ c.session.output) at_ms (spoken c)
   -- it is closed from this side where the run may be told to end: with a Close that explains nothing (RFC 5440 section 7.17), or
   -- without one
-  Closes : (heard said : List ℕ) (before : List Call) (at_ms : ℕ) (c : Client) (reason : Option ℕ) → may_close → IsUnexplained reason
-      → Talks tells may_close peer heard before said at_ms c → Talks tells may_close peer heard before said at_ms (ending None reason c)
+  Closes : (heard said : List ℕ) (before : List Call) (at_ms : ℕ) (c : Client) (reason : Option ℕ) → watch.may_close → IsUnexplained reason
+      → Talks watch peer heard before said at_ms c → Talks watch peer heard before said at_ms (ending None reason c)
 
 -- ---- what is read and written
 
@@ -94,12 +95,12 @@ IsToldOf (Some ended) left c = IsTold ended left c × (owes_down ended ≡ false
 
 -- From `start` on, in a visit that goes on or has come to this end, but for the Down of its peer. Of the reader and the
 -- writer the known bytes are meant, at the visit's start and now; the session was served at this moment last.
-pub record SoFar {S : Type 0} (w : Ways S) (tells : ℕ → Type 0) (may_close : Type 0) (peer : ℕ) (start : S) (unread blank : Option (List ℕ)) (end : Option Ended) (now : S) (left written : Option (List ℕ)) (at_ms : ℕ) (client : Client) : Type 0 where
+pub record SoFar {S : Type 0} (w : Ways S) (watch : WatchNow) (peer : ℕ) (start : S) (unread blank : Option (List ℕ)) (end : Option Ended) (now : S) (left written : Option (List ℕ)) (at_ms : ℕ) (client : Client) : Type 0 where
   pub heard : List ℕ
   pub said : List ℕ
   pub calls : List Call
-  pub talks : Talks tells may_close peer heard calls said at_ms client
-  pub told_at : tells at_ms
+  pub talks : Talks watch peer heard calls said at_ms client
+  pub told_at : watch.tells at_ms
   pub joined : client.joined ≡ joined_after false calls
   pub goes : Goes w start calls now
   pub read : Consumes unread left heard
@@ -114,31 +115,31 @@ IsDown peer true calls = (reply : Reply) × (calls ≡ called (Down peer) reply 
 IsDown peer false calls = calls ≡ []
 
 -- What the end of a visit leaves: the Down is submitted and the list has it alone, or it could not be submitted.
-abbrev pub Leaves : {X S : Type 0} → Result X Fault → Ways S → (S → List Call) → ℕ → Bool → S → List Call → S → Type 0
-Leaves (Ok x) w listed peer joined start calls new =
-    (last : List Call) × IsDown peer joined last × Goes w start (calls ++ last) new × (listed new ≡ last)
-Leaves (Err fault) w listed peer joined start calls new = (joined ≡ true) × Goes w start calls new
+abbrev pub Leaves : {X S : Type 0} → Result X Fault → Ways S → ℕ → Bool → S → List Call → S → Type 0
+Leaves (Ok x) w peer joined start calls new =
+    (last : List Call) × IsDown peer joined last × Goes w start (calls ++ last) new × (w.calls new ≡ last)
+Leaves (Err fault) w peer joined start calls new = (joined ≡ true) × Goes w start calls new
 
 -- the last calls: the Down of a peer that is joined, and the list of the store has nothing else; none after a fault of
 -- the store
-abbrev pub Lasts : {S : Type 0} → Ended → (S → List Call) → ℕ → Bool → S → List Call → Type 0
-Lasts (StoreFault fault) listed peer joined new last = last ≡ []
-Lasts ended listed peer joined new last = IsDown peer joined last × (listed new ≡ last)
+abbrev pub Lasts : {S : Type 0} → Ended → Ways S → ℕ → Bool → S → List Call → Type 0
+Lasts (StoreFault fault) w peer joined new last = last ≡ []
+Lasts ended w peer joined new last = IsDown peer joined last × (w.calls new ≡ last)
 
 -- A whole visit, and what it is told to have ended by. Its calls are those of its session and the last ones, and the
 -- peer is left joined only where its Down could not be submitted.
-pub record Visited {S : Type 0} (w : Ways S) (tells : ℕ → Type 0) (may_close : Type 0) (listed : S → List Call) (peer : ℕ) (start : S) (unread blank : Option (List ℕ)) (ended : Ended) (now : S) (left written : Option (List ℕ)) : Type 0 where
+pub record Visited {S : Type 0} (w : Ways S) (watch : WatchNow) (peer : ℕ) (start : S) (unread blank : Option (List ℕ)) (ended : Ended) (now : S) (left written : Option (List ℕ)) : Type 0 where
   pub heard : List ℕ
   pub said : List ℕ
   pub calls : List Call
   pub last : List Call
   pub at_ms : ℕ
   pub client : Client
-  pub talks : Talks tells may_close peer heard calls said at_ms client
+  pub talks : Talks watch peer heard calls said at_ms client
   pub silent : client.session.output ≡ []
   pub goes : Goes w start (calls ++ last) now
   pub down : joined_after false (calls ++ last) ≡ owes_down ended
-  pub lasts : Lasts ended listed peer (joined_after false calls) now last
+  pub lasts : Lasts ended w peer (joined_after false calls) now last
   pub read : Consumes unread left heard
   pub out : GoesOut (Some ended) blank written said
   pub told : IsTold ended left client

@@ -7,7 +7,7 @@ ghost use Rattle.script_lines.specs.Book.{table_text};
 ghost use Rattle.script_lines.specs.declared.fault.CommandFault.TheVariants.{Store};
 ghost use Rattle.server_talk.specs.declared.commands.Answer.TheVariants.{End};
 ghost use Rattle.server_talk.specs.Listening.{Answered, Answers, Comes, IsKept};
-ghost use Rattle.server_talk.specs.Networks.{network_of};
+ghost use Rattle.server_talk.specs.Servers.{server_of};
 ghost use Rattle.server_talk.specs.ReloadChecks.{check_text};
 ghost use Rattle.server_talk.specs.Requests.{request_of};
 ghost use Rattle.server_talk.specs.declared.requests.Request.TheVariants.{Book, Check, Reload, Submit, View};
@@ -87,7 +87,7 @@ fn submit<D: Desk, W: Watch, P: Show>(
     _plan: &P,
     store: &mut D,
 ) -> Result<Answer, CommandFault>
-    ensures { (number : ℕ) (text : List ℕ) → request_of text ≡ Some (Submit event) → Comes D.moves D.same_but_calls D.rolls D.is_full D.is_left (network_of P.reads P.has_links P.shows _plan.now) result number text store.old store.new }
+    ensures { (number : ℕ) (text : List ℕ) → request_of text ≡ Some (Submit event) → Comes (server_of D.Store D.is_left P.Show _plan.now) result number text store.old store.new }
 {
     match obey(alloc, event, watch, store) {
         Ok(text) => Ok(Answer::Reply(text)),
@@ -97,7 +97,7 @@ fn submit<D: Desk, W: Watch, P: Show>(
 
 /// Shows what is left of each link.
 fn show_book<D: Desk, P: Show>(alloc: Global, _plan: &P, store: &D) -> Result<Answer, CommandFault>
-    ensures { (number : ℕ) (text : List ℕ) → request_of text ≡ Some Book → Comes D.moves D.same_but_calls D.rolls D.is_full D.is_left (network_of P.reads P.has_links P.shows _plan.now) result number text store.now store.now }
+    ensures { (number : ℕ) (text : List ℕ) → request_of text ≡ Some Book → Comes (server_of D.Store D.is_left P.Show _plan.now) result number text store.now store.now }
 {
     match book_of(alloc, store) {
         Ok(text) => Ok(Answer::Table(text)),
@@ -112,7 +112,7 @@ fn show_view<D: Desk, P: Show>(
     plan: &P,
     _store: &D,
 ) -> Result<Answer, CommandFault>
-    ensures { (number : ℕ) (text : List ℕ) → request_of text ≡ Some (View view) → Comes D.moves D.same_but_calls D.rolls D.is_full D.is_left (network_of P.reads P.has_links P.shows plan.now) result number text _store.now _store.now }
+    ensures { (number : ℕ) (text : List ℕ) → request_of text ≡ Some (View view) → Comes (server_of D.Store D.is_left P.Show plan.now) result number text _store.now _store.now }
 {
     match plan.show(alloc, &view) {
         Ok(text) => Ok(Answer::Viewed(text)),
@@ -127,7 +127,7 @@ fn submit_links<D: Desk, P: Show>(
     _plan: &P,
     store: &mut D,
 ) -> Result<Answer, CommandFault>
-    ensures { (number : ℕ) (text : List ℕ) → request_of text ≡ Some Reload → P.reads _plan.now (Ok links) → Comes D.moves D.same_but_calls D.rolls D.is_full D.is_left (network_of P.reads P.has_links P.shows _plan.now) result number text store.old store.new }
+    ensures { (number : ℕ) (text : List ℕ) → request_of text ≡ Some Reload → P.reads _plan.now (Ok links) → Comes (server_of D.Store D.is_left P.Show _plan.now) result number text store.old store.new }
 {
     match answer_event(alloc, Event::Reload { links }, store) {
         Ok(text) => Ok(Answer::Reply(text)),
@@ -137,7 +137,7 @@ fn submit_links<D: Desk, P: Show>(
 
 /// Reads the link text again and submits the values that it gives, unless the history is full.
 fn reload<D: Desk, P: Show>(alloc: Global, plan: &P, store: &mut D) -> Result<Answer, CommandFault>
-    ensures { (number : ℕ) (text : List ℕ) → request_of text ≡ Some Reload → Comes D.moves D.same_but_calls D.rolls D.is_full D.is_left (network_of P.reads P.has_links P.shows plan.now) result number text store.old store.new }
+    ensures { (number : ℕ) (text : List ℕ) → request_of text ≡ Some Reload → Comes (server_of D.Store D.is_left P.Show plan.now) result number text store.old store.new }
 {
     match plan.read() {
         Ok(links) => submit_links(alloc, links, plan, store),
@@ -165,7 +165,7 @@ fn show_outlook<D: Desk, P: Show>(
     plan: &P,
     _store: &D,
 ) -> Result<Answer, CommandFault>
-    ensures { (number : ℕ) (text : List ℕ) → request_of text ≡ Some Check → P.reads plan.now (Ok links) → Comes D.moves D.same_but_calls D.rolls D.is_full D.is_left (network_of P.reads P.has_links P.shows plan.now) result number text _store.now _store.now }
+    ensures { (number : ℕ) (text : List ℕ) → request_of text ≡ Some Check → P.reads plan.now (Ok links) → Comes (server_of D.Store D.is_left P.Show plan.now) result number text _store.now _store.now }
 {
     match outlook_of(alloc, links.as_slice(), plan) {
         Ok(text) => Ok(Answer::Table(text)),
@@ -179,7 +179,7 @@ fn check_reload<D: Desk, P: Show>(
     plan: &P,
     store: &D,
 ) -> Result<Answer, CommandFault>
-    ensures { (number : ℕ) (text : List ℕ) → request_of text ≡ Some Check → Comes D.moves D.same_but_calls D.rolls D.is_full D.is_left (network_of P.reads P.has_links P.shows plan.now) result number text store.now store.now }
+    ensures { (number : ℕ) (text : List ℕ) → request_of text ≡ Some Check → Comes (server_of D.Store D.is_left P.Show plan.now) result number text store.now store.now }
 {
     match plan.read() {
         Ok(links) => show_outlook(alloc, links, plan, store),
@@ -195,7 +195,7 @@ fn answer_once<D: Desk, W: Watch, P: Show>(
     plan: &P,
     store: &mut D,
 ) -> Result<Answer, CommandFault>
-    ensures { (number : ℕ) (text : List ℕ) → IsKept line.now text → Comes D.moves D.same_but_calls D.rolls D.is_full D.is_left (network_of P.reads P.has_links P.shows plan.now) result number text store.old store.new }
+    ensures { (number : ℕ) (text : List ℕ) → IsKept line.now text → Comes (server_of D.Store D.is_left P.Show plan.now) result number text store.old store.new }
 {
     let request = match line.request(alloc) {
         Ok(request) => request,
@@ -236,8 +236,8 @@ pub(crate) fn answer_line<D: Desk, W: Watch, P: Show>(
     store: &mut D,
 ) -> Result<Answer, CommandFault>
     ensures { (start : D) (lines : List (List ℕ)) (said text : List ℕ) → IsKept line.now text
-        → Answered D.moves D.same_but_calls D.rolls D.is_full D.is_left (network_of P.reads P.has_links P.shows plan.now) start lines said store.old
-        → Answers D.moves D.same_but_calls D.rolls D.is_full D.is_left (network_of P.reads P.has_links P.shows plan.now) result start lines said text store.new }
+        → Answered (server_of D.Store D.is_left P.Show plan.now) start lines said store.old
+        → Answers (server_of D.Store D.is_left P.Show plan.now) result start lines said text store.new }
 {
     let first = answer_once(alloc, line, watch, plan, store);
     if !is_full(&first) {

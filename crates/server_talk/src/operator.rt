@@ -4,9 +4,9 @@ ghost use Rattle.std.specs.Fmt.{decimal};
 ghost use Rattle.std.specs.Io.KnownBytes.{Consumes, IsAtEnd};
 ghost use Rattle.history_core.specs.Faults.{fault_text};
 ghost use Rattle.engine_core.specs.declared.store.Call.{Call};
-ghost use Rattle.server_talk.specs.Goings.{Goes, ways};
+ghost use Rattle.server_talk.specs.Goings.{Goes};
 ghost use Rattle.server_talk.specs.Listening.{Told, TakesLine, IsKept, SoFar, HearsOn, Turns, said_of};
-ghost use Rattle.server_talk.specs.Networks.{network_of};
+ghost use Rattle.server_talk.specs.Servers.{server_of};
 ghost use Rattle.server_talk.specs.Operators.{AreOperators, FailsAs, Operated, EndsAs, is_quiet, te_line, unread_line, number_behind};
 ghost use Rattle.server_talk.specs.Visits.{Takes};
 
@@ -26,10 +26,10 @@ use std::sync::Wait;
 use std::time::Duration;
 use te_base::TeFault;
 
-/// So many bytes are read at once.
+/// The number of bytes that are read at once, at most.
 const PIECE: usize = 4096;
 
-/// A read waits so long at most, in milliseconds, before it is looked whether the run is to end.
+/// The longest wait of a read, in milliseconds, before it is looked whether the run is to end.
 const PATIENCE_MS: u64 = 250;
 
 /// Why an operator is heard no more.
@@ -155,8 +155,8 @@ fn take_line<D: Desk, O: Write, W: Watch, P: Show>(
 ) -> Option<OperatorEnd>
     ensures empty { D.calls store.new ≡ [] }
     ensures taken { (start : D) (lines : List (List ℕ)) (blank : Option (List ℕ)) (text : List ℕ) → IsKept line.now text → line.now.number ≡ number_behind lines
-        → Told D.moves D.same_but_calls D.rolls D.is_full D.is_left (network_of P.reads P.has_links P.shows plan.now) start lines blank true store.old (O.contents writer.old)
-        → TakesLine D.moves D.same_but_calls D.rolls D.is_full D.is_left (network_of P.reads P.has_links P.shows plan.now) result start lines blank text store.new (O.contents writer.new) }
+        → Told (server_of D.Store D.is_left P.Show plan.now) start lines blank true store.old (O.contents writer.old)
+        → TakesLine (server_of D.Store D.is_left P.Show plan.now) result start lines blank text store.new (O.contents writer.new) }
 {
     let came = answer_line(alloc, line, watch, plan, store);
     store.forget();
@@ -181,8 +181,8 @@ fn take_byte<D: Desk, O: Write, W: Watch, P: Show>(
 ) -> Option<OperatorEnd>
     ensures empty { D.calls store.old ≡ [] → D.calls store.new ≡ [] }
     ensures taken { (start : D) (blank : Option (List ℕ)) (heard : List ℕ)
-        → SoFar D.moves D.same_but_calls D.rolls D.is_full D.is_left (network_of P.reads P.has_links P.shows plan.now) start blank heard pending.old store.old (O.contents writer.old)
-        → HearsOn D.moves D.same_but_calls D.rolls D.is_full D.is_left (network_of P.reads P.has_links P.shows plan.now) result start blank (heard ++ byte ∷ []) pending.new store.new (O.contents writer.new) }
+        → SoFar (server_of D.Store D.is_left P.Show plan.now) start blank heard pending.old store.old (O.contents writer.old)
+        → HearsOn (server_of D.Store D.is_left P.Show plan.now) result start blank (heard ++ byte ∷ []) pending.new store.new (O.contents writer.new) }
 {
     if byte != b'\n' {
         pending.add(byte);
@@ -209,8 +209,8 @@ fn take_piece<D: Desk, O: Write, W: Watch, P: Show>(
 ) -> Option<OperatorEnd>
     ensures empty { D.calls store.old ≡ [] → D.calls store.new ≡ [] }
     ensures taken { (start : D) (blank : Option (List ℕ)) (heard : List ℕ)
-        → SoFar D.moves D.same_but_calls D.rolls D.is_full D.is_left (network_of P.reads P.has_links P.shows plan.now) start blank heard pending.old store.old (O.contents writer.old)
-        → HearsOn D.moves D.same_but_calls D.rolls D.is_full D.is_left (network_of P.reads P.has_links P.shows plan.now) result start blank (heard ++ piece.now) pending.new store.new (O.contents writer.new) }
+        → SoFar (server_of D.Store D.is_left P.Show plan.now) start blank heard pending.old store.old (O.contents writer.old)
+        → HearsOn (server_of D.Store D.is_left P.Show plan.now) result start blank (heard ++ piece.now) pending.new store.new (O.contents writer.new) }
 {
     for byte in piece {
         match take_byte(alloc, pending, *byte, watch, plan, store, writer) {
@@ -232,8 +232,8 @@ fn finish<D: Desk, O: Write, W: Watch, P: Show>(
 ) -> OperatorEnd
     ensures empty { D.calls store.old ≡ [] → D.calls store.new ≡ [] }
     ensures finished { (start : D) (unread blank left : Option (List ℕ)) (heard : List ℕ) → Consumes unread left heard → IsAtEnd left
-        → SoFar D.moves D.same_but_calls D.rolls D.is_full D.is_left (network_of P.reads P.has_links P.shows plan.now) start blank heard pending.now store.old (O.contents writer.old)
-        → Operated D.moves D.same_but_calls D.rolls D.is_full D.is_left (network_of P.reads P.has_links P.shows plan.now) start unread blank result (W.may_close watch.now) store.new left (O.contents writer.new) }
+        → SoFar (server_of D.Store D.is_left P.Show plan.now) start blank heard pending.now store.old (O.contents writer.old)
+        → Operated (server_of D.Store D.is_left P.Show plan.now) start unread blank result (W.may_close watch.now) store.new left (O.contents writer.new) }
 {
     if pending.is_empty() {
         return OperatorEnd::InputEnded;
@@ -282,8 +282,8 @@ fn turn<D: Desk, I: Patient, O: Write, W: Watch, P: Show>(
     requires room { 0 < length piece.old }
     ensures empty { D.calls store.old ≡ [] → D.calls store.new ≡ [] }
     ensures turned { (start : D) (unread blank : Option (List ℕ)) (heard : List ℕ) → Consumes unread (I.remaining reader.old) heard
-        → SoFar D.moves D.same_but_calls D.rolls D.is_full D.is_left (network_of P.reads P.has_links P.shows plan.now) start blank heard pending.old store.old (O.contents writer.old)
-        → Turns D.moves D.same_but_calls D.rolls D.is_full D.is_left (network_of P.reads P.has_links P.shows plan.now) result start unread blank (W.may_close watch.now) pending.new store.new (I.remaining reader.new) (O.contents writer.new) }
+        → SoFar (server_of D.Store D.is_left P.Show plan.now) start blank heard pending.old store.old (O.contents writer.old)
+        → Turns (server_of D.Store D.is_left P.Show plan.now) result start unread blank (W.may_close watch.now) pending.new store.new (I.remaining reader.new) (O.contents writer.new) }
 {
     let count = match reader.read(piece) {
         Ok(count) => count,
@@ -315,10 +315,10 @@ pub fn operate<R: Wait, D: Desk, I: Patient, O: Write, W: Watch, P: Show>(
     plan: &P,
     store: &mut D,
 ) -> Result<OperatorEnd, AllocError>
-    ensures by_operators { (calls : List Call) × AreOperators calls × Goes (ways D.moves D.same_but_calls D.is_full D.rolls) store.old calls store.new }
+    ensures by_operators { (calls : List Call) × AreOperators calls × Goes D.Store store.old calls store.new }
     ensures empty { D.calls store.old ≡ [] → D.calls store.new ≡ [] }
     ensures operated { EndsAs result
-        (λ end. Operated D.moves D.same_but_calls D.rolls D.is_full D.is_left (network_of P.reads P.has_links P.shows plan.now) store.old (I.remaining reader.old) (O.contents writer.old) end (W.may_close watch.now) store.new (I.remaining reader.new) (O.contents writer.new))
+        (λ end. Operated (server_of D.Store D.is_left P.Show plan.now) store.old (I.remaining reader.old) (O.contents writer.old) end (W.may_close watch.now) store.new (I.remaining reader.new) (O.contents writer.new))
         ((store.new ≡ store.old) × (reader.new ≡ reader.old) × (writer.new ≡ writer.old)) }
 {
     let mut pending = Pending {

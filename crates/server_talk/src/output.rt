@@ -11,10 +11,10 @@ use std::time::Duration;
 /// The descriptor of standard output.
 const STANDARD_OUTPUT: RawFd = 1;
 
-/// So many bytes are written at once: a pipe that takes any takes as many.
+/// The number of bytes that are written at once: a pipe that takes any takes as many.
 const PIECE: usize = 4096;
 
-/// So long a write waits for a reader, in milliseconds.
+/// The wait of a write for a reader, in milliseconds.
 const WRITE_WAIT_MS: u64 = 250;
 
 /// Standard output, which may be a pipe that nobody reads. A write waits a while for its reader, and takes nothing where

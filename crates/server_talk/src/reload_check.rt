@@ -121,7 +121,7 @@ fn below_count(values: &[LinkValues], left: &[[i64; 8]], entries: &[LinkReload])
     count
 }
 
-/// What these entries would change, where links have these values, and so much is left of each.
+/// What these entries would change, where links have these values, and this is left of each.
 pub(crate) fn check_text(
     alloc: Global,
     values: &[LinkValues],

@@ -6,7 +6,7 @@ use engine_core::Event;
 use script_lines::{ViewLine, operator_event_in, view_line_in};
 use std::alloc::{AllocError, Global};
 
-/// A line has so many bytes at most. A longer one is bad.
+/// The number of bytes that a line has, at most. A longer one is bad.
 pub const LINE_LIMIT: usize = 4096;
 
 /// What a line asks for.

@@ -10,21 +10,21 @@ use std::net::{Net, Shutdown, SocketAddr, TcpListener, TcpStream};
 use std::os::fd::{AsRawFd, OwnedFd, RawFd};
 use std::time::Duration;
 
-/// So long a read waits where bytes were found and are not there, and for what a peer still sends after the end, in
+/// The wait of a read where bytes were found and are not there, and for what a peer still sends after the end, in
 /// milliseconds.
 const READ_WAIT_MS: u64 = 80;
 
-/// So long an accept waits, in milliseconds.
+/// The wait of an accept, in milliseconds.
 pub const ACCEPT_WAIT_MS: u64 = 100;
 
-/// So long a write waits for a peer that takes nothing, in milliseconds: when it gives up, a clock says that the
+/// The wait of a write for a peer that takes nothing, in milliseconds: when it gives up, a clock says that the
 /// peer's time is over.
 const WRITE_WAIT_MS: u64 = TAKEN_WITHIN_MS + 20;
 
-/// So long it is heard what a peer still sends after the end, in milliseconds.
+/// The time for which it is heard what a peer still sends after the end, in milliseconds.
 const PART_MS: u64 = 1000;
 
-/// So many reads are made then, at most.
+/// The number of reads then, at most.
 const PART_READS: u32 = 64;
 
 /// What a wait found the socket by, and what by a ring.
@@ -32,7 +32,7 @@ const SOCKET: Token = Token(0);
 
 const BELL: Token = Token(1);
 
-/// So many things are found by one wait: bytes, and a ring.
+/// The number of things that one wait finds: bytes, and a ring.
 const FOUND: usize = 2;
 
 /// A socket that is waited for together with a bell.

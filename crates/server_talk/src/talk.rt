@@ -1,13 +1,14 @@
 //! One connection: its reads, its writes and its end, over any reader, writer and store.
-ghost use Rattle.std.specs.Prelude.{◌≡◌, ◌<◌, ◌≤◌, ◌⊎◌, ℕ, true, false, [], List, length, take, ⊤, Option, None, Some, MatchOption};
+ghost use Rattle.std.specs.Prelude.{◌≡◌, ◌<◌, ◌≤◌, ◌⊎◌, ℕ, max, true, false, [], List, length, take, ⊤, Option, None, Some, MatchOption};
 ghost use Rattle.std.specs.Io.KnownBytes.{Consumes, Appends, Keeps};
 ghost use Rattle.pcep_session.specs.Timers.{IsNextDue, is_due_at};
 ghost use Rattle.pcep_session.specs.Turns.{is_closed};
 ghost use Rattle.engine_core.specs.Engine.{ending};
 ghost use Rattle.engine_core.specs.Joining.{joined_after};
 ghost use Rattle.engine_core.specs.declared.store.Call.{Call};
-ghost use Rattle.server_talk.specs.Goings.{Goes, ways};
+ghost use Rattle.server_talk.specs.Goings.{Goes};
 ghost use Rattle.server_talk.specs.Heard.{IsWithin, Hears, IsDue, wait_until, heard_of_fault, taken_of_fault};
+ghost use Rattle.server_talk.specs.Watches.{watch_of};
 ghost use Rattle.server_talk.specs.Visits.{SoFar, TakesAll, GoesOut, IsToldOf, IsUnexplained, spoken, Leaves, owes_down, Visited, IsNoVisit};
 
 use crate::traits::{Patient, Watch};
@@ -17,19 +18,19 @@ use std::io::{ErrorKind, Write};
 use std::sync::Wait;
 use std::time::Duration;
 
-/// A turn reads so many bytes at most.
+/// The number of bytes that a turn reads, at most.
 pub const PIECE: usize = 4096;
 
-/// A session waits for bytes so long at most, in milliseconds, until it looks what it has to say.
+/// The longest wait of a session for bytes, in milliseconds, until it looks what it has to say.
 const LONGEST_WAIT_MS: u64 = 10_000;
 
-/// A peer takes a turn's bytes within so many milliseconds, or its connection ends.
+/// The time within which a peer takes a turn's bytes, in milliseconds, or its connection ends.
 pub const TAKEN_WITHIN_MS: u64 = 10_000;
 
-/// So often the writes of some bytes may be interrupted, or take nothing.
+/// The number of times that the writes of some bytes may be interrupted, or take nothing.
 pub(crate) const INTERRUPTS: usize = 1000;
 
-/// So often it is tried to submit that a peer went down.
+/// The number of times that it is tried to submit that a peer went down.
 const HANG_UPS: u32 = 4;
 
 /// No explanation (RFC 5440 section 7.17).
@@ -80,9 +81,9 @@ pub fn connection<R: Wait, I: Patient, O: Write, W: Watch, D: Desk>(
     watch: &W,
     store: &mut D,
 ) -> Ended
-    ensures down { (calls : List Call) × Goes (ways D.moves D.same_but_calls D.is_full D.rolls) store.old calls store.new × (joined_after false calls ≡ owes_down result) }
+    ensures down { (calls : List Call) × Goes D.Store store.old calls store.new × (joined_after false calls ≡ owes_down result) }
     ensures visited { IsNoVisit result store.old store.new reader.old reader.new writer.old writer.new
-        ⊎ Visited (ways D.moves D.same_but_calls D.is_full D.rolls) (W.tells watch.now) (W.may_close watch.now) D.calls peer store.old (I.remaining reader.old) (O.contents writer.old) result store.new (I.remaining reader.new) (O.contents writer.new) }
+        ⊎ Visited D.Store (watch_of W.Watch watch.now) peer store.old (I.remaining reader.old) (O.contents writer.old) result store.new (I.remaining reader.new) (O.contents writer.new) }
 {
     let served_ms = watch.now_ms();
     let Ok(client) = Client::new(alloc, served_ms) else {
@@ -102,7 +103,7 @@ pub fn connection<R: Wait, I: Patient, O: Write, W: Watch, D: Desk>(
 
 /// A history that is full is rolled, unless another thread has rolled it, so that the next call finds room.
 pub(crate) fn make_room<D: Desk>(fault: Fault, store: &mut D)
-    ensures { (start : D) (calls : List Call) → Goes (ways D.moves D.same_but_calls D.is_full D.rolls) start calls store.old → Goes (ways D.moves D.same_but_calls D.is_full D.rolls) start calls store.new }
+    ensures { (start : D) (calls : List Call) → Goes D.Store start calls store.old → Goes D.Store start calls store.new }
 {
     if fault == Fault::HistoryFull {
         let _rolled = store.roll_if_full();
@@ -111,8 +112,8 @@ pub(crate) fn make_room<D: Desk>(fault: Fault, store: &mut D)
 
 /// Hangs up, and again after a fault. The list of the store has the calls of that alone.
 fn leave<D: Desk>(talk: &mut Talk, store: &mut D) -> Result<(), Fault>
-    ensures { (start : D) (calls : List Call) → Goes (ways D.moves D.same_but_calls D.is_full D.rolls) start calls store.old
-        → Leaves result (ways D.moves D.same_but_calls D.is_full D.rolls) D.calls talk.old.peer talk.old.client.joined start calls store.new }
+    ensures { (start : D) (calls : List Call) → Goes D.Store start calls store.old
+        → Leaves result D.Store talk.old.peer talk.old.client.joined start calls store.new }
 {
     let mut last = Fault::OutOfMemory;
     for _try in 0..HANG_UPS {
@@ -139,8 +140,8 @@ fn talk_on<R: Wait, I: Patient, O: Write, W: Watch, D: Desk>(
     ensures silent { talk.new.client.session.output ≡ [] }
     ensures peer { talk.new.peer ≡ talk.old.peer }
     ensures ended { (start : D) (unread blank : Option (List ℕ))
-        → SoFar (ways D.moves D.same_but_calls D.is_full D.rolls) (W.tells watch.now) (W.may_close watch.now) talk.old.peer start unread blank None store.old (I.remaining reader.old) (O.contents writer.old) talk.old.served_ms talk.old.client
-        → SoFar (ways D.moves D.same_but_calls D.is_full D.rolls) (W.tells watch.now) (W.may_close watch.now) talk.old.peer start unread blank (Some result) store.new (I.remaining reader.new) (O.contents writer.new) talk.new.served_ms talk.new.client }
+        → SoFar D.Store (watch_of W.Watch watch.now) talk.old.peer start unread blank None store.old (I.remaining reader.old) (O.contents writer.old) talk.old.served_ms talk.old.client
+        → SoFar D.Store (watch_of W.Watch watch.now) talk.old.peer start unread blank (Some result) store.new (I.remaining reader.new) (O.contents writer.new) talk.new.served_ms talk.new.client }
 {
     let mut buffer = [0u8; PIECE];
     if let Some(ended) = answer(talk, &[], writer, watch, store) {
@@ -154,7 +155,8 @@ fn talk_on<R: Wait, I: Patient, O: Write, W: Watch, D: Desk>(
     unreachable!()
 }
 
-/// Reads once, serves what came, and writes what the session has to say. Gives the end, where that has come.
+/// Reads once, serves what came, and writes what the session has to say. Gives the end, where that has come. Where nothing
+/// came and nothing is due, the store's list is emptied once more, by which a seat drops its receipts of rolled steps.
 fn turn<I: Patient, O: Write, W: Watch, D: Desk>(
     talk: &mut Talk,
     buffer: &mut [u8],
@@ -169,8 +171,8 @@ fn turn<I: Patient, O: Write, W: Watch, D: Desk>(
     ensures silent { talk.old.client.session.output ≡ [] → talk.new.client.session.output ≡ [] }
     ensures peer { talk.new.peer ≡ talk.old.peer }
     ensures turned { (start : D) (unread blank : Option (List ℕ))
-        → SoFar (ways D.moves D.same_but_calls D.is_full D.rolls) (W.tells watch.now) (W.may_close watch.now) talk.old.peer start unread blank None store.old (I.remaining reader.old) (O.contents writer.old) talk.old.served_ms talk.old.client
-        → SoFar (ways D.moves D.same_but_calls D.is_full D.rolls) (W.tells watch.now) (W.may_close watch.now) talk.old.peer start unread blank result store.new (I.remaining reader.new) (O.contents writer.new) talk.new.served_ms talk.new.client }
+        → SoFar D.Store (watch_of W.Watch watch.now) talk.old.peer start unread blank None store.old (I.remaining reader.old) (O.contents writer.old) talk.old.served_ms talk.old.client
+        → SoFar D.Store (watch_of W.Watch watch.now) talk.old.peer start unread blank result store.new (I.remaining reader.new) (O.contents writer.new) talk.new.served_ms talk.new.client }
 {
     if watch.is_closing() {
         close(talk);
@@ -183,7 +185,10 @@ fn turn<I: Patient, O: Write, W: Watch, D: Desk>(
         Heard::Ended(ended) => Some(ended),
         Heard::Bytes(count) => answer(talk, &buffer[..count], writer, watch, store),
         Heard::Nothing if is_due(talk, watch, store) => answer(talk, &[], writer, watch, store),
-        Heard::Nothing => None,
+        Heard::Nothing => {
+            store.forget();
+            None
+        }
     }
 }
 
@@ -245,6 +250,7 @@ fn hear<I: Patient>(reader: &mut I, buffer: &mut [u8]) -> Heard
 fn moment_ms<W: Watch>(talk: &Talk, watch: &W) -> u64
     ensures rises { talk.now.served_ms ≤ result }
     ensures told { (result ≡ talk.now.served_ms) ⊎ W.tells watch.now result }
+    ensures latest { (now_ms : ℕ) × W.tells watch.now now_ms × (result ≡ max talk.now.served_ms now_ms) }
 {
     let now_ms = watch.now_ms();
     if now_ms < talk.served_ms {
@@ -254,11 +260,11 @@ fn moment_ms<W: Watch>(talk: &Talk, watch: &W) -> u64
 }
 
 /// Serves a piece at the moment that it is.
-fn heed<W: Watch, D: Desk>(talk: &mut Talk, piece: &[u8], watch: &W, store: &mut D)
+fn serve_piece<W: Watch, D: Desk>(talk: &mut Talk, piece: &[u8], watch: &W, store: &mut D)
     ensures peer { talk.new.peer ≡ talk.old.peer }
-    ensures heeded { (start : D) (unread blank left read written : Option (List ℕ))
-        → SoFar (ways D.moves D.same_but_calls D.is_full D.rolls) (W.tells watch.now) (W.may_close watch.now) talk.old.peer start unread blank None store.old left written talk.old.served_ms talk.old.client → Consumes left read piece.now
-        → SoFar (ways D.moves D.same_but_calls D.is_full D.rolls) (W.tells watch.now) (W.may_close watch.now) talk.old.peer start unread blank None store.new read written talk.new.served_ms talk.new.client }
+    ensures served { (start : D) (unread blank left read written : Option (List ℕ))
+        → SoFar D.Store (watch_of W.Watch watch.now) talk.old.peer start unread blank None store.old left written talk.old.served_ms talk.old.client → Consumes left read piece.now
+        → SoFar D.Store (watch_of W.Watch watch.now) talk.old.peer start unread blank None store.new read written talk.new.served_ms talk.new.client }
 {
     let now_ms = moment_ms(talk, watch);
     talk.served_ms = now_ms;
@@ -281,10 +287,10 @@ fn answer<O: Write, W: Watch, D: Desk>(
     ensures silent { talk.new.client.session.output ≡ [] }
     ensures peer { talk.new.peer ≡ talk.old.peer }
     ensures answered { (start : D) (unread blank left read : Option (List ℕ))
-        → SoFar (ways D.moves D.same_but_calls D.is_full D.rolls) (W.tells watch.now) (W.may_close watch.now) talk.old.peer start unread blank None store.old left (O.contents writer.old) talk.old.served_ms talk.old.client → Consumes left read piece.now
-        → SoFar (ways D.moves D.same_but_calls D.is_full D.rolls) (W.tells watch.now) (W.may_close watch.now) talk.old.peer start unread blank result store.new read (O.contents writer.new) talk.new.served_ms talk.new.client }
+        → SoFar D.Store (watch_of W.Watch watch.now) talk.old.peer start unread blank None store.old left (O.contents writer.old) talk.old.served_ms talk.old.client → Consumes left read piece.now
+        → SoFar D.Store (watch_of W.Watch watch.now) talk.old.peer start unread blank result store.new read (O.contents writer.new) talk.new.served_ms talk.new.client }
 {
-    heed(talk, piece, watch, store);
+    serve_piece(talk, piece, watch, store);
     say(talk, writer, watch)
 }
 

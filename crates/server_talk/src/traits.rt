@@ -7,7 +7,7 @@ use std::time::Duration;
 /// A reader that waits for bytes, but no longer than it is told, and only until it is rung for. Where none came, it
 /// answers `WouldBlock` or `TimedOut`.
 pub trait Patient: Read {
-    /// The reads from now on wait so long at most. What they give stays the same.
+    /// The reads from now on wait for this time at most. What they give stays the same.
     fn set_patience(&mut self, most: Duration)
         ensures { Keeps (Self.remaining self.old) (Self.remaining self.new) };
 }

@@ -10,9 +10,9 @@ ghost use Rattle.shared_pce.specs.Turns.{Takes, Told, Commits, Works, Pauses, Ro
 
 use crate::audit::{Audit, AuditRefused};
 use crate::bell::Bell;
-use crate::looks::{left_on_each, links_of, lsp_count};
+use crate::looks::{links_of, lsp_count};
 use crate::work::{Gate, Worked};
-use database_looks::Look;
+use database_looks::{LeftLook, Look};
 use history_core::{Database, Event, Fault, Job, Reply, SharedEvent};
 use history_seats::{Held, Seat};
 use place_tokens::{Room, Unopened};
@@ -44,7 +44,7 @@ impl<S: Ledger, G: Ledger, B: Room> Drop for Shared<S, G, B> {
 }
 
 impl<S: Ledger, G: Ledger, B: Room> Shared<S, G, B> {
-    /// Puts a database of which no step was taken behind a lock, with so many seats, 1 to 256. All is dropped
+    /// Puts a database of which no step was taken behind a lock, with 1 to 256 seats. All is dropped
     /// where memory is refused.
     pub fn new(
         alloc: Global,
@@ -199,10 +199,7 @@ impl<S: Ledger, G: Ledger, B: Room> Shared<S, G, B> {
     pub fn left<R: Wait>(&self, rt: &R) -> Result<Vec<[i64; 8]>, AllocError>
         ensures { IfOk result (λ table. (d : Content) × Replays d × (table.items ≡ all_left d.state.te.links d.state.base.paths)) }
     {
-        let held = self.held.lock(rt);
-        // for the proof alone: the history replays
-        let _replays = held.database().history();
-        left_on_each(self.alloc, held.database())
+        self.look(rt, &LeftLook)
     }
 
     /// The values of every link, and what is left of it at each of the eight priorities, all at one moment.
@@ -237,7 +234,7 @@ impl<S: Ledger, G: Ledger, B: Room> Shared<S, G, B> {
         look.see(self.alloc, held.database())
     }
 
-    /// Rolls the history: the state becomes its base, and the steps that were kept are let go once the lock is
+    /// Rolls the history: the state becomes its base, and the steps that were kept are dropped once the lock is
     /// free. Gives how many steps were taken before the base. Where memory is refused nothing has changed.
     pub fn roll<R: Wait>(&self, rt: &R) -> Result<u64, AllocError>
         ensures { IfOk result (λ steps. (d : Content) × Replays d × (steps ≡ d.rolled) × (d.history ≡ [])) }
@@ -250,7 +247,7 @@ impl<S: Ledger, G: Ledger, B: Room> Shared<S, G, B> {
         Ok(steps)
     }
 
-    /// Rolls the history where at least so many steps are kept, and gives how many were taken before its new base. `None`
+    /// Rolls the history where at least this number of steps is kept, and gives how many were taken before its new base. `None`
     /// where fewer are kept, as where another thread has rolled it: the test and the roll are under one lock. Where
     /// memory is refused nothing has changed.
     pub fn roll_if<R: Wait>(&self, rt: &R, at_least: u64) -> Result<Option<u64>, AllocError>

@@ -6,7 +6,8 @@
 //! nothing has changed. An event changes the paths, the records, the session and the messages of its own
 //! peer alone, if it is of a peer (`specs/Laws.antt`). What is left of a link is the share rule of `lsp_base` over the paths
 //! of the state, read from the stored sums of a book that stands for them (`specs/Networks.antt`). Every state that events
-//! lead to is consistent (`specs/Consistent.antt`).
+//! lead to is consistent (`specs/Consistent.antt`), and the order of its paths, records and names makes no difference to
+//! what follows (`order_makes_no_difference`).
 //!
 //! ```text
 //! fn left_after(state: &mut State, event: &Event) -> Result<Option<i64>, AllocError>

@@ -11,13 +11,14 @@ ghost use Rattle.step_core.specs.Grants.{granting, own_of, snapshot_of, with_nam
 ghost use Rattle.step_core.specs.Names.{is_of_grant};
 ghost use Rattle.step_core.specs.Networks.{carried_out};
 ghost use Rattle.step_core.specs.States.{is_awaited_as};
+ghost use Rattle.te_snapshot.specs.Own.{own_shares};
 
 use crate::name_table::NameTable;
 use crate::names::AwaitedName;
 use crate::queue::Queue;
 use bandwidth_book::Book;
 use commit_core::{PeerView, Ticket, Verdict, judge, own_tunnel};
-use lsp_base::{Effect, LspBase, Path};
+use lsp_base::{Effect, LspBase, Path, Tunnel};
 use pcep_messages::Message;
 use pcep_word::Priority;
 use sequence::Sequence;
@@ -221,6 +222,13 @@ impl Network {
             Some(tunnel) => self.book.own_shares(&tunnel),
             None => Ok(Sequence::from_vec(Vec::new(self.alloc))),
         }
+    }
+
+    /// What a tunnel reserves already, link by link.
+    pub fn shares_of(&self, tunnel: &Tunnel) -> Result<OwnShares, AllocError>
+        ensures { IfOk result (λ own. own ≡ own_shares self.now.base.paths tunnel.now (length self.now.te.links)) }
+    {
+        self.book.own_shares(tunnel)
     }
 
     /// What becomes of a ticket whose search has answered. Takes no memory.

@@ -1,5 +1,5 @@
 //! Messages that wait.
-ghost use Rattle.std.specs.Prelude.{◌≡◌, ◌++◌, ◌∷◌, [], OnOk, OnErr};
+ghost use Rattle.std.specs.Prelude.{◌≡◌, ◌++◌, ◌∷◌, [], length, OnOk, OnErr};
 ghost use Rattle.step_core.specs.States.{is_nothing};
 
 use crate::base::copies;
@@ -39,6 +39,13 @@ impl Queue {
         ensures { result ≡ is_nothing self.now }
     {
         self.messages.is_empty()
+    }
+
+    /// How many messages wait.
+    pub fn len(&self) -> usize
+        ensures { result ≡ length self.now }
+    {
+        self.messages.len()
     }
 
     /// One more message waits, behind all others.

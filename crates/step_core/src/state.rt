@@ -8,6 +8,7 @@ ghost use Rattle.step_core.specs.Bases.{known_in};
 ghost use Rattle.step_core.specs.Steps.{step};
 ghost use Rattle.step_core.specs.Laws.{peer_of, OthersStay, CountsRise};
 ghost use Rattle.step_core.specs.Sound.{IsSoundGrant};
+ghost use Rattle.te_snapshot.specs.Own.{own_shares};
 
 use crate::base::{Base, copies};
 use crate::event::{Event, Reply};
@@ -16,12 +17,13 @@ use crate::peer::Peer;
 use crate::peer_list::PeerList;
 use crate::ticket_table::TicketTable;
 use commit_core::Ticket;
-use lsp_base::LspBase;
+use lsp_base::{LspBase, Tunnel};
 use pcep_word::Priority;
 use sequence::Sequence;
 use std::alloc::{AllocError, Global};
 use std::marker::Model;
 use te_base::{LinkNumber, TeBase};
+use te_snapshot::OwnShares;
 
 mod asks;
 mod grants;
@@ -170,6 +172,12 @@ impl Tables {
         self.network.lsps()
     }
 
+    fn shares_of(&self, tunnel: &Tunnel) -> Result<OwnShares, AllocError>
+        ensures { IfOk result (λ own. own ≡ own_shares self.now.base.paths tunnel.now (length self.now.te.links)) }
+    {
+        self.network.shares_of(tunnel)
+    }
+
     fn peers(&self) -> &[Peer]
         ensures { result.now ≡ self.now.peers }
     {
@@ -285,6 +293,13 @@ impl State {
         ensures { result.now.content ≡ self.now.base }
     {
         self.tables.lsps()
+    }
+
+    /// What a tunnel reserves already on each link, as the search of an update of its LSP is given it.
+    pub fn shares_of(&self, tunnel: &Tunnel) -> Result<OwnShares, AllocError>
+        ensures { IfOk result (λ own. own ≡ own_shares self.now.base.paths tunnel.now (length self.now.te.links)) }
+    {
+        self.tables.shares_of(tunnel)
     }
 
     /// The peers in the order of their coming, with their sessions and what waits to be sent to each.

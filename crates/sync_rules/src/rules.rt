@@ -4,7 +4,7 @@ ghost use Rattle.lsp_base.specs.Rooms.{IsWithinLimit};
 ghost use Rattle.sync_rules.specs.Peers.{is_stale_of, is_of_peer, left_alone, marker_effect, up_effect, down_effect, expire_effect};
 
 use keyed_list::Test;
-use lsp_base::{Effect, Lsp, LspBase, Path, Record, RecordChange, RecordRule, dropping_of_peer};
+use lsp_base::{Effect, LspBase, Path, Record, RecordChange, RecordRule, dropping_of_peer};
 use pcep_objects::Capabilities;
 use sequence::PlainData;
 use std::alloc::{AllocError, Global};
@@ -97,14 +97,9 @@ pub fn on_up(
 fn left_by_itself(known: &Record) -> Result<RecordChange, AllocError>
     ensures { IfOk result (λ change. change ≡ left_alone known.now) }
 {
-    let lsp = Lsp {
-        name: known.lsp.name.copy()?,
-        delegated: false,
-        created: known.lsp.created,
-        constraints: known.lsp.constraints,
-        tunnel: known.lsp.tunnel,
-        removing: None,
-    };
+    let mut lsp = known.lsp.copy()?;
+    lsp.delegated = false;
+    lsp.removing = None;
     Ok(RecordChange {
         plsp: known.plsp,
         lsp: Some(lsp),

@@ -1,5 +1,5 @@
 -- Nodes and owners as maps hold them, under their names and addresses.
-use Rattle.std.proofs.Common.{◌≡◌, ℕ, suc, ◌+◌, ◌==◌, nat_eq, nat_lt, Bool, cond, not, List, [], ◌∷◌, ◌++◌, length, map, position, Option, None, Some, option_map, find, refl, sym, ap, ◌∙◌}
+use Rattle.std.proofs.Common.{◌≡◌, ℕ, suc, ◌+◌, ◌==◌, nat_eq, nat_lt, Bool, cond, not, List, [], ◌∷◌, ◌++◌, length, map, position, Option, None, Some, option_map, find, refl, ap, ◌∙◌}
 use Rattle.std.specs.Cmp.{nat_eq_equiv}
 use Rattle.std.specs.Map.{keys_of, lookup, values_of}
 use Rattle.std.specs.List.{position_or_len}

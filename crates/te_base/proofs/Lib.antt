@@ -8,3 +8,4 @@ pub mod Steps
 pub mod Values
 pub mod WalkLaws
 pub mod Entries
+pub mod Places

@@ -80,7 +80,7 @@ with_owner_within nodes owners address node (Some other) all lt = when (other ==
 
 -- ---- one table after the other
 
--- So many nodes and links were read, and links and owners are of these nodes.
+-- A base of this many nodes and links, whose links and owners are of these nodes.
 pub record Joined (nodes links : ℕ) (base : Base) : Type 0 where
   nodes_are : length base.nodes ≡ nodes
   links_are : length base.links ≡ links

@@ -13,10 +13,10 @@ pub record Base : Type 0 where
 abbrev pub empty_base : Base
 empty_base = record { nodes = []; links = []; owners = [] }
 
--- a link from one of so many nodes to another, each of its numbers in its range
-pub record IsLinkAmong (nodes : ℕ) (link : Link) : Type 0 where
-  pub from : link.from < nodes
-  pub to : link.to < nodes
+-- a link from one of n nodes to another, each of its numbers in its range
+pub record IsLinkAmong (n : ℕ) (link : Link) : Type 0 where
+  pub from : link.from < n
+  pub to : link.to < n
   pub apart : link.from ≢ link.to
   pub igp_positive : 0 < link.igp
   pub igp_small : link.igp < 2 ^ 24

@@ -3,7 +3,7 @@ use Rattle.std.specs.Prelude.{ℕ, ◌≡◌, Result, Ok, Err, Option, Some, Non
 use Rattle.te_base.specs.declared.fault.TeFault.{TeFault}
 use Rattle.te_base.specs.declared.fault.TeFault.TheVariants.{NotToml, MissingField, OutOfRange, UnknownNode, AddressTwice, NameTwice, SelfLoop, TooMany, OutOfMemory, OtherLinks}
 
--- the number by which a user is told a fault
+-- the number that a user sees of a fault
 abbrev pub fault_number : TeFault → ℕ
 fault_number NotToml = 1
 fault_number MissingField = 2

@@ -9,3 +9,4 @@ pub mod Reload
 pub mod Views
 pub mod Walk
 pub mod Entries
+pub mod Places

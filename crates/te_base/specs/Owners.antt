@@ -38,6 +38,6 @@ abbrev pub is_node : Option ℕ → ℕ → Bool
 is_node None node = false
 is_node (Some other) node = other == node
 
--- the owners are told right
+-- the owners of addresses are those that own them
 abbrev pub AreOwners : List Node → List Link → List Owner → Type 0
 AreOwners nodes links owners = (address node : ℕ) → is_node (owner_of owners address) node ≡ owns nodes links node address

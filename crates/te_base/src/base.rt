@@ -1,8 +1,12 @@
 //! The TED as its link text says it, and look-ups in it.
-ghost use Rattle.std.specs.Prelude.{◌≡◌, ◌≢◌, ◌<◌, ◌≤◌, ◌↔◌, ℕ, IsTrue, IfOk, IfSome, IsSome, All, AllPairs, map, option_map, slice_get, length};
-ghost use Rattle.te_base.specs.Base.{IsLinkAmong};
+ghost use Rattle.std.specs.Prelude.{◌≡◌, ◌≢◌, ◌<◌, ◌≤◌, ◌↔◌, ℕ, IsTrue, IfOk, IfSome, IsSome, All, AllPairs, map, option_map, slice_get, length, if◌then◌else◌};
+ghost use Rattle.te_base.specs.Base.{IsLinkAmong, empty_base};
 ghost use Rattle.te_base.specs.Faults.{Gives};
-ghost use Rattle.te_base.specs.LinkText.{base_of, base_of_tables, base_of_tree};
+ghost use Rattle.te_base.specs.Fields.{tables_at};
+ghost use Rattle.te_base.specs.LinkText.{base_of};
+ghost use Rattle.te_base.specs.Places.{GivesAt, placed, placed_tables, placed_tree, placed_base};
+ghost use Rattle.te_base.specs.declared.fault.FaultPlace.TheVariants.{InText};
+ghost use Rattle.te_base.specs.declared.fault.TeFault.TheVariants.{OutOfMemory, NotToml};
 ghost use Rattle.te_base.specs.Owners.{owner_of, owns};
 ghost use Rattle.te_base.specs.Walk.{walk};
 ghost use Rattle.te_base.specs.Reload.{reloaded, values_for};
@@ -10,14 +14,14 @@ ghost use Rattle.te_base.specs.Values.{values_in, with_link_values};
 ghost use Rattle.te_base.specs.Views.{base_in};
 ghost use Rattle.toml.specs.View.{table_view};
 
-use crate::fault::TeFault;
+use crate::fault::{FaultPlace, PlacedFault, TeFault};
 use crate::fields::tables;
 use crate::link_values::LinkValues;
 use crate::network::{Link, LinkNumber, NodeNumber, Parts};
 use crate::nodes::NodeTable;
 use crate::owners::OwnerTable;
 use crate::reload::{all_values, is_same, set_listed_values};
-use crate::tables::{add_links, add_nodes};
+use crate::tables::add_tables;
 use crate::walk::walk_parts;
 use keyed_list::KeyedList;
 use pcep_objects::Hop;
@@ -52,42 +56,64 @@ impl Model for TeBase {
 }
 
 /// Reads the nodes and links of these tables.
-fn parts_of(alloc: Global, nodes: &[&Table], links: &[&Table]) -> Result<Parts, TeFault>
-    ensures { Gives base_in result (base_of_tables (map (λ t. table_view t.now) nodes.now) (map (λ t. table_view t.now) links.now)) }
+fn parts_of(alloc: Global, nodes: &[&Table], links: &[&Table]) -> Result<Parts, PlacedFault>
+    ensures { GivesAt base_in result (placed_tables (map (λ t. table_view t.now) nodes.now) (map (λ t. table_view t.now) links.now) empty_base) }
 {
     let mut parts = Parts {
         nodes: NodeTable::new(alloc),
         links: KeyedList::new(alloc),
         owners: OwnerTable::new(alloc),
     };
-    add_nodes(alloc, &mut parts, nodes)?;
-    add_links(&mut parts, links)?;
+    add_tables(alloc, &mut parts, nodes, links)?;
     Ok(parts)
 }
 
-#[tactic(auto, unfolding(crate::specs::LinkText::base_of_tree))]
-fn read_tree(alloc: Global, document: &Table) -> Result<Parts, TeFault>
-    ensures { Gives base_in result (base_of_tree (table_view document.now)) }
+fn tables_in_text<'a>(
+    alloc: Global,
+    document: &'a Table,
+    key: &str,
+) -> Result<Vec<&'a Table>, PlacedFault>
+    ensures { GivesAt (λ v. map (λ t. table_view t.now) v.items) result (placed InText (tables_at key.now (table_view document.now))) }
 {
-    let nodes = tables(alloc, document, "node")?;
-    let links = tables(alloc, document, "link")?;
+    let place = FaultPlace::InText;
+    match tables(alloc, document, key) {
+        Ok(tables) => Ok(tables),
+        Err(fault) => Err(PlacedFault { fault, place }),
+    }
+}
+
+#[tactic(auto, unfolding(crate::specs::Places::placed_tree))]
+fn read_tree(alloc: Global, document: &Table) -> Result<Parts, PlacedFault>
+    ensures { GivesAt base_in result (placed_tree (table_view document.now)) }
+{
+    let nodes = tables_in_text(alloc, document, "node")?;
+    let links = tables_in_text(alloc, document, "link")?;
     if nodes.len() > 1024 || links.len() > 4096 {
-        return Err(TeFault::TooMany);
+        let (fault, place) = (TeFault::TooMany, FaultPlace::InText);
+        return Err(PlacedFault { fault, place });
     }
     parts_of(alloc, &nodes, &links)
 }
 
-fn read_parts(alloc: Global, text: &str) -> Result<Parts, TeFault>
-    ensures { Gives base_in result (base_of text.now) }
+/// Returns the fault of a text that isn't TOML, or want of memory.
+fn parse_fault(is_memory: bool) -> TeFault
+    ensures { result ≡ (if is_memory then OutOfMemory else NotToml) }
+{
+    if is_memory {
+        TeFault::OutOfMemory
+    } else {
+        TeFault::NotToml
+    }
+}
+
+fn read_parts(alloc: Global, text: &str) -> Result<Parts, PlacedFault>
+    ensures { GivesAt base_in result (placed_base text.now) }
 {
     match toml::table_from_str(alloc, text) {
         Ok(document) => read_tree(alloc, &document),
         Err(e) => {
-            if e.is_memory() {
-                Err(TeFault::OutOfMemory)
-            } else {
-                Err(TeFault::NotToml)
-            }
+            let (fault, place) = (parse_fault(e.is_memory()), FaultPlace::InText);
+            Err(PlacedFault { fault, place })
         }
     }
 }
@@ -97,6 +123,16 @@ impl TeBase {
     /// numbered from 0 in the order of the text.
     pub fn read(alloc: Global, text: &str) -> Result<TeBase, TeFault>
         ensures { Gives (λ b. b) result (base_of text.now) }
+    {
+        match TeBase::read_placed(alloc, text) {
+            Ok(base) => Ok(base),
+            Err(found) => Err(found.fault),
+        }
+    }
+
+    /// The same, with the place of the first fault.
+    pub fn read_placed(alloc: Global, text: &str) -> Result<TeBase, PlacedFault>
+        ensures { GivesAt (λ b. b) result (placed_base text.now) }
     {
         let parts = read_parts(alloc, text)?;
         Ok(TeBase { parts })

@@ -2,12 +2,13 @@
 ghost use Rattle.std.specs.Prelude.{◌≡◌};
 ghost use Rattle.te_base.specs.declared.fault.TeFault.TheVariants.{OutOfMemory};
 
+use crate::network::{LinkNumber, NodeNumber};
 use std::alloc::{AllocError, AllocFailed};
 use thiserror::Error;
 
 /// The first fault of a link text. The text itself comes first, then too many tables, then each node's
-/// table in order, then each link's; within a table, faults come in the order that each variant tells. The text of a
-/// fault is what a user is told: its number.
+/// table in order, then each link's; within a table, faults come in the order that the variants' comments
+/// give. The text of a fault has its number.
 #[derive(Clone, Copy, Debug, PartialEq, Eq, Error)]
 pub enum TeFault {
     /// The text is not TOML; an integer that TOML can't hold is one reason.
@@ -45,6 +46,26 @@ pub enum TeFault {
     OtherLinks,
 }
 
+/// A part of a link text.
+#[derive(Clone, Copy, Debug, PartialEq, Eq)]
+pub enum FaultPlace {
+    /// The text as a whole: its TOML, the arrays of tables, how many tables there are.
+    InText,
+    /// The node's table of this number, from 0.
+    InNode(NodeNumber),
+    /// The link's table of this number, from 0.
+    InLink(LinkNumber),
+}
+
+/// A fault and where it stands.
+#[derive(Clone, Copy, Debug, PartialEq, Eq)]
+pub struct PlacedFault {
+    /// The fault.
+    pub fault: TeFault,
+    /// The part that has it. Of want of memory it says nothing.
+    pub place: FaultPlace,
+}
+
 impl From<AllocError> for TeFault {
     ghost from_gives = { λ _ e. e ≡ OutOfMemory };
 
@@ -64,7 +85,7 @@ impl<T: Drop> From<AllocFailed<T>> for TeFault {
 impl TeFault {
     ghost use Rattle.te_base.specs.Faults.{fault_number};
 
-    /// The number by which a user is told the fault, 1 to 10.
+    /// The number of the fault, 1 to 10.
     pub fn number(self) -> u8
         ensures { result ≡ fault_number self }
     {

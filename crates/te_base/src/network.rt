@@ -4,6 +4,8 @@ use crate::nodes::NodeTable;
 use crate::owners::OwnerTable;
 use keyed_list::KeyedList;
 use pcep_word::Ipv4;
+use sequence::PlainData;
+use std::alloc::AllocError;
 
 /// The place of a node in the link text, from 0.
 pub type NodeNumber = usize;
@@ -18,6 +20,13 @@ pub struct Node {
     pub name: Name,
     /// An address of its own, as its router ID (RFC 3630 section 2.4.1).
     pub id: Ipv4,
+}
+
+impl PlainData for Node {
+    fn copy(&self) -> Result<Node, AllocError> {
+        let name = self.name.copy()?;
+        Ok(Node { name, id: self.id })
+    }
 }
 
 /// A directed link between two nodes.

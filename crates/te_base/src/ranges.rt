@@ -1,5 +1,4 @@
 //! The values of a table's fields, each in its range.
-ghost use Rattle.std.specs.Prelude.{◌≡◌};
 ghost use Rattle.te_base.specs.Faults.{Gives};
 ghost use Rattle.te_base.specs.Ranges.{name_of, address_in, natural, node_value, link_addresses, link_values};
 ghost use Rattle.te_base.specs.Views.{node_texts, link_texts};

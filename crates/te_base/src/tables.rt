@@ -3,12 +3,14 @@ ghost use Rattle.std.specs.Prelude.{map};
 ghost use Rattle.toml.specs.View.{table_view};
 ghost use Rattle.te_base.specs.Faults.{Gives, Leaves};
 ghost use Rattle.te_base.specs.Owners.{owned};
-ghost use Rattle.te_base.specs.LinkText.{with_node, with_link, with_nodes, with_links, ends_of};
+ghost use Rattle.te_base.specs.LinkText.{with_node, with_link, ends_of};
+ghost use Rattle.te_base.specs.Places.{LeavesAt, placed, placed_nodes, placed_links, placed_tables};
+ghost use Rattle.te_base.specs.declared.fault.FaultPlace.TheVariants.{InNode, InLink};
 ghost use Rattle.te_base.specs.Views.{link_texts, base_in};
 
-use crate::fault::TeFault;
+use crate::fault::{FaultPlace, PlacedFault, TeFault};
 use crate::fields::{LinkFields, link_fields, node_fields};
-use crate::network::{Link, NodeNumber, Owner, Parts};
+use crate::network::{Link, LinkNumber, NodeNumber, Owner, Parts};
 use crate::owners::OwnerTable;
 use crate::ranges::{link_addresses, link_values, node_of};
 use pcep_word::Ipv4;
@@ -88,20 +90,58 @@ fn add_link(parts: &mut Parts, table: &Table) -> Result<(), TeFault>
     Ok(())
 }
 
-pub(crate) fn add_nodes(alloc: Global, parts: &mut Parts, tables: &[&Table]) -> Result<(), TeFault>
-    ensures { Leaves result (with_nodes (map (λ t. table_view t.now) tables.now) (base_in parts.old)) (base_in parts.new) }
+fn add_node_at(
+    alloc: Global,
+    parts: &mut Parts,
+    number: NodeNumber,
+    table: &Table,
+) -> Result<(), PlacedFault>
+    ensures { LeavesAt result (placed (InNode number) (with_node (base_in parts.old) (table_view table.now))) (base_in parts.new) }
 {
-    for table in tables {
-        add_node(alloc, parts, table)?;
+    let place = FaultPlace::InNode(number);
+    match add_node(alloc, parts, table) {
+        Ok(()) => Ok(()),
+        Err(fault) => Err(PlacedFault { fault, place }),
+    }
+}
+
+fn add_link_at(parts: &mut Parts, number: LinkNumber, table: &Table) -> Result<(), PlacedFault>
+    ensures { LeavesAt result (placed (InLink number) (with_link (base_in parts.old) (table_view table.now))) (base_in parts.new) }
+{
+    let place = FaultPlace::InLink(number);
+    match add_link(parts, table) {
+        Ok(()) => Ok(()),
+        Err(fault) => Err(PlacedFault { fault, place }),
+    }
+}
+
+fn add_nodes(alloc: Global, parts: &mut Parts, tables: &[&Table]) -> Result<(), PlacedFault>
+    ensures { LeavesAt result (placed_nodes 0 (map (λ t. table_view t.now) tables.now) (base_in parts.old)) (base_in parts.new) }
+{
+    for (number, table) in tables.iter().enumerate() {
+        add_node_at(alloc, parts, number, table)?;
     }
     Ok(())
 }
 
-pub(crate) fn add_links(parts: &mut Parts, tables: &[&Table]) -> Result<(), TeFault>
-    ensures { Leaves result (with_links (map (λ t. table_view t.now) tables.now) (base_in parts.old)) (base_in parts.new) }
+fn add_links(parts: &mut Parts, tables: &[&Table]) -> Result<(), PlacedFault>
+    ensures { LeavesAt result (placed_links 0 (map (λ t. table_view t.now) tables.now) (base_in parts.old)) (base_in parts.new) }
 {
-    for table in tables {
-        add_link(parts, table)?;
+    for (number, table) in tables.iter().enumerate() {
+        add_link_at(parts, number, table)?;
     }
     Ok(())
+}
+
+/// Adds all nodes, and then all links.
+pub(crate) fn add_tables(
+    alloc: Global,
+    parts: &mut Parts,
+    nodes: &[&Table],
+    links: &[&Table],
+) -> Result<(), PlacedFault>
+    ensures { LeavesAt result (placed_tables (map (λ t. table_view t.now) nodes.now) (map (λ t. table_view t.now) links.now) (base_in parts.old)) (base_in parts.new) }
+{
+    add_nodes(alloc, parts, nodes)?;
+    add_links(parts, links)
 }

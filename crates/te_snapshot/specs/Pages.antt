@@ -1,5 +1,5 @@
 -- A table of rows in pages of 64, and the rows that are out of date.
-use Rattle.std.specs.Prelude.{ℕ, ℤ, pos, ◌/◌, ◌%◌, ◌-ℤ◌, ◌*◌, ◌≤◌, length, Bool, true, List, [], Option, Some, None, map, slice_get, slice_index, slice_index_or}
+use Rattle.std.specs.Prelude.{ℕ, ℤ, pos, ◌/◌, ◌%◌, ◌-ℤ◌, ◌*◌, ◌≤◌, ◌&&◌, length, Bool, true, List, [], Option, Some, None, map, slice_get, slice_index, slice_index_or}
 use Rattle.std.specs.Arc.{arc_value}
 use Rattle.std.specs.List.{range_with_len}
 use Rattle.std.specs.declared.sync.Arc.{Arc}
@@ -31,13 +31,17 @@ pub record IsPaged (t : Inside) : Type 0 where
 abbrev pub row : List (List ℤ) → ℕ → List ℤ
 row table l = slice_index_or table l []
 
--- the page at this place is out of date
+-- the page at this place has a row that is out of date
 abbrev pub is_page_marked : Marks → ℕ → Bool
 is_page_marked marks page = slice_index_or marks.pages page true
 
--- the page of the link is out of date
+-- the row at a place of a page is out of date
+abbrev pub is_row_marked : Marks → ℕ → ℕ → Bool
+is_row_marked marks page place = is_page_marked marks page && slice_index_or (slice_index_or marks.rows page []) place true
+
+-- the row of the link is out of date
 abbrev pub is_marked : Marks → ℕ → Bool
-is_marked marks l = is_page_marked marks (l / 64)
+is_marked marks l = is_row_marked marks (l / 64) (l % 64)
 
 -- what eight sums leave of an amount
 abbrev pub left_of : ℕ → List ℕ → List ℤ

@@ -4,7 +4,7 @@
 //! links, the links that leave each node and those that enter it, and the owners of addresses. A `Snapshot` joins it with
 //! a `Table` of unreserved bandwidth, eight numbers a link, one for each priority. Both are shared: a snapshot is copied by
 //! counting one more owner, so it can be searched while the network is booked on. Tables share the pages of 64 links in
-//! which they agree; `Marks` says which pages are out of date. `OwnShares` says what a tunnel holds
+//! which they agree; `Marks` says which rows are out of date. `OwnShares` says what a tunnel holds
 //! already.
 //!
 //! The layer above may rely on each snapshot being sound: at most 1,024 nodes and 4,096 links, each link

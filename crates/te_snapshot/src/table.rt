@@ -1,8 +1,8 @@
 //! What is unreserved on each link, in pages that tables share.
-ghost use Rattle.std.specs.Prelude.{ℕ, ◌≡◌, ◌<◌, ◌≤◌, ◌+◌, ◌*◌, ◌^◌, if◌then◌else◌, IfOk, length, option_map, slice_get, slice_index, slice_index_or, []};
+ghost use Rattle.std.specs.Prelude.{ℕ, ◌≡◌, ◌<◌, ◌≤◌, ◌+◌, ◌*◌, ◌^◌, if◌then◌else◌, IfOk, length, option_map, slice_get, slice_index, slice_index_or, true, []};
 ghost use Rattle.std.specs.Arc.{arc_value};
 ghost use Rattle.lsp_base.specs.Shares.{reservable};
-ghost use Rattle.te_snapshot.specs.Pages.{is_marked, is_page_marked, left_beside, left_of, row, row_at};
+ghost use Rattle.te_snapshot.specs.Pages.{is_marked, is_row_marked, left_beside, left_of, row, row_at};
 ghost use Rattle.te_snapshot.specs.Room.{left};
 
 use crate::marks::Marks;
@@ -58,19 +58,25 @@ fn left_beside(links: &[Link], sums: &[[u64; 8]], link: LinkNumber) -> [i64; 8]
     left_of(links[link].reservable, &sums[link])
 }
 
-/// The page of the links from 64 times its place on.
-fn page_beside(links: &[Link], sums: &[[u64; 8]], page: usize) -> Page
-    requires page { page ≤ 64 }
+/// The page of the links from 64 times its place on: the marked rows are of the sums, the others those that stand.
+fn page_beside(
+    standing: &Page,
+    marked: &[bool; 64],
+    links: &[Link],
+    sums: &[[u64; 8]],
+    page: usize,
+) -> Page
+    requires page { page < 64 }
     requires same { length sums.now ≡ length links.now }
     requires amounts { (l : ℕ) → reservable links.now l < 2 ^ 48 }
     requires sums { (l p : ℕ) → l < length sums.now → p < 8 → slice_index (slice_index_or sums.now l []) p < 2 ^ 63 }
     ensures { (place : ℕ) → place < 64 → 64 * page + place < length links.now
-        → row result place ≡ left_beside links.now sums.now (64 * page + place) }
+        → row result place ≡ (if slice_index_or marked.now place true then left_beside links.now sums.now (64 * page + place) else row standing.now place) }
 {
-    let mut rows = [[0i64; 8]; 64];
+    let mut rows = *standing;
     for place in 0..64usize {
         let link = 64 * page + place;
-        if link < links.len() {
+        if marked[place] && link < links.len() {
             rows[place] = left_beside(links, sums, link);
         }
     }
@@ -93,7 +99,7 @@ fn page_of(table: &[[i64; 8]], page: usize) -> Page
     rows
 }
 
-/// The page at this place: of the sums where it is marked, else the one that stands, shared.
+/// The page at this place: with the marked rows of the sums where it has one, else the one that stands, shared.
 fn page_now(
     alloc: Global,
     standing: &Arc<Page, Global>,
@@ -102,15 +108,16 @@ fn page_now(
     sums: &[[u64; 8]],
     page: usize,
 ) -> Result<Arc<Page, Global>, AllocError>
-    requires page { page ≤ 64 }
+    requires page { page < 64 }
     requires same { length sums.now ≡ length links.now }
     requires amounts { (l : ℕ) → reservable links.now l < 2 ^ 48 }
     requires sums { (l p : ℕ) → l < length sums.now → p < 8 → slice_index (slice_index_or sums.now l []) p < 2 ^ 63 }
     ensures { IfOk result (λ now. (place : ℕ) → place < 64 → 64 * page + place < length links.now
-        → row (arc_value now) place ≡ (if is_page_marked marks.now page then left_beside links.now sums.now (64 * page + place) else row (arc_value standing.now) place)) }
+        → row (arc_value now) place ≡ (if is_row_marked marks.now page place then left_beside links.now sums.now (64 * page + place) else row (arc_value standing.now) place)) }
 {
     if marks.has(page) {
-        return Ok(Arc::new(alloc, page_beside(links, sums, page))?);
+        let now = page_beside(standing, marks.rows(page), links, sums, page);
+        return Ok(Arc::new(alloc, now)?);
     }
     Arc::try_clone(standing)
 }
@@ -130,7 +137,7 @@ fn pages_of(alloc: Global, table: &[[i64; 8]]) -> Result<Vec<Arc<Page, Global>>,
     Ok(pages)
 }
 
-/// The pages that stand, and of the sums where they are marked.
+/// The pages that stand, with the marked rows of the sums.
 fn pages_now(
     alloc: Global,
     standing: &[Arc<Page, Global>],
@@ -166,7 +173,7 @@ impl Table {
         })
     }
 
-    /// The table with what the sums leave of the links on the marked pages. It shares all other pages.
+    /// The table with what the sums leave of the links whose rows are marked. It shares all pages without a marked row.
     pub fn renewed(
         &self,
         alloc: Global,

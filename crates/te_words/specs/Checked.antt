@@ -1,9 +1,31 @@
 -- What a check of a link text says of it.
-use Rattle.std.specs.Prelude.{◌≡◌, Option, Some, None, Result, Err, IsOk}
+use Rattle.std.specs.Prelude.{ℕ, ◌≡◌, codes, List, [], ◌++◌, Option, Some, None, Result, Err, IsOk}
+use Rattle.std.specs.Fmt.{decimal}
 use Rattle.te_base.specs.Base.{Base}
-use Rattle.te_base.specs.declared.fault.TeFault.{TeFault}
+use Rattle.te_base.specs.Faults.{fault_number}
+use Rattle.te_base.specs.declared.fault.FaultPlace.{FaultPlace}
+use Rattle.te_base.specs.declared.fault.FaultPlace.TheVariants.{InText, InNode, InLink}
+use Rattle.te_base.specs.declared.fault.PlacedFault.{PlacedFault}
 
--- None: the text has no fault. A fault is the first one of the text.
-abbrev pub IsFound : Option TeFault → Result Base TeFault → Type 0
+-- None: the text has no fault. A fault is the first one of the text, at its place.
+abbrev pub IsFound : Option PlacedFault → Result Base PlacedFault → Type 0
 IsFound None read = IsOk read
-IsFound (Some fault) read = read ≡ Err fault
+IsFound (Some found) read = read ≡ Err found
+
+-- the table that has a fault
+abbrev pub place_text : FaultPlace → List ℕ
+place_text InText = []
+place_text (InNode number) = codes "node " ++ decimal number
+place_text (InLink number) = codes "link " ++ decimal number
+
+-- how the words of a fault begin
+abbrev pub head_text : PlacedFault → List ℕ
+head_text found = codes "te fault " ++ decimal (fault_number found.fault) ++ codes ": " ++ place_text found.place
+
+abbrev pub Adds : List ℕ → List ℕ → Type 0
+Adds old new = (words : List ℕ) × (new ≡ old ++ words)
+
+-- the words of a fault name it and the table that has it
+abbrev pub IsNamed : Option PlacedFault → List ℕ → List ℕ → Type 0
+IsNamed None old new = Unit {0}
+IsNamed (Some found) old new = Adds (old ++ head_text found) new

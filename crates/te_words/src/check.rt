@@ -1,17 +1,17 @@
 //! A link text's fault in words.
 
-ghost use Rattle.std.specs.Prelude.{◌≡◌, Some, None, IfOk};
-ghost use Rattle.te_base.specs.LinkText.{base_of};
-ghost use Rattle.te_words.specs.Checked.{IsFound};
+ghost use Rattle.std.specs.Prelude.{◌≡◌, ◌++◌, Some, None, IfOk, OnOk, string_bytes};
+ghost use Rattle.te_base.specs.Places.{placed_base};
+ghost use Rattle.te_words.specs.Checked.{Adds, IsFound, IsNamed, head_text, place_text};
 
 use crate::links::link_fault;
+use crate::names::{Kind, Names};
 use crate::nodes::node_fault;
-use crate::place::{Kind, Place};
 use crate::seen::Seen;
 use crate::summary::add_summary;
 use std::alloc::{AllocError, Global};
 use std::fmt::Write;
-use te_base::{TeBase, TeFault};
+use te_base::{FaultPlace, PlacedFault, TeBase, TeFault};
 use toml::Table;
 use toml::value::Array;
 
@@ -53,25 +53,33 @@ fn tables_at<'a>(
     }
 }
 
+/// The place of a table.
+fn place_of(kind: Kind, number: usize) -> FaultPlace {
+    match kind {
+        Kind::Node => FaultPlace::InNode(number),
+        Kind::Link => FaultPlace::InLink(number),
+    }
+}
+
 /// The first fault of tables of one kind.
 fn table_fault<'a>(
     seen: &mut Seen<'a>,
     kind: Kind,
     tables: &[&'a Table],
     text: &mut String,
-) -> Result<Option<TeFault>, AllocError> {
+) -> Result<Option<PlacedFault>, AllocError> {
     for (number, table) in tables.iter().enumerate() {
-        let place = Place {
+        let names = Names {
             kind,
-            number,
             table: *table,
         };
         let found = match kind {
-            Kind::Node => node_fault(seen, place, text)?,
-            Kind::Link => link_fault(seen, place, text)?,
+            Kind::Node => node_fault(seen, names, text)?,
+            Kind::Link => link_fault(seen, names, text)?,
         };
-        if found.is_some() {
-            return Ok(found);
+        if let Some(fault) = found {
+            let place = place_of(kind, number);
+            return Ok(Some(PlacedFault { fault, place }));
         }
     }
     Ok(None)
@@ -83,11 +91,17 @@ fn tables_fault<'a>(
     nodes: &[&'a Table],
     links: &[&'a Table],
     text: &mut String,
-) -> Result<Option<TeFault>, AllocError> {
-    if let Some(fault) = table_fault(seen, Kind::Node, nodes, text)? {
-        return Ok(Some(fault));
+) -> Result<Option<PlacedFault>, AllocError> {
+    if let Some(found) = table_fault(seen, Kind::Node, nodes, text)? {
+        return Ok(Some(found));
     }
     table_fault(seen, Kind::Link, links, text)
+}
+
+/// A fault of the text as a whole.
+fn in_text(fault: TeFault) -> PlacedFault {
+    let place = FaultPlace::InText;
+    PlacedFault { fault, place }
 }
 
 /// The first fault of all tables, whose number is tested first.
@@ -96,14 +110,14 @@ fn counted_fault(
     nodes: &[&Table],
     links: &[&Table],
     text: &mut String,
-) -> Result<Option<TeFault>, AllocError> {
+) -> Result<Option<PlacedFault>, AllocError> {
     let (node_count, link_count) = (nodes.len(), links.len());
     if node_count > 1024 || link_count > 4096 {
         write!(
             text,
             "{node_count} nodes and {link_count} links, at most 1024 and 4096 are read"
         )?;
-        return Ok(Some(TeFault::TooMany));
+        return Ok(Some(in_text(TeFault::TooMany)));
     }
     let mut seen = Seen::new(alloc);
     tables_fault(&mut seen, nodes, links, text)
@@ -114,10 +128,10 @@ fn fault_beside(
     document: &Table,
     nodes: &[&Table],
     text: &mut String,
-) -> Result<Option<TeFault>, AllocError> {
+) -> Result<Option<PlacedFault>, AllocError> {
     match tables_at(alloc, document, "link", text)? {
         Some(links) => counted_fault(alloc, nodes, &links, text),
-        None => Ok(Some(TeFault::MissingField)),
+        None => Ok(Some(in_text(TeFault::MissingField))),
     }
 }
 
@@ -126,10 +140,10 @@ fn document_fault(
     alloc: Global,
     document: &Table,
     text: &mut String,
-) -> Result<Option<TeFault>, AllocError> {
+) -> Result<Option<PlacedFault>, AllocError> {
     match tables_at(alloc, document, "node", text)? {
         Some(nodes) => fault_beside(alloc, document, &nodes, text),
-        None => Ok(Some(TeFault::MissingField)),
+        None => Ok(Some(in_text(TeFault::MissingField))),
     }
 }
 
@@ -138,77 +152,100 @@ fn text_fault(
     alloc: Global,
     source: &str,
     text: &mut String,
-) -> Result<Option<TeFault>, AllocError> {
+) -> Result<Option<PlacedFault>, AllocError> {
     match toml::table_from_str(alloc, source) {
         Ok(document) => document_fault(alloc, &document, text),
         Err(error) => {
             write!(text, "{error}")?;
-            Ok(Some(TeFault::NotToml))
+            Ok(Some(in_text(TeFault::NotToml)))
         }
     }
 }
 
 /// Adds the words of the fault, where they are of the one that was read.
+fn add_agreed(agrees: bool, words: &str, text: &mut String) -> Result<(), AllocError>
+    ensures { OnOk result (Adds (string_bytes text.old) (string_bytes text.new)) }
+{
+    let words = if agrees { words } else { "" };
+    text.push_str(words)
+}
+
 fn add_words(
     alloc: Global,
     source: &str,
-    fault: TeFault,
-    words: &mut String,
+    found: PlacedFault,
     text: &mut String,
-) -> Result<(), AllocError> {
-    if text_fault(alloc, source, words)? != Some(fault) {
-        return Ok(());
-    }
-    text.push_str(words.as_str().trim_end())
+) -> Result<(), AllocError>
+    ensures { OnOk result (Adds (string_bytes text.old) (string_bytes text.new)) }
+{
+    let mut words = String::new(alloc);
+    let other = text_fault(alloc, source, &mut words)?;
+    add_agreed(other == Some(found), words.as_str().trim_end(), text)
 }
 
-/// Adds `te fault 3: `, and the words of the fault.
-fn add_fault(
-    alloc: Global,
-    source: &str,
-    fault: TeFault,
-    text: &mut String,
-) -> Result<(), AllocError> {
+fn add_place(place: FaultPlace, text: &mut String) -> Result<(), AllocError>
+    ensures { OnOk result (string_bytes text.new ≡ string_bytes text.old ++ place_text place) }
+{
+    match place {
+        FaultPlace::InText => Ok(()),
+        FaultPlace::InNode(number) => write!(text, "node {number}"),
+        FaultPlace::InLink(number) => write!(text, "link {number}"),
+    }
+}
+
+/// Adds `te fault 3: link 12`.
+fn add_head(found: PlacedFault, text: &mut String) -> Result<(), AllocError>
+    ensures { OnOk result (string_bytes text.new ≡ string_bytes text.old ++ head_text found) }
+{
+    let PlacedFault { fault, place } = found;
     let number = fault.number();
     write!(text, "te fault {number}: ")?;
-    let mut words = String::new(alloc);
-    add_words(alloc, source, fault, &mut words, text)
+    add_place(place, text)
 }
 
 fn tell_fault(
     alloc: Global,
     source: &str,
-    fault: TeFault,
+    found: PlacedFault,
     text: &mut String,
-) -> Result<Option<TeFault>, AllocError>
-    ensures { IfOk result (λ found. found ≡ Some fault) }
+) -> Result<Option<PlacedFault>, AllocError>
+    ensures found { IfOk result (λ given. given ≡ Some found) }
+    ensures named { OnOk result (Adds (string_bytes text.old ++ head_text found) (string_bytes text.new)) }
 {
-    add_fault(alloc, source, fault, text)?;
-    Ok(Some(fault))
+    add_head(found, text)?;
+    add_words(alloc, source, found, text)?;
+    Ok(Some(found))
 }
 
 fn tell_network(
     alloc: Global,
     base: &TeBase,
     text: &mut String,
-) -> Result<Option<TeFault>, AllocError>
+) -> Result<Option<PlacedFault>, AllocError>
     ensures { IfOk result (λ found. found ≡ None) }
 {
     add_summary(alloc, base, text)?;
     Ok(None)
 }
 
-/// Adds what is to be said of a link text: its first fault in words, or what the network has, and gives the fault.
+/// Adds what is to be said of a link text: its first fault in words, which begin with its number and its table, or what the
+/// network has; and gives the fault.
 pub fn check_text(
     alloc: Global,
     source: &str,
     text: &mut String,
-) -> Result<Option<TeFault>, AllocError>
-    ensures { IfOk result (λ found. IsFound found (base_of source.now)) }
+) -> Result<Option<PlacedFault>, AllocError>
+    ensures first { IfOk result (λ found. IsFound found (placed_base source.now)) }
+    ensures named { IfOk result (λ found. IsNamed found (string_bytes text.old) (string_bytes text.new)) }
 {
-    match TeBase::read(alloc, source) {
+    match TeBase::read_placed(alloc, source) {
         Ok(base) => tell_network(alloc, &base, text),
-        Err(TeFault::OutOfMemory) => Err(AllocError),
-        Err(fault) => tell_fault(alloc, source, fault, text),
+        Err(
+            PlacedFault {
+                fault: TeFault::OutOfMemory,
+                ..
+            },
+        ) => Err(AllocError),
+        Err(found) => tell_fault(alloc, source, found, text),
     }
 }

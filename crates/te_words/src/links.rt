@@ -3,7 +3,7 @@
 use crate::fields::{
     Bounds, address_at, is_bad_address, is_bad_name, is_out_of_range, lacks_number, lacks_text,
 };
-use crate::place::{Place, text_at};
+use crate::names::{Names, text_at};
 use crate::seen::Seen;
 use std::alloc::AllocError;
 use std::fmt::Write;
@@ -21,43 +21,43 @@ fn bounds(key: &'static str, least: i64, most: i64) -> Bounds {
 }
 
 /// Whether a field is missing.
-fn lacks_field(place: Place<'_>, text: &mut String) -> Result<bool, AllocError> {
+fn lacks_field(names: Names<'_>, text: &mut String) -> Result<bool, AllocError> {
     Ok(
-        lacks_text(place, "from", text)?
-            || lacks_text(place, "to", text)?
-            || lacks_text(place, "local", text)?
-            || lacks_text(place, "remote", text)?
-            || lacks_number(place, "igp", text)?
-            || lacks_number(place, "te", text)?
-            || lacks_number(place, "colour", text)?
-            || lacks_number(place, "reservable", text)?,
+        lacks_text(names, "from", text)?
+            || lacks_text(names, "to", text)?
+            || lacks_text(names, "local", text)?
+            || lacks_text(names, "remote", text)?
+            || lacks_number(names, "igp", text)?
+            || lacks_number(names, "te", text)?
+            || lacks_number(names, "colour", text)?
+            || lacks_number(names, "reservable", text)?,
     )
 }
 
 /// Whether a value is out of its range.
-fn has_bad_value(place: Place<'_>, text: &mut String) -> Result<bool, AllocError> {
+fn has_bad_value(names: Names<'_>, text: &mut String) -> Result<bool, AllocError> {
     Ok(
-        is_bad_name(place, "from", text)?
-            || is_bad_name(place, "to", text)?
-            || is_bad_address(place, "local", text)?
-            || is_bad_address(place, "remote", text)?
-            || is_out_of_range(place, bounds("igp", 1, 16_777_215), text)?
-            || is_out_of_range(place, bounds("te", 1, 16_777_215), text)?
-            || is_out_of_range(place, bounds("colour", 0, 4_294_967_295), text)?
-            || is_out_of_range(place, bounds("reservable", 0, 281_474_976_710_655), text)?,
+        is_bad_name(names, "from", text)?
+            || is_bad_name(names, "to", text)?
+            || is_bad_address(names, "local", text)?
+            || is_bad_address(names, "remote", text)?
+            || is_out_of_range(names, bounds("igp", 1, 16_777_215), text)?
+            || is_out_of_range(names, bounds("te", 1, 16_777_215), text)?
+            || is_out_of_range(names, bounds("colour", 0, 4_294_967_295), text)?
+            || is_out_of_range(names, bounds("reservable", 0, 281_474_976_710_655), text)?,
     )
 }
 
 /// The node that has the name at a key; None: no node has it, which is added in words.
 fn end_at(
     seen: &Seen<'_>,
-    place: Place<'_>,
+    names: Names<'_>,
     key: &str,
     text: &mut String,
 ) -> Result<Option<NodeNumber>, AllocError> {
-    let name = text_at(place.table, key).unwrap_or("");
+    let name = text_at(names.table, key).unwrap_or("");
     let Some(node) = seen.node(name) else {
-        write!(text, "{place}{key} {name:?} is no node's name")?;
+        write!(text, "{names}{key} {name:?} is no node's name")?;
         return Ok(None);
     };
     Ok(Some(node))
@@ -66,13 +66,13 @@ fn end_at(
 /// The ends of a link; None: one is no node.
 fn ends_in(
     seen: &Seen<'_>,
-    place: Place<'_>,
+    names: Names<'_>,
     text: &mut String,
 ) -> Result<Option<Ends>, AllocError> {
-    let Some(from) = end_at(seen, place, "from", text)? else {
+    let Some(from) = end_at(seen, names, "from", text)? else {
         return Ok(None);
     };
-    let Some(to) = end_at(seen, place, "to", text)? else {
+    let Some(to) = end_at(seen, names, "to", text)? else {
         return Ok(None);
     };
     Ok(Some(Ends { from, to }))
@@ -82,30 +82,30 @@ fn ends_in(
 fn is_taken(
     seen: &mut Seen<'_>,
     node: NodeNumber,
-    place: Place<'_>,
+    names: Names<'_>,
     key: &str,
     text: &mut String,
 ) -> Result<bool, AllocError> {
-    let Some(address) = address_at(place, key) else {
+    let Some(address) = address_at(names, key) else {
         return Ok(false);
     };
-    seen.is_owned(node, address, place, key, text)
+    seen.is_owned(node, address, names, key, text)
 }
 
 /// The first fault of the ends and their addresses.
 fn end_fault(
     seen: &mut Seen<'_>,
-    place: Place<'_>,
+    names: Names<'_>,
     text: &mut String,
 ) -> Result<Option<TeFault>, AllocError> {
-    let Some(Ends { from, to }) = ends_in(seen, place, text)? else {
+    let Some(Ends { from, to }) = ends_in(seen, names, text)? else {
         return Ok(Some(TeFault::UnknownNode));
     };
     if from == to {
-        write!(text, "{place}it leads from a node to itself")?;
+        write!(text, "{names}it leads from a node to itself")?;
         return Ok(Some(TeFault::SelfLoop));
     }
-    if is_taken(seen, from, place, "local", text)? || is_taken(seen, to, place, "remote", text)? {
+    if is_taken(seen, from, names, "local", text)? || is_taken(seen, to, names, "remote", text)? {
         return Ok(Some(TeFault::AddressTwice));
     }
     Ok(None)
@@ -114,14 +114,14 @@ fn end_fault(
 /// The first fault of a link's table, whose words are added.
 pub fn link_fault(
     seen: &mut Seen<'_>,
-    place: Place<'_>,
+    names: Names<'_>,
     text: &mut String,
 ) -> Result<Option<TeFault>, AllocError> {
-    if lacks_field(place, text)? {
+    if lacks_field(names, text)? {
         return Ok(Some(TeFault::MissingField));
     }
-    if has_bad_value(place, text)? {
+    if has_bad_value(names, text)? {
         return Ok(Some(TeFault::OutOfRange));
     }
-    end_fault(seen, place, text)
+    end_fault(seen, names, text)
 }

@@ -1,6 +1,6 @@
 //! The nodes and the owners of addresses that were read so far.
 
-use crate::place::Place;
+use crate::names::Names;
 use pcep_word::Ipv4;
 use std::alloc::{AllocError, Global};
 use std::fmt::Write;
@@ -52,7 +52,7 @@ impl<'a> Seen<'a> {
         &mut self,
         node: NodeNumber,
         address: Ipv4,
-        place: Place<'_>,
+        names: Names<'_>,
         key: &str,
         text: &mut String,
     ) -> Result<bool, AllocError> {
@@ -66,7 +66,7 @@ impl<'a> Seen<'a> {
         let (name, other) = (self.name(node), self.name(owner));
         write!(
             text,
-            "{place}{key} {address} would be an address of {name:?}, and {other:?} owns it"
+            "{names}{key} {address} would be an address of {name:?}, and {other:?} owns it"
         )?;
         Ok(true)
     }

@@ -128,6 +128,7 @@ fn ends<R: Wait + Abort>(rt: &R, alloc: Global, case: Case) -> Result<(), Fail> 
         faults: case.faults,
         downs: 0,
         rolls: 0,
+        forgets: 0,
     };
     let watch = Noon {
         is_closing: case.is_closing,
@@ -148,7 +149,7 @@ fn each_end_hangs_up(rt: HostRuntime) -> Result<(), Fail> {
 }
 
 /// A store that replies Done to all.
-fn done(alloc: Global) -> Faulty {
+pub fn done(alloc: Global) -> Faulty {
     Faulty {
         calls: Vec::new(alloc),
         failing: Failing::Downs,
@@ -156,6 +157,7 @@ fn done(alloc: Global) -> Faulty {
         faults: 0,
         downs: 0,
         rolls: 0,
+        forgets: 0,
     }
 }
 

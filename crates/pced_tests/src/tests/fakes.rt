@@ -208,6 +208,8 @@ pub struct Faulty {
     pub faults: u32,
     pub downs: u32,
     pub rolls: u32,
+    /// So often its list was emptied.
+    pub forgets: u32,
 }
 
 impl Store for Faulty {
@@ -252,6 +254,7 @@ impl Store for Faulty {
     }
 
     fn forget(&mut self) {
+        self.forgets = self.forgets.wrapping_add(1);
         self.calls.clear();
     }
 

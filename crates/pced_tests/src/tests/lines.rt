@@ -16,6 +16,7 @@ fn store_in(alloc: Global) -> Faulty {
         faults: 0,
         downs: 0,
         rolls: 0,
+        forgets: 0,
     }
 }
 

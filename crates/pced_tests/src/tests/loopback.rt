@@ -2,7 +2,7 @@
 use super::fakes::{Beats, Tap, Text};
 use super::*;
 use log::Log;
-use pce_server::{Audit, Orders, Routers, Sessions, serve_run};
+use pce_server::{Audit, Listeners, Orders, Routers, Sessions, serve_run};
 use pcep_word::Priority;
 use std::collections::VecDeque;
 use std::io::{Read, Write};
@@ -113,8 +113,11 @@ fn serve<
     };
     match serve_run(
         rt,
-        listener,
-        None,
+        &Listeners {
+            routers: listener,
+            control: None,
+            viewers: None,
+        },
         te,
         &plan,
         orders,

@@ -4,6 +4,7 @@ ghost use Rattle.history_core.specs.Histories.{steps_of};
 
 use super::meeting::{ask_and_meet, both_are_granted, is_refused_without_a_seat};
 use super::others::{are_down, visit_all};
+use super::quiet::{counts_all, fold_when_quiet};
 use super::refused::{are_audited, call_all};
 use super::reloads::{reload_beside_searches, replays};
 use super::*;
@@ -28,6 +29,8 @@ enum Case {
     LinksReload,
     /// Calls are refused memory, and made again.
     MemoryRefused,
+    /// A seat is quiet once its steps are rolled.
+    SeatQuiet,
 }
 
 /// What is done before the audit.
@@ -55,6 +58,7 @@ fn act<
         Case::OthersFail => visit_all(rt, alloc, shared, first),
         Case::LinksReload => reload_beside_searches(rt, alloc, shared, first, second),
         Case::MemoryRefused => call_all(rt, alloc, shared, first),
+        Case::SeatQuiet => fold_when_quiet(rt, alloc, shared, first),
     }
 }
 
@@ -86,6 +90,7 @@ fn closed<R: Abort, S: Ledger, G: Ledger, B: Room>(
         Case::SeatMissing => is_refused_without_a_seat(rt, shared, seats)?,
         Case::OthersFail => are_down(rt, shared, seats)?,
         Case::LinksReload => replays(rt, shared, seats)?,
+        Case::SeatQuiet => counts_all(rt, shared, seats)?,
         Case::MemoryRefused => are_audited(rt, shared, seats)?,
     }
     Ok(true)
@@ -167,6 +172,11 @@ fn others_go_on_after_a_fault(rt: HostRuntime) -> Result<(), Fail> {
 #[test]
 fn searches_go_by_their_own_snapshot(rt: HostRuntime) -> Result<(), Fail> {
     run(&rt, rt.alloc(), Case::LinksReload)
+}
+
+#[test]
+fn a_quiet_seat_folds(rt: HostRuntime) -> Result<(), Fail> {
+    run(&rt, rt.alloc(), Case::SeatQuiet)
 }
 
 #[test]

@@ -9,7 +9,7 @@ use crate::reload::LinkReload;
 use lsp_base::Why;
 use te_base::TeBase;
 
-/// Whether each entry's link is one of so many.
+/// Whether each entry's link is below the count.
 fn are_links(entries: &[LinkReload], count: usize) -> bool
     ensures { result ≡ list_all (λ e. nat_lt e.link count) entries.now }
 {

@@ -1,21 +1,21 @@
 use Rattle.std.proofs.Common.{subst}
 use Rattle.server_talk.specs.Operators.{number_behind}
-use Rattle.server_talk.specs.Networks.{network_of}
+use Rattle.server_talk.specs.Servers.{server_of}
 use Rattle.server_talk.proofs.Operating.{answered_at_once, answered_after_roll, answered_starved, was_full}
 use Rattle.server_talk.proofs.commands.answer_line.Goals as goal
 
 pub returns-then-not-is_full : goal.returns-then-not-is_full
 returns-then-not-is_full g c = λ start lines said text kept s.
-    answered_at_once g.D.Store.moves g.D.Store.same_but_calls g.D.Store.rolls g.D.Store.is_full g.D.Desk.is_left (network_of g.P.Plan.reads g.P.Network.has_links g.P.Show.shows c.args.plan.now) c.answer_once-first.result start c.args.store.now c.answer_once-first.new.store lines said text (c.is_full.ensures.other c.if-not-is_full.true) (c.answer_once-first.ensures (number_behind lines) text kept) s
+    answered_at_once (server_of g.D.Store g.D.Desk.is_left (record { reads = g.P.Plan.reads; has_links = g.P.Network.has_links; shows = g.P.Show.shows }) c.args.plan.now) c.answer_once-first.result start c.args.store.now c.answer_once-first.new.store lines said text (c.is_full.ensures.other c.if-not-is_full.true) (c.answer_once-first.ensures (number_behind lines) text kept) s
 
 pub returns-in-Ok : goal.returns-in-Ok
 returns-in-Ok g c = λ start lines said text kept s.
-    answered_after_roll g.D.Store.moves g.D.Store.same_but_calls g.D.Store.rolls g.D.Store.is_full g.D.Desk.is_left (network_of g.P.Plan.reads g.P.Network.has_links g.P.Show.shows c.args.plan.now) c.answer_once.result c.in-Ok.field-0 start c.args.store.now c.answer_once-first.new.store c.roll.new.self c.answer_once.new.store lines said text
-    (was_full g.D.Store.moves g.D.Store.same_but_calls g.D.Store.rolls g.D.Store.is_full g.D.Desk.is_left (network_of g.P.Plan.reads g.P.Network.has_links g.P.Show.shows c.args.plan.now) c.answer_once-first.result (number_behind lines) text c.args.store.now c.answer_once-first.new.store (c.is_full.ensures.full c.if-not-is_full.false) (c.answer_once-first.ensures (number_behind lines) text kept))
+    answered_after_roll (server_of g.D.Store g.D.Desk.is_left (record { reads = g.P.Plan.reads; has_links = g.P.Network.has_links; shows = g.P.Show.shows }) c.args.plan.now) c.answer_once.result c.in-Ok.field-0 start c.args.store.now c.answer_once-first.new.store c.roll.new.self c.answer_once.new.store lines said text
+    (was_full (server_of g.D.Store g.D.Desk.is_left (record { reads = g.P.Plan.reads; has_links = g.P.Network.has_links; shows = g.P.Show.shows }) c.args.plan.now) c.answer_once-first.result (number_behind lines) text c.args.store.now c.answer_once-first.new.store (c.is_full.ensures.full c.if-not-is_full.false) (c.answer_once-first.ensures (number_behind lines) text kept))
     c.in-Ok.ensures.rolled (c.answer_once.ensures (number_behind lines) text kept) s
 
 pub returns : goal.returns
 returns g c = λ start lines said text kept s.
-    answered_starved g.D.Store.moves g.D.Store.same_but_calls g.D.Store.rolls g.D.Store.is_full g.D.Desk.is_left (network_of g.P.Plan.reads g.P.Network.has_links g.P.Show.shows c.args.plan.now) start c.args.store.now c.answer_once-first.new.store c.roll.new.self lines said text
-    (was_full g.D.Store.moves g.D.Store.same_but_calls g.D.Store.rolls g.D.Store.is_full g.D.Desk.is_left (network_of g.P.Plan.reads g.P.Network.has_links g.P.Show.shows c.args.plan.now) c.answer_once-first.result (number_behind lines) text c.args.store.now c.answer_once-first.new.store (c.is_full.ensures.full c.if-not-is_full.false) (c.answer_once-first.ensures (number_behind lines) text kept))
+    answered_starved (server_of g.D.Store g.D.Desk.is_left (record { reads = g.P.Plan.reads; has_links = g.P.Network.has_links; shows = g.P.Show.shows }) c.args.plan.now) start c.args.store.now c.answer_once-first.new.store c.roll.new.self lines said text
+    (was_full (server_of g.D.Store g.D.Desk.is_left (record { reads = g.P.Plan.reads; has_links = g.P.Network.has_links; shows = g.P.Show.shows }) c.args.plan.now) c.answer_once-first.result (number_behind lines) text c.args.store.now c.answer_once-first.new.store (c.is_full.ensures.full c.if-not-is_full.false) (c.answer_once-first.ensures (number_behind lines) text kept))
     c.in-Err.ensures.unchanged s

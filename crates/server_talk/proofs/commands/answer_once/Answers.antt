@@ -2,14 +2,14 @@ use Rattle.std.proofs.Common.{[], ◌∙◌, Some, ap, refl, sym}
 use Rattle.server_talk.specs.declared.requests.Request.{Request}
 use Rattle.server_talk.specs.Requests.{request_of}
 use Rattle.server_talk.specs.Operators.IsAnswered.{Refused}
-use Rattle.server_talk.specs.Networks.{network_of}
+use Rattle.server_talk.specs.Servers.{server_of}
 use Rattle.server_talk.proofs.Operating.{came_starved}
 use Rattle.server_talk.proofs.Requesting.{some_asked}
 use Rattle.server_talk.proofs.commands.answer_once.Goals as goal
 
 pub returns-in-Err : goal.returns-in-Err
 returns-in-Err g c = λ number text kept.
-    came_starved g.D.Store.moves g.D.Store.same_but_calls g.D.Store.rolls g.D.Store.is_full g.D.Desk.is_left (network_of g.P.Plan.reads g.P.Network.has_links g.P.Show.shows c.args.plan.now) number text c.args.store.now c.args.store.now (some_asked c.in-Err.field-0 (request_of text) (c.in-Err.ensures text kept)) (g.met.D.Store.moves_nowhere c.args.store.now)
+    came_starved (server_of g.D.Store g.D.Desk.is_left (record { reads = g.P.Plan.reads; has_links = g.P.Network.has_links; shows = g.P.Show.shows }) c.args.plan.now) number text c.args.store.now c.args.store.now (some_asked c.in-Err.field-0 (request_of text) (c.in-Err.ensures text kept)) (g.met.D.Store.moves_nowhere c.args.store.now)
 
 pub returns-in-None : goal.returns-in-None
 returns-in-None g c = λ number text kept. ([], Refused (sym (c.in-Ok.ensures text kept) ∙ c.in-None.is))

@@ -1,5 +1,5 @@
 use Rattle.std.proofs.Common.{refl}
-use Rattle.server_talk.specs.Networks.{network_of}
+use Rattle.server_talk.specs.Servers.{server_of}
 use Rattle.server_talk.proofs.Operating.{came_unread}
 use Rattle.server_talk.proofs.commands.reload.Goals as goal
 
@@ -8,4 +8,4 @@ returns-in-Ok g c = λ number text asks. c.submit_links.ensures number text asks
 
 pub returns-in-Err : goal.returns-in-Err
 returns-in-Err g c = λ number text asks.
-    came_unread g.D.Store.moves g.D.Store.same_but_calls g.D.Store.rolls g.D.Store.is_full g.D.Desk.is_left (network_of g.P.Plan.reads g.P.Network.has_links g.P.Show.shows c.args.plan.now) number text c.args.store.now c.in-Err.fault (rw asks refl) c.in-Err.ensures
+    came_unread (server_of g.D.Store g.D.Desk.is_left (record { reads = g.P.Plan.reads; has_links = g.P.Network.has_links; shows = g.P.Show.shows }) c.args.plan.now) number text c.args.store.now c.in-Err.fault (rw asks refl) c.in-Err.ensures

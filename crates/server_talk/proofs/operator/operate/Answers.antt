@@ -4,7 +4,7 @@ use Rattle.std.proofs.KnownBytes.{Consumes-nil, Consumes-kept}
 use Rattle.engine_core.specs.declared.store.Call.{Call}
 use Rattle.server_talk.specs.Goings.Goes.{Stays}
 use Rattle.server_talk.specs.Requests.{is_operators}
-use Rattle.server_talk.specs.Networks.{network_of}
+use Rattle.server_talk.specs.Servers.{server_of}
 use Rattle.server_talk.proofs.Operating.{begun, calls_of}
 use Rattle.server_talk.proofs.operator.operate.Goals as goal
 
@@ -18,13 +18,13 @@ loop-init g c = record {
   so_far = (
     [],
     Consumes-kept (g.I.Read.remaining c.args.reader.now) (g.I.Read.remaining c.args.reader.now) (g.I.Read.remaining c.set_patience.new.self) [] (Consumes-nil (g.I.Read.remaining c.args.reader.now)) c.set_patience.ensures,
-    begun g.D.Store.moves g.D.Store.same_but_calls g.D.Store.rolls g.D.Store.is_full g.D.Desk.is_left (network_of g.P.Plan.reads g.P.Network.has_links g.P.Show.shows c.args.plan.now) c.args.store.now (g.O.Write.contents c.args.writer.now) _ record { room = omega (arith, c.in_ok-with_capacity.ensures.capacity); kept = (c.in_ok-with_capacity.ensures.items, omega arith) } refl,
+    begun (server_of g.D.Store g.D.Desk.is_left (record { reads = g.P.Plan.reads; has_links = g.P.Network.has_links; shows = g.P.Show.shows }) c.args.plan.now) c.args.store.now (g.O.Write.contents c.args.writer.now) _ record { room = omega (arith, c.in_ok-with_capacity.ensures.capacity); kept = (c.in_ok-with_capacity.ensures.items, omega arith) } refl,
   );
 }
 
 pub returns-in-Some-turn-clause-by_operators : goal.returns-in-Some-turn-clause-by_operators
 returns-in-Some-turn-clause-by_operators g c =
-    calls_of g.D.Store.moves g.D.Store.same_but_calls g.D.Store.rolls g.D.Store.is_full g.D.Desk.is_left (network_of g.P.Plan.reads g.P.Network.has_links g.P.Show.shows c.args.plan.now) c.args.store.now c.turn.new.store (g.I.Read.remaining c.args.reader.now) (g.O.Write.contents c.args.writer.now) (g.I.Read.remaining c.turn.new.reader) (g.O.Write.contents c.turn.new.writer) c.in-Some-turn.end (g.W.Watch.may_close c.args.watch.now)
+    calls_of (server_of g.D.Store g.D.Desk.is_left (record { reads = g.P.Plan.reads; has_links = g.P.Network.has_links; shows = g.P.Show.shows }) c.args.plan.now) c.args.store.now c.turn.new.store (g.I.Read.remaining c.args.reader.now) (g.O.Write.contents c.args.writer.now) (g.I.Read.remaining c.turn.new.reader) (g.O.Write.contents c.turn.new.writer) c.in-Some-turn.end (g.W.Watch.may_close c.args.watch.now)
     (c.in-Some-turn.ensures.turned c.args.store.now (g.I.Read.remaining c.args.reader.now) (g.O.Write.contents c.args.writer.now) c.loop.invariant.so_far.0 c.loop.invariant.so_far.1 c.loop.invariant.so_far.2)
 
 pub loop-preserved : goal.loop-preserved

@@ -1,12 +1,12 @@
 use Rattle.std.proofs.Common.{◌≡◌, ℕ, [], List}
 use Rattle.std.specs.Io.KnownBytes.{Consumes}
 use Rattle.server_talk.specs.Listening.{SoFar}
-use Rattle.server_talk.specs.Networks.{network_of}
+use Rattle.server_talk.specs.Servers.{server_of}
 use Rattle.server_talk.proofs.operator.operate.Given as goal
 
 abbrev pub invariant-loop : goal.invariant-loop
 invariant-loop g l = record {
   empty : g.D.Store.calls l.fn.store ≡ [] → g.D.Store.calls l.store ≡ [];
   so_far : (heard : List ℕ) × Consumes (g.I.Read.remaining l.fn.reader) (g.I.Read.remaining l.reader) heard
-      × SoFar g.D.Store.moves g.D.Store.same_but_calls g.D.Store.rolls g.D.Store.is_full g.D.Desk.is_left (network_of g.P.Plan.reads g.P.Network.has_links g.P.Show.shows l.plan) l.fn.store (g.O.Write.contents l.fn.writer) heard l.pending l.store (g.O.Write.contents l.writer);
+      × SoFar (server_of g.D.Store g.D.Desk.is_left (record { reads = g.P.Plan.reads; has_links = g.P.Network.has_links; shows = g.P.Show.shows }) l.plan) l.fn.store (g.O.Write.contents l.fn.writer) heard l.pending l.store (g.O.Write.contents l.writer);
 }

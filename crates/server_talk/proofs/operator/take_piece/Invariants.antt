@@ -1,12 +1,12 @@
 use Rattle.std.proofs.Common.{◌≡◌, ℕ, [], ◌++◌, List, Option, take}
 use Rattle.server_talk.specs.Listening.{SoFar}
-use Rattle.server_talk.specs.Networks.{network_of}
+use Rattle.server_talk.specs.Servers.{server_of}
 use Rattle.server_talk.proofs.operator.take_piece.Given as goal
 
 abbrev pub invariant-loop-byte : goal.invariant-loop-byte
 invariant-loop-byte g l = record {
   empty : g.D.Store.calls l.fn.store ≡ [] → g.D.Store.calls l.store ≡ [];
   taken : (start : g.row.D.Denot) (blank : Option (List ℕ)) (heard : List ℕ)
-      → SoFar g.D.Store.moves g.D.Store.same_but_calls g.D.Store.rolls g.D.Store.is_full g.D.Desk.is_left (network_of g.P.Plan.reads g.P.Network.has_links g.P.Show.shows l.plan) start blank heard l.fn.pending l.fn.store (g.O.Write.contents l.fn.writer)
-      → SoFar g.D.Store.moves g.D.Store.same_but_calls g.D.Store.rolls g.D.Store.is_full g.D.Desk.is_left (network_of g.P.Plan.reads g.P.Network.has_links g.P.Show.shows l.plan) start blank (heard ++ take l.byte-index l.piece) l.pending l.store (g.O.Write.contents l.writer);
+      → SoFar (server_of g.D.Store g.D.Desk.is_left (record { reads = g.P.Plan.reads; has_links = g.P.Network.has_links; shows = g.P.Show.shows }) l.plan) start blank heard l.fn.pending l.fn.store (g.O.Write.contents l.fn.writer)
+      → SoFar (server_of g.D.Store g.D.Desk.is_left (record { reads = g.P.Plan.reads; has_links = g.P.Network.has_links; shows = g.P.Show.shows }) l.plan) start blank (heard ++ take l.byte-index l.piece) l.pending l.store (g.O.Write.contents l.writer);
 }

@@ -1,7 +1,7 @@
 use Rattle.std.proofs.Common.{inr, ℕ, [], ◌++◌, refl, subst}
-use Rattle.server_talk.specs.Goings.{ways}
 use Rattle.server_talk.specs.Goings.Goes.{Stays}
 use Rattle.server_talk.specs.Visits.{IsDown}
+use Rattle.server_talk.specs.Watches.{watch_of}
 use Rattle.server_talk.proofs.Visiting.{begun, over, left_joined}
 use Rattle.server_talk.proofs.talk.connection.Goals as goal
 
@@ -13,10 +13,10 @@ returns-in-Ok-leave-clause-visited g c =
     let store = c.args.store.now in
     let unread = g.I.Read.remaining c.args.reader.now in
     let blank = g.O.Write.contents c.args.writer.now in
-    let s = c.talk_on-ended.ensures.ended store unread blank (begun (ways g.D.Store.moves g.D.Store.same_but_calls g.D.Store.is_full g.D.Store.rolls) (g.W.Watch.tells c.args.watch.now) (g.W.Watch.may_close c.args.watch.now) c.args.peer store unread blank c.now_ms-served_ms.result c.in-Ok.client c.in-Ok.ensures.begun c.now_ms-served_ms.ensures) in
+    let s = c.talk_on-ended.ensures.ended store unread blank (begun g.D.Store (watch_of g.W.Watch c.args.watch.now) c.args.peer store unread blank c.now_ms-served_ms.result c.in-Ok.client c.in-Ok.ensures.begun c.now_ms-served_ms.ensures) in
     let h = c.in-Ok-leave.ensures store s.calls s.goes in
     let after = c.talk_on-ended.new.talk.client in
-    inr (over (ways g.D.Store.moves g.D.Store.same_but_calls g.D.Store.is_full g.D.Store.rolls) (g.W.Watch.tells c.args.watch.now) (g.W.Watch.may_close c.args.watch.now) g.D.Store.calls c.args.peer store c.talk_on-ended.new.store c.leave.new.store unread blank
+    inr (over g.D.Store (watch_of g.W.Watch c.args.watch.now) c.args.peer store c.talk_on-ended.new.store c.leave.new.store unread blank
     (g.I.Read.remaining c.talk_on-ended.new.reader) (g.O.Write.contents c.talk_on-ended.new.writer) c.talk_on-ended.result c.talk_on-ended.new.talk.served_ms after s c.talk_on-ended.ensures.silent
     (h.0, subst (λ (n : ℕ). IsDown n after.joined h.0) c.talk_on-ended.ensures.peer h.1, h.2, h.3))
 
@@ -25,10 +25,10 @@ returns-in-Ok-leave-clause-down g c =
     let store = c.args.store.now in
     let unread = g.I.Read.remaining c.args.reader.now in
     let blank = g.O.Write.contents c.args.writer.now in
-    let s = c.talk_on-ended.ensures.ended store unread blank (begun (ways g.D.Store.moves g.D.Store.same_but_calls g.D.Store.is_full g.D.Store.rolls) (g.W.Watch.tells c.args.watch.now) (g.W.Watch.may_close c.args.watch.now) c.args.peer store unread blank c.now_ms-served_ms.result c.in-Ok.client c.in-Ok.ensures.begun c.now_ms-served_ms.ensures) in
+    let s = c.talk_on-ended.ensures.ended store unread blank (begun g.D.Store (watch_of g.W.Watch c.args.watch.now) c.args.peer store unread blank c.now_ms-served_ms.result c.in-Ok.client c.in-Ok.ensures.begun c.now_ms-served_ms.ensures) in
     let h = c.in-Ok-leave.ensures store s.calls s.goes in
     let after = c.talk_on-ended.new.talk.client in
-    let v = over (ways g.D.Store.moves g.D.Store.same_but_calls g.D.Store.is_full g.D.Store.rolls) (g.W.Watch.tells c.args.watch.now) (g.W.Watch.may_close c.args.watch.now) g.D.Store.calls c.args.peer store c.talk_on-ended.new.store c.leave.new.store unread blank
+    let v = over g.D.Store (watch_of g.W.Watch c.args.watch.now) c.args.peer store c.talk_on-ended.new.store c.leave.new.store unread blank
     (g.I.Read.remaining c.talk_on-ended.new.reader) (g.O.Write.contents c.talk_on-ended.new.writer) c.talk_on-ended.result c.talk_on-ended.new.talk.served_ms after s c.talk_on-ended.ensures.silent
     (h.0, subst (λ (n : ℕ). IsDown n after.joined h.0) c.talk_on-ended.ensures.peer h.1, h.2, h.3) in
     (v.calls ++ v.last, v.goes, v.down)
@@ -38,8 +38,8 @@ returns-clause-visited g c =
     let store = c.args.store.now in
     let unread = g.I.Read.remaining c.args.reader.now in
     let blank = g.O.Write.contents c.args.writer.now in
-    let s = c.talk_on-ended.ensures.ended store unread blank (begun (ways g.D.Store.moves g.D.Store.same_but_calls g.D.Store.is_full g.D.Store.rolls) (g.W.Watch.tells c.args.watch.now) (g.W.Watch.may_close c.args.watch.now) c.args.peer store unread blank c.now_ms-served_ms.result c.in-Ok.client c.in-Ok.ensures.begun c.now_ms-served_ms.ensures) in
-    inr (left_joined (ways g.D.Store.moves g.D.Store.same_but_calls g.D.Store.is_full g.D.Store.rolls) (g.W.Watch.tells c.args.watch.now) (g.W.Watch.may_close c.args.watch.now) g.D.Store.calls c.args.peer store c.talk_on-ended.new.store c.leave.new.store unread blank
+    let s = c.talk_on-ended.ensures.ended store unread blank (begun g.D.Store (watch_of g.W.Watch c.args.watch.now) c.args.peer store unread blank c.now_ms-served_ms.result c.in-Ok.client c.in-Ok.ensures.begun c.now_ms-served_ms.ensures) in
+    inr (left_joined g.D.Store (watch_of g.W.Watch c.args.watch.now) c.args.peer store c.talk_on-ended.new.store c.leave.new.store unread blank
     (g.I.Read.remaining c.talk_on-ended.new.reader) (g.O.Write.contents c.talk_on-ended.new.writer) c.talk_on-ended.result c.in-Err.fault c.talk_on-ended.new.talk.served_ms c.talk_on-ended.new.talk.client s c.talk_on-ended.ensures.silent
     (c.in-Err.ensures store s.calls s.goes))
 
@@ -48,8 +48,8 @@ returns-clause-down g c =
     let store = c.args.store.now in
     let unread = g.I.Read.remaining c.args.reader.now in
     let blank = g.O.Write.contents c.args.writer.now in
-    let s = c.talk_on-ended.ensures.ended store unread blank (begun (ways g.D.Store.moves g.D.Store.same_but_calls g.D.Store.is_full g.D.Store.rolls) (g.W.Watch.tells c.args.watch.now) (g.W.Watch.may_close c.args.watch.now) c.args.peer store unread blank c.now_ms-served_ms.result c.in-Ok.client c.in-Ok.ensures.begun c.now_ms-served_ms.ensures) in
-    let v = left_joined (ways g.D.Store.moves g.D.Store.same_but_calls g.D.Store.is_full g.D.Store.rolls) (g.W.Watch.tells c.args.watch.now) (g.W.Watch.may_close c.args.watch.now) g.D.Store.calls c.args.peer store c.talk_on-ended.new.store c.leave.new.store unread blank
+    let s = c.talk_on-ended.ensures.ended store unread blank (begun g.D.Store (watch_of g.W.Watch c.args.watch.now) c.args.peer store unread blank c.now_ms-served_ms.result c.in-Ok.client c.in-Ok.ensures.begun c.now_ms-served_ms.ensures) in
+    let v = left_joined g.D.Store (watch_of g.W.Watch c.args.watch.now) c.args.peer store c.talk_on-ended.new.store c.leave.new.store unread blank
     (g.I.Read.remaining c.talk_on-ended.new.reader) (g.O.Write.contents c.talk_on-ended.new.writer) c.talk_on-ended.result c.in-Err.fault c.talk_on-ended.new.talk.served_ms c.talk_on-ended.new.talk.client s c.talk_on-ended.ensures.silent
     (c.in-Err.ensures store s.calls s.goes) in
     (v.calls ++ v.last, v.goes, v.down)

@@ -1,7 +1,6 @@
 use Rattle.std.proofs.Common.{List, ◌++◌, sym, ◌∙◌, ap, arith}
 use Rattle.engine_core.specs.declared.client.Client.{Client}
 use Rattle.engine_core.specs.declared.store.Call.{Call}
-use Rattle.server_talk.specs.Goings.{ways}
 use Rattle.server_talk.specs.Goings.Goes.{Moves, Empties}
 use Rattle.server_talk.proofs.Going.{goes_nowhere}
 use Rattle.server_talk.proofs.Leaving.{left_down, was_joined}
@@ -12,7 +11,7 @@ loop-try-preserved g c =
     let i = c.loop-try.invariant in
     let b = c.in-Err.ensures.hung_up in
     record {
-      goes = λ start calls went. c.make_room.ensures start calls (goes_nowhere (ways g.D.Store.moves g.D.Store.same_but_calls g.D.Store.is_full g.D.Store.rolls) start c.forget.new.self c.hang_up.new.store calls c.in-Err.ensures.nothing_submitted
+      goes = λ start calls went. c.make_room.ensures start calls (goes_nowhere g.D.Store start c.forget.new.self c.hang_up.new.store calls c.in-Err.ensures.nothing_submitted
           (Empties calls c.loop-try.store c.forget.new.self (i.goes start calls went) c.forget.ensures.same));
       peer = i.peer;
       client = c.in-Err.ensures.unchanged ∙ i.client;

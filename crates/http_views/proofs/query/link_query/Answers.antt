@@ -1,0 +1,9 @@
+use Rattle.std.proofs.Common.{lit<, rules, tests}
+use Rattle.std.proofs.lemmas.Iterator.Consumers.{fold_from_yields_List}
+use Rattle.std.proofs.lemmas.Iterator.Splits.{YieldsList-from_str_split}
+use Rattle.http_views.specs.Queries.{with_link_part}
+use Rattle.http_views.proofs.query.link_query.Goals as goal
+
+pub returns : goal.returns
+returns c =
+    fold_from_yields_List _ with_link_part _ _ c.fold.ensures.ran (YieldsList-from_str_split 38 c.args.query.now (lit< tt) c.split.ensures.text c.split.ensures.has_more c.split.ensures.pattern) (λ a x b q k. search (rules, tests))

@@ -1,0 +1,5 @@
+pub mod Words
+pub mod Queries
+pub mod Hosts
+pub mod Asked
+pub mod Answers

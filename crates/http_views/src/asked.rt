@@ -1,0 +1,165 @@
+//! What a request asks for, by its host, its method, its path and its query.
+ghost use Rattle.std.specs.Prelude.{◌≡◌, ◌||◌, bytes_eq, codes};
+ghost use Rattle.http_views.specs.Asked.{allowed, alone, asked_at, asked_by, asked_of, link_asked, lsps_asked, only_reads, path_asked, path_of_query, wrong_text};
+
+use crate::host::is_own;
+pub use crate::query::Wrong;
+use crate::query::{PathQuery, link_query, lsps_query, path_query};
+use bytes::Bytes;
+use http::Request;
+use pce_seen::Ask;
+use pcep_word::{Priorities, Priority};
+
+/// What a request asks for.
+#[derive(Clone, Copy, PartialEq, Eq, Debug)]
+pub enum Asked {
+    /// The page that draws the network.
+    Page,
+    /// The numbers for a scraper.
+    Metrics,
+    /// Where nodes are on a map.
+    Places,
+    /// The JSON document of what one look sees.
+    Document(Ask),
+    /// Nothing: the request is wrong in this.
+    Wrong(Wrong),
+    /// There is nothing at this path.
+    NotFound,
+    /// The method is neither GET nor HEAD.
+    NotAllowed,
+}
+
+impl Wrong {
+    /// What the client is told.
+    pub fn text(self) -> &'static str
+        ensures { result.now ≡ wrong_text self }
+    {
+        match self {
+            Wrong::Host => "bad host\n",
+            Wrong::Query => "bad query\n",
+            Wrong::Peer => "bad peer\n",
+            Wrong::From => "bad from\n",
+            Wrong::To => "bad to\n",
+            Wrong::Bandwidth => "bad bandwidth\n",
+            Wrong::Setup => "bad setup\n",
+            Wrong::Hold => "bad hold\n",
+            Wrong::Number => "bad number\n",
+        }
+    }
+}
+
+/// What is asked for at a path that takes no query.
+fn alone(query: &str, asked: Asked) -> Asked
+    ensures { result ≡ alone query.now asked }
+{
+    if query.is_empty() {
+        asked
+    } else {
+        Asked::Wrong(Wrong::Query)
+    }
+}
+
+fn lsps_asked(query: &str) -> Asked
+    ensures { result ≡ lsps_asked query.now }
+{
+    match lsps_query(query) {
+        Ok(given) => Asked::Document(Ask::Lsps {
+            peer: given.peer,
+            from: given.from.unwrap_or(0),
+        }),
+        Err(wrong) => Asked::Wrong(wrong),
+    }
+}
+
+fn link_asked(query: &str) -> Asked
+    ensures { result ≡ link_asked query.now }
+{
+    match link_query(query) {
+        Ok(Some(link)) => Asked::Document(Ask::Link { link }),
+        Ok(None) => Asked::Wrong(Wrong::Number),
+        Err(wrong) => Asked::Wrong(wrong),
+    }
+}
+
+/// The path that a query asks for. A priority that isn't given is the lowest, 7.
+#[tactic(auto, unfolding(crate::specs::Asked::path_of_query))]
+fn path_of_query(query: PathQuery) -> Asked
+    ensures { result ≡ path_of_query query }
+{
+    let Some(from) = query.from else {
+        return Asked::Wrong(Wrong::From);
+    };
+    let Some(to) = query.to else {
+        return Asked::Wrong(Wrong::To);
+    };
+    let Some(bandwidth) = query.bandwidth else {
+        return Asked::Wrong(Wrong::Bandwidth);
+    };
+    let lowest = Priority::capped(7);
+    let setup = query.setup.unwrap_or(lowest);
+    let hold = query.hold.unwrap_or(lowest);
+    Asked::Document(Ask::Path {
+        from,
+        to,
+        bandwidth,
+        priorities: Priorities::new(setup, hold),
+    })
+}
+
+fn path_asked(query: &str) -> Asked
+    ensures { result ≡ path_asked query.now }
+{
+    match path_query(query) {
+        Ok(given) => path_of_query(given),
+        Err(wrong) => Asked::Wrong(wrong),
+    }
+}
+
+/// What is asked for at a path with a query.
+#[tactic(auto, unfolding(crate::specs::Asked::asked_at))]
+fn asked_at(path: &str, query: &str) -> Asked
+    ensures { result ≡ asked_at path.now query.now }
+{
+    match path {
+        "/" => alone(query, Asked::Page),
+        "/metrics" => alone(query, Asked::Metrics),
+        "/api/places" => alone(query, Asked::Places),
+        "/api/status" => alone(query, Asked::Document(Ask::Status)),
+        "/api/links" => alone(query, Asked::Document(Ask::Book)),
+        "/api/peers" => alone(query, Asked::Document(Ask::Peers)),
+        "/api/tickets" => alone(query, Asked::Document(Ask::Tickets)),
+        "/api/lsps" => lsps_asked(query),
+        "/api/link" => link_asked(query),
+        "/api/path" => path_asked(query),
+        _ => Asked::NotFound,
+    }
+}
+
+fn only_reads(method: &str) -> bool
+    ensures { result ≡ only_reads method.now }
+{
+    method == "GET" || method == "HEAD"
+}
+
+/// What is asked for by this method.
+fn allowed(method: &str, asked: Asked) -> Asked
+    ensures { result ≡ allowed method.now asked }
+{
+    match asked {
+        Asked::NotFound => Asked::NotFound,
+        _ if only_reads(method) => asked,
+        _ => Asked::NotAllowed,
+    }
+}
+
+/// What a request asks for.
+pub fn asked_by(request: &Request<Bytes>) -> Asked
+    ensures { result ≡ asked_by request.now }
+{
+    if !is_own(request.headers()) {
+        return Asked::Wrong(Wrong::Host);
+    }
+    let uri = request.uri();
+    let asked = asked_at(uri.path(), uri.query().unwrap_or(""));
+    allowed(request.method().as_str(), asked)
+}

@@ -1,0 +1,60 @@
+//! Whether a request names this server by an address. A name that another's DNS resolves to this machine is refused, so
+//! that no page from elsewhere reads what is shown here.
+ghost use Rattle.std.specs.Prelude.{◌≡◌, ◌==◌, option_copied, slice_index};
+ghost use Rattle.http_header.specs.HeaderMap.{get};
+ghost use Rattle.std.specs.Prelude.{codes};
+ghost use Rattle.http_views.specs.Hosts.{host_name, is_bracketed, is_own, is_own_host, is_own_name, is_own_value};
+
+use crate::words::{address_in, cut_at_colon};
+use http::{HeaderMap, HeaderValue, header};
+
+/// What stands before the port.
+fn host_name(host: &str) -> &str
+    ensures { result.now ≡ host_name host.now }
+{
+    match cut_at_colon(host) {
+        Some((name, _port)) => name,
+        None => host,
+    }
+}
+
+fn is_own_name(name: &str) -> bool
+    ensures { result ≡ is_own_name name.now }
+{
+    name == "localhost" || address_in(name).is_some()
+}
+
+fn is_bracketed(host: &[u8]) -> bool
+    ensures { result ≡ is_bracketed host.now }
+{
+    match host {
+        [first, ..] => *first == b'[',
+        [] => false,
+    }
+}
+
+/// An address of IPv6 in brackets, as the connection has seen to, or a name of this machine.
+fn is_own_host(host: &str) -> bool
+    ensures { result ≡ is_own_host host.now }
+{
+    is_bracketed(host.as_bytes()) || is_own_name(host_name(host))
+}
+
+fn is_own_value(value: &HeaderValue) -> bool
+    ensures { result ≡ is_own_value value.now }
+{
+    match value.to_str() {
+        Ok(host) => is_own_host(host),
+        Err(_) => false,
+    }
+}
+
+/// Whether the request names this server by an address, or as `localhost`.
+pub(crate) fn is_own(headers: &HeaderMap<HeaderValue>) -> bool
+    ensures { result ≡ is_own headers.now }
+{
+    match headers.get(header::HOST) {
+        Some(value) => is_own_value(value),
+        None => false,
+    }
+}

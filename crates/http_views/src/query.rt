@@ -1,0 +1,182 @@
+//! What the query of a request gives under each of its names.
+ghost use Rattle.std.specs.Prelude.{◌≡◌, fold, Ok};
+ghost use Rattle.http_views.specs.Queries.{link_query, lsps_query, no_lsps_query, no_path_query, once, parts, path_query, with_link_part, with_link_value, with_lsps_part, with_lsps_value, with_path_part, with_path_value};
+
+use crate::words::{address_in, bandwidth_in, cut_at_equals, number_in, priority_in};
+use pcep_word::{Bandwidth, Ipv4, Priority};
+
+/// What is wrong in a request. `text` has the words.
+#[derive(Clone, Copy, PartialEq, Eq, Debug)]
+pub enum Wrong {
+    /// The host is neither an address nor `localhost`.
+    Host,
+    /// A part of the query has no name that is known here.
+    Query,
+    Peer,
+    From,
+    To,
+    Bandwidth,
+    Setup,
+    Hold,
+    Number,
+}
+
+/// What the query of a page of LSPs gives.
+#[derive(Clone, Copy, PartialEq, Eq, Debug)]
+pub(crate) struct LspsQuery {
+    pub peer: Option<u32>,
+    pub from: Option<u64>,
+}
+
+/// What the query of a path gives.
+#[derive(Clone, Copy, PartialEq, Eq, Debug)]
+pub(crate) struct PathQuery {
+    pub from: Option<Ipv4>,
+    pub to: Option<Ipv4>,
+    pub bandwidth: Option<Bandwidth>,
+    pub setup: Option<Priority>,
+    pub hold: Option<Priority>,
+}
+
+/// A value that is good and the first under its name.
+fn once<T: Copy>(had: Option<T>, value: Option<T>, wrong: Wrong) -> Result<Option<T>, Wrong>
+    ensures { result ≡ once had value wrong }
+{
+    match (had, value) {
+        (None, Some(_)) => Ok(value),
+        _ => Err(wrong),
+    }
+}
+
+#[tactic(auto, unfolding(crate::specs::Queries::with_lsps_value))]
+fn with_lsps_value(query: LspsQuery, name: &str, value: &str) -> Result<LspsQuery, Wrong>
+    ensures { result ≡ with_lsps_value query name.now value.now }
+{
+    match name {
+        "peer" => {
+            let peer = once(query.peer, address_in(value).map(|a| a.0), Wrong::Peer)?;
+            Ok(LspsQuery { peer, ..query })
+        }
+        "from" => {
+            let from = once(query.from, number_in(value), Wrong::From)?;
+            Ok(LspsQuery { from, ..query })
+        }
+        _ => Err(Wrong::Query),
+    }
+}
+
+fn with_lsps_part(so_far: Result<LspsQuery, Wrong>, part: &str) -> Result<LspsQuery, Wrong>
+    ensures { result ≡ with_lsps_part so_far part.now }
+{
+    let query = so_far?;
+    if part.is_empty() {
+        return Ok(query);
+    }
+    match cut_at_equals(part) {
+        Some((name, value)) => with_lsps_value(query, name, value),
+        None => Err(Wrong::Query),
+    }
+}
+
+/// What the query of a page of LSPs gives: `peer` and `from`, each once at most.
+pub(crate) fn lsps_query(query: &str) -> Result<LspsQuery, Wrong>
+    ensures { result ≡ lsps_query query.now }
+{
+    let nothing = LspsQuery {
+        peer: None,
+        from: None,
+    };
+    query
+        .split('&')
+        .fold(Ok(nothing), |so_far, part| with_lsps_part(so_far, part))
+}
+
+#[tactic(auto, unfolding(crate::specs::Queries::with_path_value))]
+fn with_path_value(query: PathQuery, name: &str, value: &str) -> Result<PathQuery, Wrong>
+    ensures { result ≡ with_path_value query name.now value.now }
+{
+    match name {
+        "from" => {
+            let from = once(query.from, address_in(value), Wrong::From)?;
+            Ok(PathQuery { from, ..query })
+        }
+        "to" => {
+            let to = once(query.to, address_in(value), Wrong::To)?;
+            Ok(PathQuery { to, ..query })
+        }
+        "bandwidth" => {
+            let bandwidth = once(query.bandwidth, bandwidth_in(value), Wrong::Bandwidth)?;
+            Ok(PathQuery { bandwidth, ..query })
+        }
+        "setup" => {
+            let setup = once(query.setup, priority_in(value), Wrong::Setup)?;
+            Ok(PathQuery { setup, ..query })
+        }
+        "hold" => {
+            let hold = once(query.hold, priority_in(value), Wrong::Hold)?;
+            Ok(PathQuery { hold, ..query })
+        }
+        _ => Err(Wrong::Query),
+    }
+}
+
+fn with_path_part(so_far: Result<PathQuery, Wrong>, part: &str) -> Result<PathQuery, Wrong>
+    ensures { result ≡ with_path_part so_far part.now }
+{
+    let query = so_far?;
+    if part.is_empty() {
+        return Ok(query);
+    }
+    match cut_at_equals(part) {
+        Some((name, value)) => with_path_value(query, name, value),
+        None => Err(Wrong::Query),
+    }
+}
+
+/// What the query of a path gives: `from`, `to`, `bandwidth`, `setup` and `hold`, each once at most.
+pub(crate) fn path_query(query: &str) -> Result<PathQuery, Wrong>
+    ensures { result ≡ path_query query.now }
+{
+    let nothing = PathQuery {
+        from: None,
+        to: None,
+        bandwidth: None,
+        setup: None,
+        hold: None,
+    };
+    query
+        .split('&')
+        .fold(Ok(nothing), |so_far, part| with_path_part(so_far, part))
+}
+
+#[tactic(auto, unfolding(crate::specs::Queries::with_link_value))]
+fn with_link_value(number: Option<u64>, name: &str, value: &str) -> Result<Option<u64>, Wrong>
+    ensures { result ≡ with_link_value number name.now value.now }
+{
+    match name {
+        "number" => once(number, number_in(value), Wrong::Number),
+        _ => Err(Wrong::Query),
+    }
+}
+
+fn with_link_part(so_far: Result<Option<u64>, Wrong>, part: &str) -> Result<Option<u64>, Wrong>
+    ensures { result ≡ with_link_part so_far part.now }
+{
+    let number = so_far?;
+    if part.is_empty() {
+        return Ok(number);
+    }
+    match cut_at_equals(part) {
+        Some((name, value)) => with_link_value(number, name, value),
+        None => Err(Wrong::Query),
+    }
+}
+
+/// What the query of a link gives: `number`, once at most.
+pub(crate) fn link_query(query: &str) -> Result<Option<u64>, Wrong>
+    ensures { result ≡ link_query query.now }
+{
+    query
+        .split('&')
+        .fold(Ok(None), |so_far, part| with_link_part(so_far, part))
+}

@@ -1,0 +1,156 @@
+//! The service: each request is answered by one call of the source, and changes nothing.
+ghost use Rattle.std.specs.Prelude.{◌≡◌, [], codes, OnOk};
+ghost use Rattle.http_server.specs.Response.{IsBlank, IsResponse, fields_of};
+ghost use Rattle.http_views.specs.Answers.{Answers, html_fields, json_kind, method_fields, plain_kind, text_fields};
+ghost use Rattle.http_views.specs.declared.asked.Asked.TheVariants.{Metrics, Document};
+
+use crate::asked::{Asked, asked_by};
+use crate::source::ViewSource;
+use bytes::{BufMut, Bytes};
+use http::{HeaderValue, Request, StatusCode, header};
+use http_server::{Response, Service};
+use pce_seen::Ask;
+use std::alloc::{AllocError, Global};
+
+/// What the page may do: nothing from elsewhere, and nothing with a form.
+const PAGE_POLICY: &str =
+    "default-src 'none'; script-src 'unsafe-inline'; style-src 'unsafe-inline'; connect-src 'self'; base-uri 'none'; form-action 'none'; frame-ancestors 'none'";
+
+/// Answers viewers from a source.
+#[derive(Drop)]
+pub struct ViewService<'a, S: ViewSource> {
+    pub alloc: Global,
+    pub source: &'a S,
+    /// The page that draws the network.
+    pub page: &'static str,
+    /// The JSON document of where nodes are on a map.
+    pub places: &'a [u8],
+}
+
+/// Says of what kind a text is, and that nobody keeps it or takes it for another kind.
+fn add_kind(response: &mut Response, kind: HeaderValue) -> Result<(), AllocError>
+    requires { fields_of response.old ≡ [] }
+    ensures headers { OnOk result (fields_of response.new ≡ text_fields kind.bytes) }
+    ensures status { response.new.status ≡ response.old.status }
+    ensures body { response.new.body ≡ response.old.body }
+{
+    response.add_header(header::CONTENT_TYPE, kind)?;
+    response.add_header(header::CACHE_CONTROL, HeaderValue::from_static("no-store"))?;
+    response.add_header(
+        header::X_CONTENT_TYPE_OPTIONS,
+        HeaderValue::from_static("nosniff"),
+    )
+}
+
+/// Gives a text as the body.
+fn give(response: &mut Response, kind: HeaderValue, text: Vec<u8>) -> Result<(), AllocError>
+    requires { IsBlank response.old }
+    ensures { OnOk result (IsResponse 200 (text_fields kind.bytes) text.items response.new) }
+{
+    add_kind(response, kind)?;
+    let body = match Bytes::from_vec(text) {
+        Ok(body) => body,
+        Err(_) => return Err(AllocError),
+    };
+    response.body.push(body)
+}
+
+fn give_page(response: &mut Response, page: &'static str) -> Result<(), AllocError>
+    requires { IsBlank response.old }
+    ensures { OnOk result (IsResponse 200 html_fields page.now response.new) }
+{
+    add_kind(
+        response,
+        HeaderValue::from_static("text/html; charset=utf-8"),
+    )?;
+    response.add_header(
+        header::CONTENT_SECURITY_POLICY,
+        HeaderValue::from_static(PAGE_POLICY),
+    )?;
+    response.body.push(Bytes::from_static(page.as_bytes()))
+}
+
+/// Refuses by a status and a line of words.
+fn refuse(response: &mut Response, status: StatusCode, words: &str) -> Result<(), AllocError>
+    requires { IsBlank response.old }
+    ensures { OnOk result (IsResponse status (text_fields plain_kind) words.now response.new) }
+{
+    response.status = status;
+    add_kind(response, HeaderValue::from_static("text/plain"))?;
+    response.body.put_slice(words.as_bytes())
+}
+
+fn refuse_method(response: &mut Response) -> Result<(), AllocError>
+    requires { IsBlank response.old }
+    ensures { OnOk result (IsResponse 405 method_fields (codes "method not allowed\n") response.new) }
+{
+    refuse(
+        response,
+        StatusCode::METHOD_NOT_ALLOWED,
+        "method not allowed\n",
+    )?;
+    response.add_header(header::ALLOW, HeaderValue::from_static("GET, HEAD"))
+}
+
+impl<'a, S: ViewSource> ViewService<'a, S> {
+    fn give_document(&self, ask: &Ask, response: &mut Response) -> Result<(), AllocError>
+        requires { IsBlank response.old }
+        ensures { OnOk result (Answers (S.is_document self.now.source.now) (S.is_metrics self.now.source.now) self.now.page.now self.now.places.now (Document ask.now) response.new) }
+    {
+        let text = self.source.document(ask)?;
+        give(response, HeaderValue::from_static("application/json"), text)
+    }
+
+    fn give_places(&self, response: &mut Response) -> Result<(), AllocError>
+        requires { IsBlank response.old }
+        ensures { OnOk result (IsResponse 200 (text_fields json_kind) self.now.places.now response.new) }
+    {
+        add_kind(response, HeaderValue::from_static("application/json"))?;
+        let body = Bytes::copy_from_slice(self.alloc, self.places)?;
+        response.body.push(body)
+    }
+
+    fn give_metrics(&self, response: &mut Response) -> Result<(), AllocError>
+        requires { IsBlank response.old }
+        ensures { OnOk result (Answers (S.is_document self.now.source.now) (S.is_metrics self.now.source.now) self.now.page.now self.now.places.now Metrics response.new) }
+    {
+        let text = self.source.metrics()?;
+        give(
+            response,
+            HeaderValue::from_static("text/plain; version=0.0.4; charset=utf-8"),
+            text,
+        )
+    }
+
+    fn answer(&self, asked: Asked, response: &mut Response) -> Result<(), AllocError>
+        requires { IsBlank response.old }
+        ensures { OnOk result (Answers (S.is_document self.now.source.now) (S.is_metrics self.now.source.now) self.now.page.now self.now.places.now asked response.new) }
+    {
+        match asked {
+            Asked::Page => give_page(response, self.page),
+            Asked::Metrics => self.give_metrics(response),
+            Asked::Places => self.give_places(response),
+            Asked::Document(ask) => self.give_document(&ask, response),
+            Asked::Wrong(wrong) => refuse(response, StatusCode::BAD_REQUEST, wrong.text()),
+            Asked::NotFound => refuse(response, StatusCode::NOT_FOUND, "not found\n"),
+            Asked::NotAllowed => refuse_method(response),
+        }
+    }
+}
+
+impl<'a, S: ViewSource> Service for ViewService<'a, S> {
+    ghost use Rattle.std.specs.Prelude.{◌≡◌};
+    ghost use Rattle.http_views.specs.Answers.{Answers};
+    ghost use Rattle.http_views.specs.Asked.{asked_by};
+
+    ghost answers = { λ old request response new.
+        (new ≡ old) × Answers (S.is_document old.source.now) (S.is_metrics old.source.now) old.page.now old.places.now (asked_by request) response };
+
+    fn call(
+        &mut self,
+        request: &Request<Bytes>,
+        response: &mut Response,
+    ) -> Result<(), AllocError> {
+        self.answer(asked_by(request), response)
+    }
+}

@@ -1,0 +1,33 @@
+//! By which steps the paths of an LSP came.
+use lsp_base::Path;
+use pcep_objects::Plsp;
+
+/// By what a path came.
+#[derive(Clone, Copy, Debug, PartialEq, Eq)]
+pub enum Origin {
+    /// Its router reported it, by the kept step at this place among all steps that were ever taken.
+    Report { step: u64 },
+    /// It was granted to a ticket, by the kept step at this place.
+    Grant { step: u64, ticket: u64 },
+    /// None of the kept steps that were read says.
+    Unknown,
+}
+
+/// A path, and by what it came.
+#[derive(Drop)]
+pub struct TracedPath {
+    pub path: Path,
+    pub origin: Origin,
+}
+
+/// The paths of an LSP, and by which of the kept steps each came.
+#[derive(Drop)]
+pub struct LspOrigins {
+    pub peer: u32,
+    pub plsp: Plsp,
+    pub paths: Vec<TracedPath>,
+    /// The place of the first step that was read.
+    pub first: u64,
+    /// The place of the first step that is kept.
+    pub rolled: u64,
+}

@@ -1,0 +1,29 @@
+//! Looks that are timed.
+use crate::context::Moments;
+use history_core::Database;
+use shared_pce::Look;
+use std::alloc::{AllocError, Global};
+use std::cell::Cell;
+use std::time::Clock;
+
+/// A look that notes for how long it holds the lock, in microseconds.
+#[derive(Drop)]
+pub(crate) struct TimedLook<'a, R: Clock, L: Look> {
+    pub moments: Moments<'a, R>,
+    pub look: &'a L,
+    pub held_us: Cell<u64>,
+}
+
+impl<'a, R: Clock, L: Look> Look for TimedLook<'a, R, L> {
+    type Seen = L::Seen;
+
+    ghost sees = { λ timed d seen. L.sees timed.look.now d seen };
+
+    fn see(&self, alloc: Global, database: &Database) -> Result<L::Seen, AllocError> {
+        let since_us = self.moments.now_us();
+        let seen = self.look.see(alloc, database);
+        let held_us = self.moments.now_us().saturating_sub(since_us);
+        self.held_us.set(held_us);
+        seen
+    }
+}

@@ -1,0 +1,89 @@
+//! What is let go of while nothing happens.
+use super::ends::done;
+use super::fakes::{Beat, Beats, Noon, Tap};
+use super::*;
+use engine_core::{Event, Store};
+use place_tokens::Room;
+use seated_store::Seated;
+use server_talk::connection;
+use shared_pce::{Seat, Shared};
+use std::collections::VecDeque;
+use std::process::Abort;
+use std::sync::Wait;
+use std::sync::ledger::Ledger;
+
+/// A session that is up, and then reads nothing so often.
+fn beats_of(alloc: Global, quiet: u32) -> Result<Beats, Fail> {
+    let mut beats = VecDeque::new(alloc);
+    beats.push_back(Beat::Bytes(OPEN))?;
+    beats.push_back(Beat::Bytes(KEEPALIVE))?;
+    for _turn in 0..quiet {
+        beats.push_back(Beat::Nothing)?;
+    }
+    Ok(Beats { beats })
+}
+
+/// How often a connection with so many quiet turns empties its store's list.
+fn forgets<R: Wait>(rt: &R, alloc: Global, quiet: u32) -> Result<u32, Fail> {
+    let mut reader = beats_of(alloc, quiet)?;
+    let mut writer = Tap {
+        left: 9,
+        most: usize::MAX,
+        bytes: Vec::new(alloc),
+    };
+    let mut store = done(alloc);
+    let watch = Noon { is_closing: false };
+    let _ended = connection(rt, alloc, 7, &mut reader, &mut writer, &watch, &mut store);
+    Ok(store.forgets)
+}
+
+/// A turn in which nothing comes empties the store's list too.
+#[test]
+fn a_quiet_turn_empties_the_list(rt: HostRuntime) -> Result<(), Fail> {
+    let none = forgets(&rt, rt.alloc(), 0)?;
+    let three = forgets(&rt, rt.alloc(), 3)?;
+    assert_eq!(rt; three, none.wrapping_add(3));
+    Ok(())
+}
+
+/// Empties the list of a seat's store, which is empty already, and says how many receipts the seat keeps.
+fn receipts_after<R: Wait, S: Ledger, G: Ledger, B: Room>(
+    rt: &R,
+    alloc: Global,
+    shared: &Shared<S, G, B>,
+    seat: &mut Seat<S, G, B>,
+) -> usize {
+    Seated::new(rt, alloc, shared, seat).forget();
+    seat.receipts().len()
+}
+
+/// A seat keeps its receipts while their steps are kept, and drops them in a quiet turn once those are rolled. They stay
+/// counted.
+pub fn fold_when_quiet<R: Wait + Abort, S: Ledger, G: Ledger, B: Room>(
+    rt: &R,
+    alloc: Global,
+    shared: &Shared<S, G, B>,
+    seat: &mut Seat<S, G, B>,
+) -> Result<(), Fail> {
+    for peer in [1, 2] {
+        let _reply = shared.submit(rt, seat, Event::Down { peer })?;
+    }
+    let kept = receipts_after(rt, alloc, shared, seat);
+    let _steps = shared.roll(rt)?;
+    let rolled = receipts_after(rt, alloc, shared, seat);
+    assert_eq!(rt; (kept, rolled, seat.steps()), (2, 0, 2));
+    Ok(())
+}
+
+/// The audit passes, with the two steps that the quiet seat was told of.
+pub fn counts_all<R: Abort, S: Ledger, G: Ledger, B: Room>(
+    rt: &R,
+    shared: Shared<S, G, B>,
+    seats: Vec<Seat<S, G, B>>,
+) -> Result<(), Fail> {
+    let Ok(audit) = shared.close(seats) else {
+        return Err(Fail::new("the audit failed"));
+    };
+    assert_eq!(rt; (audit.steps, audit.grants), (2, 0));
+    Ok(())
+}

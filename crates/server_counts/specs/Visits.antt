@@ -1,0 +1,41 @@
+-- Since when each peer is up or down, and how its last connection ended.
+use Rattle.std.specs.Prelude.{ℕ, ◌≡◌, nat_eq, Bool, false, Option, Some, None, unwrap_or, is_some, if◌then◌else◌}
+use Rattle.indexmap.specs.IndexMap.{get}
+use Rattle.server_counts.specs.declared.kinds.EndReason.{EndReason}
+use Rattle.server_counts.specs.declared.visits.LastEnd.{LastEnd}
+use Rattle.server_counts.specs.declared.visits.Visit.{Visit}
+use Rattle.server_counts.specs.declared.visits.Visits.{Visits}
+
+-- of a peer that is not known
+abbrev pub no_visit : Visit
+no_visit = record { up_at = None; since_ms = 0; last_end = None }
+
+-- what the table has of a peer
+abbrev pub visit_of : Visits → ℕ → Option Visit
+visit_of v peer = get nat_eq v.table peer
+
+-- a session came up on the connection of this slot
+abbrev pub risen : ℕ → ℕ → Visit → Visit
+risen slot now_ms v = record { up_at = Some slot; since_ms = now_ms; last_end = v.last_end }
+
+abbrev pub is_at : ℕ → Option ℕ → Bool
+is_at slot None = false
+is_at slot (Some other) = nat_eq other slot
+
+-- The connection of this slot ended. Where its session was up, the peer is down since then; one that ends while the
+-- session of another is up takes nothing down.
+abbrev pub ended : ℕ → ℕ → EndReason → Visit → Visit
+ended slot now_ms reason v = record {
+  up_at = if is_at slot v.up_at then None else v.up_at;
+  since_ms = if is_at slot v.up_at then now_ms else v.since_ms;
+  last_end = Some (record { at_ms = now_ms; reason = reason });
+}
+
+-- a peer that is down goes out of the table
+abbrev pub forgotten : Option Visit → Option Visit
+forgotten None = None
+forgotten (Some v) = if is_some v.up_at then Some v else None
+
+-- the table has of this peer what is made of what it had, or of a peer that is not known; of each other what it had
+abbrev pub SetsVisit : Visits → Visits → ℕ → (Visit → Visit) → Type 0
+SetsVisit old new peer make = (other : ℕ) → visit_of new other ≡ (if nat_eq peer other then Some (make (unwrap_or (visit_of old other) no_visit)) else visit_of old other)

@@ -1,0 +1,25 @@
+-- A running server, as its operator meets it.
+use Rattle.std.specs.Prelude.{ℕ, ℤ, List, Result}
+use Rattle.te_base.specs.Values.{Values}
+use Rattle.step_core.specs.declared.reload.LinkReload.{LinkReload}
+use Rattle.script_lines.specs.declared.views.ViewLine.{ViewLine}
+use Rattle.server_talk.specs.declared.plan.PlanFault.{PlanFault}
+use Rattle.server_talk.specs.Goings.{Ways}
+
+pub record Server (S : Type 0) : Type 1 where
+  -- how its store goes on
+  pub ways : Ways S
+  -- what may be left of each link at each priority
+  pub is_left : S → List (List ℤ) → Type 0
+  -- what a reading of its link text may give
+  pub reads : Result (List LinkReload) PlanFault → Type 0
+  -- the values that its links may have, and what may be left of each at each priority, both at one moment
+  pub has_links : List Values → List (List ℤ) → Type 0
+  -- what may be shown to a line that asks to see something
+  pub shows : ViewLine → List ℕ → Type 0
+
+-- a server by the members of the traits of its store, and of what it shows, which stands so
+abbrev pub server_of : {S N : Type 0} → Ways S → (S → List (List ℤ) → Type 0)
+    → record { reads : N → Result (List LinkReload) PlanFault → Type 0; has_links : N → List Values → List (List ℤ) → Type 0; shows : N → ViewLine → List ℕ → Type 0 } → N → Server S
+server_of ways is_left network now =
+    record { ways = ways; is_left = is_left; reads = network.reads now; has_links = network.has_links now; shows = network.shows now }
