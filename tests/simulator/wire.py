@@ -112,6 +112,13 @@ def tlvs_in(body):
     return found
 
 
+def number_in(body):
+    """The number of an RP or SRP, behind its flags; the TLVs behind it have to be whole."""
+    (number,) = struct.unpack_from(">I", body, 4)
+    tlvs_in(body[8:])
+    return number
+
+
 def hops_in(body, kinds=0x7F):
     """The addresses of the hosts; subobjects of other kinds use no link, and are None. The first bit of a kind is L in an ERO."""
     hops, place = [], 0
@@ -166,8 +173,7 @@ def read_reports(body):
             if behind_srp:
                 raise Refused(6, 8, about_srp(srp))
             end_report(items)
-            (srp,) = struct.unpack_from(">I", content, 4)
-            srp, behind_srp = srp or None, True
+            srp, behind_srp = number_in(content) or None, True
             continue
         if (kind, variant) == (32, 1):
             if not behind_srp:
@@ -210,7 +216,7 @@ def read_requests(body):
     for kind, variant, must, content in objects_in(body):
         if (kind, variant) == (2, 1):
             end_request(requests, ends)
-            (number,) = struct.unpack_from(">I", content, 4)
+            number = number_in(content)
             if not must:
                 raise Refused(10, 1, (RP, number))
             requests.append(Request(number))
@@ -265,7 +271,7 @@ def end_request(requests, ends):
 
 def read_refusals(body):
     """The SRP-IDs that a PCErr names."""
-    return [struct.unpack_from(">I", content, 4)[0] for kind, _, _, content in objects_in(body) if kind == 33]
+    return [number_in(content) for kind, variant, _, content in objects_in(body) if (kind, variant) == (33, 1)]
 
 
 READERS = {OPEN: read_open, REQUEST: read_requests, ERROR: read_refusals, REPORT: read_reports}

@@ -13,15 +13,16 @@ class Refusals:
         library, path = f"{room}/refused.so", f"{room}/orders"
         subprocess.run(["gcc", "-O1", "-shared", "-fPIC", "-o", library, f"{HERE}/refused.c"], check=True)
         with open(path, "wb") as file:
-            file.write(bytes(24))
+            file.write(bytes(32))
         with open(path, "r+b") as file:
-            self.orders = mmap.mmap(file.fileno(), 24)
+            self.orders = mmap.mmap(file.fileno(), 32)
         self.environment = {"LD_PRELOAD": library, "REFUSED_BY": path}
 
-    def order(self, left, all_of_them=False):
-        """So many allocations pass, and then one is refused, or all are; a negative number: all pass."""
+    def order(self, left, all_of_them=False, least=0):
+        """So many allocations pass, and then one is refused, or all are; a negative number: all pass. Of fewer bytes than
+        `least` each passes."""
         self.lift()
-        struct.pack_into("=qq", self.orders, 8, all_of_them, 0)
+        struct.pack_into("=qqq", self.orders, 8, all_of_them, 0, least)
         struct.pack_into("=q", self.orders, 0, left)
 
     def lift(self):

@@ -1,6 +1,6 @@
 /* Refuses allocations of the program that it is loaded into (LD_PRELOAD), as the file of REFUSED_BY says, which
    tools/refused maps too: `left` allocations pass (a negative number: all), then one is refused, or all where `all` is
-   set. `met` counts those that were refused. */
+   set. `met` counts those that were refused. Of fewer bytes than `least` each passes, and isn't counted. */
 #include <errno.h>
 #include <fcntl.h>
 #include <stdatomic.h>
@@ -10,14 +10,14 @@
 #include <unistd.h>
 
 struct orders {
-    _Atomic long left, all, met;
+    _Atomic long left, all, met, least;
 };
 
 extern void *__libc_malloc(size_t);
 extern void *__libc_calloc(size_t, size_t);
 extern void *__libc_realloc(void *, size_t);
 
-static struct orders none = {-1, 0, 0};
+static struct orders none = {-1, 0, 0, 0};
 static struct orders *orders = &none;
 
 __attribute__((constructor)) static void begin(void) {
@@ -30,7 +30,9 @@ __attribute__((constructor)) static void begin(void) {
     orders = page;
 }
 
-static int refuses(void) {
+static int refuses(size_t size) {
+    if (size < (size_t)atomic_load(&orders->least))
+        return 0;
     long left = atomic_load(&orders->left);
     while (left > 0)
         if (atomic_compare_exchange_weak(&orders->left, &left, left - 1))
@@ -42,6 +44,6 @@ static int refuses(void) {
     return 1;
 }
 
-void *malloc(size_t size) { return refuses() ? 0 : __libc_malloc(size); }
-void *calloc(size_t number, size_t size) { return refuses() ? 0 : __libc_calloc(number, size); }
-void *realloc(void *old, size_t size) { return refuses() ? 0 : __libc_realloc(old, size); }
+void *malloc(size_t size) { return refuses(size) ? 0 : __libc_malloc(size); }
+void *calloc(size_t number, size_t size) { return refuses(number * size) ? 0 : __libc_calloc(number, size); }
+void *realloc(void *old, size_t size) { return refuses(size) ? 0 : __libc_realloc(old, size); }

@@ -357,15 +357,16 @@ def refuse_each_of_the_calls(program, network, refusals):
         served.process.wait()
 
 
-def results_of(program, network, refusals):
+def result_of(case, *given):
     """Tries a server under refusals, and prints how it went."""
-    results = []
-    for case in (refuse_each_of_a_start, refuse_each_of_the_calls, refuse_each_of_an_end):
-        try:
-            said = case(program, network, refusals)
-            results.append(True)
-        except (OSError, ValueError, Gone, subprocess.TimeoutExpired) as problem:
-            said = repr(problem)
-            results.append(False)
-        print(f"{'ok   ' if results[-1] else 'WRONG'} {case.__doc__} {said}", flush=True)
-    return results
+    try:
+        said, is_well = case(*given), True
+    except (OSError, ValueError, Gone, subprocess.TimeoutExpired) as problem:
+        said, is_well = repr(problem), False
+    print(f"{'ok   ' if is_well else 'WRONG'} {case.__doc__} {said}", flush=True)
+    return is_well
+
+
+def results_of(program, network, refusals):
+    cases = refuse_each_of_a_start, refuse_each_of_the_calls, refuse_each_of_an_end
+    return [result_of(case, program, network, refusals) for case in cases]

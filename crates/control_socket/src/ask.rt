@@ -2,6 +2,7 @@
 ghost use Rattle.std.specs.Prelude.{◌≡◌, ◌++◌, codes, OnOk, IfOk, IfSome};
 ghost use Rattle.std.specs.Io.KnownBytes.{Appends, IsAtEnd};
 ghost use Rattle.control_socket.specs.Answers.{is_line, outcome_of};
+ghost use Rattle.control_socket.specs.Waits.{is_refused};
 
 use crate::waits::is_gone;
 use std::alloc::Global;
@@ -81,12 +82,20 @@ pub fn tell<R: Net>(rt: &R, alloc: Global, path: &str, line: &str) -> io::Result
     receive(alloc, &mut &stream)
 }
 
-/// Whether no server listens at the path.
-fn is_nobody_there<R: Net>(rt: &R, path: &str) -> bool {
-    match UnixStream::connect(rt, path) {
+/// Tests whether no server was there to connect to.
+fn is_refused(connected: &io::Result<UnixStream>) -> bool
+    ensures { result ≡ is_refused connected.now }
+{
+    match connected {
         Ok(_) => false,
         Err(error) => is_gone(error.kind()),
     }
+}
+
+/// Whether no server listens at the path.
+fn is_nobody_there<R: Net>(rt: &R, path: &str) -> bool {
+    let connected = UnixStream::connect(rt, path);
+    is_refused(&connected)
 }
 
 /// Waits until no server listens at the path any more, a minute at most. Gives whether that has come.

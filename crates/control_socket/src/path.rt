@@ -1,5 +1,7 @@
 //! The file of the socket.
-ghost use Rattle.std.specs.Prelude.{◌≡◌, ◌++◌, codes, IfOk, string_bytes};
+ghost use Rattle.std.specs.Prelude.{◌≡◌, ◌++◌, false, codes, IfErr, IfOk, string_bytes};
+ghost use Rattle.std.specs.declared.io.ErrorKind.TheVariants.{AddrInUse, AlreadyExists};
+ghost use Rattle.control_socket.specs.Waits.{IsFault, IsUnlessGone};
 
 use crate::waits::is_gone;
 use std::alloc::{AllocError, Global};
@@ -17,11 +19,42 @@ const OWNER_CONNECTS: u32 = 0o600;
 const OWNER_ENTERS: u32 = 0o700;
 
 /// A call that fails because its file isn't there has nothing to do.
-fn unless_gone(done: io::Result<()>) -> io::Result<()> {
+fn unless_gone(done: io::Result<()>) -> io::Result<()>
+    ensures { IsUnlessGone done result }
+{
     match done {
         Err(error) if is_gone(error.kind()) => Ok(()),
         done => done,
     }
+}
+
+/// Refuses a file that is no socket.
+fn test_socket(is_socket: bool) -> io::Result<()>
+    ensures socket { IfErr result (λ _. is_socket ≡ false) }
+    ensures other { is_socket ≡ false → IsFault AlreadyExists result }
+{
+    if is_socket {
+        Ok(())
+    } else {
+        Err(io::Error::from(ErrorKind::AlreadyExists))
+    }
+}
+
+/// Refuses a socket at which a server listens.
+fn test_unheard(connected: io::Result<()>) -> io::Result<()>
+    ensures heard { IfOk connected (λ _. IsFault AddrInUse result) }
+    ensures unheard { IfErr connected (λ _. IsUnlessGone connected result) }
+{
+    match connected {
+        Ok(()) => Err(io::Error::from(ErrorKind::AddrInUse)),
+        Err(error) => unless_gone(Err(error)),
+    }
+}
+
+/// Connects to a server at the path, and lets it go.
+fn try_connect<R: Net>(rt: &R, path: &str) -> io::Result<()> {
+    let _stream = UnixStream::connect(rt, path)?;
+    Ok(())
 }
 
 /// Succeeds where the path is free: no file is there, or a socket at which no server listens any more.
@@ -30,13 +63,8 @@ fn test_free<R: Files + Net>(rt: &R, path: &str) -> io::Result<()> {
         Ok(known) => known.file_type(),
         Err(error) => return unless_gone(Err(error)),
     };
-    if !kind.is_socket() {
-        return Err(io::Error::from(ErrorKind::AlreadyExists));
-    }
-    match UnixStream::connect(rt, path) {
-        Ok(_) => Err(io::Error::from(ErrorKind::AddrInUse)),
-        Err(error) => unless_gone(Err(error)),
-    }
+    test_socket(kind.is_socket())?;
+    test_unheard(try_connect(rt, path))
 }
 
 /// The folder in which the socket is made: `PATH.new`.

@@ -1,5 +1,5 @@
 -- What each look sees of a database.
-use Rattle.std.specs.Prelude.{ℕ, ◌≡◌, ◌≤◌, ◌-◌, ◌+◌, List, length, map, filter, drop, slice_get, Option, Some, None}
+use Rattle.std.specs.Prelude.{ℕ, ◌≡◌, ◌≤◌, ◌-◌, ◌+◌, length, map, filter, drop, slice_get, Option, Some, None}
 use Rattle.lsp_base.specs.declared.effect.Record.{Record}
 use Rattle.te_snapshot.specs.Left.{all_left, left_on, state_beside}
 use Rattle.te_snapshot.specs.Network.{network_of}
@@ -19,6 +19,7 @@ use Rattle.pce_seen.specs.declared.seen.Counts.{Counts}
 use Rattle.pce_seen.specs.declared.seen.Network.{Network}
 use Rattle.pce_seen.specs.declared.seen.Seen.{Seen}
 use Rattle.pce_seen.specs.declared.seen.Seen.TheVariants as seen
+use Rattle.database_looks.specs.Moves.{SeesDisplaced, SeesMovable}
 use Rattle.database_looks.specs.Origins.{SeesOrigins}
 use Rattle.database_looks.specs.Steps.{known_step}
 
@@ -86,7 +87,7 @@ abbrev pub SeesLink : ℕ → Content → Option LinkUse → Type 0
 SeesLink link d None = length d.state.te.links ≤ link
 SeesLink link d (Some seen) = IsUse d link seen
 
--- the last of the kept steps, so many at most
+-- the last of the kept steps, `last` at most
 pub record SeesSteps (last : ℕ) (d : Content) (seen : LastSteps) : Type 0 where
   pub first : seen.first ≡ d.rolled + (length d.history - last)
   pub steps : seen.steps.items ≡ map known_step (drop (length d.history - last) d.history)
@@ -103,5 +104,7 @@ Sees (ask.Link link) d (seen.Link found) = SeesLink link d found
 Sees (ask.Steps last) d (seen.Steps steps) = SeesSteps last d steps
 Sees (ask.LinkLine link) d (seen.Link found) = SeesLink link d found
 Sees (ask.Why peer plsp) d (seen.Origins origins) = SeesOrigins peer plsp d origins
+Sees (ask.Better peer from) d (seen.Movable movable) = SeesMovable peer from d movable
+Sees (ask.Without link) d (seen.Displaced displaced) = SeesDisplaced link d displaced
 Sees (ask.Path from to bandwidth priorities) d (seen.Network network) = SeesNetwork d network
 Sees a d s = ⊥

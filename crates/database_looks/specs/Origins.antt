@@ -2,7 +2,6 @@
 use Rattle.std.specs.Prelude.{ℕ, zero, suc, ◌≡◌, ◌+◌, ◌-◌, ◌/◌, max, Bool, true, false, ◌==◌, ◌&&◌, not, List, length, map, filter, take, drop, slice_get, Option, Some, None, IsSome, if◌then◌else◌}
 use Rattle.std.specs.List.{list_any}
 use Rattle.pcep_objects.specs.declared.object.Identifiers.{Identifiers}
-use Rattle.pcep_messages.specs.declared.message.StateReport.{StateReport}
 use Rattle.lsp_base.specs.Base.{is_path_of, lsp_at}
 use Rattle.lsp_base.specs.declared.path.Path.{Path}
 use Rattle.lsp_base.specs.declared.tunnel.Part.{Part}
@@ -124,7 +123,7 @@ origin_of first steps x = origin_by first steps x x.part
 
 -- ---- what is seen
 
--- of so many steps, where those begin that are read for so many paths: 32,768 in all
+-- where, of `count` steps, those begin that are read for a number of paths: 32,768 in all
 abbrev pub reading_start : ℕ → ℕ → ℕ
 reading_start count paths = count - 32768 / max paths 1
 

@@ -3,6 +3,7 @@ use crate::book::{see_book, see_network};
 use crate::counts::see_counts;
 use crate::look::Look;
 use crate::lsps::{see_link, see_lsp, see_lsps};
+use crate::moves::{see_displaced, see_movable};
 use crate::origins::see_origins;
 use crate::peers::{see_peers, see_tickets};
 use crate::steps::see_steps;
@@ -29,6 +30,10 @@ impl Look for Ask {
             Ask::Steps { last } => Ok(Seen::Steps(see_steps(alloc, database, last)?)),
             Ask::LinkLine { link } => Ok(Seen::Link(see_link(alloc, database, link)?)),
             Ask::Why { peer, plsp } => Ok(Seen::Origins(see_origins(alloc, database, peer, plsp)?)),
+            Ask::Better { peer, from } => Ok(Seen::Movable(see_movable(
+                alloc, database, peer, from,
+            )?)),
+            Ask::Without { link } => Ok(Seen::Displaced(see_displaced(alloc, database, link)?)),
             Ask::Path { .. } => Ok(Seen::Network(see_network(alloc, database)?)),
         }
     }

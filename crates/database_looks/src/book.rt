@@ -54,7 +54,7 @@ fn snapshot_over(
 
 /// Makes what a path search reads, with what is left now.
 #[tactic(auto, using(crate::proofs::Tables::all_left_length))]
-fn snapshot_of(alloc: Global, database: &Database) -> Result<Snapshot, AllocError>
+pub(crate) fn snapshot_of(alloc: Global, database: &Database) -> Result<Snapshot, AllocError>
     ensures { IfOk result (λ s. s ≡ state_beside (network_of database.now.state.te) database.now.state.base.paths) }
 {
     let left = left_on_each(alloc, database)?;

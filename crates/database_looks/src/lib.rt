@@ -18,6 +18,7 @@ mod counts;
 mod left;
 mod look;
 mod lsps;
+mod moves;
 mod nodes;
 mod numbers;
 mod origins;

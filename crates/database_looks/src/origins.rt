@@ -223,7 +223,7 @@ fn all_traced(
     Ok(seen)
 }
 
-/// Finds where of so many steps those begin that are read for so many paths.
+/// Finds where, of `count` steps, those begin that are read for a number of paths.
 fn reading_start(count: usize, paths: usize) -> usize
     ensures start { result ≡ reading_start count paths }
     ensures within { result ≤ count }

@@ -90,14 +90,14 @@ fn known_steps(alloc: Global, steps: &[Step]) -> Result<Vec<KnownStep>, AllocErr
     Ok(seen)
 }
 
-/// Finds the place among so many steps from which on so many are left at most.
+/// Finds the place of the first of the `last` steps at most that end a list of `count`.
 fn start_of(count: usize, last: u64) -> usize
     ensures { result ≡ count - last }
 {
     count.saturating_sub(last as usize)
 }
 
-/// Sees the last of the kept steps, so many at most.
+/// Sees the last of the kept steps, `last` at most.
 pub(crate) fn see_steps(
     alloc: Global,
     database: &Database,

@@ -1,5 +1,5 @@
 -- The lines of the engine's table, one by one.
-use Rattle.std.proofs.Common.{◌≡◌, ℕ, Bool, true, false, if◌then◌else◌, List, [], Option, None, Some, Result, OnOk, OnErr, IfErr, refl, sym, subst}
+use Rattle.std.proofs.Common.{◌≡◌, ℕ, Bool, false, if◌then◌else◌, List, [], Option, None, Some, Result, OnOk, OnErr, IfErr, refl, sym, subst}
 use Rattle.sequence.specs.declared.list.Sequence.{Sequence}
 use Rattle.pcep_messages.specs.declared.message.Errors.{Errors}
 use Rattle.pcep_messages.specs.declared.message.Message.{Message}
@@ -70,12 +70,12 @@ request_taken moves s c request (replies.Refused why) go_on not nowhere = absurd
 request_taken moves s c request reply go_on not nowhere = stays moves s c c (go_on c) nowhere refl
 
 -- a message that the engine does nothing for
-pub not_heeded : {S W : Type 0} (moves : S → List Call → S → Type 0) (s : S) (c : Client) (peer : ℕ) (message : Message) (go_on : Client → Plan W)
+pub other_message : {S W : Type 0} (moves : S → List Call → S → Type 0) (s : S) (c : Client) (peer : ℕ) (message : Message) (go_on : Client → Plan W)
     → ((reports : Sequence StateReport) → message ≡ messages.Report reports → ⊥) → ((requests : Sequence PathRequest) → message ≡ messages.Request requests → ⊥) → ((errors : Errors) → message ≡ messages.Error errors → ⊥) → moves s [] s → Carries moves s s c c (on_message peer message c go_on) (go_on c)
-not_heeded moves s c peer (messages.Report reports) go_on not nor none nowhere = absurd (not reports refl)
-not_heeded moves s c peer (messages.Request requests) go_on not nor none nowhere = absurd (nor requests refl)
-not_heeded moves s c peer (messages.Error errors) go_on not nor none nowhere = absurd (none errors refl)
-not_heeded moves s c peer message go_on not nor none nowhere = stays moves s c c (go_on c) nowhere refl
+other_message moves s c peer (messages.Report reports) go_on not nor none nowhere = absurd (not reports refl)
+other_message moves s c peer (messages.Request requests) go_on not nor none nowhere = absurd (nor requests refl)
+other_message moves s c peer (messages.Error errors) go_on not nor none nowhere = absurd (none errors refl)
+other_message moves s c peer message go_on not nor none nowhere = stays moves s c c (go_on c) nowhere refl
 
 pub handled : {S W : Type 0} (moves : S → List Call → S → Type 0) (s : S) (c : Client) (peer : ℕ) (given : Input) (go_on : Client → Plan W)
     → given ≡ input.Handled → moves s [] s → Carries moves s s c c (on_input peer given c go_on) (go_on c)

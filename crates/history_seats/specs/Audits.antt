@@ -69,7 +69,7 @@ AllOnce d seats = (place : ℕ) → d.rolled ≤ place → times_in place seats 
 abbrev pub AllRise : List SeatContent → Type 0
 AllRise seats = All (λ s. RisesFrom s.floor s.receipts) seats
 
--- each of so many steps was told to one of them, once, and no other place to any
+-- each step was told to one of them, once, and no other place to any
 abbrev pub AllDistinct : ℕ → List SeatContent → Type 0
 AllDistinct steps seats = (place : ℕ) → sum_by (λ s. drawing.times place s.places) seats ≡ once_below place steps
 

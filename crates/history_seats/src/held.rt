@@ -317,9 +317,10 @@ impl<S: Ledger, G: Ledger, B: Room> Held<S, G, B> {
         mem::replace(&mut seat.receipts, Vec::new(self.alloc))
     }
 
-    /// The state becomes the base, and the kept steps are dropped. It is no step, and no seat takes part: each
-    /// folds its receipts when it steps next, or by `fold`. Where memory is refused nothing has changed.
-    pub fn roll(&mut self) -> Result<(), AllocError>
+    /// The state becomes the base, and the kept steps are dropped. It is no step, and no seat changes: each folds its
+    /// receipts when it steps next, or by `fold`. Whoever rolls shows a seat, so that a look, which has none, can't roll.
+    /// Where memory is refused nothing has changed.
+    pub fn roll(&mut self, _seat: &Seat<S, G, B>) -> Result<(), AllocError>
         ensures rolled { OnOk result (self.new ≡ rolled_up self.old) }
         ensures unchanged_without_memory { OnErr result (self.new ≡ self.old) }
         ensures replays { Replays self.new }
@@ -328,7 +329,7 @@ impl<S: Ledger, G: Ledger, B: Room> Held<S, G, B> {
     }
 
     /// The same, and the steps that were kept are given, oldest first, to be dropped once a lock is free.
-    pub fn take_rolled(&mut self) -> Result<Vec<Step>, AllocError>
+    pub fn take_rolled(&mut self, _seat: &Seat<S, G, B>) -> Result<Vec<Step>, AllocError>
         ensures rolled { OnOk result (self.new ≡ rolled_up self.old) }
         ensures given { IfOk result (λ steps. steps.items ≡ self.old.history) }
         ensures unchanged_without_memory { OnErr result (self.new ≡ self.old) }

@@ -1,13 +1,13 @@
 //! Seats.
 use crate::receipt::Receipt;
 use place_tokens::{Drawn, Room};
-use std::alloc::Global;
+use std::alloc::{AllocError, Global};
 use std::marker::Model;
 use std::sync::ledger::{Ledger, Share};
 use step_core::Job;
 
 /// What one caller holds: its receipts, its shares of all steps and of all grants, the token of its places, and
-/// perhaps a job. It is changed by calls of `Held` alone, but for the job in its hand, and a seat that is let go
+/// perhaps a job. It is changed by calls of `Held` alone, but for the job in its hand, and a seat that is dropped
 /// fails every audit from then on.
 pub struct Seat<S: Ledger, G: Ledger, B: Room> {
     /// How many steps the seat was told of, the folded ones among them.
@@ -93,6 +93,13 @@ impl<S: Ledger, G: Ledger, B: Room> Seat<S, G, B> {
             grants,
             drawn,
         }
+    }
+
+    /// Makes room for this number of receipts more, so that a step finds it. Where memory is refused nothing has changed.
+    pub fn reserve(&mut self, receipts: usize) -> Result<(), AllocError>
+        ensures { self.new ≡ self.old }
+    {
+        self.receipts.reserve(receipts)
     }
 
     /// The job in the seat's hand, lent: it may be taken out, and another put in.

@@ -312,7 +312,8 @@ fn test_after_a_roll<S: Ledger, G: Ledger, B: Room, R: Abort>(
     held: &mut Held<S, G, B>,
     seats: &mut Vec<Seat<S, G, B>>,
 ) -> Result<(), Fail> {
-    held.roll()?;
+    let seat = seats.first().ok_or("a seat")?;
+    held.roll(seat)?;
     step_at(held, seats, 0, Event::Take)?;
     assert_eq!(rt; held.audit(seats), Ok(()));
     let right = receipt(seats, 0)?;
@@ -347,7 +348,7 @@ fn test_fold<S: Ledger, G: Ledger, B: Room, R: Abort>(
     let seat = seats.get_mut(1).ok_or("a seat")?;
     assert_eq!(rt; held.fold(seat).len(), 0);
     assert_seat(rt, seat, 2, 2);
-    let steps = held.take_rolled()?;
+    let steps = held.take_rolled(seat)?;
     assert_eq!(rt; steps.len(), 4);
     assert_eq!(rt; held.fold(seat).len(), 2);
     assert_seat(rt, seat, 2, 0);

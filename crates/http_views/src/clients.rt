@@ -1,4 +1,6 @@
 //! A few connections, served by one thread.
+ghost use Rattle.std.specs.Prelude.{IfOk};
+
 use crate::turn::{Turn, take_turn};
 use http_server::{Config, Connection, Service};
 use http1::Limits;
@@ -13,13 +15,13 @@ use std::os::fd::AsRawFd;
 use std::sync::Wait;
 use std::time::Duration;
 
-/// So many connections live at once, at most; others wait until one ends.
+/// The most connections that live at once; others wait until one ends.
 pub const AT_ONCE: usize = 8;
 
-/// A connection of which no byte of an answer goes out for so long ends, in milliseconds.
+/// The time after which a connection ends of which no byte of an answer goes out, in milliseconds.
 pub const IDLE_MS: u64 = 10_000;
 
-/// So often the thread sees whether the run is over, in milliseconds.
+/// The time between two looks at whether the run is over, in milliseconds.
 const WATCH_MS: u64 = 100;
 
 /// Heads are short, no request has a body, and one answer at a time is pending.
@@ -36,11 +38,17 @@ const CONFIG: Config = Config {
 
 /// What the thread knows of its run.
 pub trait Watch {
+    ghost use Rattle.std.specs.Prelude.{◌≡◌, true, ⊤};
+
+    /// The run may be over.
+    ghost may_end: { Self → Type 0 } = { λ _. ⊤ };
+
     /// Milliseconds since some moment.
     fn now_ms(&self) -> u64;
 
     /// Whether no more is to be served.
-    fn is_over(&self) -> bool;
+    fn is_over(&self) -> bool
+        ensures { result ≡ true → may_end self.now };
 }
 
 #[derive(Drop)]
@@ -176,7 +184,9 @@ pub fn serve_views<R: Net<Listener = TcpListener, Stream = TcpStream> + Wait, S:
     listener: &TcpListener,
     service: &mut S,
     watch: &W,
-) -> io::Result<()> {
+) -> io::Result<()>
+    ensures { IfOk result (λ _. W.may_end watch.now) }
+{
     let mut clients = Clients::new(rt, alloc, keys, listener)?;
     for _ in rt.forever() {
         if watch.is_over() {

@@ -1,1 +1,3 @@
 mod Firsts
+mod Rows
+mod Trying

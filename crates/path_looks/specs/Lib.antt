@@ -1,2 +1,4 @@
 pub mod Paths
+pub mod Cheaper
 pub mod Tightest
+pub mod Moves

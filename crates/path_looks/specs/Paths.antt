@@ -1,5 +1,5 @@
 -- A path that is looked for on a snapshot, or what stands in its way.
-use Rattle.std.specs.Prelude.{ℕ, ℤ, Bool, true, false, not, List, [], ◌∷◌, ◌++◌, find, option_map, Option, Some, None}
+use Rattle.std.specs.Prelude.{ℕ, ℤ, Bool, not, List, [], ◌∷◌, ◌++◌, find, option_map, Option, Some, None}
 use Rattle.pcep_objects.specs.declared.object.Colours.{Colours}
 use Rattle.lsp_base.specs.Shares.{priorities}
 use Rattle.lsp_base.specs.declared.lsp.Constraints.{Constraints}

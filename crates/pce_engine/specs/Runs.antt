@@ -59,7 +59,7 @@ pub record Reading (input : List ℕ) (remaining old new : Option (List ℕ)) (m
   pub so_far : Goes answers front [] started text m
   pub turned : turns ≤ length front
 
--- the reader is asked so often at most
+-- the most times that the reader is asked
 abbrev pub most_turns : ℕ
 most_turns = 2 ^ 32
 

@@ -2,7 +2,6 @@
 use Rattle.std.proofs.Common.{◌≡◌, ℕ, Bool, true, ◌||◌}
 use Rattle.lsp_base.specs.Base.{is_path_of}
 use Rattle.lsp_base.specs.Tables.{PicksFrom}
-use Rattle.lsp_base.specs.declared.path.Path.{Path}
 
 or_left : (a b : Bool) → a ≡ true → (a || b) ≡ true
 or_left a b is = rw is

@@ -1,3 +1,4 @@
 pub mod Asks
 pub mod Lsps
 pub mod Tunnels
+pub mod Over

@@ -32,7 +32,7 @@ passed records from None = drop from records
 passed records from (Some next) = take (next - from) (drop from records)
 
 -- A page from this place on has each LSP that is asked for, up to where the next page starts: none is skipped. It has 256
--- at most, and so many where another page follows.
+-- at most, and 256 where another page follows.
 pub record IsPage (lsps : Lsps) (peer : Option ℕ) (from : ℕ) (page : LspPage) : Type 0 where
   pub each : page.lsps.items ≡ map (known_lsp lsps.paths) (filter (is_asked peer) (passed lsps.records from page.next))
   pub few : length page.lsps.items ≤ 256

@@ -31,7 +31,7 @@ pub enum Ask {
     Link {
         link: u64,
     },
-    /// The last steps of the kept history, so many at most.
+    /// The last steps of the kept history, `last` at most.
     Steps {
         last: u64,
     },
@@ -43,6 +43,15 @@ pub enum Ask {
     Why {
         peer: u32,
         plsp: Plsp,
+    },
+    /// Delegated LSPs for which a cheaper path is admissible, of one peer or of all: from the record at this place on.
+    Better {
+        peer: Option<u32>,
+        from: u64,
+    },
+    /// What would move if a link went away.
+    Without {
+        link: u64,
     },
     /// A path that nobody asks the network for: nothing is booked.
     Path {
@@ -61,6 +70,10 @@ impl Ask {
         match (self, seen) {
             (Ask::Lsps { peer, from: _ }, Seen::Lsps(page)) => match page.next {
                 Some(from) => Some(Ask::Lsps { peer: *peer, from }),
+                None => None,
+            },
+            (Ask::Better { peer, from: _ }, Seen::Movable(movable)) => match movable.page.next {
+                Some(from) => Some(Ask::Better { peer: *peer, from }),
                 None => None,
             },
             _ => None,

@@ -6,6 +6,8 @@
 //! - `peers`, `steps`: routers with their sessions, kept steps of the history
 //! - `seen`: the network, its counts, and one type for all that is seen
 //! - `origins`: by which steps the paths of an LSP came
+//! - `moves`: LSPs with what a path search for them reads
+//! - `over`: the LSPs over a link
 //! - `tunnels`: the tunnels of the paths over a link
 //! - `taking`: LSPs taken out of the LSP-DB, in pages (`specs/Lsps.antt`)
 //!
@@ -18,7 +20,9 @@
 
 mod ask;
 mod lsps;
+mod moves;
 mod origins;
+mod over;
 mod peers;
 mod seen;
 mod steps;
@@ -27,7 +31,9 @@ mod tunnels;
 
 pub use ask::Ask;
 pub use lsps::{HeldPath, KnownLsp, LinkUse, LspPage, PAGE_LIMIT};
+pub use moves::{Displaced, Movable, TRIED_LIMIT};
 pub use origins::{LspOrigins, Origin, TracedPath};
+pub use over::lsps_over;
 pub use peers::{KnownPeer, LspOwner, SeenPeers};
 pub use seen::{Book, Counts, Network, Seen};
 pub use steps::{EventKind, KnownStep, LastSteps, Outcome};

@@ -1,5 +1,6 @@
 //! The network, its counts, and all that is seen.
 use crate::lsps::{KnownLsp, LinkUse, LspPage};
+use crate::moves::{Displaced, Movable};
 use crate::origins::LspOrigins;
 use crate::peers::SeenPeers;
 use crate::steps::LastSteps;
@@ -53,5 +54,7 @@ pub enum Seen {
     Link(Option<LinkUse>),
     Steps(LastSteps),
     Origins(Option<LspOrigins>),
+    Movable(Movable),
+    Displaced(Option<Displaced>),
     Network(Network),
 }

@@ -44,7 +44,11 @@ pub fn paths_of(
 }
 
 /// Copies an LSP with its paths.
-fn copy_lsp(alloc: Global, lsps: &LspBase, known: &Record) -> Result<KnownLsp, AllocError>
+pub(crate) fn copy_lsp(
+    alloc: Global,
+    lsps: &LspBase,
+    known: &Record,
+) -> Result<KnownLsp, AllocError>
     ensures { IfOk result (λ seen. seen ≡ known_lsp lsps.now.content.paths known.now) }
 {
     let paths = paths_of(alloc, lsps, known.peer, known.plsp)?;
@@ -189,7 +193,7 @@ pub fn page_of(
 }
 
 /// Tests whether a path goes over a link.
-fn is_over(path: &Path, link: LinkNumber) -> bool
+pub(crate) fn is_path_over(path: &Path, link: LinkNumber) -> bool
     ensures { result ≡ has_link link path.now }
 {
     path.links.as_slice().iter().any(|number| *number == link)
@@ -215,7 +219,7 @@ pub fn held_on(alloc: Global, paths: &[Path], link: LinkNumber) -> Result<Vec<He
 {
     let mut held = Vec::new(alloc);
     for path in paths {
-        if is_over(path, link) {
+        if is_path_over(path, link) {
             held.push(held_path(path))?;
         }
     }

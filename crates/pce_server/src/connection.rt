@@ -131,7 +131,7 @@ fn may_part<R: Wait + Clock, S: Ledger, G: Ledger, B: Room>(
         && (context.run.is_closing() || context.wakers.may_part(context.rt, slot))
 }
 
-/// Notes that a connection is let go unheard.
+/// Notes that a connection is closed unheard.
 fn let_go<R: Wait + Clock, S: Ledger, G: Ledger, B: Room>(
     context: &Context<'_, R, S, G, B>,
     peer: u32,

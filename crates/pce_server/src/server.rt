@@ -332,11 +332,11 @@ where
         let keeper = scope.spawn(move || keep_time(context, keeper_at));
         let sessions = orders.sessions;
         let acceptor = scope.spawn(move || accept_all(context, routers, sessions));
-        let door = match control {
+        let controls = match control {
             Some(control) => scope.spawn(move || hear_controls(operators, control)).ok(),
             None => None,
         };
-        if control.is_some() && door.is_none() {
+        if control.is_some() && controls.is_none() {
             context.say(LogLine::ControlGone);
         }
         if let Some(viewers) = viewers {
@@ -353,9 +353,9 @@ where
         if let Ok(acceptor) = acceptor {
             acceptor.join(rt);
         }
-        if let Some(door) = door {
+        if let Some(controls) = controls {
             context.close();
-            door.join(rt);
+            controls.join(rt);
         }
         context.shared.finish(rt);
         if let Ok(keeper) = keeper {

@@ -60,13 +60,18 @@ fn tell_rolled<R: Wait + Clock, S: Ledger, G: Ledger, B: Room>(
 /// Rolls the history where it is full. False where memory was refused: the next look tries again.
 fn make_room<R: Wait + Clock, S: Ledger, G: Ledger, B: Room>(
     context: &Context<'_, R, S, G, B>,
+    seat: &Seat<S, G, B>,
 ) -> bool {
-    tell_rolled(context, context.shared.roll_if_full(context.rt))
+    tell_rolled(context, context.shared.roll_if_full(context.rt, seat))
 }
 
 /// Rolls the history where it is nearly full.
-fn tend<R: Wait + Clock, S: Ledger, G: Ledger, B: Room>(context: &Context<'_, R, S, G, B>) {
-    let _is_rolled = tell_rolled(context, context.shared.roll_if(context.rt, ROLL_AT));
+fn tend<R: Wait + Clock, S: Ledger, G: Ledger, B: Room>(
+    context: &Context<'_, R, S, G, B>,
+    seat: &Seat<S, G, B>,
+) {
+    let rolled = context.shared.roll_if(context.rt, seat, ROLL_AT);
+    let _is_rolled = tell_rolled(context, rolled);
 }
 
 /// Has a seat whose thread has nothing to do drop its receipts of rolled steps, where it keeps any.
@@ -150,48 +155,48 @@ fn note_worked<R: Wait + Clock, S: Ledger, G: Ledger, B: Room>(
     }
 }
 
-/// Counts the steps of a worker's turn that failed: a ticket was taken, where the seat has come to have a job in its hand.
+/// Counts the step by which a turn took the ticket whose job is in the seat's hand.
 fn count_taken<R: Wait + Clock, S: Ledger, G: Ledger, B: Room>(
     context: &Context<'_, R, S, G, B>,
     seat: &mut Seat<S, G, B>,
-    had_job: bool,
 ) {
-    if !had_job && seat.hand().is_some() {
+    if seat.hand().is_some() {
         context.count(Counted::Step(EventKind::Take, ReplyKind::Job));
     }
 }
 
-/// A turn of a worker that has failed this number of times in a row: sleeps until a ticket waits, and works at one. Where none comes,
-/// it looks at the history, and its seat drops its receipts of rolled steps. Gives the fault, if one came. After a fault the
-/// ticket may be in the seat's hand, so the turn doesn't wait for another.
+/// A turn of a worker: works at the job in the seat's hand, or sleeps until a ticket waits, and works at that. Where none
+/// comes, it looks at the history, and its seat drops its receipts of rolled steps. Gives the fault, if one came.
 fn worker_turn<R: Wait + Clock, S: Ledger, G: Ledger, B: Room>(
     context: &Context<'_, R, S, G, B>,
     seat: &mut Seat<S, G, B>,
-    faults: u32,
 ) -> Option<Fault> {
     let rt = context.rt;
     let most = Duration::from_millis(WORK_WAIT_MS);
     if !may_grant(context) {
         return None;
     }
-    if faults == 0 && !context.shared.await_work(rt, most) {
-        tend(context);
+    let had_job = seat.hand().is_some();
+    if !had_job && !context.shared.await_work(rt, most) {
+        tend(context, seat);
         rest(context, seat);
         return None;
     }
-    let had_job = seat.hand().is_some();
     let mut timer = SearchTimer::new(context);
     let fault = match context.shared.work_one(rt, seat, &mut timer) {
         Ok(worked) => {
-            note_worked(context, &worked, had_job, timer.since_us);
             ring_for(context, &worked);
+            note_worked(context, &worked, had_job, timer.since_us);
+            count_taken(context, seat);
             return None;
         }
         Err(fault) => fault,
     };
-    count_taken(context, seat, had_job);
+    if !had_job {
+        count_taken(context, seat);
+    }
     if fault == Fault::HistoryFull {
-        let _is_rolled = make_room(context);
+        let _is_rolled = make_room(context, seat);
     }
     context.say(LogLine::WorkerFault(fault));
     thread::sleep(rt, Duration::from_millis(FAULT_PAUSE_MS));
@@ -208,7 +213,7 @@ fn work_on<R: Wait + Clock, S: Ledger, G: Ledger, B: Room>(
         if context.shared.is_over() {
             return;
         }
-        let Some(fault) = worker_turn(context, seat, faults) else {
+        let Some(fault) = worker_turn(context, seat) else {
             faults = 0;
             continue;
         };
@@ -263,7 +268,7 @@ fn settle<R: Wait + Clock, S: Ledger, G: Ledger, B: Room>(
     );
     let is_on = match settled {
         Ok(settled) => tell_settled(context, settled),
-        Err(Fault::HistoryFull) => make_room(context),
+        Err(Fault::HistoryFull) => make_room(context, seat),
         Err(Fault::OutOfMemory) => {
             context.say(LogLine::MemoryRefused);
             false
@@ -297,7 +302,7 @@ fn keep_on<R: Wait + Clock, S: Ledger, G: Ledger, B: Room>(
         if context.shared.is_over() {
             return;
         }
-        tend(context);
+        tend(context, seat);
         settle(context, seat, context.keep_ms);
     }
 }

@@ -1,5 +1,5 @@
 -- What is written nests few levels, and is read again.
-use Rattle.std.proofs.Common.{◌≡◌, ◌∙◌, ℕ, ◌+◌, ◌-◌, ◌^◌, ◌≤◌, min, ℤ, nat_eq, Bool, true, false, if◌then◌else◌, List, [], ◌∷◌, ◌++◌, Option, None, Some, option_and_then, ap, sym, arith, append-nil}
+use Rattle.std.proofs.Common.{◌≡◌, ◌∙◌, ℕ, ◌+◌, ◌-◌, ◌^◌, ◌≤◌, min, ℤ, nat_eq, Bool, true, false, if◌then◌else◌, List, [], ◌∷◌, Option, None, Some, option_and_then, ap, sym, arith, append-nil}
 use Rattle.std.specs.Str.{is_utf8}
 use Rattle.json.specs.Json.{Json, document, value, if_last, max_depth, string, null}
 use Rattle.json.specs.Lex.{tokens}
@@ -21,15 +21,17 @@ use Rattle.path_looks.specs.declared.answer.Obstacle.{Obstacle}
 use Rattle.path_looks.specs.declared.answer.PathAnswer.{PathAnswer}
 use Rattle.path_looks.specs.declared.full.FullLink.{FullLink}
 use Rattle.path_looks.specs.declared.link_room.LinkRoom.{LinkRoom}
+use Rattle.path_looks.specs.declared.moves.Move.{Move}
 use Rattle.pce_seen.specs.declared.seen.Counts.{Counts}
 use Rattle.pce_seen.specs.declared.steps.KnownStep.{KnownStep}
 use Rattle.std.specs.Map.{lookup}
 use Rattle.server_counts.specs.declared.kinds.EndReason.{EndReason}
 use Rattle.server_counts.specs.declared.visits.Visit.{Visit}
 use Rattle.pce_view.specs.declared.moments.Moments.{Moments}
+use Rattle.pce_view.specs.declared.moves.BetterLsp.{BetterLsp}
 use Rattle.pce_view.specs.Fields.{address_or_null, amounts, end_json, left_or_null, lsp_id, name_or_null, obstacle_json, srp_id, text_or_null, whole_or_null, wholes, word_or_null}
-use Rattle.pce_view.specs.Views.{book_json, counted_json, delegated_of, full_items, full_json, held_items, held_json, line_items, line_json, lines_json, link_json, links_json, lsp_items, lsp_json, lsp_or_null, lsps_of, moments_of, node_json, nodes_json, origins_or_null, page_json, path_answer_json, path_items, path_json, peer_items, peers_json, status_json, step_items, step_json, steps_json, ticket_items, ticket_json, tickets_json, traced_items, traced_json, use_json}
-use Rattle.pce_view.specs.Words.{cost_in, link_in, links_in, obstacle_of, origin_step, origin_ticket, origin_word, outcome_number, purpose_name, purpose_plsp, purpose_request}
+use Rattle.pce_view.specs.Views.{better_items, better_json, better_page_json, book_json, counted_json, delegated_of, full_items, full_json, held_items, held_json, line_items, line_json, lines_json, link_json, links_json, lsp_items, lsp_json, lsp_or_null, lsps_of, moments_of, move_items, move_json, node_json, nodes_json, origins_or_null, page_json, path_answer_json, path_items, path_json, peer_items, peers_json, run_json, status_json, step_items, step_json, steps_json, ticket_items, ticket_json, tickets_json, traced_items, traced_json, use_json}
+use Rattle.pce_view.specs.Words.{cost_in, cost_of_path, link_in, links_in, links_of_path, obstacle_of, origin_step, origin_ticket, origin_word, outcome_number, purpose_name, purpose_plsp, purpose_request}
 
 pub document-of_tokens : (text : List ℕ) (j : Json) → tokens text ≡ json_tokens j → depth j ≤ max_depth → document text ≡ Some j
 document-of_tokens text j is shallow =
@@ -209,3 +211,25 @@ traced_items_shallow (x ∷ xs) = omega (arith, traced_shallow x, traced_items_s
 pub origins_or_shallow : (o : Option LspOrigins) → depth (origins_or_null o) ≤ max_depth
 origins_or_shallow None = omega arith
 origins_or_shallow (Some o) = omega (arith, traced_items_shallow o.paths.items)
+
+better_lsp_shallow : (b : BetterLsp) → depth (better_json b) ≤ 2
+unfolding better_json
+better_lsp_shallow b = omega (arith, wholes_shallow ((b.cheaper).path).links)
+
+better_items_shallow : (bs : List BetterLsp) → items_depth (better_items bs) ≤ 2
+better_items_shallow [] = omega arith
+better_items_shallow (b ∷ bs) = omega (arith, better_lsp_shallow b, better_items_shallow bs)
+
+pub better_shallow : (from : ℕ) (page : LspPage) (bs : List BetterLsp) → depth (better_page_json from page bs) ≤ max_depth
+better_shallow from page bs = omega (arith, whole_or_shallow page.next, better_items_shallow bs)
+
+move_shallow : (m : Move) → depth (move_json m) ≤ 2
+unfolding move_json
+move_shallow m = omega (arith, whole_or_shallow (cost_of_path m.path), wholes_shallow (links_of_path m.path))
+
+move_items_shallow : (ms : List Move) → items_depth (move_items ms) ≤ 2
+move_items_shallow [] = omega arith
+move_items_shallow (m ∷ ms) = omega (arith, move_shallow m, move_items_shallow ms)
+
+pub run_shallow : (link : ℕ) (rest : Option ℕ) (ms : List Move) → depth (run_json link rest ms) ≤ max_depth
+run_shallow link rest ms = omega (arith, whole_or_shallow rest, move_items_shallow ms)

@@ -1,3 +1,5 @@
 mod Depths
+mod Listing
+mod Movers
 mod Names
 mod Objects

@@ -1,5 +1,5 @@
 -- How an object ends, and links beside numbers that are fewer.
-use Rattle.std.proofs.Common.{◌≡◌, ◌∙◌, ℕ, ◌≤◌, ◌<◌, ℤ, min, List, [], ◌∷◌, ◌++◌, length, drop, ap, refl, append_assoc, arith, inl, inr}
+use Rattle.std.proofs.Common.{◌≡◌, ◌∙◌, ℕ, ◌≤◌, ℤ, min, List, [], ◌∷◌, ◌++◌, length, drop, ap, refl, append_assoc, arith, inl, inr}
 use Rattle.std.proofs.lemmas.Bool.{cases_lt}
 use Rattle.std.proofs.lemmas.List.{drop_all}
 use Rattle.json.specs.Json.{Json, no_items}

@@ -1,5 +1,5 @@
 -- What is said to an operator's question, of what was seen.
-use Rattle.std.specs.Prelude.{ℕ, ℤ, ◌≡◌, List, Option, Some, None}
+use Rattle.std.specs.Prelude.{ℕ, ◌≡◌, List, Option, Some, None}
 use Rattle.json.specs.Json.{document, null}
 use Rattle.pcep_word.specs.Priority.{InForce}
 use Rattle.pcep_objects.specs.declared.object.MetricType.TheVariants.{Te}
@@ -11,6 +11,11 @@ use Rattle.path_looks.specs.declared.answer.PathAnswer.{PathAnswer}
 use Rattle.pce_seen.specs.Tunnels.{IsByTunnel}
 use Rattle.pce_seen.specs.declared.lsps.HeldPath.{HeldPath}
 use Rattle.pce_seen.specs.declared.lsps.LinkUse.{LinkUse}
+use Rattle.pce_seen.specs.declared.moves.Displaced.{Displaced}
+use Rattle.pce_seen.specs.declared.moves.Movable.{Movable}
+use Rattle.path_looks.specs.declared.moves.Move.{Move}
+use Rattle.pce_view.specs.Moves.{IsListing, IsRun}
+use Rattle.pce_view.specs.declared.moves.BetterLsp.{BetterLsp}
 use Rattle.pce_seen.specs.declared.ask.Ask.{Ask}
 use Rattle.pce_seen.specs.declared.ask.Ask.TheVariants as ask
 use Rattle.pce_seen.specs.declared.seen.Network.{Network}
@@ -19,18 +24,20 @@ use Rattle.pce_seen.specs.declared.seen.Seen.TheVariants as seen
 use Rattle.pce_view.specs.declared.answer.Form.{Form}
 use Rattle.pce_view.specs.declared.answer.Form.TheVariants.{Table, Json}
 use Rattle.pce_view.specs.declared.answer.Surroundings.{Surroundings}
-use Rattle.pce_view.specs.Views.{book_json, lines_json, lsp_or_null, origins_or_null, page_json, path_answer_json, peers_json, status_json, steps_json, tickets_json, use_json}
+use Rattle.pce_view.specs.Views.{better_page_json, book_json, lines_json, lsp_or_null, origins_or_null, page_json, path_answer_json, peers_json, run_json, status_json, steps_json, tickets_json, use_json}
 use Rattle.pce_view.specs.Words.{links_in}
 
 -- the place at which the page of LSPs that is asked for starts
 abbrev pub place_of : Ask → ℕ
 place_of (ask.Lsps peer from) = from
+place_of (ask.Better peer from) = from
 place_of a = 0
 
 -- the number of the link that is asked for
 abbrev pub number_of_link : Ask → ℕ
 number_of_link (ask.Link link) = link
 number_of_link (ask.LinkLine link) = link
+number_of_link (ask.Without link) = link
 number_of_link a = 0
 
 -- what is asked of a path: the least TE metric, of no colour and with no bound
@@ -72,6 +79,22 @@ abbrev pub IsOneLinkText : Ask → Option LinkUse → List ℕ → Type 0
 IsOneLinkText (ask.LinkLine link) found text = document text ≡ Some (lines_json link found)
 IsOneLinkText a found text = IsLinkText (number_of_link a) found text
 
+-- the delegated LSPs of the page for which a cheaper path is admissible on what was seen, those that gain most first
+pub record IsBetterText (from : ℕ) (m : Movable) (text : List ℕ) : Type 0 where
+  pub found : List BetterLsp
+  pub listing : IsListing m found
+  pub reads : document text ≡ Some (better_page_json from m.page found)
+
+-- where the LSPs over a link would go if it went away
+pub record IsRunText (link : ℕ) (x : Displaced) (text : List ℕ) : Type 0 where
+  pub moves : List Move
+  pub run : IsRun link x moves
+  pub reads : document text ≡ Some (run_json link x.rest moves)
+
+abbrev pub IsRunOrNull : ℕ → Option Displaced → List ℕ → Type 0
+IsRunOrNull link None text = document text ≡ Some null
+IsRunOrNull link (Some x) text = IsRunText link x text
+
 -- a reader of JSON reads the text as exactly what was seen
 abbrev pub IsJsonOf : Surroundings → Ask → Seen → List ℕ → Type 0
 IsJsonOf around a (seen.Counts counts) text = document text ≡ Some (status_json around.version.now around.uptime_ms counts)
@@ -83,6 +106,8 @@ IsJsonOf around a (seen.Lsp lsp) text = document text ≡ Some (lsp_or_null lsp)
 IsJsonOf around a (seen.Link found) text = IsOneLinkText a found text
 IsJsonOf around a (seen.Steps steps) text = document text ≡ Some (steps_json steps.first steps.steps.items)
 IsJsonOf around a (seen.Origins origins) text = document text ≡ Some (origins_or_null origins)
+IsJsonOf around a (seen.Movable movable) text = IsBetterText (place_of a) movable text
+IsJsonOf around a (seen.Displaced displaced) text = IsRunOrNull (number_of_link a) displaced text
 IsJsonOf around a (seen.Network network) text = IsNetworkText a network text
 
 -- the text for programs; of that for people nothing is claimed

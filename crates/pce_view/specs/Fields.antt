@@ -15,7 +15,7 @@ use Rattle.path_looks.specs.declared.link_room.LinkRoom.{LinkRoom}
 use Rattle.server_counts.specs.declared.kinds.EndReason.{EndReason}
 use Rattle.pce_view.specs.CountedWords.{end_word}
 use Rattle.pce_view.specs.Json.{whole, signed}
-use Rattle.pce_view.specs.Words.{cost_in, event_word, is_found, link_in, links_in, obstacle_of, obstacle_word, origin_step, origin_ticket, origin_word, outcome_number, outcome_word, purpose_name, purpose_plsp, purpose_request, purpose_word}
+use Rattle.pce_view.specs.Words.{cost_in, cost_of_path, event_word, is_found, link_in, links_in, links_of_path, obstacle_of, obstacle_word, origin_step, origin_ticket, origin_word, outcome_number, outcome_word, purpose_name, purpose_plsp, purpose_request, purpose_word}
 
 abbrev pub amounts : List ℤ → Items
 amounts [] = no_items
@@ -117,6 +117,9 @@ field_json (field.CostOf answer) = whole_or_null (cost_in answer.now)
 field_json (field.LinksOf answer) = array (wholes (links_in answer.now))
 field_json (field.TightestLink room) = whole_or_null (link_in room.now)
 field_json (field.TightestLeft room) = left_or_null room.now
+field_json (field.HasPath path) = boolean (is_some path.now)
+field_json (field.CostOfPath path) = whole_or_null (cost_of_path path.now)
+field_json (field.LinksOfPath path) = array (wholes (links_of_path path.now))
 field_json (field.OriginWord origin) = word_or_null (origin_word origin)
 field_json (field.OriginStep origin) = whole_or_null (origin_step origin)
 field_json (field.OriginTicket origin) = whole_or_null (origin_ticket origin)

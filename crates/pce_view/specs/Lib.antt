@@ -1,6 +1,7 @@
 pub mod Json
 pub mod Words
 pub mod Fields
+pub mod Moves
 pub mod Views
 pub mod Answers
 pub mod Pieces

@@ -1,6 +1,6 @@
 -- The JSON value of what is seen.
-use Rattle.std.specs.Prelude.{ℕ, ◌+◌, ◌-◌, ◌^◌, min, ℤ, ◌==◌, ◌&&◌, nat_eq, Bool, List, [], ◌∷◌, codes, count_by, is_some, Option, Some, None}
-use Rattle.json.specs.Json.{Json, null, boolean, string, array, object, Items, no_items, item, Members, no_members, member}
+use Rattle.std.specs.Prelude.{ℕ, ◌+◌, ◌-◌, ◌^◌, min, ℤ, ◌==◌, ◌&&◌, nat_eq, List, [], ◌∷◌, codes, count_by, is_some, Option, Some, None}
+use Rattle.json.specs.Json.{Json, null, boolean, string, array, object, Items, no_items, item, no_members, member}
 use Rattle.hex.specs.Hex.{encode_lower}
 use Rattle.te_base.specs.declared.network.Link.{Link}
 use Rattle.te_base.specs.declared.network.Node.{Node}
@@ -19,15 +19,17 @@ use Rattle.pce_seen.specs.declared.steps.KnownStep.{KnownStep}
 use Rattle.path_looks.specs.declared.answer.PathAnswer.{PathAnswer}
 use Rattle.path_looks.specs.declared.full.FullLink.{FullLink}
 use Rattle.path_looks.specs.declared.link_room.LinkRoom.{LinkRoom}
+use Rattle.path_looks.specs.declared.moves.Move.{Move}
 use Rattle.std.specs.Map.{lookup}
 use Rattle.server_counts.specs.declared.kinds.EndReason.{EndReason}
 use Rattle.server_counts.specs.declared.kinds.EndReason.TheVariants as end
 use Rattle.server_counts.specs.declared.visits.LastEnd.{LastEnd}
 use Rattle.server_counts.specs.declared.visits.Visit.{Visit}
 use Rattle.pce_view.specs.declared.moments.Moments.{Moments}
+use Rattle.pce_view.specs.declared.moves.BetterLsp.{BetterLsp}
 use Rattle.pce_view.specs.Fields.{address, address_or_null, amounts, end_json, left_or_null, lsp_id, name_at, name_or_null, obstacle_json, srp_id, text_or_null, whole_or_null, wholes, word_or_null}
 use Rattle.pce_view.specs.Json.{whole}
-use Rattle.pce_view.specs.Words.{cost_in, event_word, is_found, link_in, links_in, obstacle_of, origin_step, origin_ticket, origin_word, outcome_number, outcome_word, purpose_name, purpose_plsp, purpose_request, purpose_word}
+use Rattle.pce_view.specs.Words.{cost_in, cost_of_path, event_word, is_found, link_in, links_in, links_of_path, obstacle_of, origin_step, origin_ticket, origin_word, outcome_number, outcome_word, purpose_name, purpose_plsp, purpose_request, purpose_word}
 
 -- how much there is of what
 unfoldable pub status_json : List ℕ → ℕ → Counts → Json
@@ -334,3 +336,50 @@ origins_json o = object
 abbrev pub origins_or_null : Option LspOrigins → Json
 origins_or_null None = null
 origins_or_null (Some o) = origins_json o
+
+-- an LSP for which a cheaper path is admissible
+unfoldable pub better_json : BetterLsp → Json
+better_json b = object
+    (member (codes "peer") (address b.peer)
+    (member (codes "plsp_id") (whole b.plsp)
+    (member (codes "cost") (whole (b.cheaper).standing)
+    (member (codes "better_cost") (whole ((b.cheaper).path).cost)
+    (member (codes "links") (array (wholes ((b.cheaper).path).links))
+    no_members)))))
+
+abbrev pub better_items : List BetterLsp → Items
+better_items [] = no_items
+better_items (b ∷ bs) = item (better_json b) (better_items bs)
+
+abbrev pub better_page_json : ℕ → LspPage → List BetterLsp → Json
+better_page_json from page found = object
+    (member (codes "from") (whole from)
+    (member (codes "next") (whole_or_null page.next)
+    (member (codes "steps") (whole page.steps)
+    (member (codes "better") (array (better_items found))
+    no_members))))
+
+-- where an LSP would go, if it finds a place
+unfoldable pub move_json : Move → Json
+move_json m = object
+    (member (codes "peer") (address m.peer)
+    (member (codes "plsp_id") (whole m.plsp)
+    (member (codes "setup_priority") (whole ((m.wanted).priorities).setup)
+    (member (codes "hold_priority") (whole ((m.wanted).priorities).hold)
+    (member (codes "bandwidth_bytes_per_second") (whole (m.wanted).bandwidth)
+    (member (codes "is_found") (boolean (is_some m.path))
+    (member (codes "cost") (whole_or_null (cost_of_path m.path))
+    (member (codes "links") (array (wholes (links_of_path m.path)))
+    no_members))))))))
+
+abbrev pub move_items : List Move → Items
+move_items [] = no_items
+move_items (m ∷ ms) = item (move_json m) (move_items ms)
+
+-- where the LSPs over a link would go, and from which record on others aren't tried
+abbrev pub run_json : ℕ → Option ℕ → List Move → Json
+run_json link rest moves = object
+    (member (codes "link") (whole link)
+    (member (codes "rest") (whole_or_null rest)
+    (member (codes "moves") (array (move_items moves))
+    no_members)))

@@ -11,6 +11,7 @@ use Rattle.pce_seen.specs.declared.steps.Outcome.{Outcome}
 use Rattle.pce_seen.specs.declared.steps.Outcome.TheVariants as outcome
 use Rattle.path_looks.specs.declared.answer.Obstacle.{Obstacle}
 use Rattle.path_looks.specs.declared.answer.Obstacle.TheVariants as obstacle
+use Rattle.path_finder.specs.declared.found.Found.{Found}
 use Rattle.path_looks.specs.declared.link_room.LinkRoom.{LinkRoom}
 use Rattle.path_looks.specs.declared.answer.PathAnswer.{PathAnswer}
 use Rattle.path_looks.specs.declared.answer.PathAnswer.TheVariants.{Path, Blocked, NoWay}
@@ -133,3 +134,11 @@ abbrev pub origin_ticket : Origin → Option ℕ
 origin_ticket (origin.Report step) = None
 origin_ticket (origin.Grant step ticket) = Some ticket
 origin_ticket origin.Unknown = None
+
+abbrev pub cost_of_path : Option Found → Option ℕ
+cost_of_path None = None
+cost_of_path (Some found) = Some found.cost
+
+abbrev pub links_of_path : Option Found → List ℕ
+links_of_path None = []
+links_of_path (Some found) = found.links

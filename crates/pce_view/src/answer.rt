@@ -5,12 +5,14 @@ ghost use Rattle.path_looks.specs.Paths.{full_links, IsPathAnswer};
 ghost use Rattle.path_looks.specs.Tightest.{tightest};
 ghost use Rattle.pce_view.specs.Words.{links_in};
 
+use crate::better::better_text;
 use crate::book::book_text;
 use crate::closing::null_text;
 use crate::columns::add_aligned;
 use crate::link::{line_text, link_text};
 use crate::lsp_tables::{add_link_use, add_one_lsp, add_origins, add_page};
 use crate::lsps::{lsp_text, page_text};
+use crate::move_tables::{add_better, add_without};
 use crate::origins::origins_text;
 use crate::path::path_text;
 use crate::peers::peers_text;
@@ -20,6 +22,7 @@ use crate::tables::{
     add_answer, add_book, add_link_line, add_peers, add_status, add_steps, add_tickets,
 };
 use crate::tickets::tickets_text;
+use crate::without::without_text;
 use crate::words::links_in;
 use lsp_base::{Constraints, OtherBounds};
 use path_looks::{FullLink, LinkRoom, PathAnswer, full_links, path_on, tightest};
@@ -54,7 +57,7 @@ fn place_of(ask: &Ask) -> u64
     ensures { result ≡ place_of ask.now }
 {
     match ask {
-        Ask::Lsps { from, .. } => *from,
+        Ask::Lsps { from, .. } | Ask::Better { from, .. } => *from,
         _ => 0,
     }
 }
@@ -64,7 +67,7 @@ fn number_of_link(ask: &Ask) -> u64
     ensures { result ≡ number_of_link ask.now }
 {
     match ask {
-        Ask::Link { link } | Ask::LinkLine { link } => *link,
+        Ask::Link { link } | Ask::LinkLine { link } | Ask::Without { link } => *link,
         _ => 0,
     }
 }
@@ -183,6 +186,8 @@ fn json_text(
         Seen::Link(found) => one_link_text(alloc, ask, found),
         Seen::Steps(steps) => steps_text(alloc, steps),
         Seen::Origins(origins) => origins_text(alloc, origins),
+        Seen::Movable(movable) => better_text(alloc, place_of(ask), movable),
+        Seen::Displaced(displaced) => without_text(alloc, number_of_link(ask), displaced),
         Seen::Network(network) => network_text(alloc, ask, network),
     }
 }
@@ -258,6 +263,8 @@ fn add_rows(
         Seen::Link(found) => add_one_link(alloc, text, ask, found),
         Seen::Steps(steps) => add_steps(text, steps),
         Seen::Origins(origins) => add_origins(text, origins),
+        Seen::Movable(movable) => add_better(alloc, text, place_of(ask), movable),
+        Seen::Displaced(displaced) => add_without(alloc, text, number_of_link(ask), displaced),
         Seen::Network(network) => add_network(alloc, text, ask, network),
     }
 }
@@ -276,7 +283,7 @@ fn columns_text(
     Ok(text.into_bytes())
 }
 
-/// Says what was seen to an operator's question. Where it is a path that is asked for, it is searched for here.
+/// Says what was seen to an operator's question. Paths that are asked for are searched for here.
 pub fn answer_text(
     alloc: Global,
     form: Form,

@@ -19,7 +19,7 @@ fn widen(widths: &mut Vec<usize>, line: &str) -> Result<(), AllocError> {
     Ok(())
 }
 
-/// Adds so many spaces.
+/// Adds `count` spaces.
 fn add_spaces(text: &mut String, count: usize) -> Result<(), AllocError> {
     for _ in 0..count {
         text.push(' ')?;

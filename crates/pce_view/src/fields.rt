@@ -9,14 +9,14 @@ ghost use Rattle.pce_view.specs.Fields.{address, address_or_null, amounts, end_j
 
 use crate::counted_words::end_word;
 use crate::words::{
-    cost_in, event_word, is_found, link_in, links_in, obstacle_of, obstacle_word, origin_step,
-    origin_ticket, origin_word, outcome_number, outcome_word, purpose_plsp, purpose_request,
-    purpose_word,
+    cost_in, cost_of_path, event_word, is_found, link_in, links_in, links_of_path, obstacle_of,
+    obstacle_word, origin_step, origin_ticket, origin_word, outcome_number, outcome_word,
+    purpose_plsp, purpose_request, purpose_word,
 };
 use commit_core::Purpose;
 use json::Writer;
 use lsp_base::Part;
-use path_looks::{LinkRoom, Obstacle, PathAnswer};
+use path_looks::{Found, LinkRoom, Obstacle, PathAnswer};
 use pce_seen::{EventKind, Origin, Outcome};
 use pcep_objects::Plsp;
 use pcep_word::{Bandwidth, Ipv4, Priorities, Priority};
@@ -73,6 +73,10 @@ pub(crate) enum Field<'a> {
     LinksOf(&'a PathAnswer),
     TightestLink(&'a Option<LinkRoom>),
     TightestLeft(&'a Option<LinkRoom>),
+    /// Whether there is a path, its cost, and its links.
+    HasPath(&'a Option<Found>),
+    CostOfPath(&'a Option<Found>),
+    LinksOfPath(&'a Option<Found>),
     /// By what a path came, the place of that step, and the ticket.
     OriginWord(Origin),
     OriginStep(Origin),
@@ -287,6 +291,9 @@ fn put_value(alloc: Global, writer: &mut Writer, value: &Field<'_>) -> Result<()
         Field::LinksOf(answer) => put_numbers(writer, links_in(answer)),
         Field::TightestLink(room) => put_whole_or(writer, link_in(room)),
         Field::TightestLeft(room) => put_left_or(writer, room),
+        Field::HasPath(path) => writer.boolean(path.is_some()),
+        Field::CostOfPath(path) => put_whole_or(writer, cost_of_path(path)),
+        Field::LinksOfPath(path) => put_numbers(writer, links_of_path(path)),
         Field::OriginWord(origin) => put_origin_word(writer, *origin),
         Field::OriginStep(origin) => put_whole_or(writer, origin_step(*origin)),
         Field::OriginTicket(origin) => put_whole_or(writer, origin_ticket(*origin)),

@@ -5,8 +5,10 @@
 //! - `fields`, `closing`: objects from tables of their members, and the text of a whole value
 //! - `words`: words for what is seen
 //! - `moments`: how long ago a peer came up or went down
-//! - `status`, `book`, `peers`, `tickets`, `lsps`, `link`, `steps`, `origins`, `path`: one kind of answer each, as JSON
-//! - `columns`, `tables`, `lsp_tables`: the same for people
+//! - `moves`: paths that LSPs could have elsewhere (`specs/Moves.antt`)
+//! - `status`, `book`, `peers`, `tickets`, `lsps`, `link`, `steps`, `origins`, `path`, `better`, `without`: one kind of answer
+//!   each, as JSON
+//! - `columns`, `tables`, `lsp_tables`, `move_tables`: the same for people
 //! - `answer`: what is said to a question
 //! - `pieces`, `families`, `counted_words`: lines of metrics
 //! - `link_metrics`, `step_metrics`, `session_metrics`, `time_metrics`, `metrics`: what was seen and counted, as metrics
@@ -20,6 +22,7 @@
 #![tactic(auto)]
 
 mod answer;
+mod better;
 mod book;
 mod closing;
 mod columns;
@@ -32,6 +35,8 @@ mod lsp_tables;
 mod lsps;
 mod metrics;
 mod moments;
+mod move_tables;
+mod moves;
 mod origins;
 mod path;
 mod peers;
@@ -43,6 +48,7 @@ mod steps;
 mod tables;
 mod tickets;
 mod time_metrics;
+mod without;
 mod words;
 
 pub use answer::{Form, Surroundings, answer_text};

@@ -1,9 +1,9 @@
 //! Words for what is seen.
 ghost use Rattle.std.specs.Prelude.{◌≡◌, option_map};
-ghost use Rattle.pce_view.specs.Words.{booked_word, cost_in, event_word, is_found, link_in, links_in, obstacle_of, obstacle_word, origin_step, origin_ticket, origin_word, outcome_number, outcome_word, purpose_plsp, purpose_request, purpose_word};
+ghost use Rattle.pce_view.specs.Words.{booked_word, cost_in, cost_of_path, event_word, is_found, link_in, links_in, links_of_path, obstacle_of, obstacle_word, origin_step, origin_ticket, origin_word, outcome_number, outcome_word, purpose_plsp, purpose_request, purpose_word};
 
 use commit_core::Purpose;
-use path_looks::{LinkRoom, Obstacle, PathAnswer};
+use path_looks::{Found, LinkRoom, Obstacle, PathAnswer};
 use pce_seen::{EventKind, Origin, Outcome};
 use te_base::LinkNumber;
 
@@ -204,5 +204,25 @@ pub(crate) fn origin_ticket(origin: Origin) -> Option<u64>
     match origin {
         Origin::Grant { ticket, .. } => Some(ticket),
         Origin::Report { .. } | Origin::Unknown => None,
+    }
+}
+
+/// The cost of a path, if there is one.
+pub(crate) fn cost_of_path(path: &Option<Found>) -> Option<u64>
+    ensures { result ≡ cost_of_path path.now }
+{
+    match path {
+        Some(found) => Some(found.cost),
+        None => None,
+    }
+}
+
+/// The links of a path, none where there is no path.
+pub(crate) fn links_of_path(path: &Option<Found>) -> &[LinkNumber]
+    ensures { result.now ≡ links_of_path path.now }
+{
+    match path {
+        Some(found) => found.links.as_slice(),
+        None => &[],
     }
 }

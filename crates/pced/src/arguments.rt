@@ -21,6 +21,8 @@ Standard input is a link text (TOML), a line ---, and lines:
   commit N LINKS   what the search for ticket N answered: none, or links joined by commas
   return PEER PLSP an LSP is given back to its router
   delete PEER PLSP an LSP that was initiated is to be removed
+  reload N IGP TE COLOUR RESERVABLE
+                   the link N has these values from now on
   book             what is left of each link at the priorities 0 to 7
   history          the events so far, with their replies
   roll             the steps so far are let go, and stay counted
@@ -43,8 +45,11 @@ Standard input has an operator's lines, each answered on standard output, and so
   return PEER PLSP an LSP is given back to its router
   delete PEER PLSP an LSP that was initiated is to be removed
   book             what is left of each link at the priorities 0 to 7
+  reload           the link text is read again, and links have its values
+  reload check     what that would change
   status, links, link N, peers, lsps, lsps PEER, lsp PEER PLSP, tickets,
-  history N, path FROM TO BW SETUP HOLD
+  history N, path FROM TO BW SETUP HOLD, why PEER PLSP, better, better PEER,
+  without N
                    what stands, as a table; as JSON behind the word json
   end              the end of the run
 PEER is a number or a dotted address. docs/OPERATING.md tells how to run it.";

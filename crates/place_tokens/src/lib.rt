@@ -22,8 +22,6 @@
 
 mod rule;
 mod source;
-#[cfg(test)]
-mod tests;
 
 pub use rule::{Room, View};
 pub use source::{Drawn, PlaceTable, Source, Token, Unopened, give_back, learn, lend};

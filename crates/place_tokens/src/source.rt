@@ -80,7 +80,7 @@ impl Model for Unopened {
 }
 
 impl Unopened {
-    /// A source for so many seats, below 2^32.
+    /// A source for a number of seats below 2^32.
     pub fn new(alloc: Global, seats: u64) -> Result<Unopened, AllocError>
         requires { seats < 2 ^ 32 }
         ensures { IfOk result (λ room. room.seats ≡ seats) }

@@ -1,6 +1,6 @@
 //! Lines that ask to see something. Nothing is done for them.
 ghost use Rattle.std.specs.Prelude.{◌≡◌, option_map, Some};
-ghost use Rattle.pce_seen.specs.declared.ask.Ask.TheVariants.{Link, LinkLine, Lsp, Lsps, Steps, Why};
+ghost use Rattle.pce_seen.specs.declared.ask.Ask.TheVariants.{Better, Link, LinkLine, Lsp, Lsps, Steps, Why, Without};
 ghost use Rattle.script_lines.specs.Commands.{lsp_in};
 ghost use Rattle.script_lines.specs.Views.{ask_alone, ask_in, ask_with, json_in, path_ask, view_line_in};
 ghost use Rattle.script_lines.specs.Words.{long_number_in, peer_in};
@@ -33,6 +33,10 @@ fn ask_alone(word: &str) -> Option<Ask>
             from: 0,
         }),
         "tickets" => Some(Ask::Tickets),
+        "better" => Some(Ask::Better {
+            peer: None,
+            from: 0,
+        }),
         _ => None,
     }
 }
@@ -42,6 +46,18 @@ fn lsps_ask(rest: &str) -> Option<Ask>
 {
     match peer_in(rest) {
         Some(peer) => Some(Ask::Lsps {
+            peer: Some(peer),
+            from: 0,
+        }),
+        None => None,
+    }
+}
+
+fn better_ask(rest: &str) -> Option<Ask>
+    ensures { result ≡ option_map (λ peer. Better (Some peer) 0) (peer_in rest.now) }
+{
+    match peer_in(rest) {
+        Some(peer) => Some(Ask::Better {
             peer: Some(peer),
             from: 0,
         }),
@@ -81,6 +97,15 @@ fn line_ask(rest: &str) -> Option<Ask>
 {
     match long_number_in(rest) {
         Some(link) => Some(Ask::LinkLine { link }),
+        None => None,
+    }
+}
+
+fn without_ask(rest: &str) -> Option<Ask>
+    ensures { result ≡ option_map (λ link. Without link) (long_number_in rest.now) }
+{
+    match long_number_in(rest) {
+        Some(link) => Some(Ask::Without { link }),
         None => None,
     }
 }
@@ -127,6 +152,8 @@ fn ask_with(word: &str, rest: &str) -> Option<Ask>
         "path" => path_ask(rest),
         "links" => line_ask(rest),
         "why" => why_ask(rest),
+        "better" => better_ask(rest),
+        "without" => without_ask(rest),
         _ => None,
     }
 }

@@ -120,7 +120,7 @@ impl<'a, R: Wait, S: Ledger, G: Ledger, B: Room> Store for Seated<'a, R, S, G, B
     }
 
     fn roll(&mut self) -> Result<u64, AllocError> {
-        self.shared.roll(self.rt)
+        self.shared.roll(self.rt, self.seat)
     }
 }
 
@@ -135,7 +135,7 @@ impl<'a, R: Wait, S: Ledger, G: Ledger, B: Room> Desk for Seated<'a, R, S, G, B>
     ghost is_left = { λ _ table. (d : Content) × Replays d × (table ≡ all_left d.state.te.links d.state.base.paths) };
 
     fn roll_if_full(&mut self) -> Result<Option<u64>, AllocError> {
-        self.shared.roll_if_full(self.rt)
+        self.shared.roll_if_full(self.rt, self.seat)
     }
 
     fn queued(&self, peer: u32) -> bool {

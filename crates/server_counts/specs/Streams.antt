@@ -36,7 +36,7 @@ whole_counted Out kind before last c =
 abbrev pub begun : Way → ℕ → ℕ → ℕ → Counters → MessageStream × Counters
 begun way kind length byte c = if nat_le length 4 then (Start, whole_counted way kind 0 byte c) else (Body kind (length - 4) 0, c)
 
--- one more byte of a body of which so many are to come
+-- one more byte of a body of which `left` bytes are to come
 abbrev pub gone_on : Way → ℕ → ℕ → ℕ → ℕ → Counters → MessageStream × Counters
 gone_on way kind left last byte c =
     if nat_le left 1 then (Start, whole_counted way kind last byte c) else (Body kind (left - 1) (if nat_eq kind 6 then byte else last), c)
@@ -49,7 +49,7 @@ heard way (High kind, c) byte = (Low kind byte, c)
 heard way (Low kind high, c) byte = begun way kind (256 * high + byte) byte c
 heard way (Body kind left last, c) byte = gone_on way kind left last byte c
 
--- a body with so many bytes fewer to come
+-- a body with `count` bytes fewer to come
 abbrev pub behind : MessageStream → ℕ → MessageStream
 behind (Body kind left last) count = Body kind (left - count) last
 behind s count = s

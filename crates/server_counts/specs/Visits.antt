@@ -2,7 +2,6 @@
 use Rattle.std.specs.Prelude.{ℕ, ◌≡◌, nat_eq, Bool, false, Option, Some, None, unwrap_or, is_some, if◌then◌else◌}
 use Rattle.indexmap.specs.IndexMap.{get}
 use Rattle.server_counts.specs.declared.kinds.EndReason.{EndReason}
-use Rattle.server_counts.specs.declared.visits.LastEnd.{LastEnd}
 use Rattle.server_counts.specs.declared.visits.Visit.{Visit}
 use Rattle.server_counts.specs.declared.visits.Visits.{Visits}
 

@@ -16,7 +16,7 @@ pub struct Counters {
     searches: Histogram,
     /// From an ask to the last verdict.
     waits: Histogram,
-    /// For so long a look held the lock.
+    /// The time for which a look held the lock.
     looks: Histogram,
 }
 
@@ -56,7 +56,7 @@ impl Counters {
         self.numbers[place(what)]
     }
 
-    /// This took so long, in microseconds.
+    /// Adds a time that this took, in microseconds.
     pub fn observe(&mut self, what: Timed, us: u64)
         ensures { self.new ≡ timed what us self.old }
     {

@@ -47,7 +47,7 @@ impl Histogram {
         }
     }
 
-    /// Something took so long, in microseconds.
+    /// Adds a time, in microseconds.
     pub fn observe(&mut self, us: u64)
         ensures { self.new ≡ observed us self.old }
     {

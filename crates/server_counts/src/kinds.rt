@@ -67,7 +67,7 @@ pub enum EndReason {
     SecondSession,
     /// The session was refused, by this number.
     Refused(u8),
-    /// It was let go unheard.
+    /// It was closed unheard.
     Unheard,
 }
 

@@ -1,5 +1,5 @@
 -- Routers that a server waits for.
-use Rattle.std.proofs.Common.{◌≡◌, ℕ, Bool, true, false, List, [], ◌∷◌, ◌==◌, ◌&&◌, length, map, refl, ap, ◌∙◌, sym, if◌then◌else◌}
+use Rattle.std.proofs.Common.{◌≡◌, ℕ, Bool, List, [], ◌∷◌, ◌&&◌, map, refl, ap}
 use Rattle.std.specs.List.{list_all}
 use Rattle.server_rules.specs.declared.settling.Awaited.{Awaited}
 use Rattle.server_rules.specs.Settled.{awaited_after, is_in_sync, noted}

@@ -24,8 +24,6 @@ mod failures;
 mod known;
 mod log_rate;
 mod settling;
-#[cfg(test)]
-mod tests;
 
 pub use entrance::{Entrance, Taken, admit};
 pub use expiry::{Due, Expiry};

@@ -1,5 +1,5 @@
 -- What an operator's line may ask for.
-use Rattle.std.proofs.Common.{◌≡◌, ℕ, Bool, true, false, List, Option, Some, None, option_map, option_and_then, codes, length, nat_le, ◌<◌, ◌&&◌, refl, sym, subst, arith, IfOk, IfErr, IsSome, Result, Ok, Err, if◌then◌else◌}
+use Rattle.std.proofs.Common.{◌≡◌, ℕ, Bool, true, false, List, Option, Some, None, option_map, option_and_then, codes, length, nat_le, ◌<◌, ◌&&◌, refl, subst, arith, IfOk, IfErr, IsSome, Result, Ok, Err, if◌then◌else◌}
 use Rattle.std.proofs.lemmas.Bool.Decides.{nat_tests}
 use Rattle.std.specs.Str.{bytes_eq, is_utf8}
 use Rattle.step_core.specs.declared.event.Event.{Event}
@@ -10,7 +10,7 @@ use Rattle.script_lines.specs.Views.{view_line_in}
 use Rattle.script_lines.specs.declared.views.ViewLine.{ViewLine}
 use Rattle.script_lines.specs.Words.{cut_at_space, peer_in, name_in}
 use Rattle.server_talk.specs.declared.requests.Request.{Request}
-use Rattle.server_talk.specs.declared.requests.Request.TheVariants.{Book, Check, End, Reload, Submit, View}
+use Rattle.server_talk.specs.declared.requests.Request.TheVariants.{Submit}
 use Rattle.server_talk.specs.Listening.{AreKept, Asks as Told}
 use Rattle.server_talk.specs.Requests.{is_operators, line_limit, request_in, request_of, view_or_event}
 

@@ -1,7 +1,6 @@
 -- An operator's lines, step by step.
-use Rattle.std.specs.Prelude.{◌≡◌, ℕ, ◌<◌, ◌≤◌, ℤ, Bool, true, false, List, [], ◌∷◌, ◌++◌, length, codes, string_bytes, vec_capacity, Option, Some, None, IsSome, Result, Ok, Err, ⊤}
+use Rattle.std.specs.Prelude.{◌≡◌, ℕ, ◌<◌, ◌≤◌, Bool, true, false, List, [], ◌∷◌, ◌++◌, length, codes, string_bytes, vec_capacity, Option, Some, None, Result, Ok, Err, ⊤}
 use Rattle.std.specs.Io.KnownBytes.{Consumes}
-use Rattle.step_core.specs.declared.reload.LinkReload.{LinkReload}
 use Rattle.history_core.specs.Faults.{fault_text}
 use Rattle.history_core.specs.declared.fault.Fault.TheVariants.{HistoryFull}
 use Rattle.engine_core.specs.declared.store.Call.{Call}
@@ -13,7 +12,6 @@ use Rattle.server_talk.specs.declared.commands.Answer.TheVariants as answers
 use Rattle.server_talk.specs.declared.operator.OperatorEnd.{OperatorEnd}
 use Rattle.server_talk.specs.declared.operator.OperatorEnd.TheVariants.{EndAsked, WriteFault}
 use Rattle.server_talk.specs.declared.pending.Pending.{Pending}
-use Rattle.server_talk.specs.declared.plan.PlanFault.{PlanFault}
 use Rattle.server_talk.specs.declared.requests.Request.{Request}
 use Rattle.server_talk.specs.declared.requests.Request.TheVariants.{End}
 use Rattle.server_talk.specs.Servers.{Server}

@@ -46,7 +46,7 @@ both false b is = absurd (cc (is))
 is_less : (n count : ℕ) → nat_lt n count ≡ true → n < count
 is_less n count is = grind (arith, nat_tests)
 
--- each entry's link is one of so many
+-- each entry names one of `count` links
 abbrev pub AreLinks : ℕ → List LinkReload → Type 0
 AreLinks count xs = list_all (λ e. nat_lt e.link count) xs ≡ true
 

@@ -1,12 +1,12 @@
 -- What is written nests few levels, and is read again.
-use Rattle.std.proofs.Common.{◌≡◌, ◌∙◌, ℕ, ◌+◌, ◌≤◌, List, [], ◌++◌, Option, None, Some, option_and_then, ap, sym, arith, append-nil}
+use Rattle.std.proofs.Common.{◌≡◌, ◌∙◌, ℕ, ◌≤◌, List, [], Option, None, Some, option_and_then, ap, sym, arith, append-nil}
 use Rattle.json.specs.Json.{Json, document, value, if_last, max_depth}
 use Rattle.json.specs.Lex.{tokens}
 use Rattle.json.specs.Tree.{json_tokens, depth, items_depth}
 use Rattle.json.proofs.Printed.Trees.{value-json_tokens}
 use Rattle.json.specs.Json as json
 use Rattle.toml.specs.Data.{Items, no_items, item, Members}
-use Rattle.te_places.specs.Places.{Place, nodes_in, place_json, place_of, places_document, places_in, places_json, places_or_none, with_place}
+use Rattle.te_places.specs.Places.{Place, nodes_in, place_of, places_document, places_in, places_json, places_or_none, with_place}
 
 pub document-of_tokens : (text : List ℕ) (j : Json) → tokens text ≡ json_tokens j → depth j ≤ max_depth → document text ≡ Some j
 document-of_tokens text j is shallow =

@@ -1,5 +1,5 @@
 -- Which nodes of a link text have a place, and the document that says it.
-use Rattle.std.specs.Prelude.{ℕ, ℤ, codes, List, Option, Some, None, option_and_then, option_map}
+use Rattle.std.specs.Prelude.{ℕ, ℤ, codes, List, Option, Some, None, option_and_then}
 use Rattle.std.specs.Fmt.{signed_decimal}
 use Rattle.json.specs.Json as json
 use Rattle.json.specs.Json.{Json}

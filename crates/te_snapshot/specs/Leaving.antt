@@ -35,7 +35,7 @@ revalued (Some l) a = record { number = a.number; to = a.to; igp = l.igp; te = l
 abbrev pub arc_now : List Link → Outgoing → Outgoing
 arc_now links a = revalued (slice_get links a.number) a
 
--- it leads to one of so many nodes, and its metrics are in their range
+-- it leads to one of this number of nodes, and its metrics are in their range
 pub record IsArcAmong (nodes : ℕ) (arc : Outgoing) : Type 0 where
   pub to : arc.to < nodes
   pub igp_positive : 0 < arc.igp

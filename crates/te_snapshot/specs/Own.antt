@@ -14,6 +14,6 @@ own_share_on paths t l = record { link = l; shares = map (share paths t l) (prio
 abbrev pub is_something : OwnShare → Bool
 is_something held = nat_lt 0 (slice_index held.shares 7)
 
--- what the tunnel reserves on each link on which it reserves something, of so many links by their numbers from 0
+-- what the tunnel reserves on each link on which it reserves something, of this number of links, numbered from 0
 unfoldable pub own_shares : List Path → Tunnel → ℕ → List OwnShare
 own_shares paths t count = filter is_something (map (own_share_on paths t) (range_with_len 0 count))

@@ -18,7 +18,7 @@ row_in (Some page) place = slice_index_or (arc_value page) place []
 abbrev pub row_at : List (Arc (List (List ℤ)) Global) → ℕ → List ℤ
 row_at pages l = row_in (slice_get pages (l / 64)) (l % 64)
 
--- the rows of so many links
+-- the rows of the first links, this number of them
 abbrev pub rows_of : ℕ → List (Arc (List (List ℤ)) Global) → List (List ℤ)
 rows_of count pages = map (row_at pages) (range_with_len 0 count)
 

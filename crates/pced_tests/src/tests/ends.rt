@@ -14,13 +14,13 @@ struct Case {
     last: Beat,
     /// So many writes succeed.
     writes: u64,
-    /// What the store answers so many of these events by.
+    /// What the store answers the first `faults` of these events by.
     failing: Failing,
     fault: Fault,
     faults: u32,
     is_closing: bool,
     ended: Ended,
-    /// So many Downs are in, and so often the history was rolled.
+    /// The number of Downs that are in, and of rolls.
     downs: u32,
     rolls: u32,
 }

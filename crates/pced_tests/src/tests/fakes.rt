@@ -117,7 +117,7 @@ impl Show for Text {
     }
 }
 
-/// A writer that takes so many writes, of so many bytes each at most, and then fails.
+/// A writer that takes `left` writes, of `most` bytes each at most, and then fails.
 #[derive(Drop)]
 pub struct Tap {
     pub left: u64,
@@ -199,7 +199,7 @@ impl Failing {
     }
 }
 
-/// A store that replies Done to all, but first answers so many events of a kind by a fault.
+/// A store that replies Done to all, but first answers `faults` events of a kind by a fault.
 #[derive(Drop)]
 pub struct Faulty {
     pub calls: Vec<Call>,
@@ -208,7 +208,7 @@ pub struct Faulty {
     pub faults: u32,
     pub downs: u32,
     pub rolls: u32,
-    /// So often its list was emptied.
+    /// How often its list was emptied.
     pub forgets: u32,
 }
 

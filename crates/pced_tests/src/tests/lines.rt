@@ -23,7 +23,7 @@ fn store_in(alloc: Global) -> Faulty {
 /// How an operator's part ended, or that there was no memory for it.
 type End = Result<OperatorEnd, AllocError>;
 
-/// What is answered to a reader's lines, by a writer that takes so many writes.
+/// What is answered to a reader's lines, by a writer that takes a number of writes.
 fn answered_to<R: Wait, I: Patient>(
     rt: &R,
     alloc: Global,

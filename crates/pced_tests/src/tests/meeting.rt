@@ -181,20 +181,21 @@ fn ask_twice<R: Wait, S: Ledger, G: Ledger, B: Room>(
     )
 }
 
-/// The history is rolled where eight steps are kept, and once: who comes second finds it rolled.
+/// The history is rolled where nine steps are kept, and once: who comes second finds it rolled.
 fn roll_once<R: Wait + Abort, S: Ledger, G: Ledger, B: Room>(
     rt: &R,
     shared: &Shared<S, G, B>,
+    seat: &Seat<S, G, B>,
 ) -> Result<(), Fail> {
-    let early = shared.roll_if(rt, 9)?;
-    let full = shared.roll_if_full(rt)?;
-    let rolled = shared.roll_if(rt, 8)?;
-    let again = shared.roll_if(rt, 8)?;
-    assert_eq!(rt; [early, full, rolled, again], [None, None, Some(8), None]);
+    let early = shared.roll_if(rt, seat, 10)?;
+    let full = shared.roll_if_full(rt, seat)?;
+    let rolled = shared.roll_if(rt, seat, 9)?;
+    let again = shared.roll_if(rt, seat, 9)?;
+    assert_eq!(rt; [early, full, rolled, again], [None, None, Some(9), None]);
     Ok(())
 }
 
-/// The ticket that is to wait again is granted over C, behind a roll.
+/// The ticket that is searched for again is in the worker's hand, and granted over C, behind a roll.
 fn grant_the_other<R: Wait + Abort, S: Ledger, G: Ledger, B: Room>(
     rt: &R,
     shared: &Shared<S, G, B>,
@@ -202,7 +203,7 @@ fn grant_the_other<R: Wait + Abort, S: Ledger, G: Ledger, B: Room>(
 ) -> Result<(), Fail> {
     let waiting = shared.waiting(rt);
     let kept = shared.kept(rt);
-    roll_once(rt, shared)?;
+    roll_once(rt, shared, seat)?;
     let left = shared.kept(rt);
     let came = came_to(&shared.work_one(rt, seat, &mut Quiet)?);
     let seen = (
@@ -213,11 +214,11 @@ fn grant_the_other<R: Wait + Abort, S: Ledger, G: Ledger, B: Room>(
         shared.waiting(rt),
         shared.queued(rt, 1),
     );
-    assert_eq!(rt; seen, (true, 8, 0, Came::Granted(2), false, true));
+    assert_eq!(rt; seen, (false, 9, 0, Came::Granted(2), false, true));
     Ok(())
 }
 
-/// Both tickets are searched for at once: one is granted, and the other is to wait again.
+/// Both tickets are searched for at once: one is granted, and the other is taken again.
 pub fn ask_and_meet<
     R: Threads + Wait + Clock + Abort + Sync,
     S: Ledger + Send + Sync,
@@ -263,7 +264,7 @@ pub fn both_are_granted<R: Abort, S: Ledger, G: Ledger, B: Room>(
         audit.database.rolled(),
         audit.database.history().len(),
     );
-    assert_eq!(rt; (left, counts), ([Some(400_000); 4], (10, 2, 8, 2)));
+    assert_eq!(rt; (left, counts), ([Some(400_000); 4], (10, 2, 9, 1)));
     Ok(())
 }
 

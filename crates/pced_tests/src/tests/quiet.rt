@@ -1,4 +1,4 @@
-//! What is let go of while nothing happens.
+//! What is dropped while nothing happens.
 use super::ends::done;
 use super::fakes::{Beat, Beats, Noon, Tap};
 use super::*;
@@ -12,7 +12,7 @@ use std::process::Abort;
 use std::sync::Wait;
 use std::sync::ledger::Ledger;
 
-/// A session that is up, and then reads nothing so often.
+/// A session that is up, and then reads nothing `quiet` times.
 fn beats_of(alloc: Global, quiet: u32) -> Result<Beats, Fail> {
     let mut beats = VecDeque::new(alloc);
     beats.push_back(Beat::Bytes(OPEN))?;
@@ -23,7 +23,7 @@ fn beats_of(alloc: Global, quiet: u32) -> Result<Beats, Fail> {
     Ok(Beats { beats })
 }
 
-/// How often a connection with so many quiet turns empties its store's list.
+/// How often a connection with `quiet` quiet turns empties its store's list.
 fn forgets<R: Wait>(rt: &R, alloc: Global, quiet: u32) -> Result<u32, Fail> {
     let mut reader = beats_of(alloc, quiet)?;
     let mut writer = Tap {
@@ -69,7 +69,7 @@ pub fn fold_when_quiet<R: Wait + Abort, S: Ledger, G: Ledger, B: Room>(
         let _reply = shared.submit(rt, seat, Event::Down { peer })?;
     }
     let kept = receipts_after(rt, alloc, shared, seat);
-    let _steps = shared.roll(rt)?;
+    let _steps = shared.roll(rt, seat)?;
     let rolled = receipts_after(rt, alloc, shared, seat);
     assert_eq!(rt; (kept, rolled, seat.steps()), (2, 0, 2));
     Ok(())

@@ -179,7 +179,7 @@ fn perform<R: Wait, S: Ledger, G: Ledger, B: Room>(
             Ok(())
         }
         Ask::Roll => {
-            let _steps = shared.roll(rt)?;
+            let _steps = shared.roll(rt, seat)?;
             shared.fold(rt, seat);
             Ok(())
         }

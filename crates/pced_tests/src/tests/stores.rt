@@ -6,7 +6,7 @@ use pcep_session::State;
 use std::alloc::AllocError;
 use std::process::Abort;
 
-/// A store that takes so many events and then has no room for more steps. Every reply is Done.
+/// A store that takes a number of events and then has no room for more steps. Every reply is Done.
 #[derive(Drop)]
 struct Small {
     calls: Vec<Call>,
@@ -137,7 +137,7 @@ fn outcome_over(client: &mut Client, store: &mut Small) -> Outcome {
     }
 }
 
-/// The outcome over a store with room for so many events.
+/// The outcome over a store with room for `room` events.
 fn outcome_in(alloc: Global, room: u32) -> Result<Outcome, Fault> {
     let mut client = Client::new(alloc, 0)?;
     let mut store = Small {
@@ -159,7 +159,7 @@ const FULL: Outcome = Outcome {
     room: 1,
 };
 
-/// The store is full once so many events are in.
+/// The store is full once `submitted` events are in.
 const fn full_behind(submitted: u32) -> Outcome {
     Outcome {
         submitted,

@@ -1,4 +1,4 @@
-use Rattle.std.proofs.Common.{◌≡◌, length}
+use Rattle.std.proofs.Common.{◌≡◌}
 use Rattle.database_looks.specs.Origins.{last_below, last_report, reports_at}
 use Rattle.database_looks.proofs.origins.last_report.Given as goal
 

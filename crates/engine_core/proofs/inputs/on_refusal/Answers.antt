@@ -1,4 +1,4 @@
-use Rattle.std.proofs.Common.{[], refl, rules, Ok}
+use Rattle.std.proofs.Common.{refl, rules}
 use Rattle.std.proofs.lemmas.Result.{err_from_is_err_and}
 use Rattle.step_core.specs.declared.event.Event.TheVariants.{Refused}
 use Rattle.engine_core.specs.Calls.{newest_reply}

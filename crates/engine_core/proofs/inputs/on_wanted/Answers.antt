@@ -1,4 +1,4 @@
-use Rattle.std.proofs.Common.{[], refl, rules, Ok}
+use Rattle.std.proofs.Common.{refl, rules}
 use Rattle.std.proofs.lemmas.Result.{err_from_is_err_and}
 use Rattle.step_core.specs.declared.event.Event.TheVariants.{Ask}
 use Rattle.commit_core.specs.declared.ticket.Purpose.TheVariants.{Update}

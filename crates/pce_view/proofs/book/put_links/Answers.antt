@@ -1,4 +1,4 @@
-use Rattle.std.proofs.Common.{◌≡◌, ◌≤◌, ◌++◌, ◌∷◌, [], length, min, ap, sym, ◌∙◌, arith}
+use Rattle.std.proofs.Common.{◌≤◌, ◌++◌, length, min, ap, sym, ◌∙◌, arith}
 use Rattle.json.specs.Tree.{items_tokens}
 use Rattle.pce_view.proofs.Objects.{links_done}
 use Rattle.pce_view.proofs.book.put_links.Goals as goal

@@ -1,4 +1,4 @@
-use Rattle.std.proofs.Common.{◌≡◌, ◌<◌, ◌-◌, length, ap, ◌∙◌, arith}
+use Rattle.std.proofs.Common.{◌<◌, ◌-◌, length, ap, ◌∙◌, arith}
 use Rattle.server_counts.specs.declared.stream.MessageStream.TheVariants.{Body}
 use Rattle.server_counts.proofs.Passing.{passes}
 use Rattle.server_counts.proofs.stream.passable.Goals as goal

@@ -1,4 +1,3 @@
-use Rattle.std.proofs.Common.{subst}
 use Rattle.server_talk.specs.Operators.{number_behind}
 use Rattle.server_talk.specs.Servers.{server_of}
 use Rattle.server_talk.proofs.Operating.{answered_at_once, answered_after_roll, answered_starved, was_full}

@@ -1,4 +1,4 @@
-use Rattle.std.proofs.Common.{◌≡◌, ◌≤◌, ℕ, ◌+◌, List, [], ◌∷◌, ◌++◌, length, get_or, take, drop, subst, ap, arith}
+use Rattle.std.proofs.Common.{◌≤◌, ℕ, ◌+◌, List, [], ◌∷◌, ◌++◌, length, get_or, take, drop, subst, arith}
 use Rattle.std.proofs.lemmas.List.{take_all}
 use Rattle.server_talk.specs.Listening.{SoFar, Stopped}
 use Rattle.server_talk.specs.Servers.{server_of}

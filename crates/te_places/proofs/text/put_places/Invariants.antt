@@ -1,6 +1,6 @@
 use Rattle.std.proofs.Common.{◌≡◌, ◌++◌, drop}
 use Rattle.json.specs.Tree.{items_tokens}
-use Rattle.toml.specs.View.{array_view, items_view}
+use Rattle.toml.specs.View.{items_view}
 use Rattle.te_places.specs.Places.{places_json}
 use Rattle.te_places.proofs.text.put_places.Given as goal
 

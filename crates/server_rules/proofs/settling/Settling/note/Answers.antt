@@ -1,4 +1,4 @@
-use Rattle.std.proofs.Common.{◌∙◌, List, Bool, ℕ, map, ap}
+use Rattle.std.proofs.Common.{◌∙◌, List, map, ap}
 use Rattle.server_rules.specs.Settled.{noted}
 use Rattle.server_rules.specs.declared.settling.Awaited.{Awaited}
 use Rattle.server_rules.proofs.Awaiting.{noted_more}

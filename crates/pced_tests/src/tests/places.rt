@@ -1,7 +1,7 @@
-//! Two seats draw in turn.
+//! Two seats draw the numbers of their steps in turn.
 ghost use Rattle.std.specs.Prelude.{◌≡◌};
 
-use crate::{Room, Unopened};
+use place_tokens::{Room, Unopened};
 use std::alloc::Global;
 use std::marker::Brand;
 use std::process::Abort;

@@ -1,5 +1,5 @@
-//! Runs of the rules, whose answers were counted by hand.
-use crate::{Due, Entrance, Expiry, LineRate, Owing, Settling, Taken, admit};
+//! Runs of the rules by which a server stays up, whose answers were counted by hand.
+use server_rules::{Due, Entrance, Expiry, LineRate, Owing, Settling, Taken, admit};
 use std::alloc::{AllocError, Global};
 use std::test::Fail;
 

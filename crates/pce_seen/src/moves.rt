@@ -1,0 +1,26 @@
+//! What paths could be elsewhere.
+use crate::lsps::{KnownLsp, LspPage};
+use te_snapshot::{OwnShares, Snapshot};
+
+/// The greatest number of LSPs over a link that are tried elsewhere.
+pub const TRIED_LIMIT: usize = 512;
+
+/// LSPs of one moment, what the tunnel of each holds, and what a path search reads.
+#[derive(Drop)]
+pub struct Movable {
+    pub snapshot: Snapshot,
+    pub page: LspPage,
+    /// Of each LSP of the page, in their order.
+    pub own: Vec<OwnShares>,
+}
+
+/// The LSPs over a link, what the tunnel of each holds, and what a path search reads.
+#[derive(Drop)]
+pub struct Displaced {
+    pub snapshot: Snapshot,
+    /// 512 at most, in the order of their records.
+    pub lsps: Vec<KnownLsp>,
+    pub own: Vec<OwnShares>,
+    /// The place of the record from which on others may go over the link too; `None` where none follows.
+    pub rest: Option<u64>,
+}

@@ -1,0 +1,57 @@
+"""A server whose history is full, while no roll finds memory."""
+import time
+
+from reader import messages as m
+
+from .served import REMOVAL, Gone, Served, wants
+
+LINKS, NODES = 4096, 65
+# (of all lists that a full server makes, the values of the links in the base of a roll alone have so many bytes)
+LEAST = 20 * LINKS
+EACH, BEFORE, BEHIND = 2000, 480, 60
+SECONDS, MOST = 2, 200
+
+
+def network_text():
+    nodes = [f'{{name="N{node}",id="10.0.1.{node}"}}' for node in range(NODES)]
+    ends = [(one, other) for one in range(NODES) for other in range(NODES) if one != other][:LINKS]
+    links = [
+        f'{{from="N{one}",to="N{other}",local="11.0.{n >> 8}.{n & 255}",remote="12.0.{n >> 8}.{n & 255}",'
+        "igp=10,te=10,colour=0,reservable=1000000}"
+        for n, (one, other) in enumerate(ends)
+    ]
+    return f"node = [{', '.join(nodes)}]\nlink = [{', '.join(links)}]\n"
+
+
+def refuse_rolls(program, refusals):
+    """The history is full, and no roll finds memory: the keeper of time pauses between two tries, and rolls once it does."""
+    network = f"{refusals.room}/wide.toml"
+    with open(network, "w") as file:
+        file.write(network_text())
+    served = Served(program, network, refusals)
+    try:
+        served.come()
+        many = m.message(m.M_PCRPT, REMOVAL[4:] * 100) * (EACH // 100)
+        for _ in range(BEFORE):
+            served.send(many)
+        served.is_answered()
+        refusals.order(0, True, LEAST)
+        try:
+            for _ in range(BEHIND):
+                served.send(many)
+            served.is_answered()
+            raise ValueError("the session goes on though the history is full")
+        except Gone:
+            pass
+        before = refusals.met()
+        time.sleep(SECONDS)
+        tried = refusals.met() - before
+        if not 0 < tried <= MOST:
+            raise ValueError(f"{tried} tries in {SECONDS} s")
+        refusals.lift()
+        served.come()
+        wants(served.end(), (0, ""))
+        return f"{tried} tries in {SECONDS} s"
+    finally:
+        served.process.kill()
+        served.process.wait()
