@@ -129,7 +129,7 @@ fits_of : (te : Base) (paths : List Path) (c : Constraints) (own : List OwnShare
 unfolding fits
 fits_of te paths c own g table here less eh eb small h = part_fits te.links paths table c own g g.links here less eh eb small (λ l e. e) h.each
 
--- what is admissible on a snapshot that still tells what there is, is admissible now
+-- what is admissible on a snapshot that still says what there is, is admissible now
 pub found_is_admissible : (te : Base) (paths : List Path) (c : Constraints) (g : Path) (s : NetworkState) (own : List OwnShare) → IsCurrent te paths g.tunnel s own
     → g.hold ≡ c.priorities.hold → g.bandwidth ≡ c.bandwidth → c.priorities.setup ≤ 7 → IsAdmissible s c own g.links → is_admissible te paths c g ≡ true
 found_is_admissible te paths c g s own now eh eb small h =

@@ -10,7 +10,7 @@ use Rattle.commit_core.specs.declared.ticket.Purpose.{Purpose}
 use Rattle.commit_core.specs.declared.ticket.Purpose.TheVariants as purposes
 use Rattle.commit_core.specs.declared.ticket.Ticket.{Ticket}
 
--- it asks for a path that isn't granted, but told (RFC 5440 section 6.4)
+-- it asks for a path that isn't granted, but answered (RFC 5440 section 6.4)
 abbrev pub is_request : Purpose → Bool
 is_request (purposes.Update plsp) = false
 is_request (purposes.Initiate name constraints) = false

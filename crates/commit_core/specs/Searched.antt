@@ -1,4 +1,4 @@
--- When what a search was given still tells what there is.
+-- When what a search was given still says what there is.
 use Rattle.std.specs.Prelude.{ℕ, ◌≡◌, ◌<◌, ◌≤◌, true, List, length, Option, Some}
 use Rattle.te_base.specs.Base.{Base}
 use Rattle.lsp_base.specs.Base.{Lsps}
@@ -20,7 +20,7 @@ pub record IsCurrent (te : Base) (paths : List Path) (tunnel : Tunnel) (s : Netw
   pub left : AreLeft te.links paths s.unreserved
   pub shares : (l p : ℕ) → l < length te.links → p < 8 → own_share own l p ≤ share paths tunnel l p
 
--- the offer is the path over links that a search for the ticket may find, on a network that still tells what
+-- the offer is the path over links that a search for the ticket may find, on a network that still says what
 -- there is
 pub record IsFoundNow (te : Base) (lsps : Lsps) (t : Ticket) (offer : Option Path) : Type 0 where
   pub links : List ℕ

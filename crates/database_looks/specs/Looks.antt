@@ -1,5 +1,5 @@
 -- What each look sees of a database.
-use Rattle.std.specs.Prelude.{ℕ, ◌≡◌, ◌≤◌, ◌-◌, ◌+◌, length, map, filter, drop, slice_get, Option, Some, None}
+use Rattle.std.specs.Prelude.{ℕ, ◌≡◌, ◌≤◌, ◌-◌, ◌+◌, Bool, true, false, [], length, map, filter, drop, slice_get, Option, Some, None, if◌then◌else◌}
 use Rattle.lsp_base.specs.declared.effect.Record.{Record}
 use Rattle.te_snapshot.specs.Left.{all_left, left_on, state_beside}
 use Rattle.te_snapshot.specs.Network.{network_of}
@@ -74,18 +74,18 @@ pub record SeesLsps (peer : Option ℕ) (from : ℕ) (d : Content) (seen : LspPa
   pub page : IsPage d.state.base peer from seen
   pub steps : seen.steps ≡ steps_of d
 
--- a link with its ends, what the paths leave of it, and what those over it hold
-pub record IsUse (d : Content) (number : ℕ) (seen : LinkUse) : Type 0 where
+-- a link with its ends and what the paths leave of it; and what those over it hold, where they are listed
+pub record IsUse (d : Content) (number : ℕ) (lists_paths : Bool) (seen : LinkUse) : Type 0 where
   pub link : slice_get d.state.te.links number ≡ Some seen.link
   pub from : slice_get d.state.te.nodes (seen.link).from ≡ Some seen.from
   pub to : slice_get d.state.te.nodes (seen.link).to ≡ Some seen.to
   pub left : seen.left ≡ left_on d.state.te.links d.state.base.paths number
-  pub paths : seen.paths.items ≡ held_on d.state.base.paths number
+  pub paths : seen.paths.items ≡ (if lists_paths then held_on d.state.base.paths number else [])
 
 -- the link of a number, if there is such a one
-abbrev pub SeesLink : ℕ → Content → Option LinkUse → Type 0
-SeesLink link d None = length d.state.te.links ≤ link
-SeesLink link d (Some seen) = IsUse d link seen
+abbrev pub SeesLink : ℕ → Bool → Content → Option LinkUse → Type 0
+SeesLink link lists_paths d None = length d.state.te.links ≤ link
+SeesLink link lists_paths d (Some seen) = IsUse d link lists_paths seen
 
 -- the last of the kept steps, `last` at most
 pub record SeesSteps (last : ℕ) (d : Content) (seen : LastSteps) : Type 0 where
@@ -100,9 +100,9 @@ Sees ask.Peers d (seen.Peers peers) = SeesPeers d peers
 Sees ask.Tickets d (seen.Tickets tickets) = tickets.items ≡ d.state.tickets
 Sees (ask.Lsps peer from) d (seen.Lsps page) = SeesLsps peer from d page
 Sees (ask.Lsp peer plsp) d (seen.Lsp lsp) = lsp ≡ lsp_in d.state.base peer plsp
-Sees (ask.Link link) d (seen.Link found) = SeesLink link d found
+Sees (ask.Link link) d (seen.Link found) = SeesLink link true d found
 Sees (ask.Steps last) d (seen.Steps steps) = SeesSteps last d steps
-Sees (ask.LinkLine link) d (seen.Link found) = SeesLink link d found
+Sees (ask.LinkLine link) d (seen.Link found) = SeesLink link false d found
 Sees (ask.Why peer plsp) d (seen.Origins origins) = SeesOrigins peer plsp d origins
 Sees (ask.Better peer from) d (seen.Movable movable) = SeesMovable peer from d movable
 Sees (ask.Without link) d (seen.Displaced displaced) = SeesDisplaced link d displaced

@@ -29,13 +29,13 @@ is_booked (brief.Booked wants) = true
 is_booked b = false
 
 -- it is a report of the path's LSP by its router, under this LSP ID, and no removal
-abbrev pub tells_of : ℕ → Path → Event → Bool
-tells_of id x (event.Report peer r) = peer == x.peer && r.plsp == x.plsp && lsp_id_of r.identifiers == id && not r.remove
-tells_of id x e = false
+abbrev pub is_report_of : ℕ → Path → Event → Bool
+is_report_of id x (event.Report peer r) = peer == x.peer && r.plsp == x.plsp && lsp_id_of r.identifiers == id && not r.remove
+is_report_of id x e = false
 
 -- the step booked such a report
 abbrev pub reports : ℕ → Path → Step → Bool
-reports id x s = is_booked s.brief && tells_of id x s.event
+reports id x s = is_booked s.brief && is_report_of id x s.event
 
 -- ---- grants
 

@@ -26,9 +26,9 @@ impl Look for Ask {
             Ask::Tickets => Ok(Seen::Tickets(see_tickets(alloc, database)?)),
             Ask::Lsps { peer, from } => Ok(Seen::Lsps(see_lsps(alloc, database, peer, from)?)),
             Ask::Lsp { peer, plsp } => Ok(Seen::Lsp(see_lsp(alloc, database, peer, plsp)?)),
-            Ask::Link { link } => Ok(Seen::Link(see_link(alloc, database, link)?)),
+            Ask::Link { link } => Ok(Seen::Link(see_link(alloc, database, link, true)?)),
             Ask::Steps { last } => Ok(Seen::Steps(see_steps(alloc, database, last)?)),
-            Ask::LinkLine { link } => Ok(Seen::Link(see_link(alloc, database, link)?)),
+            Ask::LinkLine { link } => Ok(Seen::Link(see_link(alloc, database, link, false)?)),
             Ask::Why { peer, plsp } => Ok(Seen::Origins(see_origins(alloc, database, peer, plsp)?)),
             Ask::Better { peer, from } => Ok(Seen::Movable(see_movable(
                 alloc, database, peer, from,

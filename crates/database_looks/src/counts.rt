@@ -34,6 +34,6 @@ pub(crate) fn see_counts(database: &Database) -> Counts
         sessions_up: sessions_up(state.peers()),
         lsps: state.lsps().records().len() as u64,
         paths: state.lsps().paths().len() as u64,
-        tickets: state.tickets().len() as u64,
+        tickets: state.ticket_count() as u64,
     }
 }

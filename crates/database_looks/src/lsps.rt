@@ -1,5 +1,5 @@
 //! LSPs with their paths, and a link with the paths over it.
-ghost use Rattle.std.specs.Prelude.{◌≡◌, ◌<◌, Some, length, slice_get, IfOk};
+ghost use Rattle.std.specs.Prelude.{◌≡◌, ◌<◌, [], Some, length, slice_get, IfOk, if◌then◌else◌};
 ghost use Rattle.te_base.specs.Base.{IsLinkAmong};
 ghost use Rattle.pce_seen.specs.Lsps.{held_on, lsp_in};
 ghost use Rattle.database_looks.specs.Looks.{IsUse, SeesLink, SeesLsps};
@@ -67,34 +67,52 @@ fn use_of(link: Link, ends: (Node, Node), left: [i64; 8], paths: Vec<HeldPath>) 
     }
 }
 
+/// Lists what the paths over a link hold, where they are to be listed. That takes a pass over all paths.
+fn held_where(
+    alloc: Global,
+    database: &Database,
+    number: LinkNumber,
+    lists_paths: bool,
+) -> Result<Vec<HeldPath>, AllocError>
+    ensures { IfOk result (λ held. held.items ≡ (if lists_paths then held_on database.now.state.base.paths number else [])) }
+{
+    if lists_paths {
+        held_on(alloc, database.state().lsps().paths(), number)
+    } else {
+        Ok(Vec::new(alloc))
+    }
+}
+
 /// Sees a link that is there.
 fn see_use(
     alloc: Global,
     database: &Database,
     number: LinkNumber,
     link: Link,
+    lists_paths: bool,
 ) -> Result<LinkUse, AllocError>
     requires link { slice_get database.now.state.te.links number ≡ Some link }
     requires among { IsLinkAmong (length database.now.state.te.nodes) link }
-    ensures { IfOk result (IsUse database.now number) }
+    ensures { IfOk result (IsUse database.now number lists_paths) }
 {
-    let paths = held_on(alloc, database.state().lsps().paths(), number)?;
+    let paths = held_where(alloc, database, number, lists_paths)?;
     let left = left_on(database, number);
     let ends = ends_of(alloc, database.te_base(), &link)?;
     Ok(use_of(link, ends, left, paths))
 }
 
-/// Sees a link with the paths over it; `None` where there is no such link.
+/// Sees a link, with the paths over it where they are to be listed; `None` where there is no such link.
 pub(crate) fn see_link(
     alloc: Global,
     database: &Database,
     link: u64,
+    lists_paths: bool,
 ) -> Result<Option<LinkUse>, AllocError>
-    ensures { IfOk result (SeesLink link database.now) }
+    ensures { IfOk result (SeesLink link lists_paths database.now) }
 {
     let number = link as usize;
     match database.te_base().link(number) {
-        Some(link) => Ok(Some(see_use(alloc, database, number, link)?)),
+        Some(link) => Ok(Some(see_use(alloc, database, number, link, lists_paths)?)),
         None => Ok(None),
     }
 }

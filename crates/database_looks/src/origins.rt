@@ -2,7 +2,7 @@
 ghost use Rattle.std.specs.Prelude.{◌≡◌, ◌<◌, ◌≤◌, ◌+◌, length, map, IfOk, IfSome};
 ghost use Rattle.std.specs.List.{list_any};
 ghost use Rattle.history_core.specs.Histories.{last_step};
-ghost use Rattle.database_looks.specs.Origins.{gives_ticket, grant_origin, grants, grants_at, is_asked_as, is_ask_for, is_booked, is_granted_as, last_grant, last_report, lsp_id_of, origin_of, reading_start, report_origin, reports, tells_of, ticket_in, traced, was_asked, IsTraced, SeesOrigins};
+ghost use Rattle.database_looks.specs.Origins.{gives_ticket, grant_origin, grants, grants_at, is_asked_as, is_ask_for, is_booked, is_granted_as, last_grant, last_report, lsp_id_of, origin_of, reading_start, report_origin, reports, is_report_of, ticket_in, traced, was_asked, IsTraced, SeesOrigins};
 
 use history_core::{Brief, Database, Step};
 use lsp_base::{Part, Path};
@@ -32,8 +32,8 @@ fn is_booked(brief: &Brief) -> bool
 }
 
 /// Tests whether an event is a report of a path's LSP by its router, under this LSP ID, and no removal.
-fn tells_of(id: u16, path: &Path, event: &Event) -> bool
-    ensures { result ≡ tells_of id path.now event.now }
+fn is_report_of(id: u16, path: &Path, event: &Event) -> bool
+    ensures { result ≡ is_report_of id path.now event.now }
 {
     match event {
         Event::Report { peer, report } => {
@@ -50,7 +50,7 @@ fn tells_of(id: u16, path: &Path, event: &Event) -> bool
 fn reports(id: u16, path: &Path, step: &Step) -> bool
     ensures { result ≡ reports id path.now step.now }
 {
-    is_booked(&step.brief) && tells_of(id, path, step.event.event())
+    is_booked(&step.brief) && is_report_of(id, path, step.event.event())
 }
 
 fn is_asked_as(ticket: u64, brief: &Brief) -> bool

@@ -5,7 +5,6 @@ ghost use Rattle.database_looks.specs.Looks.{known_peer, owner_of_lsp, SeesPeers
 use history_core::Database;
 use lsp_base::Record;
 use pce_seen::{KnownPeer, LspOwner, SeenPeers};
-use sequence::PlainData;
 use std::alloc::{AllocError, Global};
 use step_core::{Peer, Ticket};
 
@@ -69,10 +68,5 @@ pub(crate) fn see_peers(alloc: Global, database: &Database) -> Result<SeenPeers,
 pub(crate) fn see_tickets(alloc: Global, database: &Database) -> Result<Vec<Ticket>, AllocError>
     ensures { IfOk result (λ seen. seen.items ≡ database.now.state.tickets) }
 {
-    let tickets = database.state().tickets();
-    let mut seen = Vec::with_capacity(alloc, tickets.len())?;
-    for ticket in tickets {
-        seen.push(ticket.copy()?)?;
-    }
-    Ok(seen)
+    database.state().copy_tickets(alloc)
 }

@@ -17,7 +17,7 @@ use Rattle.pcep_objects.specs.declared.object.Hop.TheVariants.{Host}
 use Rattle.pcep_objects.specs.declared.object.Operational.TheVariants.{Down, Up, GoingUp}
 use Rattle.pcep_messages.specs.declared.message.StateReport.{StateReport}
 use Rattle.delegate_rules.specs.Reports.{reported_path, reported_lsp, reported_constraints, no_identifiers}
-use Rattle.delegate_rules.specs.Effects.{report_effect_by, removal_effect_by, told_effect, report_result}
+use Rattle.delegate_rules.specs.Effects.{report_effect_by, removal_effect_by, reported_effect, report_result}
 
 abbrev link : ℕ → ℕ → ℕ → ℕ → ℕ → Link
 link from to local remote metric = record { from = from; to = to; local = local; remote = remote; igp = metric; te = metric; colour = 0; reservable = 1000000 }
@@ -67,7 +67,7 @@ removal = record first { remove = true; ero = []; bandwidth = 0; priorities = re
 
 -- after a report of peer 1
 abbrev after : Lsps → StateReport → Lsps
-after lsps r = changed lsps 1 (told_effect lsps diamond 1 r)
+after lsps r = changed lsps 1 (reported_effect lsps diamond 1 r)
 
 -- what is unreserved on each link, at priorities 0 to 7
 abbrev book : Lsps → List (List ℤ)
@@ -77,7 +77,7 @@ abbrev upper : List ℤ → List (List ℤ)
 upper row = row ∷ row ∷ replicate 8 (pos 1000000) ∷ replicate 8 (pos 1000000) ∷ []
 
 one_report : book (after no_lsps first) ≡ upper (replicate 8 (pos 500000))
-unfolding changed told_effect report_effect_by reported_path reported_lsp reported_constraints share reserved unreserved
+unfolding changed reported_effect report_effect_by reported_path reported_lsp reported_constraints share reserved unreserved
 one_report = refl
 
 -- make-before-break: a second LSP ID of the tunnel shares with the first
@@ -85,39 +85,39 @@ abbrev made : Lsps
 made = after (after no_lsps first) (record (identified first 2 1) { bandwidth = 250000 })
 
 made_before_break : book made ≡ upper (replicate 8 (pos 500000))
-unfolding changed told_effect report_effect_by reported_path reported_lsp reported_constraints share reserved unreserved
+unfolding changed reported_effect report_effect_by reported_path reported_lsp reported_constraints share reserved unreserved
 made_before_break = refl
 
 broken : book (after made removal) ≡ upper (replicate 8 (pos 750000))
-unfolding changed told_effect report_effect_by removal_effect_by reported_path reported_lsp reported_constraints share reserved unreserved
+unfolding changed reported_effect report_effect_by removal_effect_by reported_path reported_lsp reported_constraints share reserved unreserved
 broken = refl
 
 -- the network is as it is: a report may book more than a link bears
 overbooked : book (after (after no_lsps first) (record (identified first 1 2) { plsp = 2; bandwidth = 1000000 })) ≡ upper (replicate 8 (negsuc 499999))
-unfolding changed told_effect report_effect_by reported_path reported_lsp reported_constraints share reserved unreserved
+unfolding changed reported_effect report_effect_by reported_path reported_lsp reported_constraints share reserved unreserved
 overbooked = refl
 
 held_at_four : book (after no_lsps (record first { priorities = record { setup = 7; hold = 4 }; bandwidth = 600000 })) ≡ upper (replicate 4 (pos 1000000) ++ replicate 4 (pos 400000))
-unfolding changed told_effect report_effect_by reported_path reported_lsp reported_constraints share reserved unreserved
+unfolding changed reported_effect report_effect_by reported_path reported_lsp reported_constraints share reserved unreserved
 held_at_four = refl
 
 -- a holding priority worse than the setup priority counts as the setup priority
 held_at_setup : book (after no_lsps (record first { priorities = in_force 4 7; bandwidth = 600000 })) ≡ upper (replicate 4 (pos 1000000) ++ replicate 4 (pos 400000))
-unfolding changed told_effect report_effect_by reported_path reported_lsp reported_constraints share reserved unreserved
+unfolding changed reported_effect report_effect_by reported_path reported_lsp reported_constraints share reserved unreserved
 held_at_setup = refl
 
 down_reserves_nothing : book (after no_lsps (record first { operational = Down })) ≡ upper (replicate 8 (pos 1000000))
-unfolding changed told_effect report_effect_by reported_path reported_lsp reported_constraints share reserved unreserved
+unfolding changed reported_effect report_effect_by reported_path reported_lsp reported_constraints share reserved unreserved
 down_reserves_nothing = refl
 
 -- a report again of the same LSP ID takes its place
 replaced : after (after no_lsps first) first ≡ after no_lsps first
-unfolding changed told_effect report_effect_by reported_path reported_lsp reported_constraints
+unfolding changed reported_effect report_effect_by reported_path reported_lsp reported_constraints
 replaced = refl
 
 -- the removal of the last path takes the record with it
 removed : after (after no_lsps first) removal ≡ no_lsps
-unfolding changed told_effect report_effect_by removal_effect_by reported_path reported_lsp reported_constraints
+unfolding changed reported_effect report_effect_by removal_effect_by reported_path reported_lsp reported_constraints
 removed = refl
 
 refused_reserved : report_result no_lsps diamond 1 (record first { plsp = 0xFFFFF }) ≡ Err BadReport
@@ -130,16 +130,16 @@ abbrev unsignalled : ℕ → StateReport
 unsignalled n = record first { plsp = n; identifiers = None }
 
 parts_unsignalled : map (λ x. x.tunnel) ((after (after no_lsps (unsignalled 1)) (unsignalled 2)).paths) ≡ Unsignalled 1 1 ∷ Unsignalled 1 2 ∷ []
-unfolding changed told_effect report_effect_by reported_path reported_lsp reported_constraints
+unfolding changed reported_effect report_effect_by reported_path reported_lsp reported_constraints
 parts_unsignalled = refl
 
 -- once it is signalled, its unsignalled path is gone; and the other way round
 signalled_then : map (λ x. x.tunnel) ((after (after no_lsps (unsignalled 1)) first).paths) ≡ Signalled 1 0x0a000004 1 0x0a000001 ∷ []
-unfolding changed told_effect report_effect_by reported_path reported_lsp reported_constraints
+unfolding changed reported_effect report_effect_by reported_path reported_lsp reported_constraints
 signalled_then = refl
 
 unsignalled_then : map (λ x. x.part) ((after made (unsignalled 1)).paths) ≡ Reported 0 ∷ []
-unfolding changed told_effect report_effect_by reported_path reported_lsp reported_constraints
+unfolding changed reported_effect report_effect_by reported_path reported_lsp reported_constraints
 unsignalled_then = refl
 
 -- ---- the grant of an initiation, and the reports that bind and settle it
@@ -153,42 +153,42 @@ granted = record no_lsps { paths = grant 1 ∷ [] }
 abbrev coming_up : StateReport
 coming_up = record (identified first 1 7) { srp = Some 1; plsp = 5; delegate = true; created = true; operational = GoingUp }
 
--- bound, it shares with the path that the report tells of
+-- bound, it shares with the path that the report describes
 bound_shares : book (after granted coming_up) ≡ upper (replicate 8 (pos 500000))
-unfolding changed told_effect report_effect_by reported_path reported_lsp reported_constraints share reserved unreserved
+unfolding changed reported_effect report_effect_by reported_path reported_lsp reported_constraints share reserved unreserved
 bound_shares = refl
 
 bound_is_moved : map (λ x. x.tunnel) ((after granted coming_up).paths) ≡ replicate 2 (Signalled 1 0x0a000004 7 0x0a000001)
-unfolding changed told_effect report_effect_by reported_path reported_lsp reported_constraints
+unfolding changed reported_effect report_effect_by reported_path reported_lsp reported_constraints
 bound_is_moved = refl
 
 bound_has_its_lsp : map (λ x. x.plsp) ((after granted coming_up).paths) ≡ 5 ∷ 5 ∷ []
-unfolding changed told_effect report_effect_by reported_path reported_lsp reported_constraints
+unfolding changed reported_effect report_effect_by reported_path reported_lsp reported_constraints
 bound_has_its_lsp = refl
 
 settled : map (λ x. x.part) ((after (after granted coming_up) (record coming_up { operational = Up })).paths) ≡ Reported 1 ∷ []
-unfolding changed told_effect report_effect_by reported_path reported_lsp reported_constraints
+unfolding changed reported_effect report_effect_by reported_path reported_lsp reported_constraints
 settled = refl
 
 -- two initiations that come up without identifiers are two tunnels
 two_unsignalled : book (after (after (record no_lsps { paths = grant 1 ∷ grant 2 ∷ [] }) (record coming_up { identifiers = Some no_identifiers })) (record coming_up { identifiers = Some no_identifiers; srp = Some 2; plsp = 6 })) ≡ upper (replicate 8 (pos 0))
-unfolding changed told_effect report_effect_by reported_path reported_lsp reported_constraints share reserved unreserved
+unfolding changed reported_effect report_effect_by reported_path reported_lsp reported_constraints share reserved unreserved
 two_unsignalled = refl
 
 -- a removal that carries the SRP-ID of an unbound grant binds it, in its own tunnel
 bound_by_removal : map (λ x. x.plsp) ((after granted (record coming_up { remove = true })).paths) ≡ 5 ∷ []
-unfolding changed told_effect removal_effect_by
+unfolding changed reported_effect removal_effect_by
 bound_by_removal = refl
 
 tunnel_kept_by_removal : map (λ x. x.tunnel) ((after granted (record coming_up { remove = true })).paths) ≡ Asked 1 1 ∷ []
-unfolding changed told_effect removal_effect_by
+unfolding changed reported_effect removal_effect_by
 tunnel_kept_by_removal = refl
 
 settled_by_removal : after granted (record coming_up { remove = true; operational = Up }) ≡ no_lsps
-unfolding changed told_effect removal_effect_by
+unfolding changed reported_effect removal_effect_by
 settled_by_removal = refl
 
 -- a removal of all of an LSP takes its grant too
 all_removed : after (after granted coming_up) (record coming_up { remove = true; identifiers = None }) ≡ no_lsps
-unfolding changed told_effect report_effect_by removal_effect_by reported_path reported_lsp reported_constraints
+unfolding changed reported_effect report_effect_by removal_effect_by reported_path reported_lsp reported_constraints
 all_removed = refl

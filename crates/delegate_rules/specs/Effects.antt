@@ -90,8 +90,8 @@ removal_effect lsps peer r = removal_effect_by (has_grant lsps.paths peer r.plsp
 
 -- ---- any report
 
-unfoldable pub told_effect : Lsps → Base → ℕ → StateReport → Effect
-told_effect lsps te peer r = if r.remove then removal_effect lsps peer r else report_effect lsps te peer r
+unfoldable pub reported_effect : Lsps → Base → ℕ → StateReport → Effect
+reported_effect lsps te peer r = if r.remove then removal_effect lsps peer r else report_effect lsps te peer r
 
 -- PLSP-ID 0 and the greatest are reserved (RFC 8231 section 7.3)
 abbrev pub is_reserved : ℕ → Bool
@@ -106,4 +106,4 @@ allowed lsps e = if is_too_many lsps e then Err TooManyPaths else Ok e
 
 -- the effect, or why the report is refused
 unfoldable pub report_result : Lsps → Base → ℕ → StateReport → Result Effect Why
-report_result lsps te peer r = if is_reserved r.plsp then Err BadReport else allowed lsps (told_effect lsps te peer r)
+report_result lsps te peer r = if is_reserved r.plsp then Err BadReport else allowed lsps (reported_effect lsps te peer r)

@@ -46,7 +46,7 @@ hops_of r = unwrap_or r.rro r.ero
 abbrev pub links_of : Base → StateReport → List ℕ
 links_of te r = let i = identifiers_of r in if is_down r.operational then [] else walk te i.sender (hops_of r) i.endpoint
 
--- the path that the report tells of
+-- the path that the report describes
 unfoldable pub reported_path : Base → ℕ → StateReport → Path
 reported_path te peer r = record {
   peer = peer;

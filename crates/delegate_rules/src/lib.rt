@@ -1,4 +1,4 @@
-//! What a state report does (RFC 8231 section 6.1): the path that it tells of takes the place of an earlier
+//! What a state report does (RFC 8231 section 6.1): the path that it describes takes the place of an earlier
 //! one, or is removed; the grant that it answers is bound to the LSP, moved to its tunnel, or settled; and
 //! the record of the LSP is set. A report is never refused for the bandwidth that it books: the network is
 //! as it is. The rule computes an `Effect` and changes nothing; the layer above may rely on it that the

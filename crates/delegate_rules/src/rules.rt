@@ -3,7 +3,7 @@ ghost use Rattle.std.specs.Prelude.{◌≡◌, ◌==◌, ◌||◌, IfOk, if◌th
 ghost use Rattle.lsp_base.specs.Base.{changed};
 ghost use Rattle.lsp_base.specs.Rooms.{IsWithinLimit};
 ghost use Rattle.delegate_rules.specs.Faults.{Gives};
-ghost use Rattle.delegate_rules.specs.Effects.{is_reserved, is_too_many, allowed, told_effect, report_result};
+ghost use Rattle.delegate_rules.specs.Effects.{is_reserved, is_too_many, allowed, reported_effect, report_result};
 
 use crate::fault::RuleFault;
 use crate::removals::effect_of_removal;
@@ -20,15 +20,15 @@ fn is_reserved(plsp: Plsp) -> bool
     plsp.number() == 0 || plsp.number() == 0xf_ffff
 }
 
-#[tactic(auto, unfolding(crate::specs::Effects::told_effect))]
-fn effect_told(
+#[tactic(auto, unfolding(crate::specs::Effects::reported_effect))]
+fn reported_effect(
     alloc: Global,
     base: &LspBase,
     te: &TeBase,
     peer: u32,
     report: &StateReport,
 ) -> Result<Effect, AllocError>
-    ensures { IfOk result (λ effect. effect ≡ told_effect base.now.content te.now peer report.now) }
+    ensures { IfOk result (λ effect. effect ≡ reported_effect base.now.content te.now peer report.now) }
 {
     let granted = base.has_grant(peer, report.plsp);
     if report.remove {
@@ -58,13 +58,13 @@ pub fn on_report(
     peer: u32,
     report: &StateReport,
 ) -> Result<Effect, RuleFault>
-    ensures told { Gives result (report_result base.now.content te.now peer report.now) }
+    ensures given { Gives result (report_result base.now.content te.now peer report.now) }
     ensures few { IfOk result (λ effect. IsWithinLimit base.now.content effect) }
 {
     if is_reserved(report.plsp) {
         return Err(RuleFault::Why(Why::BadReport));
     }
-    let effect = effect_told(alloc, base, te, peer, report)?;
+    let effect = reported_effect(alloc, base, te, peer, report)?;
     if adds_too_many(base, &effect) {
         return Err(RuleFault::Why(Why::TooManyPaths));
     }

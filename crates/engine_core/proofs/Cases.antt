@@ -17,7 +17,7 @@ use Rattle.step_core.specs.declared.event.Reply.{Reply}
 use Rattle.step_core.specs.declared.event.Reply.TheVariants as replies
 use Rattle.history_core.specs.declared.fault.Fault.{Fault}
 use Rattle.history_core.specs.declared.fault.Fault.TheVariants.{OutOfMemory}
-use Rattle.engine_core.specs.Engine.{client_with, saying, cannot_process, after_report, told_why, refused_request, after_request, on_message, on_input, messages_of, sending, draining, served_from, served}
+use Rattle.engine_core.specs.Engine.{client_with, saying, cannot_process, after_report, answered_why, refused_request, after_request, on_message, on_input, messages_of, sending, draining, served_from, served}
 use Rattle.engine_core.specs.Requests.{vector_for}
 use Rattle.engine_core.specs.Plans.{Plan, Returns, Reaches, submitting}
 use Rattle.engine_core.specs.Stores.{Carries, Serves}
@@ -58,7 +58,7 @@ request_refused moves is_full r s c after request reply why go_on is nowhere ok 
     subst (λ (x : Reply). Serves r moves is_full s s c after (after_request request x c go_on) go_on) (sym is)
     (may_change moves is_full r s c (refused_request request why c) after go_on nowhere ok err only (as_before (vector_for why)))
   where
-    as_before : (vector : Option NoPathVector) → (told_why request vector c).joined ≡ c.joined
+    as_before : (vector : Option NoPathVector) → (answered_why request vector c).joined ≡ c.joined
     as_before None = refl
     as_before (Some vector) = refl
 

@@ -23,7 +23,7 @@ use Rattle.step_core.specs.declared.event.Event.{Event}
 use Rattle.step_core.specs.declared.event.Event.TheVariants as event
 use Rattle.step_core.specs.declared.event.Reply.{Reply}
 use Rattle.step_core.specs.declared.event.Reply.TheVariants as replies
-use Rattle.engine_core.specs.Engine.{client_with, ending, second_session, after_refused_up, after_up, event_of, saying, cannot_process, on_wanted, after_report, on_up, on_report, on_reports, told_why, refused_request, after_request, on_request, on_requests, on_refusal, on_refusals, on_message, on_input, turned, turns}
+use Rattle.engine_core.specs.Engine.{client_with, ending, second_session, after_refused_up, after_up, event_of, saying, cannot_process, on_wanted, after_report, on_up, on_report, on_reports, answered_why, refused_request, after_request, on_request, on_requests, on_refusal, on_refusals, on_message, on_input, turned, turns}
 use Rattle.engine_core.specs.Requests.{purpose_of, vector_for, no_path_for}
 use Rattle.engine_core.specs.Laws.{AllHandled}
 use Rattle.engine_core.specs.Plans.{Plan, Returns, Reaches, Submits, submitting, LeadsTo}
@@ -182,9 +182,9 @@ refusals_leave peer (srp ∷ srps) go_on c calls after h =
     and_then (λ k. on_refusal peer srp c k) (λ a k. on_refusals peer srps a k) go_on c calls after (refusal_leaves peer srp (λ a. on_refusals peer srps a go_on) c calls after h)
     (λ mid rest m. refusals_leave peer srps go_on mid rest after m)
 
-told_adds_none : (request : ℕ) (vector : Option NoPathVector) (c : Client) → turns_left (told_why request vector c).session ≤ turns_left c.session
-told_adds_none request None c = same (turns_left c.session)
-told_adds_none request (Some vector) c = adds_none (runs.Send (no_path_for request vector)) c.session refl
+answered_adds_none : (request : ℕ) (vector : Option NoPathVector) (c : Client) → turns_left (answered_why request vector c).session ≤ turns_left c.session
+answered_adds_none request None c = same (turns_left c.session)
+answered_adds_none request (Some vector) c = adds_none (runs.Send (no_path_for request vector)) c.session refl
 
 answer_leaves : (request : ℕ) (reply : Reply) (go_on : Client → Plan Client) (c : Client) (calls : List Call) (after : Client)
     → LeadsTo (after_request request reply c go_on) calls (Returns after) → Leaves (λ k. after_request request reply c k) go_on c calls after
@@ -192,7 +192,7 @@ unfolding after_request
 answer_leaves request (replies.Refused why) go_on c calls after h =
     let d : Client = refused_request request why c in
     past c (λ k. k d) go_on c calls after
-    (from_next (λ k. k d) go_on c d calls after (told_adds_none request (vector_for why) c) (at_once go_on d calls after (to_end c (go_on d) calls after h)))
+    (from_next (λ k. k d) go_on c d calls after (answered_adds_none request (vector_for why) c) (at_once go_on d calls after (to_end c (go_on d) calls after h)))
 answer_leaves request reply go_on c calls after h = at_once go_on c calls after h
 
 request_leaves : (peer : ℕ) (r : PathRequest) (go_on : Client → Plan Client) (c : Client) (calls : List Call) (after : Client)

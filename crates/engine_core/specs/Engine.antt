@@ -123,13 +123,13 @@ on_refusals peer (srp ∷ srps) c go_on = on_refusal peer srp c (λ after. on_re
 
 -- ---- path requests (RFC 5440 section 6.4)
 
--- a request that is refused is answered, where it is to be told why
-abbrev pub told_why : ℕ → Option NoPathVector → Client → Client
-told_why request None c = c
-told_why request (Some vector) c = sending_one c (no_path_for request vector)
+-- a request that is refused is answered, where the answer says why
+abbrev pub answered_why : ℕ → Option NoPathVector → Client → Client
+answered_why request None c = c
+answered_why request (Some vector) c = sending_one c (no_path_for request vector)
 
 abbrev pub refused_request : ℕ → Why → Client → Client
-refused_request request why c = told_why request (vector_for why) c
+refused_request request why c = answered_why request (vector_for why) c
 
 -- the reply to a request that is asked for: where there can't be a path it is answered at once
 unfoldable pub after_request : {W : Type 0} → ℕ → Reply → Client → (Client → Plan W) → Plan W

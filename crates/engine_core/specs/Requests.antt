@@ -1,4 +1,4 @@
--- Path requests (RFC 5440 section 6.4): what is asked for, and what a request is told that isn't searched for.
+-- Path requests (RFC 5440 section 6.4): what is asked for, and how a request is answered that isn't searched for.
 use Rattle.std.specs.Prelude.{ℕ, true, false, Option, Some, None}
 use Rattle.pcep_objects.specs.declared.object.MetricType.{MetricType}
 use Rattle.pcep_objects.specs.declared.object.MetricType.TheVariants.{Igp, Te, Hops}
@@ -55,7 +55,7 @@ unknown_ends Both = record { pce_unavailable = false; unknown_destination = true
 abbrev pub unavailable : NoPathVector
 unavailable = record { pce_unavailable = true; unknown_destination = false; unknown_source = false }
 
--- what a request is told that is refused for this; else it is told nothing
+-- how a request is answered that is refused for this; else it isn't answered
 abbrev pub vector_for : Why → Option NoPathVector
 vector_for (UnknownNode ends) = Some (unknown_ends ends)
 vector_for TooManyTickets = Some unavailable

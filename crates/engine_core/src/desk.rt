@@ -3,13 +3,13 @@
 use crate::store::Store;
 use std::alloc::AllocError;
 
-/// A store that also tells whether messages wait for a peer, and what is left of each link, and that is rolled where it
+/// A store that also says whether messages wait for a peer, and what is left of each link, and that is rolled where it
 /// is full.
 pub trait Desk: Store {
     ghost use Rattle.std.specs.Prelude.{ℕ, ℤ, Bool, List, [], ⊤, IfOk, OnErr};
     ghost use Rattle.engine_core.specs.Stores.{MakesRoom};
 
-    /// It may be told so of a peer whether messages wait for it.
+    /// It may know of a peer whether messages wait for it.
     ghost queues: { Self → ℕ → Bool → Type 0 } = { λ _ _ _. ⊤ };
 
     /// So much is left of each link at each priority, in what the store stands for.

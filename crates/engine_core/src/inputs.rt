@@ -122,7 +122,7 @@ fn on_refusals<S: Store>(
     Ok(())
 }
 
-/// A request that is refused is answered, where it is to be told why.
+/// A request that is refused is answered, where the answer says why.
 fn refuse_request(client: &mut Client, request: u32, why: Why) -> Result<(), Fault>
     ensures answered { OnOk result (client.new ≡ refused_request request why client.old) }
     ensures unchanged { OnErr result (client.new ≡ client.old) }

@@ -1,4 +1,4 @@
-//! Path requests: what is asked for, and what a request is told that isn't searched for.
+//! Path requests: what is asked for, and how a request is answered that isn't searched for.
 
 ghost use Rattle.std.specs.Prelude.{◌≡◌};
 ghost use Rattle.engine_core.specs.Requests.{bound_on, bounds_beside, constraints_of, purpose_of, unknown_ends, vector_for, no_path_for};
@@ -73,7 +73,7 @@ fn unknown_ends(ends: Ends) -> NoPathVector
     }
 }
 
-/// Why there is no path, where a request is to be told so (RFC 5440 section 7.5): the PCE doesn't know the ends, or it
+/// Why there is no path, where a request is to be answered (RFC 5440 section 7.5): the PCE doesn't know the ends, or it
 /// has too many requests to take another.
 pub(crate) fn vector_for(why: Why) -> Option<NoPathVector>
     ensures { result ≡ vector_for why }

@@ -130,14 +130,14 @@ length-more-of [] r = refl
 length-more-of (x ∷ rs) r = omega (arith, length-more-of rs r)
 
 pub placed_none : Placed 0 0 [] []
-placed_none = record { told = refl; kept = refl; floor_is = refl }
+placed_none = record { received = refl; kept = refl; floor_is = refl }
 
 -- all receipts are folded
-pub placed_folded : (k f : ℕ) (rs : List Receipt) (ps : List ℕ) (told after : ℕ) → Placed k f rs ps → told ≡ k + length rs → after ≡ floor_after f rs → Placed told after [] ps
-placed_folded k f rs ps told after h is floor =
-    let n : told ≡ length ps = is ∙ sym h.told in
+pub placed_folded : (k f : ℕ) (rs : List Receipt) (ps : List ℕ) (received after : ℕ) → Placed k f rs ps → received ≡ k + length rs → after ≡ floor_after f rs → Placed received after [] ps
+placed_folded k f rs ps received after h is floor =
+    let n : received ≡ length ps = is ∙ sym h.received in
     record {
-      told = omega (arith, n);
+      received = omega (arith, n);
       kept = sym (ap (λ (i : ℕ). drop i ps) n ∙ drop-whole ps);
       floor_is = floor ∙ floor-map f rs ∙ (λ i. past_last (h.floor_is i) (h.kept i)) ∙ past-split k 0 ps ∙ ap (past_last 0) (sym (ap (λ (i : ℕ). take i ps) n ∙ take-whole ps));
     }
@@ -145,9 +145,9 @@ placed_folded k f rs ps told after h is floor =
 -- one more receipt, at the place that was drawn for it
 pub placed_more : (k f : ℕ) (rs new : List Receipt) (ps drawn : List ℕ) (r : Receipt) (p : ℕ) → Placed k f rs ps → new ≡ rs ++ r ∷ [] → drawn ≡ ps ++ p ∷ [] → p ≡ r.place → Placed k f new drawn
 placed_more k f rs new ps drawn r p h new_is drawn_is here =
-    let le : k ≤ length ps = omega (arith, h.told) in
+    let le : k ≤ length ps = omega (arith, h.received) in
     rw (new_is, drawn_is, here) (record {
-      told = omega (arith, h.told, length-more ps r.place, length-more-of rs r);
+      received = omega (arith, h.received, length-more ps r.place, length-more-of rs r);
       kept = map-more rs r ∙ ap (λ (qs : List ℕ). qs ++ r.place ∷ []) h.kept ∙ sym (drop-more k ps (r.place ∷ []) le);
       floor_is = h.floor_is ∙ ap (past_last 0) (sym (take-more k ps (r.place ∷ []) le));
     })
@@ -170,7 +170,7 @@ map-set (q ∷ rs) (suc i) r d same = ap (λ (ps : List ℕ). q.place ∷ ps) (m
 pub placed_set : (k f : ℕ) (rs new : List Receipt) (ps : List ℕ) (i : ℕ) (r d : Receipt) → Placed k f rs ps → new ≡ set rs i r → r.place ≡ (get_or rs i d).place → Placed k f new ps
 placed_set k f rs new ps i r d h new_is same =
     rw new_is (record {
-      told = h.told ∙ ap (λ (n : ℕ). k + n) (sym (length-set rs i r));
+      received = h.received ∙ ap (λ (n : ℕ). k + n) (sym (length-set rs i r));
       kept = map-set rs i r d same ∙ h.kept;
       floor_is = h.floor_is;
     })

@@ -9,7 +9,7 @@ use Rattle.history_core.specs.Histories.{Content, steps_of}
 use Rattle.place_tokens.specs.Drawing.{once_below}
 use Rattle.place_tokens.specs.Drawing as drawing
 use Rattle.history_seats.specs.Receipts.{SeatContent, IsPlaced}
-use Rattle.history_seats.specs.Audits.{times, times_in, steps_told, late, late_told, AllAgree, AllOnce, AllRise, AllDistinct, IsAudited, SeatAgrees}
+use Rattle.history_seats.specs.Audits.{times, times_in, steps_received, late, late_received, AllAgree, AllOnce, AllRise, AllDistinct, IsAudited, SeatAgrees}
 use Rattle.history_seats.proofs.Places.{all_within}
 use Rattle.history_seats.proofs.Placed.{kept_once, seats_rise}
 
@@ -78,7 +78,7 @@ below-times (r ∷ rs) k n all =
     let split = below-plus (λ p. times (k + p) (r ∷ rs)) (is_at r.place k) (λ p. times (k + p) rs) n (λ p. sum_by-cons (λ (q : Receipt). cond (q.place == k + p) 1 0) r rs) in
     omega (arith, first, rest, split, sum_by-cons (λ (q : Receipt). cond (nat_lt q.place k) 1 0) r rs)
 
-below-seats : (d : Content) (seats : List SeatContent) → AllAgree d seats → below (λ p. times_in (d.rolled + p) seats) (length d.history) + late_told d.rolled seats ≡ steps_told seats
+below-seats : (d : Content) (seats : List SeatContent) → AllAgree d seats → below (λ p. times_in (d.rolled + p) seats) (length d.history) + late_received d.rolled seats ≡ steps_received seats
 below-seats d [] all = omega (arith, below-none (λ p. times_in (d.rolled + p) []) (length d.history) (λ p. refl))
 below-seats d (s ∷ ss) all =
     let P : SeatContent → Type 0 = SeatAgrees d in
@@ -117,17 +117,17 @@ one_each n d seats a place le lt =
     rw (sym here) (omega (arith, least, once, below-seats d seats a.agree, a.steps, a.late))
 
 -- where each kept step has one receipt, the others are as many as were rolled
-pub late_same : (d : Content) (seats : List SeatContent) → AllAgree d seats → steps_told seats ≡ steps_of d → ((p : ℕ) → p < length d.history → times_in (d.rolled + p) seats ≡ 1) → late_told d.rolled seats ≡ d.rolled
+pub late_same : (d : Content) (seats : List SeatContent) → AllAgree d seats → steps_received seats ≡ steps_of d → ((p : ℕ) → p < length d.history → times_in (d.rolled + p) seats ≡ 1) → late_received d.rolled seats ≡ d.rolled
 late_same d seats agree summed ones = omega (arith, below-seats d seats agree, summed, below-ones (λ p. times_in (d.rolled + p) seats) (length d.history) ones)
 
 -- where the receipts agree, the seats' places leave nothing that could fail
-pub all_placed : (d : Content) (seats : List SeatContent) → steps_told seats ≡ steps_of d → AllDistinct (steps_of d) seats → All IsPlaced seats → AllAgree d seats → AllOnce d seats × (late_told d.rolled seats ≡ d.rolled) × AllRise seats
+pub all_placed : (d : Content) (seats : List SeatContent) → steps_received seats ≡ steps_of d → AllDistinct (steps_of d) seats → All IsPlaced seats → AllAgree d seats → AllOnce d seats × (late_received d.rolled seats ≡ d.rolled) × AllRise seats
 all_placed d seats summed distinct placed agree = (
   (λ place le. omega (arith, kept_once d seats place placed agree distinct le, once_le place (steps_of d))),
   late_same d seats agree summed (λ p lt. kept_once d seats (d.rolled + p) placed agree distinct (omega arith) ∙ once_is (d.rolled + p) (steps_of d) (omega (arith, lt))),
   seats_rise seats placed,
 )
 
--- each step that ever was, was told to one seat, once
-pub told_once : (n : ℕ) (d : Content) (seats : List SeatContent) → IsAudited n d seats → (place : ℕ) → place < steps_of d → sum_by (λ s. drawing.times place s.places) seats ≡ 1
-told_once n d seats a place lt = a.distinct place ∙ once_is place (steps_of d) lt
+-- each step that ever was, was received by one seat, once
+pub received_once : (n : ℕ) (d : Content) (seats : List SeatContent) → IsAudited n d seats → (place : ℕ) → place < steps_of d → sum_by (λ s. drawing.times place s.places) seats ≡ 1
+received_once n d seats a place lt = a.distinct place ∙ once_is place (steps_of d) lt

@@ -44,16 +44,16 @@ SeatDiffers d place s = ((s.floor ≡ place + 1) × (d.rolled < s.floor)) ⊎ An
 
 -- ---- all seats
 
--- how many steps the seats were told of, and how many of them were grants
-abbrev pub steps_told : List SeatContent → ℕ
-steps_told seats = sum_by steps_at seats
+-- how many steps the seats received, and how many of them were grants
+abbrev pub steps_received : List SeatContent → ℕ
+steps_received seats = sum_by steps_at seats
 
-abbrev pub grants_told : List SeatContent → ℕ
-grants_told seats = sum_by grants_at seats
+abbrev pub grants_received : List SeatContent → ℕ
+grants_received seats = sum_by grants_at seats
 
 -- how many receipts they have of rolled places, the folded ones among them
-abbrev pub late_told : ℕ → List SeatContent → ℕ
-late_told rolled seats = sum_by (λ s. s.folded + late rolled s.receipts) seats
+abbrev pub late_received : ℕ → List SeatContent → ℕ
+late_received rolled seats = sum_by (λ s. s.folded + late rolled s.receipts) seats
 
 -- how often a place stands in the receipts of all of them
 abbrev pub times_in : ℕ → List SeatContent → ℕ
@@ -69,22 +69,22 @@ AllOnce d seats = (place : ℕ) → d.rolled ≤ place → times_in place seats 
 abbrev pub AllRise : List SeatContent → Type 0
 AllRise seats = All (λ s. RisesFrom s.floor s.receipts) seats
 
--- each step was told to one of them, once, and no other place to any
+-- each step was received by one of them, once, and no other place to any
 abbrev pub AllDistinct : ℕ → List SeatContent → Type 0
 AllDistinct steps seats = (place : ℕ) → sum_by (λ s. drawing.times place s.places) seats ≡ once_below place steps
 
 -- ---- the audit
 
--- All n seats are here, and they were told of as many steps and grants as there were; each step that ever was, rolled or
--- kept, was told to exactly one of them, once, and the places of each rise; each receipt of a kept step agrees with it, none
+-- All n seats are here, and they received as many steps and grants as there were; each step that ever was, rolled or
+-- kept, was received by exactly one of them, once, and the places of each rise; each receipt of a kept step agrees with it, none
 -- stands twice, and there are as many receipts of rolled places as steps were rolled
 pub record IsAudited (n : ℕ) (d : Content) (seats : List SeatContent) : Type 0 where
   pub all : length seats ≡ n
-  pub steps : steps_told seats ≡ steps_of d
-  pub grants : grants_told seats ≡ grants_of d
+  pub steps : steps_received seats ≡ steps_of d
+  pub grants : grants_received seats ≡ grants_of d
   pub agree : AllAgree d seats
   pub once : AllOnce d seats
-  pub late : late_told d.rolled seats ≡ d.rolled
+  pub late : late_received d.rolled seats ≡ d.rolled
   pub rise : AllRise seats
   pub distinct : AllDistinct (steps_of d) seats
   pub rising : All (λ s. RiseFrom 0 s.places) seats

@@ -1,4 +1,4 @@
--- What a seat is told: a receipt of each of its steps, of which those of rolled places may be folded into numbers.
+-- What a seat receives: a receipt of each of its steps, of which those of rolled places may be folded into numbers.
 use Rattle.std.specs.Prelude.{ℕ, ◌≡◌, ◌+◌, Bool, true, ◌&&◌, nat_lt, nat_le, List, [], ◌∷◌, ◌++◌, length, map, take, drop, Option, None, if◌then◌else◌}
 use Rattle.std.specs.List.{count_by}
 use Rattle.step_core.specs.declared.event.Event.{Event}
@@ -28,7 +28,7 @@ new_seat = record { folded = 0; folded_grants = 0; floor = 0; receipts = []; han
 abbrev pub granted_in : List Receipt → ℕ
 granted_in receipts = count_by (λ r. is_grant r.brief) receipts
 
--- how many steps the seat was told of, and how many of them were grants
+-- how many steps the seat received, and how many of them were grants
 abbrev pub steps_at : SeatContent → ℕ
 steps_at s = s.folded + length s.receipts
 
@@ -41,8 +41,8 @@ abbrev pub receipt_of : ℕ → Event → Reply → Receipt
 receipt_of place event reply = record { place = place; event = event; brief = brief_of reply }
 
 -- the seat with the receipt of one more step, which had this place among all steps
-abbrev pub told : SeatContent → ℕ → Event → Reply → SeatContent
-told s place event reply = record s { receipts = s.receipts ++ receipt_of place event reply ∷ []; places = s.places ++ place ∷ [] }
+abbrev pub received : SeatContent → ℕ → Event → Reply → SeatContent
+received s place event reply = record s { receipts = s.receipts ++ receipt_of place event reply ∷ []; places = s.places ++ place ∷ [] }
 
 -- ---- places
 
@@ -53,7 +53,7 @@ past_last floor (p ∷ ps) = past_last (p + 1) ps
 
 -- there are as many places as steps; those past the folded ones are the receipts', and the floor is one past the folded ones
 pub record Placed (folded floor : ℕ) (receipts : List Receipt) (places : List ℕ) : Type 0 where
-  pub told : length places ≡ folded + length receipts
+  pub received : length places ≡ folded + length receipts
   pub kept : map (λ r. r.place) receipts ≡ drop folded places
   pub floor_is : floor ≡ past_last 0 (take folded places)
 
@@ -82,8 +82,8 @@ abbrev pub tidy : ℕ → SeatContent → SeatContent
 tidy rolled s = if are_past s.floor rolled s.receipts then folded s else s
 
 -- the receipts that are no longer kept then
-abbrev pub let_go : ℕ → SeatContent → List Receipt
-let_go rolled s = if are_past s.floor rolled s.receipts then s.receipts else []
+abbrev pub unkept : ℕ → SeatContent → List Receipt
+unkept rolled s = if are_past s.floor rolled s.receipts then s.receipts else []
 
 -- as many steps, as many grants, and the same job in hand
 pub record CountsSame (s t : SeatContent) : Type 0 where

@@ -2,7 +2,7 @@
 ghost use Rattle.std.specs.Prelude.{◌≡◌, ◌↔◌, All, Any, IsTrue, IfSome, IfNone, IfOk, IfErr, length};
 ghost use Rattle.history_core.specs.Histories.{steps_of};
 ghost use Rattle.history_seats.specs.Receipts.{IsPlaced};
-ghost use Rattle.history_seats.specs.Audits.{Agrees, Differs, SeatAgrees, SeatDiffers, AllAgree, AllOnce, AllRise, AllDistinct, Fails, steps_told, late_told};
+ghost use Rattle.history_seats.specs.Audits.{Agrees, Differs, SeatAgrees, SeatDiffers, AllAgree, AllOnce, AllRise, AllDistinct, Fails, steps_received, late_received};
 
 use crate::fault::AuditFault;
 use crate::receipt::Receipt;
@@ -77,10 +77,10 @@ pub(crate) fn test_receipts<S: Ledger, G: Ledger, B: Room>(
     database: &Database,
     seats: &[Seat<S, G, B>],
 ) -> Result<(), AuditFault>
-    requires summed { steps_told seats.now ≡ steps_of database.now }
+    requires summed { steps_received seats.now ≡ steps_of database.now }
     requires distinct { AllDistinct (steps_of database.now) seats.now }
     requires placed { All IsPlaced seats.now }
-    ensures ok { IfOk result (λ _. AllAgree database.now seats.now × AllOnce database.now seats.now × (late_told database.now.rolled seats.now ≡ database.now.rolled) × AllRise seats.now) }
+    ensures ok { IfOk result (λ _. AllAgree database.now seats.now × AllOnce database.now seats.now × (late_received database.now.rolled seats.now ≡ database.now.rolled) × AllRise seats.now) }
     ensures err { IfErr result (Fails (length seats.now) database.now seats.now) }
 {
     match differing_seat(database, seats) {

@@ -11,9 +11,9 @@ use std::{error, fmt};
 pub enum AuditFault {
     /// Not all seats were given.
     SeatMissing,
-    /// The seats were told of more or fewer steps than were taken. Never answered: the seats' shares rule it out.
+    /// The seats received more or fewer steps than were taken. Never answered: the seats' shares rule it out.
     StepsDiffer,
-    /// The seats were told of more or fewer grants than there were. Never answered either.
+    /// The seats received more or fewer grants than there were. Never answered either.
     GrantsDiffer,
     /// A receipt of this place has another event or another brief than the step there, or there is no such
     /// step.

@@ -3,8 +3,8 @@ ghost use Rattle.std.specs.Prelude.{◌≡◌, ◌<◌, ◌≤◌, ◌↔◌, Al
 ghost use Rattle.step_core.specs.Steps.{step};
 ghost use Rattle.history_core.specs.Briefs.{brief_of};
 ghost use Rattle.history_core.specs.Histories.{Replays, IsSound, kept_step, stepped, is_full, steps_of, grants_of, rolled_up};
-ghost use Rattle.history_seats.specs.Receipts.{IsPlaced, new_seat, told, tidy, let_go};
-ghost use Rattle.history_seats.specs.Audits.{AllDistinct, IsAudited, Fails, steps_told, grants_told};
+ghost use Rattle.history_seats.specs.Receipts.{IsPlaced, new_seat, received, tidy, unkept};
+ghost use Rattle.history_seats.specs.Audits.{AllDistinct, IsAudited, Fails, steps_received, grants_received};
 
 use crate::audit::test_receipts;
 use crate::fault::AuditFault;
@@ -20,7 +20,7 @@ use std::mem;
 use std::sync::ledger::{Blank, Book, Ledger, Share};
 use step_core::{Event, Reply, SharedEvent};
 
-/// A database, with the totals of what its seats were told, and the source of the places of its steps. A
+/// A database, with the totals of what its seats received, and the source of the places of its steps. A
 /// contract sees the database.
 pub struct Held<S: Ledger, G: Ledger, B: Room> {
     alloc: Global,
@@ -209,7 +209,7 @@ impl<S: Ledger, G: Ledger, B: Room> Held<S, G, B> {
     pub fn step(&mut self, seat: &mut Seat<S, G, B>, event: Event) -> Result<Reply, Fault>
         ensures step { IfOk result (λ reply. self.new ≡ stepped self.old event reply) }
         ensures reply { IfOk result (λ reply. reply ≡ (step self.old.state event).reply) }
-        ensures receipt { IfOk result (λ reply. seat.new ≡ told (tidy self.old.rolled seat.old) (steps_of self.old) event reply) }
+        ensures receipt { IfOk result (λ reply. seat.new ≡ received (tidy self.old.rolled seat.old) (steps_of self.old) event reply) }
         ensures full { (result ≡ Err Fault.HistoryFull) ↔ IsTrue (is_full self.old) }
         ensures unchanged_on_fault { OnErr result ((self.new ≡ self.old) × (seat.new ≡ seat.old)) }
         ensures found_replays { Replays self.old }
@@ -233,7 +233,7 @@ impl<S: Ledger, G: Ledger, B: Room> Held<S, G, B> {
     ) -> Result<Reply, Fault>
         ensures step { IfOk result (λ reply. self.new ≡ stepped self.old event reply) }
         ensures reply { IfOk result (λ reply. reply ≡ (step self.old.state event).reply) }
-        ensures receipt { IfOk result (λ reply. seat.new ≡ told (tidy self.old.rolled seat.old) (steps_of self.old) event reply) }
+        ensures receipt { IfOk result (λ reply. seat.new ≡ received (tidy self.old.rolled seat.old) (steps_of self.old) event reply) }
         ensures full { (result ≡ Err Fault.HistoryFull) ↔ IsTrue (is_full self.old) }
         ensures unchanged_on_fault { OnErr result ((self.new ≡ self.old) × (seat.new ≡ seat.old)) }
         ensures found_replays { Replays self.old }
@@ -252,8 +252,8 @@ impl<S: Ledger, G: Ledger, B: Room> Held<S, G, B> {
     ) -> Result<(Reply, Vec<Receipt>), Fault>
         ensures step { IfOk result (λ r. self.new ≡ stepped self.old event r.0) }
         ensures reply { IfOk result (λ r. r.0 ≡ (step self.old.state event).reply) }
-        ensures receipt { IfOk result (λ r. seat.new ≡ told (tidy self.old.rolled seat.old) (steps_of self.old) event r.0) }
-        ensures given { IfOk result (λ r. r.1.items ≡ let_go self.old.rolled seat.old) }
+        ensures receipt { IfOk result (λ r. seat.new ≡ received (tidy self.old.rolled seat.old) (steps_of self.old) event r.0) }
+        ensures given { IfOk result (λ r. r.1.items ≡ unkept self.old.rolled seat.old) }
         ensures full { (result ≡ Err Fault.HistoryFull) ↔ IsTrue (is_full self.old) }
         ensures unchanged_on_fault { OnErr result ((self.new ≡ self.old) × (seat.new ≡ seat.old)) }
         ensures found_replays { Replays self.old }
@@ -276,7 +276,7 @@ impl<S: Ledger, G: Ledger, B: Room> Held<S, G, B> {
         let reply = self.database.apply_shared(theirs)?;
         if let Some(floor) = past {
             mem::swap(&mut seat.receipts, &mut spare);
-            seat.folded = seat.told;
+            seat.folded = seat.received;
             seat.folded_grants = seat.granted;
             seat.floor = floor;
         }
@@ -286,11 +286,11 @@ impl<S: Ledger, G: Ledger, B: Room> Held<S, G, B> {
         self.grants.add(&mut seat.grants, grants);
         self.steps.audit(&mut seat.steps);
         self.grants.audit(&mut seat.grants);
-        // for the proof alone: a seat was told of no more steps and grants than there were
+        // for the proof alone: a seat received no more steps and grants than there were
         let _steps = self.database.steps();
         let _grants = self.database.grants();
         self.source.draw(&mut seat.drawn);
-        seat.told += 1;
+        seat.received += 1;
         seat.granted += grants;
         seat.receipts.push_reserved(Receipt {
             place,
@@ -305,13 +305,13 @@ impl<S: Ledger, G: Ledger, B: Room> Held<S, G, B> {
     /// steps does this by itself. Takes no memory.
     pub fn fold(&self, seat: &mut Seat<S, G, B>) -> Vec<Receipt>
         ensures folded { seat.new ≡ tidy self.now.rolled seat.old }
-        ensures given { result.items ≡ let_go self.now.rolled seat.old }
+        ensures given { result.items ≡ unkept self.now.rolled seat.old }
     {
         let rolled = self.database.rolled();
         let Some(floor) = past_floor(seat.floor, rolled, seat.receipts.as_slice()) else {
             return Vec::new(self.alloc);
         };
-        seat.folded = seat.told;
+        seat.folded = seat.received;
         seat.folded_grants = seat.granted;
         seat.floor = floor;
         mem::replace(&mut seat.receipts, Vec::new(self.alloc))
@@ -359,8 +359,8 @@ impl<S: Ledger, G: Ledger, B: Room> Held<S, G, B> {
         requires { length seats.old ≡ S.parts }
         ensures held { self.new ≡ self.old }
         ensures seats { seats.new ≡ seats.old }
-        ensures steps { steps_told seats.old ≡ steps_of self.old }
-        ensures grants { grants_told seats.old ≡ grants_of self.old }
+        ensures steps { steps_received seats.old ≡ steps_of self.old }
+        ensures grants { grants_received seats.old ≡ grants_of self.old }
         ensures distinct { AllDistinct (steps_of self.old) seats.old }
         ensures placed { All IsPlaced seats.old }
     {
@@ -369,9 +369,9 @@ impl<S: Ledger, G: Ledger, B: Room> Held<S, G, B> {
         let Some((first, rest)) = seats.split_first_mut() else {
             unreachable!();
         };
-        let told = first.told;
+        let received = first.received;
         let granted = first.granted;
-        let mut seen = first.steps.split_off(1, told);
+        let mut seen = first.steps.split_off(1, received);
         let mut taken = first.grants.split_off(1, granted);
         gather(
             &mut self.steps,

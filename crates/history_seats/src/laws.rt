@@ -11,9 +11,9 @@ pub fn one_receipt_each()
     ensures { (n : ℕ) (d : Content) (seats : List SeatContent) → IsAudited n d seats → (place : ℕ) → d.rolled ≤ place → place < steps_of d → times_in place seats ≡ 1 }
 {}
 
-/// After an audit each step that ever was, rolled or kept, was told to exactly one seat, once.
-#[tactic(auto, using(crate::proofs::Whole::told_once))]
-pub fn told_once()
+/// After an audit each step that ever was, rolled or kept, was received by exactly one seat, once.
+#[tactic(auto, using(crate::proofs::Whole::received_once))]
+pub fn received_once()
     ensures { (n : ℕ) (d : Content) (seats : List SeatContent) → IsAudited n d seats → (place : ℕ) → place < steps_of d → sum_by (λ s. times place s.places) seats ≡ 1 }
 {}
 

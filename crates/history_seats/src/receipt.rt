@@ -8,7 +8,7 @@ use sequence::PlainData;
 use std::alloc::AllocError;
 use step_core::{Event, SharedEvent};
 
-/// What a seat keeps of a step that it was told of: which step of all it was, the event, and the brief of the
+/// What a seat keeps of a step that it received: which step of all it was, the event, and the brief of the
 /// reply.
 #[derive(Debug, Drop)]
 pub struct Receipt {

@@ -9,7 +9,7 @@ use pcep_word::{Ipv4, Priorities};
 use sequence::Sequence;
 use step_core::{Event, LinkReload};
 
-/// Plain data, of which two values can be told apart wherever they differ.
+/// Plain data, of which two values can be known apart wherever they differ.
 pub(crate) trait SameAs {
     /// Whether the two are equal in all that they hold. Takes no memory.
     fn is_same(&self, other: &Self) -> bool

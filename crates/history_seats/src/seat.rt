@@ -10,8 +10,8 @@ use step_core::Job;
 /// perhaps a job. It is changed by calls of `Held` alone, but for the job in its hand, and a seat that is dropped
 /// fails every audit from then on.
 pub struct Seat<S: Ledger, G: Ledger, B: Room> {
-    /// How many steps the seat was told of, the folded ones among them.
-    pub(crate) told: u64,
+    /// How many steps the seat received, the folded ones among them.
+    pub(crate) received: u64,
     /// How many of these were grants.
     pub(crate) granted: u64,
     /// How many receipts are kept no longer.
@@ -32,7 +32,7 @@ pub struct Seat<S: Ledger, G: Ledger, B: Room> {
 impl<S: Ledger, G: Ledger, B: Room> Drop for Seat<S, G, B> {
     fn drop(self) {
         let Seat {
-            told: _,
+            received: _,
             granted: _,
             folded: _,
             folded_grants: _,
@@ -61,8 +61,8 @@ impl<S: Ledger, G: Ledger, B: Room> Model for Seat<S, G, B> {
 
     ghost invariant = { λ s.
         (s.steps.parts ≡ 1) × (s.grants.parts ≡ 1)
-        × (s.steps.amount ≡ s.told) × (s.grants.amount ≡ s.granted)
-        × (s.told ≡ s.folded + length s.receipts.items)
+        × (s.steps.amount ≡ s.received) × (s.grants.amount ≡ s.granted)
+        × (s.received ≡ s.folded + length s.receipts.items)
         × (s.granted ≡ s.folded_grants + granted_in s.receipts.items)
         × (s.folded ≤ s.floor)
         × Placed s.folded s.floor s.receipts.items s.drawn };
@@ -74,7 +74,7 @@ impl<S: Ledger, G: Ledger, B: Room> Seat<S, G, B> {
     ghost use Rattle.history_seats.specs.Receipts.{SeatContent, new_seat, steps_at, grants_at};
     ghost use Rattle.history_seats.specs.Lending.{LendsHand};
 
-    /// A seat that was told of nothing. Takes no memory.
+    /// A seat that received nothing. Takes no memory.
     pub(crate) fn new(alloc: Global, steps: Share<S>, grants: Share<G>, drawn: Drawn<B>) -> Self
         requires steps { (steps.parts ≡ 1) × (steps.amount ≡ 0) }
         requires grants { (grants.parts ≡ 1) × (grants.amount ≡ 0) }
@@ -82,7 +82,7 @@ impl<S: Ledger, G: Ledger, B: Room> Seat<S, G, B> {
         ensures { result ≡ new_seat }
     {
         Seat {
-            told: 0,
+            received: 0,
             granted: 0,
             folded: 0,
             folded_grants: 0,
@@ -110,11 +110,11 @@ impl<S: Ledger, G: Ledger, B: Room> Seat<S, G, B> {
         &mut self.hand
     }
 
-    /// How many steps the seat was told of, those whose receipts are kept no longer among them.
+    /// How many steps the seat received, those whose receipts are kept no longer among them.
     pub fn steps(&self) -> u64
         ensures { result ≡ steps_at self.now }
     {
-        self.told
+        self.received
     }
 
     /// How many of these steps were grants.

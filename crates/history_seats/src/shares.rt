@@ -2,7 +2,7 @@
 ghost use Rattle.std.specs.Prelude.{◌≡◌, ◌+◌, ◌<◌, ℕ, All, length, sum_by};
 ghost use Rattle.place_tokens.specs.Drawing.{keeping, times, once_below};
 ghost use Rattle.history_seats.specs.Receipts.{IsPlaced};
-ghost use Rattle.history_seats.specs.Audits.{steps_told, grants_told};
+ghost use Rattle.history_seats.specs.Audits.{steps_received, grants_received};
 
 use crate::seat::Seat;
 use place_tokens::{PlaceTable, Room, Token, give_back, learn, lend};
@@ -24,20 +24,20 @@ pub(crate) fn gather<S: Ledger, G: Ledger, B: Room>(
     ensures same_totals { (steps.new.total ≡ steps.old.total) × (grants.new.total ≡ grants.old.total) }
     ensures same_seen { (seen.new.parts ≡ seen.old.parts) × (seen.new.amount ≡ seen.old.amount) }
     ensures same_taken { (taken.new.parts ≡ taken.old.parts) × (taken.new.amount ≡ taken.old.amount) }
-    ensures steps { seen.old.amount + steps_told seats.old ≡ steps.old.total }
-    ensures grants { taken.old.amount + grants_told seats.old ≡ grants.old.total }
+    ensures steps { seen.old.amount + steps_received seats.old ≡ steps.old.total }
+    ensures grants { taken.old.amount + grants_received seats.old ≡ grants.old.total }
 {
     let Some((first, rest)) = seats.split_first_mut() else {
         steps.audit(seen);
         grants.audit(taken);
         return;
     };
-    let told = first.told;
+    let received = first.received;
     let granted = first.granted;
-    seen.merge(first.steps.split_off(1, told));
+    seen.merge(first.steps.split_off(1, received));
     taken.merge(first.grants.split_off(1, granted));
     gather(steps, grants, rest, seen, taken);
-    first.steps.merge(seen.split_off(1, told));
+    first.steps.merge(seen.split_off(1, received));
     first.grants.merge(taken.split_off(1, granted));
 }
 

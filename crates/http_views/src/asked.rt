@@ -30,7 +30,7 @@ pub enum Asked {
 }
 
 impl Wrong {
-    /// What the client is told.
+    /// What the client is answered.
     pub fn text(self) -> &'static str
         ensures { result.now ≡ wrong_text self }
     {

@@ -50,7 +50,7 @@ return_message srp plsp = messages.Update (record {
   bandwidth = None;
 })
 
--- what is initiated has both ends; an end that isn't told would be written as 0.0.0.0
+-- what is initiated has both ends; an end that isn't given would be written as 0.0.0.0
 unfoldable pub initiate_message : List Link → ℕ → List ℕ → Constraints → List ℕ → Message
 initiate_message links srp name c numbers = messages.Initiate (initiates.Create (record {
   srp = srp;

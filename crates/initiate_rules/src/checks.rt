@@ -7,7 +7,7 @@ use lsp_base::{LspBase, Why, is_created, is_delegated, is_pending};
 use pcep_objects::Plsp;
 
 /// Refuses an initiation with `Why::NameInUse` where an LSP of the peer has the symbolic path name already, or
-/// where it is held: what the PCE asks for or granted, and no report told of yet, has it (RFC 8281 section
+/// where it is held: what the PCE asks for or granted, and no report named yet, has it (RFC 8281 section
 /// 5.3). Allocates nothing.
 pub fn check_initiate(base: &LspBase, peer: u32, name: &[u8], held: bool) -> Result<(), Why>
     ensures { result ≡ answered_unless (must_be_new base.now.content peer name.now held) tt }

@@ -79,7 +79,7 @@ pub fn return_message(alloc: Global, srp: u32, plsp: Plsp) -> Message
 }
 
 /// The PCInitiate that sets an LSP up (RFC 8281 section 5.3): its name, its ends, its links, and the bandwidth,
-/// the priorities and the colours that it was asked for with. An end that isn't told is written as 0.0.0.0.
+/// the priorities and the colours that it was asked for with. An end that isn't given is written as 0.0.0.0.
 #[tactic(auto, unfolding(crate::specs::Messages::initiate_message))]
 pub fn initiate_message(
     alloc: Global,
@@ -146,7 +146,7 @@ pub fn answer_message(
     }))
 }
 
-/// The PCRep that tells of no path (RFC 5440 section 6.5), without NO-PATH-VECTOR. Allocates nothing.
+/// The PCRep that says that there is no path (RFC 5440 section 6.5), without NO-PATH-VECTOR. Allocates nothing.
 #[tactic(auto, unfolding(crate::specs::Messages::no_path_message))]
 pub fn no_path_message(request: u32) -> Message
     ensures { result ≡ no_path_message request }

@@ -91,7 +91,7 @@ same_flag-eq false true h = absurd (false≢true h)
 path_of : ℕ → ℕ → Part → Tunnel → ℕ → ℕ → List ℕ → Bool → Path
 path_of peer plsp part tunnel hold bandwidth links fresh = record { peer = peer; plsp = plsp; part = part; tunnel = tunnel; hold = hold; bandwidth = bandwidth; links = links; fresh = fresh }
 
--- the test tells paths apart
+-- the test knows paths apart
 pub same_path-eq : (x y : Path) → same_path x y ≡ true → x ≡ y
 unfolding path_of
 same_path-eq x y h =

@@ -45,7 +45,7 @@ pub fn object_code(fault: ObjectFault) -> Option<ErrorCode>
     }
 }
 
-/// The error that tells the fault; None: the message is malformed.
+/// The error that names the fault; None: the message is malformed.
 pub fn fault_code(fault: MessageFault) -> Option<ErrorCode>
     ensures { result ≡ fault_code fault }
 {

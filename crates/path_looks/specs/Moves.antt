@@ -1,12 +1,12 @@
 -- Where LSPs would go if a link went away: a dry run, one LSP after the other, on a table from which each takes what it newly
 -- reserves.
-use Rattle.std.specs.Prelude.{ℕ, ℤ, pos, ◌≡◌, ◌==◌, ◌-◌, ◌-ℤ◌, Bool, true, false, not, nat_le, List, [], ◌∷◌, ◌++◌, length, map, filter, if◌then◌else◌, slice_index_or, Option, Some, None, IfSome, IfNone}
+use Rattle.std.specs.Prelude.{ℕ, ℤ, pos, ◌≡◌, ◌≤◌, ◌==◌, ◌-◌, ◌-ℤ◌, Bool, true, false, not, nat_le, List, [], ◌∷◌, ◌++◌, length, map, filter, if◌then◌else◌, slice_index_or, Option, Some, None, IfSome, IfNone}
 use Rattle.std.specs.Int.{w64, saturate_signed}
 use Rattle.std.specs.List.{list_any, range_with_len}
 use Rattle.lsp_base.specs.Shares.{priorities}
 use Rattle.te_snapshot.specs.Network.{Network, state_of}
 use Rattle.te_snapshot.specs.Pages.{row}
-use Rattle.te_snapshot.specs.Room.{own_share}
+use Rattle.te_snapshot.specs.Room.{left, own_share}
 use Rattle.te_snapshot.specs.declared.own.OwnShare.{OwnShare}
 use Rattle.path_finder.specs.Answers.{IsAnswer, IsRefused}
 use Rattle.path_finder.specs.declared.found.Found.{Found}
@@ -23,6 +23,10 @@ open_row closed table l = if l == closed then no_room else row table l
 -- the table with nothing left on the link
 unfoldable pub without_link : ℕ → List (List ℤ) → List (List ℤ)
 without_link closed table = map (open_row closed table) (range_with_len 0 (length table))
+
+-- nothing is left on the link, at no priority
+pub record IsClosed (closed : ℕ) (table : List (List ℤ)) : Type 0 where
+  pub none : (p : ℕ) → left table closed p ≡ pos 0
 
 -- what a tunnel holds on other links
 abbrev pub held_elsewhere : ℕ → List OwnShare → List OwnShare
@@ -57,12 +61,14 @@ pub record IsPlaced (n : Network) (closed : ℕ) (table : List (List ℤ)) (m : 
   pub answer : IsAnswer (state_of n table) m.wanted (held_elsewhere closed m.own) f
   pub avoids : uses closed f ≡ false
 
--- on this table the search answered no path, or the one of least cost that it answered uses the link
+-- On this table the search answered no path, or the one of least cost that it answered uses the link. For an LSP with
+-- bandwidth no path is admissible, or a least one breaks an other bound.
 pub record IsUnplaced (n : Network) (closed : ℕ) (table : List (List ℤ)) (m : Mover) : Type 0 where
   pub found : Option Found
   pub answer : IfSome found (IsAnswer (state_of n table) m.wanted (held_elsewhere closed m.own))
   pub refused : IfNone found (IsRefused (state_of n table) m.wanted (held_elsewhere closed m.own))
   pub over : IfSome found (λ f. uses closed f ≡ true)
+  pub refused_outright : 1 ≤ (m.wanted).bandwidth → IsRefused (state_of n table) m.wanted (held_elsewhere closed m.own)
 
 abbrev pub moved : Mover → Option Found → Move
 moved m path = record { peer = m.peer; plsp = m.plsp; wanted = m.wanted; path = path }

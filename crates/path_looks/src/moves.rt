@@ -3,7 +3,7 @@ ghost use Rattle.std.specs.Prelude.{◌≡◌, ◌<◌, ◌==◌, ◌++◌, ◌�
 ghost use Rattle.std.specs.Arc.{arc_value};
 ghost use Rattle.std.specs.List.{list_any};
 ghost use Rattle.te_snapshot.specs.Network.{state_of};
-ghost use Rattle.path_looks.specs.Moves.{held_elsewhere, left_beside, moved, open_row, row_beside, taken, taken_row, uses, without_link, IsPlaced, IsUnplaced, Tried};
+ghost use Rattle.path_looks.specs.Moves.{held_elsewhere, left_beside, moved, open_row, row_beside, taken, taken_row, uses, without_link, IsClosed, IsPlaced, IsUnplaced, Tried};
 ghost use Rattle.path_looks.specs.declared.moves.Mover.{Mover as Trial};
 
 use lsp_base::Constraints;
@@ -197,7 +197,8 @@ fn avoiding(closed: LinkNumber, found: Option<Found>) -> Option<Found>
     }
 }
 
-/// Searches for a path of an LSP that doesn't use the closed link.
+/// Searches for a path of an LSP that doesn't use the closed link, on which nothing is left.
+#[tactic(auto, using(crate::proofs::Closing::refused_outright))]
 fn search(
     alloc: Global,
     topology: &Arc<Topology, Global>,
@@ -205,10 +206,13 @@ fn search(
     closed: LinkNumber,
     mover: &Mover,
 ) -> Result<Option<Found>, AllocError>
-    requires { length table.now ≡ length (arc_value topology.now).links }
+    requires whole { length table.now ≡ length (arc_value topology.now).links }
+    requires closed { IsClosed closed table.now }
     ensures placed { IfOk result (λ found. IfSome found (IsPlaced (arc_value topology.now) closed table.now mover.now)) }
     ensures unplaced { IfOk result (λ found. IfNone found (IsUnplaced (arc_value topology.now) closed table.now mover.now)) }
 {
+    // for the proof alone: there is a priority from holding to setup
+    let _hold = mover.wanted.priorities.hold();
     let snapshot = snapshot_over(alloc, topology, table)?;
     let own = Sequence::from_vec(held_elsewhere(alloc, closed, mover.own.as_slice())?);
     Ok(avoiding(closed, find(alloc, &snapshot, &mover.wanted, &own)?))
@@ -234,8 +238,10 @@ fn try_one(
     table: &mut Vec<[i64; 8]>,
     moves: &mut Vec<Move>,
 ) -> Result<(), AllocError>
-    requires { length table.old.items ≡ length (arc_value topology.now).links }
+    requires whole { length table.old.items ≡ length (arc_value topology.now).links }
+    requires closed { IsClosed closed table.old.items }
     ensures whole { OnOk result (length table.new.items ≡ length (arc_value topology.now).links) }
+    ensures closed { OnOk result (IsClosed closed table.new.items) }
     ensures tried { OnOk result ((start : List (List ℤ)) (ms : List Trial) → Tried (arc_value topology.now) closed start ms moves.old.items table.old.items
         → Tried (arc_value topology.now) closed start (ms ++ mover.now ∷ []) moves.new.items table.new.items) }
 {
@@ -257,7 +263,8 @@ fn try_all(
     movers: &[Mover],
     table: &mut Vec<[i64; 8]>,
 ) -> Result<Vec<Move>, AllocError>
-    requires { length table.old.items ≡ length (arc_value topology.now).links }
+    requires whole { length table.old.items ≡ length (arc_value topology.now).links }
+    requires closed { IsClosed closed table.old.items }
     ensures { IfOk result (λ moves. Tried (arc_value topology.now) closed table.old.items movers.now moves.items table.new.items) }
 {
     let mut moves = Vec::new(alloc);
@@ -269,6 +276,7 @@ fn try_all(
 
 /// Finds where LSPs would go if a link went away: one after the other, each beside what those before it took. Nothing is
 /// booked.
+#[tactic(auto, using(crate::proofs::Closing::starts_closed))]
 pub fn moves_without(
     alloc: Global,
     snapshot: &Snapshot,

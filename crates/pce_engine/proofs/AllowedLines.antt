@@ -3,10 +3,10 @@ use Rattle.std.proofs.Common.{◌≡◌, ℕ, ◌==◌, Bool, true, false, List,
 use Rattle.std.proofs.lemmas.Bool.Decides.{nat_tests}
 use Rattle.std.proofs.lemmas.List.{append-nil}
 use Rattle.pce_engine.specs.declared.fault.ScriptFault.{ScriptFault}
-use Rattle.script_lines.specs.Told.{Told}
+use Rattle.script_lines.specs.LineAnswer.{LineAnswer}
 use Rattle.script_lines.specs.Lines.{Cut, cut, cut_at, with_rest, lines_of}
 use Rattle.script_lines.proofs.Cutting.{cut_break, cut_other}
-use Rattle.pce_engine.specs.Script.{Searches, Stage, start, line_told, MayFind, Allowed}
+use Rattle.pce_engine.specs.Script.{Searches, Stage, start, answer_of_line, MayFind, Allowed}
 use Rattle.pce_engine.specs.Machine.{Machine, started, Fed, after_line, fed_on, fed, MayTake, AllowedBytes, Goes}
 use Rattle.pce_engine.specs.Ends.{MayClose}
 use Rattle.pce_engine.proofs.Laws.{cut_on, took_break, took_other, front_of}
@@ -20,29 +20,29 @@ module _ (answers : Searches) where
   abbrev GoesOn : List (List ℕ) → Stage → Type 0
   GoesOn ls s = (more : List (List ℕ)) → Allowed answers more s → Allowed answers (ls ++ more) start
 
-  -- a line that was told
-  may_line : (ls : List (List ℕ)) (p : List ℕ) (s : Stage) (r : Told Stage) → line_told (answers s.number) s p ≡ Ok r → MayFind (answers s.number) s.standing p → GoesOn ls s → GoesOn (ls ++ p ∷ []) r.after
+  -- a line that was answered
+  may_line : (ls : List (List ℕ)) (p : List ℕ) (s : Stage) (r : LineAnswer Stage) → answer_of_line (answers s.number) s p ≡ Ok r → MayFind (answers s.number) s.standing p → GoesOn ls s → GoesOn (ls ++ p ∷ []) r.after
   may_line ls p s r e may goes more h =
       subst (λ (all : List (List ℕ)). Allowed answers all start) (sym (append_assoc ls (p ∷ []) more))
-      (goes (p ∷ more) (subst (λ (t : Result (Told Stage) ScriptFault). IfOk t (λ t. MayFind (answers s.number) s.standing p × Allowed answers more t.after)) (sym e) (may, h)))
+      (goes (p ∷ more) (subst (λ (t : Result (LineAnswer Stage) ScriptFault). IfOk t (λ t. MayFind (answers s.number) s.standing p × Allowed answers more t.after)) (sym e) (may, h)))
 
   -- a line that met a fault
-  may_fault : (ls : List (List ℕ)) (p : List ℕ) (s : Stage) (fault : ScriptFault) (more : List (List ℕ)) → line_told (answers s.number) s p ≡ Err fault → GoesOn ls s → Allowed answers (ls ++ p ∷ more) start
+  may_fault : (ls : List (List ℕ)) (p : List ℕ) (s : Stage) (fault : ScriptFault) (more : List (List ℕ)) → answer_of_line (answers s.number) s p ≡ Err fault → GoesOn ls s → Allowed answers (ls ++ p ∷ more) start
   may_fault ls p s fault more e goes =
-      goes (p ∷ more) (subst (λ (t : Result (Told Stage) ScriptFault). IfOk t (λ t. MayFind (answers s.number) s.standing p × Allowed answers more t.after)) (sym e) tt)
+      goes (p ∷ more) (subst (λ (t : Result (LineAnswer Stage) ScriptFault). IfOk t (λ t. MayFind (answers s.number) s.standing p × Allowed answers more t.after)) (sym e) tt)
 
   -- the byte that ends a line lets its search answer so
-  may_break : (r : Result (Told Stage) ScriptFault) (b : ℕ) (bytes : List ℕ) (m : Machine) → (b == 10) ≡ true → line_told (answers m.stage.number) m.stage m.pending ≡ r → AllowedBytes answers (b ∷ bytes) m
+  may_break : (r : Result (LineAnswer Stage) ScriptFault) (b : ℕ) (bytes : List ℕ) (m : Machine) → (b == 10) ≡ true → answer_of_line (answers m.stage.number) m.stage m.pending ≡ r → AllowedBytes answers (b ∷ bytes) m
       → IfOk (after_line r) (λ t. MayFind (answers m.stage.number) m.stage.standing m.pending × AllowedBytes answers bytes t.after)
   may_break (Ok r) b bytes m e is h =
       let line : b ≡ 10 = grind (arith, nat_tests) in
-      let k = subst (λ (t : Result (Told Machine) ScriptFault). IfOk t (λ t. MayTake (answers m.stage.number) m b × AllowedBytes answers bytes t.after)) (took_break (answers m.stage.number) m b e ∙ ap after_line is) h in
+      let k = subst (λ (t : Result (LineAnswer Machine) ScriptFault). IfOk t (λ t. MayTake (answers m.stage.number) m b × AllowedBytes answers bytes t.after)) (took_break (answers m.stage.number) m b e ∙ ap after_line is) h in
       (k.0 line, k.1)
   may_break (Err fault) b bytes m e is h = tt
 
   may_other : (b : ℕ) (bytes : List ℕ) (m : Machine) → (b == 10) ≡ false → AllowedBytes answers (b ∷ bytes) m → AllowedBytes answers bytes (record { stage = m.stage; pending = m.pending ++ b ∷ [] })
   may_other b bytes m e h =
-      (subst (λ (t : Result (Told Machine) ScriptFault). IfOk t (λ t. MayTake (answers m.stage.number) m b × AllowedBytes answers bytes t.after)) (took_other (answers m.stage.number) m b e) h).1
+      (subst (λ (t : Result (LineAnswer Machine) ScriptFault). IfOk t (λ t. MayTake (answers m.stage.number) m b × AllowedBytes answers bytes t.after)) (took_other (answers m.stage.number) m b e) h).1
 
   -- ---- the whole lines of a front
 
@@ -50,19 +50,19 @@ module _ (answers : Searches) where
   Fronts bytes = (ls : List (List ℕ)) (p text : List ℕ) (s : Stage) (all : List ℕ) (n : Machine) → GoesOn ls s → Goes answers bytes text (record { stage = s; pending = p }) all n
       → GoesOn (fold cut_at (ls, p) bytes).0 n.stage × ((fold cut_at (ls, p) bytes).1 ≡ n.pending)
 
-  fronts_told : (r : Result (Told Stage) ScriptFault) (bytes : List ℕ) (ls : List (List ℕ)) (p text : List ℕ) (s : Stage) (all : List ℕ) (n : Machine) → line_told (answers s.number) s p ≡ r → Fronts bytes → GoesOn ls s
+  fronts_answer : (r : Result (LineAnswer Stage) ScriptFault) (bytes : List ℕ) (ls : List (List ℕ)) (p text : List ℕ) (s : Stage) (all : List ℕ) (n : Machine) → answer_of_line (answers s.number) s p ≡ r → Fronts bytes → GoesOn ls s
       → IfOk (after_line r) (λ t. MayFind (answers s.number) s.standing p × AllowedBytes answers bytes t.after)
       → fed_on text (record { stage = s; pending = p }) (after_line r) (fed answers bytes) ≡ record { text = all; machine = n; fault = None }
       → GoesOn (fold cut_at (ls ++ p ∷ [], []) bytes).0 n.stage × ((fold cut_at (ls ++ p ∷ [], []) bytes).1 ≡ n.pending)
-  fronts_told (Ok r) bytes ls p text s all n e ih goes may h = ih (ls ++ p ∷ []) [] (text ++ r.text) r.after all n (may_line ls p s r e may.0 goes) (h, may.1)
-  fronts_told (Err fault) bytes ls p text s all n e ih goes may h = let bad : Some fault ≡ None = ap (λ (f : Fed). f.fault) h in absurd cc
+  fronts_answer (Ok r) bytes ls p text s all n e ih goes may h = ih (ls ++ p ∷ []) [] (text ++ r.text) r.after all n (may_line ls p s r e may.0 goes) (h, may.1)
+  fronts_answer (Err fault) bytes ls p text s all n e ih goes may h = let bad : Some fault ≡ None = ap (λ (f : Fed). f.fault) h in absurd cc
 
   fronts_at : (t : Bool) (b : ℕ) (bytes : List ℕ) → (b == 10) ≡ t → Fronts bytes → Fronts (b ∷ bytes)
   fronts_at true b bytes e ih ls p text s all n goes h =
       let m : Machine = record { stage = s; pending = p } in
-      let r = line_told (answers s.number) s p in
+      let r = answer_of_line (answers s.number) s p in
       subst (λ (c : Cut). GoesOn (fold cut_at c bytes).0 n.stage × ((fold cut_at c bytes).1 ≡ n.pending)) (sym (cut_break ls p b e))
-      (fronts_told r bytes ls p text s all n refl ih goes (may_break r b bytes m e refl h.1) (sym (ap (λ t. fed_on text m t (fed answers bytes)) (took_break (answers s.number) m b e)) ∙ h.0))
+      (fronts_answer r bytes ls p text s all n refl ih goes (may_break r b bytes m e refl h.1) (sym (ap (λ t. fed_on text m t (fed answers bytes)) (took_break (answers s.number) m b e)) ∙ h.0))
   fronts_at false b bytes e ih ls p text s all n goes h =
       let m : Machine = record { stage = s; pending = p } in
       let k : Machine = record { stage = s; pending = p ++ b ∷ [] } in
@@ -81,7 +81,7 @@ module _ (answers : Searches) where
 
   last_line : (ls : List (List ℕ)) (p : List ℕ) (s : Stage) → GoesOn ls s → MayClose (answers s.number) s p → Allowed answers (with_rest ls p) start
   last_line ls [] s goes may = subst (λ (ls : List (List ℕ)). Allowed answers ls start) (append-nil ls) (goes [] tt)
-  last_line ls (b ∷ p) s goes may = goes ((b ∷ p) ∷ []) (also_none (line_told (answers s.number) s (b ∷ p)) (MayFind (answers s.number) s.standing (b ∷ p)) may)
+  last_line ls (b ∷ p) s goes may = goes ((b ∷ p) ∷ []) (also_none (answer_of_line (answers s.number) s (b ∷ p)) (MayFind (answers s.number) s.standing (b ∷ p)) may)
 
   -- the input ended where the bytes lead
   pub allowed_whole : (input text : List ℕ) (m : Machine) → Goes answers input [] started text m → MayClose (answers m.stage.number) m.stage m.pending → Allowed answers (lines_of input) start
@@ -93,20 +93,20 @@ module _ (answers : Searches) where
   Stopped bytes = (ls : List (List ℕ)) (p text : List ℕ) (s : Stage) (fault : ScriptFault) → GoesOn ls s → AllowedBytes answers bytes (record { stage = s; pending = p })
       → (fed answers bytes text (record { stage = s; pending = p })).fault ≡ Some fault → Allowed answers (cut_on (ls, p) bytes) start
 
-  stopped_told : (r : Result (Told Stage) ScriptFault) (bytes : List ℕ) (ls : List (List ℕ)) (p text : List ℕ) (s : Stage) (fault : ScriptFault) → line_told (answers s.number) s p ≡ r → Stopped bytes → GoesOn ls s
+  stopped_answer : (r : Result (LineAnswer Stage) ScriptFault) (bytes : List ℕ) (ls : List (List ℕ)) (p text : List ℕ) (s : Stage) (fault : ScriptFault) → answer_of_line (answers s.number) s p ≡ r → Stopped bytes → GoesOn ls s
       → IfOk (after_line r) (λ t. MayFind (answers s.number) s.standing p × AllowedBytes answers bytes t.after)
       → (fed_on text (record { stage = s; pending = p }) (after_line r) (fed answers bytes)).fault ≡ Some fault → Allowed answers (cut_on (ls ++ p ∷ [], []) bytes) start
-  stopped_told (Ok r) bytes ls p text s fault e ih goes may h = ih (ls ++ p ∷ []) [] (text ++ r.text) r.after fault (may_line ls p s r e may.0 goes) may.1 h
-  stopped_told (Err f) bytes ls p text s fault e ih goes may h =
+  stopped_answer (Ok r) bytes ls p text s fault e ih goes may h = ih (ls ++ p ∷ []) [] (text ++ r.text) r.after fault (may_line ls p s r e may.0 goes) may.1 h
+  stopped_answer (Err f) bytes ls p text s fault e ih goes may h =
       let rest = front_of bytes (ls ++ p ∷ []) [] in
       subst (λ (all : List (List ℕ)). Allowed answers all start) (sym (rest.1 ∙ append_assoc ls (p ∷ []) rest.0)) (may_fault ls p s f rest.0 e goes)
 
   stopped_at : (t : Bool) (b : ℕ) (bytes : List ℕ) → (b == 10) ≡ t → Stopped bytes → Stopped (b ∷ bytes)
   stopped_at true b bytes e ih ls p text s fault goes may h =
       let m : Machine = record { stage = s; pending = p } in
-      let r = line_told (answers s.number) s p in
+      let r = answer_of_line (answers s.number) s p in
       subst (λ (c : Cut). Allowed answers (cut_on c bytes) start) (sym (cut_break ls p b e))
-      (stopped_told r bytes ls p text s fault refl ih goes (may_break r b bytes m e refl may) (sym (ap (λ t. (fed_on text m t (fed answers bytes)).fault) (took_break (answers s.number) m b e)) ∙ h))
+      (stopped_answer r bytes ls p text s fault refl ih goes (may_break r b bytes m e refl may) (sym (ap (λ t. (fed_on text m t (fed answers bytes)).fault) (took_break (answers s.number) m b e)) ∙ h))
   stopped_at false b bytes e ih ls p text s fault goes may h =
       let m : Machine = record { stage = s; pending = p } in
       let k : Machine = record { stage = s; pending = p ++ b ∷ [] } in

@@ -2,10 +2,10 @@
 use Rattle.std.proofs.Common.{◌≡◌, ◌≢◌, ℕ, List, [], ◌∷◌, ◌++◌, false, Option, Some, None, Result, Ok, Err, IfOk, OnOk, is_err, refl, sym, subst, ap, ◌∙◌}
 use Rattle.std.proofs.lemmas.List.{append-nil}
 use Rattle.std.specs.Io.KnownBytes.{Appends}
-use Rattle.script_lines.specs.Told.{Told, told}
+use Rattle.script_lines.specs.LineAnswer.{LineAnswer, line_answer}
 use Rattle.pce_engine.specs.declared.fault.ScriptFault.{ScriptFault}
 use Rattle.pce_engine.specs.declared.fault.ScriptFault.TheVariants.{BadLine, Te, ReadFault, WriteFault, OutOfMemory, HistoryFull}
-use Rattle.pce_engine.specs.Script.{Stage, Outcome, line_told, MayFind, ending, on_told}
+use Rattle.pce_engine.specs.Script.{Stage, Outcome, answer_of_line, MayFind, ending, on_line_answer}
 use Rattle.pce_engine.specs.Ends.{Writes, WritesLast, Closes, ClosesAt, ClosesBy}
 use Rattle.pce_engine.specs.Machine.{Halts}
 use Rattle.pce_engine.proofs.Laws.{appends_more}
@@ -27,48 +27,48 @@ closes_nothing (Err HistoryFull) old new s h = nothing_last old new s (Some Hist
 -- ---- with one
 
 -- what the last line prints, and how the script ends behind it
-abbrev closed : Result (Told Stage) ScriptFault → Outcome
-closed given = on_told [] given (λ all t. record { text = all; fault = ending t.number t.standing })
+abbrev closed : Result (LineAnswer Stage) ScriptFault → Outcome
+closed given = on_line_answer [] given (λ all t. record { text = all; fault = ending t.number t.standing })
 
-told_last : (old mid new : Option (List ℕ)) (s t : Stage) (b : ℕ) (bs text : List ℕ) (answer : Option (List ℕ)) (fault : Option ScriptFault) → MayFind answer s.standing (b ∷ bs)
-    → line_told answer s (b ∷ bs) ≡ Ok (told text t) → Appends old mid text → Appends mid new [] → ending t.number t.standing ≡ fault → WritesLast old new fault s (b ∷ bs)
-told_last old mid new s t b bs text answer fault may is first rest ends =
+last_answer : (old mid new : Option (List ℕ)) (s t : Stage) (b : ℕ) (bs text : List ℕ) (answer : Option (List ℕ)) (fault : Option ScriptFault) → MayFind answer s.standing (b ∷ bs)
+    → answer_of_line answer s (b ∷ bs) ≡ Ok (line_answer text t) → Appends old mid text → Appends mid new [] → ending t.number t.standing ≡ fault → WritesLast old new fault s (b ∷ bs)
+last_answer old mid new s t b bs text answer fault may is first rest ends =
     let whole : Appends old new text = subst (Appends old new) (append-nil text) (appends_more old mid new text [] first rest) in (
       answer,
-      subst (λ (r : Result (Told Stage) ScriptFault). IfOk r (λ _. MayFind answer s.standing (b ∷ bs))) (sym is) may,
-      subst (λ (r : Result (Told Stage) ScriptFault). Writes old new fault (closed r)) (sym is) (whole, ends),
+      subst (λ (r : Result (LineAnswer Stage) ScriptFault). IfOk r (λ _. MayFind answer s.standing (b ∷ bs))) (sym is) may,
+      subst (λ (r : Result (LineAnswer Stage) ScriptFault). Writes old new fault (closed r)) (sym is) (whole, ends),
     )
 
-told_by : {X : Type 0} (r : Result X ScriptFault) (old mid new : Option (List ℕ)) (s t : Stage) (b : ℕ) (bs text : List ℕ) (answer : Option (List ℕ)) → MayFind answer s.standing (b ∷ bs)
-    → line_told answer s (b ∷ bs) ≡ Ok (told text t) → Appends old mid text → ClosesAt r mid new (ending t.number t.standing) → Closes r old new s (b ∷ bs)
-told_by (Ok x) old mid new s t b bs text answer may is first h = told_last old mid new s t b bs text answer None may is first h.0 h.1
-told_by (Err (BadLine n)) old mid new s t b bs text answer may is first h = told_last old mid new s t b bs text answer (Some (BadLine n)) may is first h.0 h.1
-told_by (Err (Te fault)) old mid new s t b bs text answer may is first h = told_last old mid new s t b bs text answer (Some (Te fault)) may is first h.0 h.1
-told_by (Err ReadFault) old mid new s t b bs text answer may is first h = absurd h
-told_by (Err WriteFault) old mid new s t b bs text answer may is first h = tt
-told_by (Err (OutOfMemory n)) old mid new s t b bs text answer may is first h = absurd h
-told_by (Err HistoryFull) old mid new s t b bs text answer may is first h = told_last old mid new s t b bs text answer (Some HistoryFull) may is first h.0 h.1
+answer_by : {X : Type 0} (r : Result X ScriptFault) (old mid new : Option (List ℕ)) (s t : Stage) (b : ℕ) (bs text : List ℕ) (answer : Option (List ℕ)) → MayFind answer s.standing (b ∷ bs)
+    → answer_of_line answer s (b ∷ bs) ≡ Ok (line_answer text t) → Appends old mid text → ClosesAt r mid new (ending t.number t.standing) → Closes r old new s (b ∷ bs)
+answer_by (Ok x) old mid new s t b bs text answer may is first h = last_answer old mid new s t b bs text answer None may is first h.0 h.1
+answer_by (Err (BadLine n)) old mid new s t b bs text answer may is first h = last_answer old mid new s t b bs text answer (Some (BadLine n)) may is first h.0 h.1
+answer_by (Err (Te fault)) old mid new s t b bs text answer may is first h = last_answer old mid new s t b bs text answer (Some (Te fault)) may is first h.0 h.1
+answer_by (Err ReadFault) old mid new s t b bs text answer may is first h = absurd h
+answer_by (Err WriteFault) old mid new s t b bs text answer may is first h = tt
+answer_by (Err (OutOfMemory n)) old mid new s t b bs text answer may is first h = absurd h
+answer_by (Err HistoryFull) old mid new s t b bs text answer may is first h = last_answer old mid new s t b bs text answer (Some HistoryFull) may is first h.0 h.1
 
-pub closes_told : {X : Type 0} (r : Result X ScriptFault) (old mid new : Option (List ℕ)) (s t : Stage) (line none out : List ℕ) (answer : Option (List ℕ)) (text : List ℕ) → line ≢ [] → none ≡ []
-    → MayFind answer s.standing line → line_told answer s line ≡ Ok (told text t) → out ≡ none ++ text → Appends old mid out → ClosesAt r mid new (ending t.number t.standing) → Closes r old new s line
-closes_told r old mid new s t [] none out answer text some empty may is out_is first h = absurd (some refl)
-closes_told r old mid new s t (b ∷ bs) none out answer text some empty may is out_is first h =
+pub closes_answer : {X : Type 0} (r : Result X ScriptFault) (old mid new : Option (List ℕ)) (s t : Stage) (line none out : List ℕ) (answer : Option (List ℕ)) (text : List ℕ) → line ≢ [] → none ≡ []
+    → MayFind answer s.standing line → answer_of_line answer s line ≡ Ok (line_answer text t) → out ≡ none ++ text → Appends old mid out → ClosesAt r mid new (ending t.number t.standing) → Closes r old new s line
+closes_answer r old mid new s t [] none out answer text some empty may is out_is first h = absurd (some refl)
+closes_answer r old mid new s t (b ∷ bs) none out answer text some empty may is out_is first h =
     let text_is : out ≡ text = out_is ∙ ap (λ (n : List ℕ). n ++ text) empty in
-    told_by r old mid new s t b bs text answer may is (subst (Appends old mid) text_is first) h
+    answer_by r old mid new s t b bs text answer may is (subst (Appends old mid) text_is first) h
 
 -- the line met a fault: nothing of it was written
-fault_last : (w : Option (List ℕ)) (s : Stage) (b : ℕ) (bs : List ℕ) (e : ScriptFault) → Appends w w [] → line_told None s (b ∷ bs) ≡ Err e → WritesLast w w (Some e) s (b ∷ bs)
+fault_last : (w : Option (List ℕ)) (s : Stage) (b : ℕ) (bs : List ℕ) (e : ScriptFault) → Appends w w [] → answer_of_line None s (b ∷ bs) ≡ Err e → WritesLast w w (Some e) s (b ∷ bs)
 fault_last w s b bs e nothing is = (
   None,
-  subst (λ (r : Result (Told Stage) ScriptFault). IfOk r (λ _. MayFind None s.standing (b ∷ bs))) (sym is) tt,
-  subst (λ (r : Result (Told Stage) ScriptFault). Writes w w (Some e) (closed r)) (sym is) (nothing, refl),
+  subst (λ (r : Result (LineAnswer Stage) ScriptFault). IfOk r (λ _. MayFind None s.standing (b ∷ bs))) (sym is) tt,
+  subst (λ (r : Result (LineAnswer Stage) ScriptFault). Writes w w (Some e) (closed r)) (sym is) (nothing, refl),
 )
 
 appends_none : (w : Option (List ℕ)) → Appends w w []
 appends_none None = tt
 appends_none (Some xs) = sym (append-nil xs)
 
-halted_last : (e : ScriptFault) (w : Option (List ℕ)) (s : Stage) (b : ℕ) (bs none out : List ℕ) → Halts s.number e (line_told None s (b ∷ bs)) none out → ClosesBy e w w s (b ∷ bs)
+halted_last : (e : ScriptFault) (w : Option (List ℕ)) (s : Stage) (b : ℕ) (bs none out : List ℕ) → Halts s.number e (answer_of_line None s (b ∷ bs)) none out → ClosesBy e w w s (b ∷ bs)
 halted_last (BadLine n) w s b bs none out h = fault_last w s b bs (BadLine n) (appends_none w) h.0
 halted_last (Te fault) w s b bs none out h = fault_last w s b bs (Te fault) (appends_none w) h.0
 halted_last ReadFault w s b bs none out h = absurd h
@@ -76,7 +76,7 @@ halted_last WriteFault w s b bs none out h = absurd h
 halted_last (OutOfMemory n) w s b bs none out h = (refl, h.1)
 halted_last HistoryFull w s b bs none out h = fault_last w s b bs HistoryFull (appends_none w) h.0
 
-pub closes_halted : (e : ScriptFault) (w : Option (List ℕ)) (s : Stage) (line none out : List ℕ) → line ≢ [] → Halts s.number e (line_told None s line) none out → ClosesBy e w w s line
+pub closes_halted : (e : ScriptFault) (w : Option (List ℕ)) (s : Stage) (line none out : List ℕ) → line ≢ [] → Halts s.number e (answer_of_line None s line) none out → ClosesBy e w w s line
 closes_halted e w s [] none out some h = absurd (some refl)
 closes_halted e w s (b ∷ bs) none out some h = halted_last e w s b bs none out h
 

@@ -4,10 +4,10 @@ use Rattle.std.proofs.lemmas.List.{take_more}
 use Rattle.std.proofs.lemmas.Bool.Decides.{nat_tests}
 use Rattle.pce_engine.specs.declared.fault.ScriptFault.{ScriptFault}
 use Rattle.pce_engine.specs.declared.fault.ScriptFault.TheVariants.{BadLine, Te, ReadFault, WriteFault, OutOfMemory, HistoryFull}
-use Rattle.script_lines.specs.Told.{Told, told}
-use Rattle.pce_engine.specs.Script.{Searches, Stage, line_told}
+use Rattle.script_lines.specs.LineAnswer.{LineAnswer, line_answer}
+use Rattle.pce_engine.specs.Script.{Searches, Stage, answer_of_line}
 use Rattle.pce_engine.specs.Machine.{Machine, Fed, after_line, took, fed_on, fed, MayTake, AllowedBytes, Leads, Goes, Halts, Breaks}
-use Rattle.pce_engine.proofs.Laws.{took_break, took_other, next_told, fed_append}
+use Rattle.pce_engine.proofs.Laws.{took_break, took_other, next_answer, fed_append}
 
 -- the answers of a before the line with this number, and those of b from it on
 abbrev pub joined : Searches → Searches → ℕ → Searches
@@ -21,32 +21,32 @@ joined_from a b number i h = let e : nat_lt i number ≡ false = grind (arith, n
 
 -- ---- numbers rise
 
-line_rises : (answer : Option (List ℕ)) (m : Machine) (r : Result (Told Stage) ScriptFault) (t : Told Machine) → line_told answer m.stage m.pending ≡ r → after_line r ≡ Ok t → t.after.stage.number ≡ m.stage.number + 1
+line_rises : (answer : Option (List ℕ)) (m : Machine) (r : Result (LineAnswer Stage) ScriptFault) (t : LineAnswer Machine) → answer_of_line answer m.stage m.pending ≡ r → after_line r ≡ Ok t → t.after.stage.number ≡ m.stage.number + 1
 line_rises answer m (Ok r) t e h =
-    let same : told r.text (record { stage = r.after; pending = [] }) ≡ t = cc in
-    ap (λ (u : Told Machine). u.after.stage.number) (sym same) ∙ next_told answer m.stage m.pending r e
+    let same : line_answer r.text (record { stage = r.after; pending = [] }) ≡ t = cc in
+    ap (λ (u : LineAnswer Machine). u.after.stage.number) (sym same) ∙ next_answer answer m.stage m.pending r e
 line_rises answer m (Err fault) t e h = cc
 
 -- at a line break the next number comes
-break_rises : (answer : Option (List ℕ)) (m : Machine) (b : ℕ) (t : Told Machine) → (b == 10) ≡ true → took answer m b ≡ Ok t → t.after.stage.number ≡ m.stage.number + 1
-break_rises answer m b t e h = line_rises answer m (line_told answer m.stage m.pending) t refl (sym (took_break answer m b e) ∙ h)
+break_rises : (answer : Option (List ℕ)) (m : Machine) (b : ℕ) (t : LineAnswer Machine) → (b == 10) ≡ true → took answer m b ≡ Ok t → t.after.stage.number ≡ m.stage.number + 1
+break_rises answer m b t e h = line_rises answer m (answer_of_line answer m.stage m.pending) t refl (sym (took_break answer m b e) ∙ h)
 
-other_stays : (answer : Option (List ℕ)) (m : Machine) (b : ℕ) (t : Told Machine) → (b == 10) ≡ false → took answer m b ≡ Ok t → t.after.stage.number ≡ m.stage.number
+other_stays : (answer : Option (List ℕ)) (m : Machine) (b : ℕ) (t : LineAnswer Machine) → (b == 10) ≡ false → took answer m b ≡ Ok t → t.after.stage.number ≡ m.stage.number
 other_stays answer m b t e h =
-    let same : told [] (record { stage = m.stage; pending = m.pending ++ b ∷ [] }) ≡ t = let g = sym (took_other answer m b e) ∙ h in cc in
-    ap (λ (u : Told Machine). u.after.stage.number) (sym same)
+    let same : line_answer [] (record { stage = m.stage; pending = m.pending ++ b ∷ [] }) ≡ t = let g = sym (took_other answer m b e) ∙ h in cc in
+    ap (λ (u : LineAnswer Machine). u.after.stage.number) (sym same)
 
-took_rises_at : (k : Bool) (answer : Option (List ℕ)) (m : Machine) (b : ℕ) (t : Told Machine) → (b == 10) ≡ k → took answer m b ≡ Ok t → m.stage.number ≤ t.after.stage.number
+took_rises_at : (k : Bool) (answer : Option (List ℕ)) (m : Machine) (b : ℕ) (t : LineAnswer Machine) → (b == 10) ≡ k → took answer m b ≡ Ok t → m.stage.number ≤ t.after.stage.number
 took_rises_at true answer m b t e h = omega (arith, break_rises answer m b t e h)
 took_rises_at false answer m b t e h = omega (arith, other_stays answer m b t e h)
 
-took_rises : (answer : Option (List ℕ)) (m : Machine) (b : ℕ) (t : Told Machine) → took answer m b ≡ Ok t → m.stage.number ≤ t.after.stage.number
+took_rises : (answer : Option (List ℕ)) (m : Machine) (b : ℕ) (t : LineAnswer Machine) → took answer m b ≡ Ok t → m.stage.number ≤ t.after.stage.number
 took_rises answer m b t h = took_rises_at (b == 10) answer m b t refl h
 
 abbrev Rises : List ℕ → Type 0
 Rises bytes = (a : Searches) (text : List ℕ) (m : Machine) (new : List ℕ) (n : Machine) → Leads a bytes text m new n → m.stage.number ≤ n.stage.number
 
-rises_at : (r : Result (Told Machine) ScriptFault) (b : ℕ) (bytes : List ℕ) (a : Searches) (text : List ℕ) (m : Machine) (new : List ℕ) (n : Machine) → took (a m.stage.number) m b ≡ r → Rises bytes
+rises_at : (r : Result (LineAnswer Machine) ScriptFault) (b : ℕ) (bytes : List ℕ) (a : Searches) (text : List ℕ) (m : Machine) (new : List ℕ) (n : Machine) → took (a m.stage.number) m b ≡ r → Rises bytes
     → fed_on text m r (fed a bytes) ≡ record { text = new; machine = n; fault = None } → m.stage.number ≤ n.stage.number
 rises_at (Ok t) b bytes a text m new n e ih h = omega (arith, took_rises (a m.stage.number) m b t e, ih a (text ++ t.text) t.after new n h)
 rises_at (Err fault) b bytes a text m new n e ih h = let bad : Some fault ≡ None = ap (λ (f : Fed). f.fault) h in cc
@@ -61,7 +61,7 @@ rises (b ∷ bytes) a text m new n h = rises_at (took (a m.stage.number) m b) b 
 abbrev MayGoOn : Option (List ℕ) → ℕ → Machine → (Machine → Type 0) → Type 0
 MayGoOn answer b m next = IfOk (took answer m b) (λ t. MayTake answer m b × next t.after)
 
-goes_with : (r : Result (Told Machine) ScriptFault) (P : Type 0) (next also : Machine → Type 0) → ((t : Told Machine) → r ≡ Ok t → next t.after → also t.after)
+goes_with : (r : Result (LineAnswer Machine) ScriptFault) (P : Type 0) (next also : Machine → Type 0) → ((t : LineAnswer Machine) → r ≡ Ok t → next t.after → also t.after)
     → IfOk r (λ t. P × next t.after) → IfOk r (λ t. P × also t.after)
 goes_with (Ok t) P next also f h = (h.0, f t refl h.1)
 goes_with (Err fault) P next also f h = tt
@@ -70,8 +70,8 @@ goes_with (Err fault) P next also f h = tt
 other_may : (answer other : Option (List ℕ)) (b : ℕ) (m : Machine) (next : Machine → Type 0) → (b == 10) ≡ false → MayGoOn answer b m next → MayGoOn other b m next
 other_may answer other b m next e h =
     let no : (b ≡ 10) → ⊥ = λ is. (let t : (b == 10) ≡ true = rw is refl in let bad : true ≡ false = sym t ∙ e in absurd cc) in
-    let here = subst (λ (r : Result (Told Machine) ScriptFault). IfOk r (λ t. MayTake answer m b × next t.after)) (took_other answer m b e) h in
-    subst (λ (r : Result (Told Machine) ScriptFault). IfOk r (λ t. MayTake other m b × next t.after)) (sym (took_other other m b e)) (λ is. absurd (no is), here.1)
+    let here = subst (λ (r : Result (LineAnswer Machine) ScriptFault). IfOk r (λ t. MayTake answer m b × next t.after)) (took_other answer m b e) h in
+    subst (λ (r : Result (LineAnswer Machine) ScriptFault). IfOk r (λ t. MayTake other m b × next t.after)) (sym (took_other other m b e)) (λ is. absurd (no is), here.1)
 
 -- from a number on
 abbrev SameFrom : List ℕ → Type 0
@@ -80,7 +80,7 @@ SameFrom bytes = (b c : Searches) (text : List ℕ) (m : Machine) → ((i : ℕ)
 from_later : (b c : Searches) (x y : ℕ) → x ≤ y → ((i : ℕ) → x ≤ i → c i ≡ b i) → (i : ℕ) → y ≤ i → c i ≡ b i
 from_later b c x y h same i k = same i (omega (arith, h, k))
 
-fed_from_at : (r : Result (Told Machine) ScriptFault) (bytes : List ℕ) (b c : Searches) (text : List ℕ) (m : Machine) → ((t : Told Machine) → r ≡ Ok t → fed c bytes (text ++ t.text) t.after ≡ fed b bytes (text ++ t.text) t.after)
+fed_from_at : (r : Result (LineAnswer Machine) ScriptFault) (bytes : List ℕ) (b c : Searches) (text : List ℕ) (m : Machine) → ((t : LineAnswer Machine) → r ≡ Ok t → fed c bytes (text ++ t.text) t.after ≡ fed b bytes (text ++ t.text) t.after)
     → fed_on text m r (fed c bytes) ≡ fed_on text m r (fed b bytes)
 fed_from_at (Ok t) bytes b c text m f = f t refl
 fed_from_at (Err fault) bytes b c text m f = refl
@@ -90,7 +90,7 @@ same_from [] b c text m same = (refl, λ h. tt)
 same_from (x ∷ bytes) b c text m same =
     let here : c m.stage.number ≡ b m.stage.number = same m.stage.number (omega arith) in
     let answer = b m.stage.number in
-    let later : (t : Told Machine) → took answer m x ≡ Ok t → (i : ℕ) → t.after.stage.number ≤ i → c i ≡ b i = λ t e. from_later b c m.stage.number t.after.stage.number (took_rises answer m x t e) same in (
+    let later : (t : LineAnswer Machine) → took answer m x ≡ Ok t → (i : ℕ) → t.after.stage.number ≤ i → c i ≡ b i = λ t e. from_later b c m.stage.number t.after.stage.number (took_rises answer m x t e) same in (
       ap (λ (o : Option (List ℕ)). fed_on text m (took o m x) (fed c bytes)) here
           ∙ fed_from_at (took answer m x) bytes b c text m (λ t e. (same_from bytes b c (text ++ t.text) t.after (later t e)).0),
       λ h. subst (λ (o : Option (List ℕ)). MayGoOn o x m (AllowedBytes c bytes)) (sym here)
@@ -101,14 +101,14 @@ same_from (x ∷ bytes) b c text m same =
 abbrev SameBelow : List ℕ → Type 0
 SameBelow bytes = (a c : Searches) (text : List ℕ) (m : Machine) (new : List ℕ) (n : Machine) → ((i : ℕ) → i < n.stage.number → c i ≡ a i) → Goes a bytes text m new n → Goes c bytes text m new n
 
-below_at : (r : Result (Told Machine) ScriptFault) (P : Type 0) (bytes : List ℕ) (a c : Searches) (text : List ℕ) (m : Machine) (new : List ℕ) (n : Machine) → ((i : ℕ) → i < n.stage.number → c i ≡ a i) → SameBelow bytes
+below_at : (r : Result (LineAnswer Machine) ScriptFault) (P : Type 0) (bytes : List ℕ) (a c : Searches) (text : List ℕ) (m : Machine) (new : List ℕ) (n : Machine) → ((i : ℕ) → i < n.stage.number → c i ≡ a i) → SameBelow bytes
     → fed_on text m r (fed a bytes) ≡ record { text = new; machine = n; fault = None } → IfOk r (λ t. P × AllowedBytes a bytes t.after)
     → (fed_on text m r (fed c bytes) ≡ record { text = new; machine = n; fault = None }) × IfOk r (λ t. P × AllowedBytes c bytes t.after)
 below_at (Ok t) P bytes a c text m new n same ih h k = let rest = ih a c (text ++ t.text) t.after new n same (h, k.1) in (rest.0, (k.0, rest.1))
 below_at (Err fault) P bytes a c text m new n same ih h k = let bad : Some fault ≡ None = ap (λ (f : Fed). f.fault) h in absurd cc
 
 -- the line that a byte ends comes before the number at which the bytes lead
-break_below : (r : Result (Told Machine) ScriptFault) (b : ℕ) (bytes : List ℕ) (a : Searches) (text : List ℕ) (m : Machine) (new : List ℕ) (n : Machine) → (b == 10) ≡ true → took (a m.stage.number) m b ≡ r
+break_below : (r : Result (LineAnswer Machine) ScriptFault) (b : ℕ) (bytes : List ℕ) (a : Searches) (text : List ℕ) (m : Machine) (new : List ℕ) (n : Machine) → (b == 10) ≡ true → took (a m.stage.number) m b ≡ r
     → fed_on text m r (fed a bytes) ≡ record { text = new; machine = n; fault = None } → m.stage.number < n.stage.number
 break_below (Ok t) b bytes a text m new n e is h = omega (arith, break_rises (a m.stage.number) m b t e is, rises bytes a (text ++ t.text) t.after new n h)
 break_below (Err fault) b bytes a text m new n e is h = let bad : Some fault ≡ None = ap (λ (f : Fed). f.fault) h in absurd cc
@@ -128,7 +128,7 @@ alike_at true b bytes a c text m new n e same goes h =
     )
 alike_at false b bytes a c text m new n e same goes h =
     let here : took (c m.stage.number) m b ≡ took (a m.stage.number) m b = took_other (c m.stage.number) m b e ∙ sym (took_other (a m.stage.number) m b e) in (
-      ap (λ (r : Result (Told Machine) ScriptFault). fed_on text m r (fed c bytes)) here ∙ h.0,
+      ap (λ (r : Result (LineAnswer Machine) ScriptFault). fed_on text m r (fed c bytes)) here ∙ h.0,
       other_may (a m.stage.number) (c m.stage.number) b m (AllowedBytes c bytes) e h.1,
     )
 
@@ -143,7 +143,7 @@ same_below (b ∷ bytes) a c text m new n same goes =
 abbrev AlsoMay : List ℕ → Type 0
 AlsoMay bytes = (c : Searches) (rest text : List ℕ) (m : Machine) (mid : List ℕ) (k : Machine) → Goes c bytes text m mid k → AllowedBytes c rest k → AllowedBytes c (bytes ++ rest) m
 
-also_at : (r : Result (Told Machine) ScriptFault) (P : Type 0) (bytes : List ℕ) (c : Searches) (rest text : List ℕ) (m : Machine) (mid : List ℕ) (k : Machine) → AlsoMay bytes
+also_at : (r : Result (LineAnswer Machine) ScriptFault) (P : Type 0) (bytes : List ℕ) (c : Searches) (rest text : List ℕ) (m : Machine) (mid : List ℕ) (k : Machine) → AlsoMay bytes
     → fed_on text m r (fed c bytes) ≡ record { text = mid; machine = k; fault = None } → IfOk r (λ t. P × AllowedBytes c bytes t.after) → AllowedBytes c rest k → IfOk r (λ t. P × AllowedBytes c (bytes ++ rest) t.after)
 also_at (Ok t) P bytes c rest text m mid k ih h may more = (may.0, ih c rest (text ++ t.text) t.after mid k (h, may.1) more)
 also_at (Err fault) P bytes c rest text m mid k ih h may more = tt
@@ -165,15 +165,15 @@ join front rest text m mid k a b goes more =
 -- ---- one byte more
 
 -- what a byte leaves that was taken
-pub one_byte : (b : ℕ) (text : List ℕ) (m : Machine) (new : List ℕ) (n : Machine) (answer : Option (List ℕ)) (line : List ℕ) → MayTake answer m b → took answer m b ≡ Ok (told line n) → new ≡ text ++ line → Goes (λ _. answer) (b ∷ []) text m new n
+pub one_byte : (b : ℕ) (text : List ℕ) (m : Machine) (new : List ℕ) (n : Machine) (answer : Option (List ℕ)) (line : List ℕ) → MayTake answer m b → took answer m b ≡ Ok (line_answer line n) → new ≡ text ++ line → Goes (λ _. answer) (b ∷ []) text m new n
 one_byte b text m new n answer line may e more = (
   ap (λ r. fed_on text m r (fed (λ _. answer) [])) e ∙ ap (λ (t : List ℕ). record { text = t; machine = n; fault = None }) (sym more),
-  subst (λ (r : Result (Told Machine) ScriptFault). IfOk r (λ t. MayTake answer m b × Unit {0})) (sym e) (may, tt),
+  subst (λ (r : Result (LineAnswer Machine) ScriptFault). IfOk r (λ t. MayTake answer m b × Unit {0})) (sym e) (may, tt),
 )
 
 pub goes_more : (bytes : List ℕ) (i : ℕ) (old : List ℕ) (m : Machine) (text : List ℕ) (n : Machine) (new : List ℕ) (k : Machine) → i < length bytes
     → (a : Searches) × Goes a (take i bytes) old m text n
-    → (answer : Option (List ℕ)) × (line : List ℕ) × MayTake answer n (get_or bytes i 0) × (took answer n (get_or bytes i 0) ≡ Ok (told line k)) × (new ≡ text ++ line)
+    → (answer : Option (List ℕ)) × (line : List ℕ) × MayTake answer n (get_or bytes i 0) × (took answer n (get_or bytes i 0) ≡ Ok (line_answer line k)) × (new ≡ text ++ line)
     → (c : Searches) × Goes c (take (i + 1) bytes) old m new k
 goes_more bytes i old m text n new k within so_far byte =
     let b = get_or bytes i 0 in
@@ -195,7 +195,7 @@ halted bytes i old m text n new e within so_far is same =
     ap (λ (left : List ℕ). fed none left text n) rest ∙ ap (λ t. fed_on text n t (fed none (drop (suc i) bytes))) is in
     let may : AllowedBytes none (drop i bytes) n =
     subst (λ (left : List ℕ). AllowedBytes none left n) (sym rest)
-    (subst (λ (r : Result (Told Machine) ScriptFault). IfOk r (λ t. MayTake None n (get_or bytes i 0) × AllowedBytes none (drop (suc i) bytes) t.after)) (sym is) tt) in
+    (subst (λ (r : Result (LineAnswer Machine) ScriptFault). IfOk r (λ t. MayTake None n (get_or bytes i 0) × AllowedBytes none (drop (suc i) bytes) t.after)) (sym is) tt) in
     let both = join (take i bytes) (drop i bytes) old m text n so_far.0 none so_far.1 may in
     let c = joined so_far.0 none n.stage.number in
     let whole = both.0 ∙ stops in

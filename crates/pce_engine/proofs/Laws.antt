@@ -3,20 +3,20 @@ use Rattle.std.proofs.Common.{◌≡◌, ℕ, ◌+◌, ◌==◌, Bool, true, fal
 use Rattle.std.proofs.lemmas.List.{append-nil, length-append}
 use Rattle.std.specs.Io.KnownBytes.{Appends}
 use Rattle.pce_engine.specs.declared.fault.ScriptFault.{ScriptFault}
-use Rattle.script_lines.specs.Told.{Told, told, ◌>>=◌}
+use Rattle.script_lines.specs.LineAnswer.{LineAnswer, line_answer, ◌>>=◌}
 use Rattle.script_lines.specs.Lines.{Cut, cut_at, with_rest}
 use Rattle.script_lines.proofs.Cutting.{cut_break, cut_other}
-use Rattle.pce_engine.specs.Script.{Searches, Stage, start, answered, counted, line_told, Outcome, on_told, printed, script, next_number, text_of_lines}
+use Rattle.pce_engine.specs.Script.{Searches, Stage, start, answered, counted, answer_of_line, Outcome, on_line_answer, printed, script, next_number, text_of_lines}
 use Rattle.pce_engine.specs.Machine.{Machine, started, Fed, after_line, took, fed_on, fed, Leads, completed}
 
 -- the lines of what was cut, and of the bytes after it
 abbrev pub cut_on : Cut → List ℕ → List (List ℕ)
 cut_on c bytes = with_rest (fold cut_at c bytes).0 (fold cut_at c bytes).1
 
-pub took_break : (answer : Option (List ℕ)) (m : Machine) (b : ℕ) → (b == 10) ≡ true → took answer m b ≡ after_line (line_told answer m.stage m.pending)
+pub took_break : (answer : Option (List ℕ)) (m : Machine) (b : ℕ) → (b == 10) ≡ true → took answer m b ≡ after_line (answer_of_line answer m.stage m.pending)
 took_break answer m b e = rw e
 
-pub took_other : (answer : Option (List ℕ)) (m : Machine) (b : ℕ) → (b == 10) ≡ false → took answer m b ≡ Ok (told [] (record { stage = m.stage; pending = m.pending ++ b ∷ [] }))
+pub took_other : (answer : Option (List ℕ)) (m : Machine) (b : ℕ) → (b == 10) ≡ false → took answer m b ≡ Ok (line_answer [] (record { stage = m.stage; pending = m.pending ++ b ∷ [] }))
 took_other answer m b e = rw e
 
 abbrev Keeps_front : List ℕ → Type 0
@@ -36,13 +36,13 @@ front_of [] ls [] = ([], sym (append-nil ls))
 front_of [] ls (b ∷ p) = ((b ∷ p) ∷ [], refl)
 front_of (b ∷ bytes) ls p = front_at (b == 10) b bytes refl (λ ls p. front_of bytes ls p) ls p
 
-number_after : (answer : Result (Told Stage) ScriptFault) (number : ℕ) (r : Told Stage) → (answer >>= λ t. Ok (told t.text (counted number t.after))) ≡ Ok r → r.after.number ≡ number + 1
-number_after (Ok t) number r e = let same : r ≡ told t.text (counted number t.after) = cc in ap (λ (next : Told Stage). next.after.number) same
+number_after : (answer : Result (LineAnswer Stage) ScriptFault) (number : ℕ) (r : LineAnswer Stage) → (answer >>= λ t. Ok (line_answer t.text (counted number t.after))) ≡ Ok r → r.after.number ≡ number + 1
+number_after (Ok t) number r e = let same : r ≡ line_answer t.text (counted number t.after) = cc in ap (λ (next : LineAnswer Stage). next.after.number) same
 number_after (Err fault) number r e = cc
 
-pub next_told : (answer : Option (List ℕ)) (s : Stage) (line : List ℕ) (r : Told Stage) → line_told answer s line ≡ Ok r → r.after.number ≡ s.number + 1
-unfolding line_told
-next_told answer s line r e = number_after (answered answer s line) s.number r e
+pub next_answer : (answer : Option (List ℕ)) (s : Stage) (line : List ℕ) (r : LineAnswer Stage) → answer_of_line answer s line ≡ Ok r → r.after.number ≡ s.number + 1
+unfolding answer_of_line
+next_answer answer s line r e = number_after (answered answer s line) s.number r e
 
 -- text that was written before stays in front
 abbrev pub after : List ℕ → Fed → Fed
@@ -56,27 +56,27 @@ module _ (answers : Searches) where
   GoesOn ls text s = (more : List (List ℕ)) → printed answers (ls ++ more) [] start ≡ printed answers more text s
 
   -- one line more
-  goes_on : (ls : List (List ℕ)) (p text : List ℕ) (s : Stage) (r : Told Stage) → line_told (answers s.number) s p ≡ Ok r → GoesOn ls text s → GoesOn (ls ++ p ∷ []) (text ++ r.text) r.after
+  goes_on : (ls : List (List ℕ)) (p text : List ℕ) (s : Stage) (r : LineAnswer Stage) → answer_of_line (answers s.number) s p ≡ Ok r → GoesOn ls text s → GoesOn (ls ++ p ∷ []) (text ++ r.text) r.after
   goes_on ls p text s r e goes more =
-      ap (λ (all : List (List ℕ)). printed answers all [] start) (append_assoc ls (p ∷ []) more) ∙ goes (p ∷ more) ∙ ap (λ t. on_told text t (printed answers more)) e
+      ap (λ (all : List (List ℕ)). printed answers all [] start) (append_assoc ls (p ∷ []) more) ∙ goes (p ∷ more) ∙ ap (λ t. on_line_answer text t (printed answers more)) e
 
   abbrev Agrees : List ℕ → Type 0
   Agrees bytes = (ls : List (List ℕ)) (p text : List ℕ) (s : Stage) → GoesOn ls text s
       → printed answers (cut_on (ls, p) bytes) [] start ≡ completed answers (fed answers bytes text (record { stage = s; pending = p }))
 
-  agrees_told : (r : Result (Told Stage) ScriptFault) (bytes : List ℕ) (ls : List (List ℕ)) (p text : List ℕ) (s : Stage) → line_told (answers s.number) s p ≡ r → Agrees bytes → GoesOn ls text s
+  agrees_answer : (r : Result (LineAnswer Stage) ScriptFault) (bytes : List ℕ) (ls : List (List ℕ)) (p text : List ℕ) (s : Stage) → answer_of_line (answers s.number) s p ≡ r → Agrees bytes → GoesOn ls text s
       → printed answers (cut_on (ls ++ p ∷ [], []) bytes) [] start ≡ completed answers (fed_on text (record { stage = s; pending = p }) (after_line r) (fed answers bytes))
-  agrees_told (Ok r) bytes ls p text s e ih goes =
+  agrees_answer (Ok r) bytes ls p text s e ih goes =
       ih (ls ++ p ∷ []) [] (text ++ r.text) r.after (goes_on ls p text s r e goes)
-  agrees_told (Err fault) bytes ls p text s e ih goes =
+  agrees_answer (Err fault) bytes ls p text s e ih goes =
       let h = front_of bytes (ls ++ p ∷ []) [] in
-      ap (λ (all : List (List ℕ)). printed answers all [] start) (h.1 ∙ append_assoc ls (p ∷ []) h.0) ∙ goes (p ∷ h.0) ∙ ap (λ t. on_told text t (printed answers h.0)) e
+      ap (λ (all : List (List ℕ)). printed answers all [] start) (h.1 ∙ append_assoc ls (p ∷ []) h.0) ∙ goes (p ∷ h.0) ∙ ap (λ t. on_line_answer text t (printed answers h.0)) e
 
   agrees_at : (t : Bool) (b : ℕ) (bytes : List ℕ) → (b == 10) ≡ t → Agrees bytes → Agrees (b ∷ bytes)
   agrees_at true b bytes e ih ls p text s goes =
       let m : Machine = record { stage = s; pending = p } in
       ap (λ (c : Cut). printed answers (cut_on c bytes) [] start) (cut_break ls p b e)
-      ∙ agrees_told (line_told (answers s.number) s p) bytes ls p text s refl ih goes
+      ∙ agrees_answer (answer_of_line (answers s.number) s p) bytes ls p text s refl ih goes
       ∙ sym (ap (λ t. completed answers (fed_on text m t (fed answers bytes))) (took_break (answers m.stage.number) m b e))
   agrees_at false b bytes e ih ls p text s goes =
       let m : Machine = record { stage = s; pending = p } in
@@ -102,16 +102,16 @@ module _ (answers : Searches) where
   Prints bytes = (ls : List (List ℕ)) (p text : List ℕ) (s : Stage) (all : List ℕ) (n : Machine) → GoesOn ls text s → Leads answers bytes text (record { stage = s; pending = p }) all n
       → (printed answers (fold cut_at (ls, p) bytes).0 [] start).text ≡ all
 
-  prints_told : (r : Result (Told Stage) ScriptFault) (bytes : List ℕ) (ls : List (List ℕ)) (p text : List ℕ) (s : Stage) (all : List ℕ) (n : Machine) → line_told (answers s.number) s p ≡ r → Prints bytes → GoesOn ls text s
+  prints_answer : (r : Result (LineAnswer Stage) ScriptFault) (bytes : List ℕ) (ls : List (List ℕ)) (p text : List ℕ) (s : Stage) (all : List ℕ) (n : Machine) → answer_of_line (answers s.number) s p ≡ r → Prints bytes → GoesOn ls text s
       → fed_on text (record { stage = s; pending = p }) (after_line r) (fed answers bytes) ≡ record { text = all; machine = n; fault = None } → (printed answers (fold cut_at (ls ++ p ∷ [], []) bytes).0 [] start).text ≡ all
-  prints_told (Ok r) bytes ls p text s all n e ih goes h = ih (ls ++ p ∷ []) [] (text ++ r.text) r.after all n (goes_on ls p text s r e goes) h
-  prints_told (Err fault) bytes ls p text s all n e ih goes h = let bad : Some fault ≡ None = ap (λ (f : Fed). f.fault) h in cc
+  prints_answer (Ok r) bytes ls p text s all n e ih goes h = ih (ls ++ p ∷ []) [] (text ++ r.text) r.after all n (goes_on ls p text s r e goes) h
+  prints_answer (Err fault) bytes ls p text s all n e ih goes h = let bad : Some fault ≡ None = ap (λ (f : Fed). f.fault) h in cc
 
   prints_at : (t : Bool) (b : ℕ) (bytes : List ℕ) → (b == 10) ≡ t → Prints bytes → Prints (b ∷ bytes)
   prints_at true b bytes e ih ls p text s all n goes h =
       let m : Machine = record { stage = s; pending = p } in
       ap (λ (c : Cut). (printed answers (fold cut_at c bytes).0 [] start).text) (cut_break ls p b e)
-      ∙ prints_told (line_told (answers s.number) s p) bytes ls p text s all n refl ih goes (sym (ap (λ t. fed_on text m t (fed answers bytes)) (took_break (answers m.stage.number) m b e)) ∙ h)
+      ∙ prints_answer (answer_of_line (answers s.number) s p) bytes ls p text s all n refl ih goes (sym (ap (λ t. fed_on text m t (fed answers bytes)) (took_break (answers m.stage.number) m b e)) ∙ h)
   prints_at false b bytes e ih ls p text s all n goes h =
       let m : Machine = record { stage = s; pending = p } in
       let k : Machine = record { stage = s; pending = p ++ b ∷ [] } in
@@ -133,16 +133,16 @@ module _ (answers : Searches) where
   Counts bytes = (ls : List (List ℕ)) (p text : List ℕ) (s : Stage) (all : List ℕ) (n : Machine) → s.number ≡ length ls + 1 → Leads answers bytes text (record { stage = s; pending = p }) all n
       → n.stage.number ≡ length (fold cut_at (ls, p) bytes).0 + 1
 
-  counts_told : (r : Result (Told Stage) ScriptFault) (bytes : List ℕ) (ls : List (List ℕ)) (p text : List ℕ) (s : Stage) (all : List ℕ) (n : Machine) → line_told (answers s.number) s p ≡ r → Counts bytes → s.number ≡ length ls + 1
+  counts_answer : (r : Result (LineAnswer Stage) ScriptFault) (bytes : List ℕ) (ls : List (List ℕ)) (p text : List ℕ) (s : Stage) (all : List ℕ) (n : Machine) → answer_of_line (answers s.number) s p ≡ r → Counts bytes → s.number ≡ length ls + 1
       → fed_on text (record { stage = s; pending = p }) (after_line r) (fed answers bytes) ≡ record { text = all; machine = n; fault = None } → n.stage.number ≡ length (fold cut_at (ls ++ p ∷ [], []) bytes).0 + 1
-  counts_told (Ok r) bytes ls p text s all n e ih at h =
-      ih (ls ++ p ∷ []) [] (text ++ r.text) r.after all n (next_told (answers s.number) s p r e ∙ ap (λ (k : ℕ). k + 1) (at ∙ sym (length-append ls (p ∷ [])))) h
-  counts_told (Err fault) bytes ls p text s all n e ih at h = let bad : Some fault ≡ None = ap (λ (f : Fed). f.fault) h in cc
+  counts_answer (Ok r) bytes ls p text s all n e ih at h =
+      ih (ls ++ p ∷ []) [] (text ++ r.text) r.after all n (next_answer (answers s.number) s p r e ∙ ap (λ (k : ℕ). k + 1) (at ∙ sym (length-append ls (p ∷ [])))) h
+  counts_answer (Err fault) bytes ls p text s all n e ih at h = let bad : Some fault ≡ None = ap (λ (f : Fed). f.fault) h in cc
 
   counts_at : (t : Bool) (b : ℕ) (bytes : List ℕ) → (b == 10) ≡ t → Counts bytes → Counts (b ∷ bytes)
   counts_at true b bytes e ih ls p text s all n at h =
       let m : Machine = record { stage = s; pending = p } in
-      counts_told (line_told (answers s.number) s p) bytes ls p text s all n refl ih at (sym (ap (λ t. fed_on text m t (fed answers bytes)) (took_break (answers m.stage.number) m b e)) ∙ h)
+      counts_answer (answer_of_line (answers s.number) s p) bytes ls p text s all n refl ih at (sym (ap (λ t. fed_on text m t (fed answers bytes)) (took_break (answers m.stage.number) m b e)) ∙ h)
       ∙ ap (λ (c : Cut). length (fold cut_at c bytes).0 + 1) (sym (cut_break ls p b e))
   counts_at false b bytes e ih ls p text s all n at h =
       let m : Machine = record { stage = s; pending = p } in
@@ -162,7 +162,7 @@ module _ (answers : Searches) where
   abbrev Splits : List ℕ → Type 0
   Splits a = (b text : List ℕ) (m : Machine) (t : List ℕ) (n : Machine) → Leads answers a text m t n → fed answers (a ++ b) text m ≡ fed answers b t n
 
-  splits_at : (r : Result (Told Machine) ScriptFault) (a b text : List ℕ) (m : Machine) (t : List ℕ) (n : Machine) → Splits a
+  splits_at : (r : Result (LineAnswer Machine) ScriptFault) (a b text : List ℕ) (m : Machine) (t : List ℕ) (n : Machine) → Splits a
       → fed_on text m r (fed answers a) ≡ record { text = t; machine = n; fault = None } → fed_on text m r (fed answers (a ++ b)) ≡ fed answers b t n
   splits_at (Ok r) a b text m t n ih e = ih b (text ++ r.text) r.after t n e
   splits_at (Err fault) a b text m t n ih e = let bad : Some fault ≡ None = ap (λ (f : Fed). f.fault) e in cc
@@ -175,7 +175,7 @@ module _ (answers : Searches) where
   abbrev Fronts : List ℕ → Type 0
   Fronts bytes = (front text : List ℕ) (m : Machine) → fed answers bytes (front ++ text) m ≡ after front (fed answers bytes text m)
 
-  fronts_at : (r : Result (Told Machine) ScriptFault) (bytes front text : List ℕ) (m : Machine) → Fronts bytes
+  fronts_at : (r : Result (LineAnswer Machine) ScriptFault) (bytes front text : List ℕ) (m : Machine) → Fronts bytes
       → fed_on (front ++ text) m r (fed answers bytes) ≡ after front (fed_on text m r (fed answers bytes))
   fronts_at (Ok r) bytes front text m ih = ap (λ (t : List ℕ). fed answers bytes t r.after) (append_assoc front text r.text) ∙ ih front (text ++ r.text) r.after
   fronts_at (Err fault) bytes front text m ih = refl

@@ -4,8 +4,8 @@ use Rattle.std.proofs.lemmas.List.{append-nil, length-append}
 use Rattle.std.specs.Io.KnownBytes.{Appends, Consumes, Keeps, IsAtEnd}
 use Rattle.pce_engine.specs.declared.fault.ScriptFault.{ScriptFault}
 use Rattle.pce_engine.specs.declared.fault.ScriptFault.TheVariants.{BadLine, Te, ReadFault, WriteFault, OutOfMemory, HistoryFull}
-use Rattle.script_lines.specs.Told.{Told}
-use Rattle.pce_engine.specs.Script.{Searches, Stage, line_told, Outcome, ending, on_told, script, text_of_lines}
+use Rattle.script_lines.specs.LineAnswer.{LineAnswer}
+use Rattle.pce_engine.specs.Script.{Searches, Stage, answer_of_line, Outcome, ending, on_line_answer, script, text_of_lines}
 use Rattle.pce_engine.specs.Machine.{Machine, started, Fed, took, fed_on, fed, MayTake, AllowedBytes, Leads, Goes, LeadsPartly, closed_with, completed}
 use Rattle.pce_engine.specs.Ends.{piece_bound, EndsBy, MayClose, Writes, WritesScript, WritesLast, WritesBefore, WritesRead, ClosesBy}
 use Rattle.pce_engine.specs.Runs.{GoesOn, Stops, Reading, ReadsOn, most_turns}
@@ -16,20 +16,20 @@ use Rattle.pce_engine.proofs.Laws.{fed_front, after, appends_more, script_by_byt
 abbrev pub after_text : List ℕ → Outcome → Outcome
 after_text text o = record { text = text ++ o.text; fault = o.fault }
 
-told_front : (r : Result (Told Stage) ScriptFault) (text : List ℕ) → on_told text r (λ all t. record { text = all; fault = ending t.number t.standing }) ≡ after_text text (on_told [] r (λ all t. record { text = all; fault = ending t.number t.standing }))
-told_front (Ok r) text = refl
-told_front (Err f) text = ap (λ (t : List ℕ). record { text = t; fault = Some f }) (sym (append-nil text))
+front_answer : (r : Result (LineAnswer Stage) ScriptFault) (text : List ℕ) → on_line_answer text r (λ all t. record { text = all; fault = ending t.number t.standing }) ≡ after_text text (on_line_answer [] r (λ all t. record { text = all; fault = ending t.number t.standing }))
+front_answer (Ok r) text = refl
+front_answer (Err f) text = ap (λ (t : List ℕ). record { text = t; fault = Some f }) (sym (append-nil text))
 
 closed_front : (answer : Option (List ℕ)) (text : List ℕ) (s : Stage) (p : List ℕ) → closed_with answer text s p ≡ after_text text (closed_with answer [] s p)
 closed_front answer text s [] = ap (λ (t : List ℕ). record { text = t; fault = ending s.number s.standing }) (sym (append-nil text))
-closed_front answer text s (b ∷ p) = told_front (line_told answer s (b ∷ p)) text
+closed_front answer text s (b ∷ p) = front_answer (answer_of_line answer s (b ∷ p)) text
 
 -- ---- a piece stops the script
 
 abbrev Stays : Searches → List ℕ → Type 0
 Stays c a = (b text : List ℕ) (m : Machine) (e : ScriptFault) → (fed c a text m).fault ≡ Some e → AllowedBytes c a m → (fed c (a ++ b) text m ≡ fed c a text m) × AllowedBytes c (a ++ b) m
 
-stays_at : (r : Result (Told Machine) ScriptFault) (P : Type 0) (c : Searches) (a b text : List ℕ) (m : Machine) (e : ScriptFault) → Stays c a → (fed_on text m r (fed c a)).fault ≡ Some e → IfOk r (λ t. P × AllowedBytes c a t.after)
+stays_at : (r : Result (LineAnswer Machine) ScriptFault) (P : Type 0) (c : Searches) (a b text : List ℕ) (m : Machine) (e : ScriptFault) → Stays c a → (fed_on text m r (fed c a)).fault ≡ Some e → IfOk r (λ t. P × AllowedBytes c a t.after)
     → (fed_on text m r (fed c (a ++ b)) ≡ fed_on text m r (fed c a)) × IfOk r (λ t. P × AllowedBytes c (a ++ b) t.after)
 stays_at (Ok r) P c a b text m e ih h may = let rest = ih b (text ++ r.text) r.after e h may.1 in (rest.0, (may.0, rest.1))
 stays_at (Err f) P c a b text m e ih h may = (refl, tt)
@@ -115,7 +115,7 @@ stop_case e input bytes was now old mid new m turns r c b may k stops =
     let (ys, is, rest) = consumed r.rest bytes now (subst (λ (o : Option (List ℕ)). Consumes o now bytes) r.known c) in
     stop_text input bytes ys old mid new m e r.front r.text r.answers b (r.whole ∙ ap (λ (t : List ℕ). r.front ++ t) rest) r.so_far r.written may k stops
 
--- memory ran out within a piece: the whole lines before it, and those of the piece that were told, stand
+-- memory ran out within a piece: the whole lines before it, and those of the piece that were answered, stand
 stop_memory : (input bytes : List ℕ) (was now old mid new : Option (List ℕ)) (m : Machine) (turns : ℕ) (text : List ℕ) (number : ℕ) → Reading input was old mid m turns → Consumes was now bytes → length bytes ≤ piece_bound
     → LeadsPartly bytes [] m text number → Appends mid new text → WritesBefore number old new now input
 stop_memory input bytes was now old mid new m turns text number r c small part k =

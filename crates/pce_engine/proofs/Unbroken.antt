@@ -3,7 +3,7 @@ use Rattle.std.proofs.Common.{◌≡◌, ℕ, zero, suc, ◌+◌, ◌<◌, ◌�
 use Rattle.std.proofs.lemmas.List.{take_more}
 use Rattle.std.proofs.lemmas.Grind.{common_steps}
 use Rattle.std.proofs.lemmas.Bool.Decides.{nat_tests}
-use Rattle.script_lines.specs.Told.{told}
+use Rattle.script_lines.specs.LineAnswer.{line_answer}
 use Rattle.pce_engine.specs.Script.{Searches}
 use Rattle.pce_engine.specs.declared.fault.ScriptFault.{ScriptFault}
 use Rattle.pce_engine.specs.declared.fault.ScriptFault.TheVariants.{OutOfMemory}
@@ -72,12 +72,12 @@ goes_to bytes start end old m text n from within unbroken led =
 -- and the line break behind it
 pub goes_past : (bytes : List ℕ) (start end : ℕ) (old : List ℕ) (m : Machine) (text : List ℕ) (n : Machine) (new : List ℕ) (k : Machine) → start ≤ end → end < length bytes → get_or bytes end 0 ≡ 10
     → IsUnbroken bytes start end → Led bytes start old m text n
-    → (answer : Option (List ℕ)) × (line : List ℕ) × MayTake answer (with_more n (stretch bytes start end)) 10 × (took answer (with_more n (stretch bytes start end)) 10 ≡ Ok (told line k)) × (new ≡ text ++ line)
+    → (answer : Option (List ℕ)) × (line : List ℕ) × MayTake answer (with_more n (stretch bytes start end)) 10 × (took answer (with_more n (stretch bytes start end)) 10 ≡ Ok (line_answer line k)) × (new ≡ text ++ line)
     → Led bytes (end + 1) old m new k
 goes_past bytes start end old m text n new k from within is unbroken led takes =
     let at = with_more n (stretch bytes start end) in
     goes_more bytes end old m text at new k within (goes_to bytes start end old m text n from (omega (arith, within)) unbroken led)
-    (subst (λ (b : ℕ). (answer : Option (List ℕ)) × (line : List ℕ) × MayTake answer at b × (took answer at b ≡ Ok (told line k)) × (new ≡ text ++ line)) (sym is) takes)
+    (subst (λ (b : ℕ). (answer : Option (List ℕ)) × (line : List ℕ) × MayTake answer at b × (took answer at b ≡ Ok (line_answer line k)) × (new ≡ text ++ line)) (sym is) takes)
 
 -- a fault at that line break
 pub breaks_past : (e : ScriptFault) (bytes : List ℕ) (start end : ℕ) (old : List ℕ) (m : Machine) (text : List ℕ) (n : Machine) (new : List ℕ) → start ≤ end → end < length bytes → get_or bytes end 0 ≡ 10

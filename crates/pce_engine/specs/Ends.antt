@@ -4,7 +4,7 @@ use Rattle.std.specs.Io.KnownBytes.{Appends, Consumes}
 use Rattle.pce_engine.specs.declared.fault.ScriptFault.{ScriptFault}
 use Rattle.pce_engine.specs.declared.fault.ScriptFault.TheVariants.{ReadFault, WriteFault, OutOfMemory}
 use Rattle.script_lines.specs.Lines.{cut, lines_of}
-use Rattle.pce_engine.specs.Script.{Searches, Outcome, Stage, start, script, next_number, text_of_lines, line_told, MayFind, Allowed}
+use Rattle.pce_engine.specs.Script.{Searches, Outcome, Stage, start, script, next_number, text_of_lines, answer_of_line, MayFind, Allowed}
 use Rattle.pce_engine.specs.Machine.{closed_with}
 
 -- a whole outcome was written
@@ -59,7 +59,7 @@ EndsAs (Err e) old new left input = EndsBy e old new left input
 -- the search of the last line, where no line break follows it, may answer this
 abbrev pub MayClose : Option (List ℕ) → Stage → List ℕ → Type 0
 MayClose answer s [] = Unit {0}
-MayClose answer s (b ∷ bs) = IfOk (line_told answer s (b ∷ bs)) (λ _. MayFind answer s.standing (b ∷ bs))
+MayClose answer s (b ∷ bs) = IfOk (answer_of_line answer s (b ∷ bs)) (λ _. MayFind answer s.standing (b ∷ bs))
 
 -- for an answer that its search may give, what the last line prints was written
 abbrev pub WritesLast : Option (List ℕ) → Option (List ℕ) → Option ScriptFault → Stage → List ℕ → Type 0

@@ -3,8 +3,8 @@ use Rattle.std.specs.Prelude.{◌≡◌, ℕ, ◌==◌, List, [], ◌∷◌, ◌
 use Rattle.pce_engine.specs.declared.fault.ScriptFault.{ScriptFault}
 use Rattle.pce_engine.specs.declared.fault.ScriptFault.TheVariants.{ReadFault, WriteFault, OutOfMemory}
 use Rattle.pce_engine.specs.declared.stage.Stage as code
-use Rattle.script_lines.specs.Told.{Told, told}
-use Rattle.pce_engine.specs.Script.{Searches, Stage, start, answered, line_told, MayFind, Outcome, ending, on_told}
+use Rattle.script_lines.specs.LineAnswer.{LineAnswer, line_answer}
+use Rattle.pce_engine.specs.Script.{Searches, Stage, start, answered, answer_of_line, MayFind, Outcome, ending, on_line_answer}
 
 abbrev pub stage_of : code.Stage → Stage
 stage_of s = record { number = s.number; header = s.header.items; standing = s.standing }
@@ -23,15 +23,15 @@ pub record Fed : Type 0 where
   pub machine : Machine
   pub fault : Option ScriptFault
 
-abbrev pub after_line : Result (Told Stage) ScriptFault → Result (Told Machine) ScriptFault
-after_line (Ok t) = Ok (told t.text (record { stage = t.after; pending = [] }))
+abbrev pub after_line : Result (LineAnswer Stage) ScriptFault → Result (LineAnswer Machine) ScriptFault
+after_line (Ok t) = Ok (line_answer t.text (record { stage = t.after; pending = [] }))
 after_line (Err fault) = Err fault
 
 -- one byte more, where the search of the line that it ends answers this
-abbrev pub took : Option (List ℕ) → Machine → ℕ → Result (Told Machine) ScriptFault
-took answer m byte = if byte == 10 then after_line (line_told answer m.stage m.pending) else Ok (told [] (record { stage = m.stage; pending = m.pending ++ byte ∷ [] }))
+abbrev pub took : Option (List ℕ) → Machine → ℕ → Result (LineAnswer Machine) ScriptFault
+took answer m byte = if byte == 10 then after_line (answer_of_line answer m.stage m.pending) else Ok (line_answer [] (record { stage = m.stage; pending = m.pending ++ byte ∷ [] }))
 
-abbrev pub fed_on : List ℕ → Machine → Result (Told Machine) ScriptFault → (List ℕ → Machine → Fed) → Fed
+abbrev pub fed_on : List ℕ → Machine → Result (LineAnswer Machine) ScriptFault → (List ℕ → Machine → Fed) → Fed
 fed_on text m (Ok t) go = go (text ++ t.text) t.after
 fed_on text m (Err fault) go = record { text = text; machine = m; fault = Some fault }
 
@@ -66,9 +66,9 @@ Fails number fault given = given ≡ Err fault
 
 -- What a call on a line answers and leaves: some answer that its search may give leads there. A fault comes before the
 -- search.
-abbrev pub Tells : {X : Type 0} → (X → List ℕ) → Result X ScriptFault → List ℕ → Stage → Stage → Type 0
-Tells view (Ok x) line s t = (answer : Option (List ℕ)) × MayFind answer s.standing line × (answered answer s line ≡ Ok (told (view x) t))
-Tells view (Err e) line s t = Fails s.number e (answered None s line)
+abbrev pub AnswersLine : {X : Type 0} → (X → List ℕ) → Result X ScriptFault → List ℕ → Stage → Stage → Type 0
+AnswersLine view (Ok x) line s t = (answer : Option (List ℕ)) × MayFind answer s.standing line × (answered answer s line ≡ Ok (line_answer (view x) t))
+AnswersLine view (Err e) line s t = Fails s.number e (answered None s line)
 
 -- A fault at the line with this number, or at a byte of it: nothing was added. Where memory ran out it names the line,
 -- and any other fault is the script's.
@@ -80,12 +80,12 @@ Halts number e given old new = (given ≡ Err e) × (new ≡ old)
 
 -- What a call on one line leaves, for an answer that its search may give.
 abbrev pub Adds : {X : Type 0} → Result X ScriptFault → List ℕ → List ℕ → Stage → List ℕ → Stage → Type 0
-Adds (Ok x) line old s new t = (answer : Option (List ℕ)) × (text : List ℕ) × MayFind answer s.standing line × (line_told answer s line ≡ Ok (told text t)) × (new ≡ old ++ text)
-Adds (Err e) line old s new t = Halts s.number e (line_told None s line) old new
+Adds (Ok x) line old s new t = (answer : Option (List ℕ)) × (text : List ℕ) × MayFind answer s.standing line × (answer_of_line answer s line ≡ Ok (line_answer text t)) × (new ≡ old ++ text)
+Adds (Err e) line old s new t = Halts s.number e (answer_of_line None s line) old new
 
 -- What a call on one byte leaves, for an answer that the search of the line may give.
 abbrev pub Takes : {X : Type 0} → Result X ScriptFault → ℕ → List ℕ → Machine → List ℕ → Machine → Type 0
-Takes (Ok x) byte old m new n = (answer : Option (List ℕ)) × (text : List ℕ) × MayTake answer m byte × (took answer m byte ≡ Ok (told text n)) × (new ≡ old ++ text)
+Takes (Ok x) byte old m new n = (answer : Option (List ℕ)) × (text : List ℕ) × MayTake answer m byte × (took answer m byte ≡ Ok (line_answer text n)) × (new ≡ old ++ text)
 Takes (Err e) byte old m new n = Halts m.stage.number e (took None m byte) old new
 
 -- some of the bytes were taken: all lines before the one with this number
@@ -113,7 +113,7 @@ Feeds (Err e) bytes old m new n = Breaks e bytes old m new
 -- the last line, where no line break follows it
 abbrev pub closed_with : Option (List ℕ) → List ℕ → Stage → List ℕ → Outcome
 closed_with answer text s [] = record { text = text; fault = ending s.number s.standing }
-closed_with answer text s (b ∷ bs) = on_told text (line_told answer s (b ∷ bs)) (λ all t. record { text = all; fault = ending t.number t.standing })
+closed_with answer text s (b ∷ bs) = on_line_answer text (answer_of_line answer s (b ∷ bs)) (λ all t. record { text = all; fault = ending t.number t.standing })
 
 abbrev pub completed_by : Searches → List ℕ → Machine → Option ScriptFault → Outcome
 completed_by answers text m None = closed_with (answers m.stage.number) text m.stage m.pending

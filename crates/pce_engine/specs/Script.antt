@@ -13,7 +13,7 @@ use Rattle.script_lines.specs.declared.fault.CommandFault.{CommandFault}
 use Rattle.pce_engine.specs.declared.standing.Standing.{Standing}
 use Rattle.pce_engine.specs.declared.fault.ScriptFault.{ScriptFault}
 use Rattle.pce_engine.specs.declared.fault.ScriptFault.TheVariants.{BadLine}
-use Rattle.script_lines.specs.Told.{Told, told, ◌>>=◌}
+use Rattle.script_lines.specs.LineAnswer.{LineAnswer, line_answer, ◌>>=◌}
 
 -- ---- one line
 
@@ -31,27 +31,27 @@ unfoldable pub base_in : List ℕ → Result Base TeFault
 base_in text = if is_utf8 text then base_of text else Err NotToml
 
 -- `---` ends the link text, another line belongs to it
-unfoldable pub header_line : Stage → List ℕ → Result (Told Stage) TeFault
+unfoldable pub header_line : Stage → List ℕ → Result (LineAnswer Stage) TeFault
 header_line s line =
-    if bytes_eq line (codes "---") then (base_in s.header >>= λ base. Ok (told [] (record s { standing = Some (at_start base) })))
-    else Ok (told [] (record s { header = (s.header ++ line) ++ 10 ∷ [] }))
+    if bytes_eq line (codes "---") then (base_in s.header >>= λ base. Ok (line_answer [] (record s { standing = Some (at_start base) })))
+    else Ok (line_answer [] (record s { header = (s.header ++ line) ++ 10 ∷ [] }))
 
 -- what a line of the link text leaves; its fault gets its number
-abbrev pub numbered_header : Stage → Result (Told Stage) TeFault → Result (Told Stage) ScriptFault
+abbrev pub numbered_header : Stage → Result (LineAnswer Stage) TeFault → Result (LineAnswer Stage) ScriptFault
 numbered_header s (Ok t) = Ok t
 numbered_header s (Err fault) = Err (te_numbered s.number fault)
 
 -- what a line behind the link text leaves; its fault gets its number
-abbrev pub numbered_line : Stage → Result (Told Standing) CommandFault → Result (Told Stage) ScriptFault
-numbered_line s (Ok t) = Ok (told t.text (record s { standing = Some t.after }))
+abbrev pub numbered_line : Stage → Result (LineAnswer Standing) CommandFault → Result (LineAnswer Stage) ScriptFault
+numbered_line s (Ok t) = Ok (line_answer t.text (record s { standing = Some t.after }))
 numbered_line s (Err fault) = Err (numbered s.number fault)
 
-abbrev pub answered_at : Option (List ℕ) → Stage → List ℕ → Option Standing → Result (Told Stage) ScriptFault
+abbrev pub answered_at : Option (List ℕ) → Stage → List ℕ → Option Standing → Result (LineAnswer Stage) ScriptFault
 answered_at answer s line None = numbered_header s (header_line s line)
 answered_at answer s line (Some standing) = numbered_line s (standing_line answer standing line)
 
 -- what the line of the stage's number prints, and what it leaves, where its search answers this
-unfoldable pub answered : Option (List ℕ) → Stage → List ℕ → Result (Told Stage) ScriptFault
+unfoldable pub answered : Option (List ℕ) → Stage → List ℕ → Result (LineAnswer Stage) ScriptFault
 answered answer s line = answered_at answer s line s.standing
 
 -- the line after the one with this number is the next
@@ -59,8 +59,8 @@ abbrev pub counted : ℕ → Stage → Stage
 counted number s = record s { number = number + 1 }
 
 -- what a line prints, and the stage after it, or its fault
-unfoldable pub line_told : Option (List ℕ) → Stage → List ℕ → Result (Told Stage) ScriptFault
-line_told answer s line = answered answer s line >>= λ t. Ok (told t.text (counted s.number t.after))
+unfoldable pub answer_of_line : Option (List ℕ) → Stage → List ℕ → Result (LineAnswer Stage) ScriptFault
+answer_of_line answer s line = answered answer s line >>= λ t. Ok (line_answer t.text (counted s.number t.after))
 
 -- the search of a line may answer this; a line of the link text makes none
 abbrev pub MayFind : Option (List ℕ) → Option Standing → List ℕ → Type 0
@@ -84,13 +84,13 @@ ending number None = Some (BadLine number)
 ending number (Some standing) = None
 
 -- on from a line, with what was written before it
-abbrev pub on_told : List ℕ → Result (Told Stage) ScriptFault → (List ℕ → Stage → Outcome) → Outcome
-on_told text (Ok t) go = go (text ++ t.text) t.after
-on_told text (Err fault) go = record { text = text; fault = Some fault }
+abbrev pub on_line_answer : List ℕ → Result (LineAnswer Stage) ScriptFault → (List ℕ → Stage → Outcome) → Outcome
+on_line_answer text (Ok t) go = go (text ++ t.text) t.after
+on_line_answer text (Err fault) go = record { text = text; fault = Some fault }
 
 abbrev pub printed : Searches → List (List ℕ) → List ℕ → Stage → Outcome
 printed answers [] text s = record { text = text; fault = ending s.number s.standing }
-printed answers (line ∷ lines) text s = on_told text (line_told (answers s.number) s line) (printed answers lines)
+printed answers (line ∷ lines) text s = on_line_answer text (answer_of_line (answers s.number) s line) (printed answers lines)
 
 -- what a script prints, and how it ends, where the searches of its lines answer this
 abbrev pub script : Searches → List ℕ → Outcome
@@ -103,7 +103,7 @@ text_of_lines answers bytes = (printed answers (cut bytes).0 [] start).text
 -- each search of these lines may answer so, from this stage on; a line that meets a fault searches for nothing
 abbrev pub Allowed : Searches → List (List ℕ) → Stage → Type 0
 Allowed answers [] s = Unit {0}
-Allowed answers (line ∷ lines) s = IfOk (line_told (answers s.number) s line) (λ t. MayFind (answers s.number) s.standing line × Allowed answers lines t.after)
+Allowed answers (line ∷ lines) s = IfOk (answer_of_line (answers s.number) s line) (λ t. MayFind (answers s.number) s.standing line × Allowed answers lines t.after)
 
 -- the number of the line that follows the whole lines of the bytes
 abbrev pub next_number : List ℕ → ℕ

@@ -11,7 +11,7 @@ use Rattle.history_core.specs.declared.fault.Fault.{Fault}
 use Rattle.engine_core.specs.Engine.{served, hung_up}
 use Rattle.engine_core.specs.Performed.{performed}
 use Rattle.engine_core.specs.declared.client.Client.{Client}
-use Rattle.script_lines.specs.Told.{Told, told, ◌>>=◌}
+use Rattle.script_lines.specs.LineAnswer.{LineAnswer, line_answer, ◌>>=◌}
 use Rattle.script_lines.specs.declared.fault.CommandFault.{CommandFault}
 use Rattle.script_lines.specs.declared.fault.CommandFault.TheVariants.{Store}
 
@@ -29,8 +29,8 @@ change_text peer was_up Up = if was_up then [] else codes "up " ++ decimal peer 
 change_text peer was_up state = []
 
 -- what a session leaves to be printed
-abbrev pub told_of : ℕ → Bool → Client → List ℕ
-told_of peer was_up c = output_text peer c.session.output ++ change_text peer was_up c.session.state
+abbrev pub left_text : ℕ → Bool → Client → List ℕ
+left_text peer was_up c = output_text peer c.session.output ++ change_text peer was_up c.session.state
 
 -- its bytes are sent
 abbrev pub sent_out : Client → Client
@@ -51,20 +51,20 @@ talk_of (Ok done) = Ok (talk done.0 done.1)
 talk_of (Err fault) = Err (Store fault)
 
 -- what is printed of a session, whose bytes are sent
-abbrev pub told_talk : ℕ → Bool → Talk → Told Talk
-told_talk peer was_up done = told (told_of peer was_up done.client) (talk (sent_out done.client) done.database)
+abbrev pub talk_answer : ℕ → Bool → Talk → LineAnswer Talk
+talk_answer peer was_up done = line_answer (left_text peer was_up done.client) (talk (sent_out done.client) done.database)
 
 -- bytes of the peer at a moment
-unfoldable pub talked : ℕ → List ℕ → ℕ → Client → Content → Result (Told Talk) CommandFault
+unfoldable pub talked : ℕ → List ℕ → ℕ → Client → Content → Result (LineAnswer Talk) CommandFault
 talked peer piece now_ms c d = do
   done ← talk_of (performed (served peer piece now_ms c) d)
-  Ok (told_talk peer (is_up c.session.state) done)
+  Ok (talk_answer peer (is_up c.session.state) done)
 
 -- the transport of the peer has ended
-unfoldable pub hung : ℕ → Client → Content → Result (Told Talk) CommandFault
+unfoldable pub hung : ℕ → Client → Content → Result (LineAnswer Talk) CommandFault
 hung peer c d = do
   done ← talk_of (performed (hung_up peer c) d)
-  Ok (told_talk peer (is_up c.session.state) done)
+  Ok (talk_answer peer (is_up c.session.state) done)
 
 -- a router that opens a session as this server does, and accepts this server's Open: an Open and a Keepalive
 abbrev pub router_opening : List ℕ

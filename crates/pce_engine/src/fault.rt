@@ -11,7 +11,7 @@ use te_base::TeFault;
 pub enum ScriptFault {
     /// A line that is none of the script's, by its number from 1; without `---`, one past the last.
     BadLine(u64),
-    /// The link text has this fault. Want of memory among them is told as `OutOfMemory` is.
+    /// The link text has this fault. Want of memory among them is given as `OutOfMemory` is.
     Te(TeFault),
     /// A read failed, or the reader was asked 2^32 times.
     ReadFault,

@@ -12,7 +12,7 @@ ghost use Rattle.pce_engine.specs.Machine.{Takes, Feeds, stage_of, started};
 ghost use Rattle.pce_engine.specs.MachineOf.{machine_of};
 
 use crate::fault::ScriptFault;
-use crate::stage::{Stage, tell};
+use crate::stage::{Stage, answer_line};
 use std::alloc::Global;
 use std::io::{Read, Write};
 
@@ -62,7 +62,7 @@ fn take_break(alloc: Global, script: &mut Script, out: &mut Vec<u8>) -> Result<(
     ensures took { Takes result 10 out.old.items (machine_of script.old) out.new.items (machine_of script.new) }
     ensures number { script.new.stage.number ≤ script.old.stage.number + 1 }
 {
-    tell(alloc, &mut script.stage, &script.pending, out)?;
+    answer_line(alloc, &mut script.stage, &script.pending, out)?;
     script.pending.clear();
     Ok(())
 }
@@ -131,7 +131,7 @@ fn finish_line<W: Write>(
     ensures { Closes result (W.contents writer.old) (W.contents writer.new) (stage_of stage.old) line.now }
 {
     let mut out = Vec::new(alloc);
-    tell(alloc, stage, line, &mut out)?;
+    answer_line(alloc, stage, line, &mut out)?;
     if writer.write_all(&out).is_err() {
         return Err(ScriptFault::WriteFault);
     }

@@ -3,11 +3,11 @@
 ghost use Rattle.std.specs.Prelude.{◌≡◌, Ok, None, string_bytes};
 ghost use Rattle.pce_engine.specs.SessionLines.{message_line, end_line, open_line, up_line};
 ghost use Rattle.pce_engine.specs.Sessions.{session_of, gone_if, placed};
-ghost use Rattle.script_lines.specs.Told.{Tells, Leaves};
+ghost use Rattle.script_lines.specs.LineAnswer.{AnswersLine, Leaves};
 
 use crate::sessions::Sessions;
 use crate::standing::Standing;
-use crate::talks::{hang_up, talk, tell_session};
+use crate::talks::{hang_up, take_left_text, talk};
 use engine_core::Client;
 use script_lines::CommandFault;
 use std::alloc::Global;
@@ -39,7 +39,7 @@ pub(crate) fn message_line(
     peer: u32,
     piece: &[u8],
 ) -> Result<String, CommandFault>
-    ensures { Tells string_bytes result (message_line peer piece.now standing.old) standing.new }
+    ensures { AnswersLine string_bytes result (message_line peer piece.now standing.old) standing.new }
 {
     let Some(client) = standing.sessions.get_mut(peer) else {
         return Err(CommandFault::BadLine);
@@ -58,7 +58,7 @@ pub(crate) fn end_line(
     standing: &mut Standing,
     peer: u32,
 ) -> Result<String, CommandFault>
-    ensures { Tells string_bytes result (end_line peer standing.old) standing.new }
+    ensures { AnswersLine string_bytes result (end_line peer standing.old) standing.new }
 {
     let Some(client) = standing.sessions.get_mut(peer) else {
         return Err(CommandFault::BadLine);
@@ -76,13 +76,13 @@ pub(crate) fn open_line(
     standing: &mut Standing,
     peer: u32,
 ) -> Result<String, CommandFault>
-    ensures { Tells string_bytes result (open_line peer standing.old) standing.new }
+    ensures { AnswersLine string_bytes result (open_line peer standing.old) standing.new }
 {
     if standing.sessions.lives(peer) {
         return Err(CommandFault::BadLine);
     }
     let mut client = Client::new(alloc, standing.moment_ms)?;
-    let text = tell_session(alloc, peer, false, &mut client)?;
+    let text = take_left_text(alloc, peer, false, &mut client)?;
     place(&mut standing.sessions, peer, client)?;
     Ok(text)
 }
@@ -101,7 +101,7 @@ pub(crate) fn up_line(
     standing: &mut Standing,
     peer: u32,
 ) -> Result<String, CommandFault>
-    ensures { Tells string_bytes result (up_line peer standing.old) standing.new }
+    ensures { AnswersLine string_bytes result (up_line peer standing.old) standing.new }
 {
     if standing.sessions.lives(peer) {
         return Err(CommandFault::BadLine);

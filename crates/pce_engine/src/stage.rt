@@ -5,8 +5,8 @@ ghost use Rattle.std.specs.Str.{bytes_eq};
 ghost use Rattle.te_base.specs.Faults.{Gives};
 ghost use Rattle.pce_engine.specs.Script.{header_line, base_in};
 ghost use Rattle.pce_engine.specs.Faults.{numbered, te_numbered};
-ghost use Rattle.script_lines.specs.Told.{told};
-ghost use Rattle.pce_engine.specs.Machine.{stage_of, Tells, Adds};
+ghost use Rattle.script_lines.specs.LineAnswer.{line_answer};
+ghost use Rattle.pce_engine.specs.Machine.{stage_of, AnswersLine, Adds};
 
 use crate::fault::ScriptFault;
 use crate::standing::Standing;
@@ -54,7 +54,7 @@ fn is_bar(line: &[u8]) -> bool
 #[tactic(auto, unfolding(crate::specs::Script::header_line))]
 fn header_line(alloc: Global, stage: &mut Stage, line: &[u8]) -> Result<String, TeFault>
     requires { stage.old.standing ≡ None }
-    ensures told { Gives (λ text. told (string_bytes text) (stage_of stage.new)) result (header_line (stage_of stage.old) line.now) }
+    ensures line_answer { Gives (λ text. line_answer (string_bytes text) (stage_of stage.new)) result (header_line (stage_of stage.old) line.now) }
     ensures number { stage.new.number ≡ stage.old.number }
 {
     if is_bar(line) {
@@ -88,7 +88,7 @@ fn te_numbered(number: u64, fault: TeFault) -> ScriptFault
 
 #[tactic(auto, unfolding(crate::specs::Script::answered))]
 fn answer(alloc: Global, stage: &mut Stage, line: &[u8]) -> Result<String, ScriptFault>
-    ensures answered { Tells string_bytes result line.now (stage_of stage.old) (stage_of stage.new) }
+    ensures answered { AnswersLine string_bytes result line.now (stage_of stage.old) (stage_of stage.new) }
     ensures number { stage.new.number ≡ stage.old.number }
 {
     match &mut stage.standing {
@@ -104,15 +104,15 @@ fn answer(alloc: Global, stage: &mut Stage, line: &[u8]) -> Result<String, Scrip
 }
 
 /// Adds what a line prints. After a fault nothing is added, and the line is still the next.
-#[tactic(auto, unfolding(crate::specs::Script::line_told))]
-pub(crate) fn tell(
+#[tactic(auto, unfolding(crate::specs::Script::answer_of_line))]
+pub(crate) fn answer_line(
     alloc: Global,
     stage: &mut Stage,
     line: &[u8],
     out: &mut Vec<u8>,
 ) -> Result<(), ScriptFault>
     requires { stage.old.number < 2 ^ 63 }
-    ensures told { Adds result line.now out.old.items (stage_of stage.old) out.new.items (stage_of stage.new) }
+    ensures line_answer { Adds result line.now out.old.items (stage_of stage.old) out.new.items (stage_of stage.new) }
     ensures number { stage.new.number ≤ stage.old.number + 1 }
 {
     let text = answer(alloc, stage, line)?;

@@ -1,10 +1,10 @@
 //! A script after its link text.
 
 ghost use Rattle.std.specs.Prelude.{◌≡◌, [], Some, IfOk, string_bytes};
-ghost use Rattle.pce_engine.specs.Standing.{at_start, served_in_turn, all_served, tick_line, may_queue, operator_line, obeyed, standing_line, TellsSearched};
+ghost use Rattle.pce_engine.specs.Standing.{at_start, served_in_turn, all_served, tick_line, may_queue, operator_line, obeyed, standing_line, AnswersSearched};
 ghost use Rattle.pce_engine.specs.SessionLines.{message_line};
 ghost use Rattle.script_lines.specs.Orders.{order_of};
-ghost use Rattle.script_lines.specs.Told.{told, behind, Tells, Leaves};
+ghost use Rattle.script_lines.specs.LineAnswer.{line_answer, behind, AnswersLine, Leaves};
 
 use crate::session_lines::{end_line, message_line, open_line, up_line};
 use crate::sessions::Sessions;
@@ -42,7 +42,7 @@ fn serve_one(
     peer: u32,
     text: &mut String,
 ) -> Result<(), CommandFault>
-    ensures { Leaves result (behind (string_bytes text.old) (message_line peer [] standing.old)) (told (string_bytes text.new) standing.new) }
+    ensures { Leaves result (behind (string_bytes text.old) (message_line peer [] standing.old)) (line_answer (string_bytes text.new) standing.new) }
 {
     let more = message_line(alloc, standing, peer, &[])?;
     text.push_str(&more)?;
@@ -55,7 +55,7 @@ fn serve_each(
     peers: &[u32],
     text: &mut String,
 ) -> Result<(), CommandFault>
-    ensures { Leaves result (behind (string_bytes text.old) (served_in_turn peers.now standing.old)) (told (string_bytes text.new) standing.new) }
+    ensures { Leaves result (behind (string_bytes text.old) (served_in_turn peers.now standing.old)) (line_answer (string_bytes text.new) standing.new) }
 {
     for peer in peers {
         serve_one(alloc, standing, *peer, text)?;
@@ -66,16 +66,16 @@ fn serve_each(
 /// Serves every session with no bytes, and adds what they leave to be printed.
 #[tactic(auto, unfolding(crate::specs::Standing::all_served))]
 fn serve_all(alloc: Global, standing: &mut Standing, text: &mut String) -> Result<(), CommandFault>
-    ensures { Leaves result (behind (string_bytes text.old) (all_served standing.old)) (told (string_bytes text.new) standing.new) }
+    ensures { Leaves result (behind (string_bytes text.old) (all_served standing.old)) (line_answer (string_bytes text.new) standing.new) }
 {
     let peers: Vec<u32> = standing.sessions.peers(alloc)?;
     serve_each(alloc, standing, &peers, text)
 }
 
 /// The moment changes, and every session is served with no bytes.
-#[tactic(auto, unfolding(crate::specs::Standing::tick_line), using(script_lines::proofs::Telling::behind_nothing))]
+#[tactic(auto, unfolding(crate::specs::Standing::tick_line), using(script_lines::proofs::LineAnswers::behind_nothing))]
 fn tick_line(alloc: Global, standing: &mut Standing, now_ms: u64) -> Result<String, CommandFault>
-    ensures { Tells string_bytes result (tick_line now_ms standing.old) standing.new }
+    ensures { AnswersLine string_bytes result (tick_line now_ms standing.old) standing.new }
 {
     standing.moment_ms = now_ms;
     let mut text = String::new(alloc);
@@ -101,7 +101,7 @@ fn operator_line(
     standing: &mut Standing,
     event: Event,
 ) -> Result<String, CommandFault>
-    ensures { Tells string_bytes result (operator_line event standing.old) standing.new }
+    ensures { AnswersLine string_bytes result (operator_line event standing.old) standing.new }
 {
     let queues = may_queue(&event);
     let mut text = event_line(alloc, &mut standing.database, event)?;
@@ -126,7 +126,7 @@ impl Standing {
 
     #[tactic(auto, unfolding(crate::specs::Standing::obeyed))]
     fn obey(&mut self, alloc: Global, order: Order) -> Result<String, CommandFault>
-        ensures { TellsSearched string_bytes result (Some order) (λ answer. obeyed answer order self.old) self.old self.new }
+        ensures { AnswersSearched string_bytes result (Some order) (λ answer. obeyed answer order self.old) self.old self.new }
     {
         match order {
             Order::Report(peer, reports) => report_line(alloc, &mut self.database, peer, reports),
@@ -146,7 +146,7 @@ impl Standing {
     /// What a line prints, or its fault.
     #[tactic(auto, unfolding(crate::specs::Standing::standing_line))]
     pub(crate) fn line(&mut self, alloc: Global, line: &[u8]) -> Result<String, CommandFault>
-        ensures { TellsSearched string_bytes result (order_of line.now) (λ answer. standing_line answer self.old line.now) self.old self.new }
+        ensures { AnswersSearched string_bytes result (order_of line.now) (λ answer. standing_line answer self.old line.now) self.old self.new }
     {
         match order_of(alloc, line)? {
             None => Err(CommandFault::BadLine),

@@ -3,8 +3,8 @@
 ghost use Rattle.std.specs.Prelude.{◌≡◌, ◌++◌, IfOk, OnOk, string_bytes};
 ghost use Rattle.engine_core.specs.Engine.{served, hung_up};
 ghost use Rattle.engine_core.specs.Performed.{performed};
-ghost use Rattle.pce_engine.specs.Talks.{output_text, change_text, told_of, sent_out, talk, talk_of, talked, hung};
-ghost use Rattle.script_lines.specs.Told.{Tells, Leaves};
+ghost use Rattle.pce_engine.specs.Talks.{output_text, change_text, left_text, sent_out, talk, talk_of, talked, hung};
+ghost use Rattle.script_lines.specs.LineAnswer.{AnswersLine, Leaves};
 
 use engine_core::{Client, hang_up_database, serve_database};
 use history_core::Database;
@@ -34,13 +34,13 @@ fn add_change(text: &mut String, peer: u32, was_up: bool, state: State) -> Resul
 }
 
 /// What a session leaves to be printed. The bytes that it has to send are taken.
-pub(crate) fn tell_session(
+pub(crate) fn take_left_text(
     alloc: Global,
     peer: u32,
     was_up: bool,
     client: &mut Client,
 ) -> Result<String, AllocError>
-    ensures text { IfOk result (λ text. string_bytes text ≡ told_of peer was_up client.old) }
+    ensures text { IfOk result (λ text. string_bytes text ≡ left_text peer was_up client.old) }
     ensures sent { OnOk result (client.new ≡ sent_out client.old) }
 {
     let output = client.session.take_output();
@@ -64,7 +64,7 @@ fn serve(
     Ok(())
 }
 
-/// Serves a session with bytes of its peer, and tells what it leaves to be printed.
+/// Serves a session with bytes of its peer, and gives what it leaves to be printed.
 #[tactic(auto, unfolding(crate::specs::Talks::talked))]
 pub(crate) fn talk(
     alloc: Global,
@@ -74,11 +74,11 @@ pub(crate) fn talk(
     piece: &[u8],
     now_ms: u64,
 ) -> Result<String, CommandFault>
-    ensures { Tells string_bytes result (talked peer piece.now now_ms client.old database.old) (talk client.new database.new) }
+    ensures { AnswersLine string_bytes result (talked peer piece.now now_ms client.old database.old) (talk client.new database.new) }
 {
     let was_up = client.session.state().is_up();
     serve(alloc, database, client, peer, piece, now_ms)?;
-    Ok(tell_session(alloc, peer, was_up, client)?)
+    Ok(take_left_text(alloc, peer, was_up, client)?)
 }
 
 fn end(
@@ -93,7 +93,7 @@ fn end(
     Ok(())
 }
 
-/// Ends a session whose transport has ended, and tells what it leaves to be printed.
+/// Ends a session whose transport has ended, and gives what it leaves to be printed.
 #[tactic(auto, unfolding(crate::specs::Talks::hung))]
 pub(crate) fn hang_up(
     alloc: Global,
@@ -101,9 +101,9 @@ pub(crate) fn hang_up(
     client: &mut Client,
     peer: u32,
 ) -> Result<String, CommandFault>
-    ensures { Tells string_bytes result (hung peer client.old database.old) (talk client.new database.new) }
+    ensures { AnswersLine string_bytes result (hung peer client.old database.old) (talk client.new database.new) }
 {
     let was_up = client.session.state().is_up();
     end(alloc, database, client, peer)?;
-    Ok(tell_session(alloc, peer, was_up, client)?)
+    Ok(take_left_text(alloc, peer, was_up, client)?)
 }

@@ -18,9 +18,9 @@ pub struct Movable {
 #[derive(Drop)]
 pub struct Displaced {
     pub snapshot: Snapshot,
-    /// 512 at most, in the order of their records.
+    /// 512 at most, in the order of their paths.
     pub lsps: Vec<KnownLsp>,
     pub own: Vec<OwnShares>,
-    /// The place of the record from which on others may go over the link too; `None` where none follows.
+    /// The place of the path from which on others may go over the link too; `None` where none follows.
     pub rest: Option<u64>,
 }

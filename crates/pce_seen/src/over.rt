@@ -1,57 +1,68 @@
 //! The LSPs over a link.
-ghost use Rattle.std.specs.Prelude.{◌≡◌, ◌≤◌, ◌+◌, ◌++◌, ◌∷◌, [], filter, length, map, IfOk, OnOk};
-ghost use Rattle.pce_seen.specs.Lsps.{known_lsp};
-ghost use Rattle.pce_seen.specs.Over.{is_over, AreOver};
+ghost use Rattle.std.specs.Prelude.{◌≡◌, ◌≤◌, ◌+◌, length, IfOk, OnOk};
+ghost use Rattle.std.specs.List.{list_any};
+ghost use Rattle.pce_seen.specs.Over.{and_lsp, is_lsp_of, is_new_over, with_lsp, AreOver};
 
 use crate::lsps::KnownLsp;
 use crate::moves::TRIED_LIMIT;
-use crate::taking::{copy_lsp, is_path_over};
-use keyed_list::Test;
-use lsp_base::{LspBase, Path, Record};
+use crate::taking::{is_path_over, lsp_of};
+use lsp_base::{LspBase, Path};
 use std::alloc::{AllocError, Global};
 use te_base::LinkNumber;
 
-/// Tests whether a path goes over a link.
-#[derive(Drop)]
-struct OverLink {
-    link: LinkNumber,
+/// Tests whether a path is one of an LSP.
+fn is_lsp_of(path: &Path, lsp: &KnownLsp) -> bool
+    ensures { result ≡ is_lsp_of path.now lsp.now }
+{
+    lsp.known.peer == path.peer && lsp.known.plsp == path.plsp
 }
 
-impl Test<Path> for OverLink {
-    ghost use Rattle.lsp_base.specs.Shares.{has_link};
+/// Tests whether a path's LSP is listed.
+fn is_listed(seen: &[KnownLsp], path: &Path) -> bool
+    ensures { result ≡ list_any (is_lsp_of path.now) seen.now }
+{
+    seen.iter().any(|lsp| is_lsp_of(path, lsp))
+}
 
-    ghost passes = { λ s x. has_link s.link x };
+/// Tests whether a path goes over a link, and its LSP isn't listed yet.
+fn is_new_over(link: LinkNumber, seen: &[KnownLsp], path: &Path) -> bool
+    ensures { result ≡ is_new_over link seen.now path.now }
+{
+    is_path_over(path, link) && !is_listed(seen, path)
+}
 
-    fn passes(&self, path: &Path) -> bool {
-        is_path_over(path, self.link)
+/// Adds an LSP, if there is one.
+fn add_lsp(seen: &mut Vec<KnownLsp>, lsp: Option<KnownLsp>) -> Result<(), AllocError>
+    ensures seen { OnOk result (seen.new.items ≡ and_lsp seen.old.items lsp) }
+    ensures few { OnOk result (length seen.new.items ≤ length seen.old.items + 1) }
+{
+    match lsp {
+        Some(lsp) => {
+            seen.push(lsp)?;
+            Ok(())
+        }
+        None => Ok(()),
     }
 }
 
-/// Tests whether a path of an LSP goes over a link.
-fn is_over(lsps: &LspBase, link: LinkNumber, known: &Record) -> bool
-    ensures { result ≡ is_over lsps.now.content.paths link known.now }
-{
-    lsps.any_path_of_lsp(known.peer, known.plsp, &OverLink { link })
-}
-
-/// Adds an LSP with its paths, where it goes over a link.
+/// Adds the LSP of a path over a link with all of its paths, where it isn't listed yet.
 fn add_over(
     alloc: Global,
     seen: &mut Vec<KnownLsp>,
     lsps: &LspBase,
     link: LinkNumber,
-    known: &Record,
+    path: &Path,
 ) -> Result<(), AllocError>
-    ensures seen { OnOk result (seen.new.items ≡ seen.old.items ++ map (known_lsp lsps.now.content.paths) (filter (is_over lsps.now.content.paths link) (known.now ∷ []))) }
+    ensures seen { OnOk result (seen.new.items ≡ with_lsp lsps.now.content link seen.old.items path.now) }
     ensures few { OnOk result (length seen.new.items ≤ length seen.old.items + 1) }
 {
-    if is_over(lsps, link, known) {
-        seen.push(copy_lsp(alloc, lsps, known)?)?;
+    if is_new_over(link, seen, path) {
+        add_lsp(seen, lsp_of(alloc, lsps, path.peer, path.plsp)?)?;
     }
     Ok(())
 }
 
-/// Sees the LSPs over a link, 512 at most, and at which record others may follow.
+/// Sees the LSPs over a link, 512 at most, and at which path others may follow.
 pub fn lsps_over(
     alloc: Global,
     lsps: &LspBase,
@@ -60,11 +71,11 @@ pub fn lsps_over(
     ensures { IfOk result (λ seen. AreOver lsps.now.content link seen.0.items seen.1) }
 {
     let mut seen = Vec::new(alloc);
-    for (place, known) in lsps.records().iter().enumerate() {
+    for (place, path) in lsps.paths().iter().enumerate() {
         if seen.len() == TRIED_LIMIT {
             return Ok((seen, Some(place as u64)));
         }
-        add_over(alloc, &mut seen, lsps, link, known)?;
+        add_over(alloc, &mut seen, lsps, link, path)?;
     }
     Ok((seen, None))
 }

@@ -8,7 +8,7 @@ use Rattle.server_rules.specs.declared.known.Happening.{Happening}
 use Rattle.server_rules.specs.declared.known.Happening.TheVariants.{Down, Owed, Submitted, Gone, Forgotten}
 use Rattle.server_rules.specs.declared.known.Owing.{Owing}
 use Rattle.server_rules.specs.declared.known.Owing.TheVariants as owing
-use Rattle.server_rules.specs.Peers.{Tells}
+use Rattle.server_rules.specs.Peers.{Knows}
 use Rattle.server_talk.specs.declared.talk.Ended.{Ended}
 use Rattle.server_talk.specs.declared.talk.Ended.TheVariants.{StoreFault}
 
@@ -41,9 +41,9 @@ past_end false true peer now_ms past = (peer, Down now_ms) ∷ past
 past_end false false peer now_ms past = past
 
 abbrev pub NotesDown : Bool → Bool → ℕ → ℕ → Expiry → Expiry → Type 0
-NotesDown owed is_down peer now_ms old new = (past : List (ℕ × Happening)) → Tells old past → Tells new (past_end owed is_down peer now_ms past)
+NotesDown owed is_down peer now_ms old new = (past : List (ℕ × Happening)) → Knows old past → Knows new (past_end owed is_down peer now_ms past)
 
 -- the end of the session is noted, and that the connection is gone
 abbrev pub NotesEnd : Bool → Bool → ℕ → ℕ → Expiry → Expiry → Type 0
 NotesEnd owed is_down peer now_ms old new =
-    (past : List (ℕ × Happening)) → Tells old past → Tells new ((peer, Gone) ∷ past_end owed is_down peer now_ms past)
+    (past : List (ℕ × Happening)) → Knows old past → Knows new ((peer, Gone) ∷ past_end owed is_down peer now_ms past)

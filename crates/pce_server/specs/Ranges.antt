@@ -1,4 +1,4 @@
--- What a run may be told.
+-- What a run may be given.
 use Rattle.std.specs.Prelude.{◌≤◌, ◌-◌, ⊤}
 use Rattle.pce_server.specs.declared.server.Sessions.{Sessions}
 use Rattle.pce_server.specs.declared.server.Sessions.TheVariants.{Count, Endless}

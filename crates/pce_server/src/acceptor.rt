@@ -66,7 +66,7 @@ fn slot_for<R: Wait + Clock, S: Ledger, G: Ledger, B: Room>(
 }
 
 /// Says that a connection of the peer was closed unheard.
-fn tell_unheard<R: Wait + Clock, S: Ledger, G: Ledger, B: Room>(
+fn note_unheard<R: Wait + Clock, S: Ledger, G: Ledger, B: Room>(
     context: &Context<'_, R, S, G, B>,
     peer: u32,
 ) {
@@ -104,14 +104,14 @@ pub(crate) fn accept_all<
                     context.count(Counted::Accepted);
                     let Some(slot) = slot_for(context, peer) else {
                         drop(stream);
-                        tell_unheard(context, peer);
+                        note_unheard(context, peer);
                         continue;
                     };
                     if scope
                         .spawn(move || attend(context, stream, peer, slot))
                         .is_err()
                     {
-                        tell_unheard(context, peer);
+                        note_unheard(context, peer);
                         context.wakers.leave(rt, slot);
                         context.pool.release(rt, slot);
                     }

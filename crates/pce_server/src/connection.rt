@@ -132,7 +132,7 @@ fn may_part<R: Wait + Clock, S: Ledger, G: Ledger, B: Room>(
 }
 
 /// Notes that a connection is closed unheard.
-fn let_go<R: Wait + Clock, S: Ledger, G: Ledger, B: Room>(
+fn release<R: Wait + Clock, S: Ledger, G: Ledger, B: Room>(
     context: &Context<'_, R, S, G, B>,
     peer: u32,
     slot: usize,
@@ -156,10 +156,10 @@ fn host<
     seat: &mut Seat<S, G, B>,
 ) -> Reason {
     let Ok(socket) = connected(context, stream, slot) else {
-        return let_go(context, peer, slot);
+        return release(context, peer, slot);
     };
     if context.peers.connected(context.rt, peer).is_err() {
-        return let_go(context, peer, slot);
+        return release(context, peer, slot);
     }
     let left = receive(context, socket, stream, peer, slot, seat);
     let now_ms = context.moments().now_ms();

@@ -13,9 +13,10 @@ use crate::seat_pool::SeatPool;
 use crate::timed_look::TimedLook;
 use crate::wakers::Wakers;
 use engine_core::{Call, Reply};
+use pce_seen::{Ask, Seen};
 use pcep_word::Ipv4;
 use place_tokens::Room;
-use server_counts::{Counted, Counters, Timed, Visit, Visits, Waits};
+use server_counts::{Counted, Counters, Mark, Marks, Presence, Presences, Timed, Waits};
 use server_talk::Watch;
 use shared_pce::{Look, Shared};
 use std::alloc::{AllocError, Global};
@@ -90,7 +91,9 @@ pub(crate) struct Context<'a, R: Clock, S: Ledger, G: Ledger, B: Room> {
     /// When paths were asked for.
     pub waits: &'a Mutex<Waits>,
     /// Since when each peer is up or down.
-    pub visits: &'a Mutex<Visits>,
+    pub presences: &'a Mutex<Presences>,
+    /// How many steps there were at which moments.
+    pub marks: &'a Mutex<Marks>,
     /// The number of connections of others that came.
     pub strangers: &'a AtomicU64,
     /// The ends of each link.
@@ -191,7 +194,7 @@ impl<'a, R: Clock, S: Ledger, G: Ledger, B: Room> Context<'a, R, S, G, B> {
         let end = end_reason(reason);
         self.count(Counted::Ended(end));
         let now_ms = self.moments().now_ms();
-        self.visits.lock(self.rt).ended(peer, slot, now_ms, end);
+        self.presences.lock(self.rt).ended(peer, slot, now_ms, end);
     }
 
     /// Looks at the database, and times for how long that held its lock.
@@ -212,11 +215,31 @@ impl<'a, R: Clock, S: Ledger, G: Ledger, B: Room> Context<'a, R, S, G, B> {
     }
 
     /// Since when each peer is up or down.
-    pub fn all_visits(&self) -> Result<Vec<(u32, Visit)>, AllocError>
+    pub fn all_presences(&self) -> Result<Vec<(u32, Presence)>, AllocError>
     where
         R: Wait,
     {
-        self.visits.lock(self.rt).copies(self.alloc)
+        self.presences.lock(self.rt).copies(self.alloc)
+    }
+
+    /// Notes how many steps there are at this moment. Where memory is refused nothing is noted.
+    pub fn mark_steps(&self)
+    where
+        R: Wait,
+    {
+        let now_ms = self.moments().now_ms();
+        if let Ok(Seen::Counts(counts)) = self.shared.look(self.rt, &Ask::Status) {
+            let _noted = self.marks.lock(self.rt).note(counts.steps, now_ms);
+        }
+    }
+
+    /// How many steps there were at which moments, this one too.
+    pub fn all_marks(&self) -> Result<Vec<Mark>, AllocError>
+    where
+        R: Wait,
+    {
+        self.mark_steps();
+        self.marks.lock(self.rt).copies(self.alloc)
     }
 
     /// Whether a router of this address is heard. Another is counted.

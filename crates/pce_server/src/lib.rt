@@ -18,10 +18,10 @@
 //! ```
 //!
 //! The modules, lowest first: `seat_pool` (where seats rest), `network`, `expiry` (what happens to peers, and when they
-//! are forgotten), `noted` and `reload_notes` (stores that tell of it), `wakers` (what wakes a connection, and how many an address has), `run`
+//! are forgotten), `noted` and `reload_notes` (stores that note it), `wakers` (what wakes a connection, and how many an address has), `run`
 //! (whether the run is to end, and why), `context` (what each thread is lent), `workers` (workers and keeper),
 //! `connection` (a connection's thread), `acceptor`, `shown` (what an operator is shown), `answering` (an operator's lines), `control` (operators who
-//! connect), `viewers` (viewers by HTTP), `server`.
+//! connect), `operator` (the one at standard input), `viewers` (viewers by HTTP), `server`.
 #![tactic(auto)]
 
 mod acceptor;
@@ -38,6 +38,7 @@ mod log_writer;
 mod memory;
 mod network;
 mod noted;
+mod operator;
 mod overheard;
 mod plan;
 mod reload_notes;

@@ -47,7 +47,7 @@ impl fmt::Display for Reason {
             Reason::RunEnds => f.write_str("closed by the server"),
             Reason::Refused(2) => f.write_str("second session"),
             Reason::Refused(number) => write!(f, "refused {number}"),
-            Reason::Unheard => f.write_str("let go unheard"),
+            Reason::Unheard => f.write_str("closed unheard"),
         }
     }
 }

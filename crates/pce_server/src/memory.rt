@@ -2,7 +2,7 @@
 use std::fs;
 use std::fs::Files;
 
-/// Linux tells of a process here, a line for each value.
+/// Linux describes a process here, a line for each value.
 const STATUS: &str = "/proc/self/status";
 
 /// The bytes that a line `VmRSS: N kB` gives.
@@ -16,7 +16,7 @@ fn resident_in(text: &str) -> Option<u64> {
     None
 }
 
-/// Reads how much memory of the process is in RAM, in bytes; `None` where the system doesn't tell.
+/// Reads how much memory of the process is in RAM, in bytes; `None` where the system doesn't say.
 pub(crate) fn resident_bytes<R: Files + AllocGlobal>(rt: &R) -> Option<u64> {
     let text = fs::read(rt, STATUS).ok()?;
     resident_in(str::from_utf8(&text).ok()?)

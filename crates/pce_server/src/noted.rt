@@ -49,7 +49,7 @@ impl<'a, 'c, 't, R: Wait + Clock, S: Ledger, G: Ledger, B: Room> Notes<'a, 'c, '
         self.up_ms = self.now_ms();
         let noted = self
             .context
-            .visits
+            .presences
             .lock(self.context.rt)
             .came_up(self.peer, self.slot, self.up_ms);
         if noted.is_err() {

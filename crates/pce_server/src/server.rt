@@ -1,10 +1,8 @@
 //! A whole run.
 ghost use Rattle.std.specs.Prelude.{◌≡◌, ◌≤◌};
-ghost use Rattle.pce_server.specs.Faults.{closes_run};
 ghost use Rattle.pce_server.specs.Ranges.{AreOrders};
 
 use crate::acceptor::accept_all;
-use crate::answering::answer_operator;
 use crate::context::Context;
 use crate::control::{Operators, control_seats, hear_controls};
 use crate::expiry::Peers;
@@ -13,6 +11,7 @@ use crate::log_lines::{LogLine, is_debug_wanted};
 use crate::log_queue::LogQueue;
 use crate::log_writer::{ErrorOutput, write_log};
 use crate::network::{LinkEnds, ends_of};
+use crate::operator::{end_with, hear_operator};
 use crate::run::{Run, RunFault};
 use crate::seat_pool::SeatPool;
 use crate::starting::{few_descriptors, listening_line, live_of};
@@ -22,9 +21,9 @@ use crate::workers::{keep_time, work};
 use history_core::Database;
 use log::{Log, warn};
 use place_tokens::{Room, Unopened};
-use server_counts::{Counters, Visits, Waits};
+use server_counts::{Counters, Marks, Presences, Waits};
 use server_rules::Settling;
-use server_talk::{OperatorEnd, Patient, Plan, bound_accepts};
+use server_talk::{Patient, Plan, bound_accepts};
 use shared_pce::{Audit, Fault, Seat, Shared};
 use std::alloc::Global;
 use std::io::Write;
@@ -52,7 +51,7 @@ pub enum Sessions {
     Endless,
 }
 
-/// What a run is told.
+/// What a run is given.
 #[derive(Clone, Copy, Debug)]
 pub struct Orders {
     /// The number of threads that search for paths.
@@ -236,7 +235,8 @@ where
     let strangers = AtomicU64::new(0);
     let counters = Mutex::new(Counters::new());
     let waits = Mutex::new(Waits::new());
-    let visits = Mutex::new(Visits::new(alloc));
+    let presences = Mutex::new(Presences::new(alloc));
+    let marks = Mutex::new(Marks::new(alloc));
     let context = Context {
         rt,
         alloc,
@@ -250,7 +250,8 @@ where
         known: routers.known,
         counters: &counters,
         waits: &waits,
-        visits: &visits,
+        presences: &presences,
+        marks: &marks,
         strangers: &strangers,
         ends,
         start: Instant::now(rt).ok(),
@@ -363,53 +364,4 @@ where
         }
         context.log.end(rt);
     });
-}
-
-/// Whether the run is to end with its operator's part: where a line asked for it, and where the lines of an endless run
-/// have ended that no other operator can reach. A writer that fails ends the operator's part alone.
-fn closes_run(end: OperatorEnd, sessions: Sessions, has_control: bool) -> bool
-    ensures { result ≡ closes_run end sessions has_control }
-{
-    match end {
-        OperatorEnd::EndAsked => true,
-        OperatorEnd::InputEnded => sessions == Sessions::Endless && !has_control,
-        OperatorEnd::RunEnding | OperatorEnd::ReadFault | OperatorEnd::WriteFault => false,
-    }
-}
-
-/// Ends the run, where it is to end with its operator's part, and by a fault where standard input failed.
-fn end_with<S: Ledger, G: Ledger, B: Room, R: Wait + Clock>(
-    context: &Context<'_, R, S, G, B>,
-    end: OperatorEnd,
-    sessions: Sessions,
-    has_control: bool,
-) {
-    if closes_run(end, sessions, has_control) {
-        context.close();
-    }
-    match end {
-        OperatorEnd::ReadFault => context.cut(RunFault::Device),
-        OperatorEnd::WriteFault => context.say(LogLine::OperatorGone),
-        OperatorEnd::InputEnded | OperatorEnd::EndAsked | OperatorEnd::RunEnding => {}
-    }
-}
-
-/// Answers the operator's lines from the seat of this slot, and gives why no more are heard.
-fn hear_operator<S: Ledger, G: Ledger, B: Room, R: Wait + Clock, I: Patient, O: Write, P: Plan>(
-    context: &Context<'_, R, S, G, B>,
-    at: usize,
-    reader: &mut I,
-    writer: &mut O,
-    plan: &P,
-) -> Option<OperatorEnd> {
-    let mut seat = context.pool.take(context.rt, at)?;
-    let heard = answer_operator(context, plan, &mut seat, reader, writer);
-    context.pool.put(context.rt, at, seat);
-    match heard {
-        Ok(end) => Some(end),
-        Err(error) => {
-            context.cut(RunFault::from(error));
-            None
-        }
-    }
 }

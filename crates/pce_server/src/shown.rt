@@ -8,6 +8,7 @@ use pce_seen::Ask;
 use pce_view::{Form, Surroundings, answer_text};
 use place_tokens::Room;
 use script_lines::ViewLine;
+use server_counts::Mark;
 use server_talk::{Plan, Show, Watch};
 use std::alloc::{AllocError, Global};
 use std::sync::Wait;
@@ -78,6 +79,17 @@ fn show_pages<R: Wait + Clock, S: Ledger, G: Ledger, B: Room>(
     Err(AllocError)
 }
 
+/// How many steps there were at which moments, for a question that wants to know.
+fn marks_for<R: Wait + Clock, S: Ledger, G: Ledger, B: Room>(
+    context: &Context<'_, R, S, G, B>,
+    ask: &Ask,
+) -> Result<Vec<Mark>, AllocError> {
+    match ask {
+        Ask::Why { .. } => context.all_marks(),
+        _ => Ok(Vec::new(context.alloc)),
+    }
+}
+
 impl<'a, 'c, 'p, R: Wait + Clock, S: Ledger, G: Ledger, B: Room, P: Plan> Show
     for ServedNetwork<'a, 'c, 'p, R, P, S, G, B> {
     ghost use Rattle.pce_view.specs.declared.answer.Surroundings.{Surroundings};
@@ -86,11 +98,13 @@ impl<'a, 'c, 'p, R: Wait + Clock, S: Ledger, G: Ledger, B: Room, P: Plan> Show
     ghost shows = { λ _ line text. (around : Surroundings) × IsShown (form_of line.is_json) around line.ask text };
 
     fn show(&self, _alloc: Global, line: &ViewLine) -> Result<Vec<u8>, AllocError> {
-        let visits = self.context.all_visits()?;
+        let presences = self.context.all_presences()?;
+        let marks = marks_for(self.context, &line.ask)?;
         let around = Surroundings {
             version: VERSION,
             uptime_ms: self.context.moments().now_ms(),
-            visits: &visits,
+            presences: &presences,
+            marks: &marks,
         };
         show_pages(self.context, form_of(line.is_json), &around, line.ask)
     }

@@ -75,11 +75,12 @@ impl<'a, 'c, R: Wait + Clock, S: Ledger, G: Ledger, B: Room> ViewSource
     ghost is_metrics = { λ _ text. IsMetrics text };
 
     fn document(&self, ask: &Ask) -> Result<Vec<u8>, AllocError> {
-        let visits = self.context.all_visits()?;
+        let presences = self.context.all_presences()?;
         let around = Surroundings {
             version: VERSION,
             uptime_ms: self.context.moments().now_ms(),
-            visits: &visits,
+            presences: &presences,
+            marks: &[],
         };
         document_text(self.context, &around, ask)
     }
@@ -88,7 +89,8 @@ impl<'a, 'c, R: Wait + Clock, S: Ledger, G: Ledger, B: Room> ViewSource
         let around = Surroundings {
             version: VERSION,
             uptime_ms: self.context.moments().now_ms(),
-            visits: &[],
+            presences: &[],
+            marks: &[],
         };
         let counters = *self.context.counters.lock(self.context.rt);
         let memory = resident_bytes(self.files);

@@ -32,6 +32,9 @@ const FAULT_PAUSE_MS: u64 = 50;
 /// The sleep of the keeper of time between two looks, in milliseconds.
 const KEEPER_WAIT_MS: u64 = 50;
 
+/// The time between two moments at which the keeper of time notes how many steps there are, in milliseconds.
+const MARK_EVERY_MS: u64 = 1_000;
+
 /// The number of times that the Downs that are owed are tried at the end of a run.
 const LAST_TRIES: u32 = 100;
 
@@ -39,7 +42,7 @@ const LAST_TRIES: u32 = 100;
 const ROLL_AT: u64 = 1_000_000;
 
 /// Says that the history was rolled, and has the seats that rest drop their receipts. False where memory was refused.
-fn tell_rolled<R: Wait + Clock, S: Ledger, G: Ledger, B: Room>(
+fn note_rolled<R: Wait + Clock, S: Ledger, G: Ledger, B: Room>(
     context: &Context<'_, R, S, G, B>,
     rolled: Result<Option<u64>, AllocError>,
 ) -> bool {
@@ -62,7 +65,7 @@ fn make_room<R: Wait + Clock, S: Ledger, G: Ledger, B: Room>(
     context: &Context<'_, R, S, G, B>,
     seat: &Seat<S, G, B>,
 ) -> bool {
-    tell_rolled(context, context.shared.roll_if_full(context.rt, seat))
+    note_rolled(context, context.shared.roll_if_full(context.rt, seat))
 }
 
 /// Rolls the history where it is nearly full.
@@ -71,7 +74,7 @@ fn tend<R: Wait + Clock, S: Ledger, G: Ledger, B: Room>(
     seat: &Seat<S, G, B>,
 ) {
     let rolled = context.shared.roll_if(context.rt, seat, ROLL_AT);
-    let _is_rolled = tell_rolled(context, rolled);
+    let _is_rolled = note_rolled(context, rolled);
 }
 
 /// Has a seat whose thread has nothing to do drop its receipts of rolled steps, where it keeps any.
@@ -238,7 +241,7 @@ pub(crate) fn work<R: Wait + Clock, S: Ledger, G: Ledger, B: Room>(
 }
 
 /// Says that a peer was forgotten. False where nothing was due.
-fn tell_settled<R: Wait + Clock, S: Ledger, G: Ledger, B: Room>(
+fn note_settled<R: Wait + Clock, S: Ledger, G: Ledger, B: Room>(
     context: &Context<'_, R, S, G, B>,
     settled: Settled,
 ) -> bool {
@@ -246,7 +249,7 @@ fn tell_settled<R: Wait + Clock, S: Ledger, G: Ledger, B: Room>(
         return false;
     };
     if due.what == Owing::Expire {
-        context.visits.lock(context.rt).forgotten(due.peer);
+        context.presences.lock(context.rt).forgotten(due.peer);
         context.say(LogLine::Forgotten { peer: due.peer });
     }
     true
@@ -267,7 +270,7 @@ fn settle<R: Wait + Clock, S: Ledger, G: Ledger, B: Room>(
         keep_ms,
     );
     let is_on = match settled {
-        Ok(settled) => tell_settled(context, settled),
+        Ok(settled) => note_settled(context, settled),
         Err(Fault::HistoryFull) => make_room(context, seat),
         Err(Fault::OutOfMemory) => {
             context.say(LogLine::MemoryRefused);
@@ -293,16 +296,31 @@ fn settle_last<R: Wait + Clock, S: Ledger, G: Ledger, B: Room>(
     }
 }
 
+/// Notes how many steps there are, where that is due, and gives when it is due next.
+fn mark_steps<R: Wait + Clock, S: Ledger, G: Ledger, B: Room>(
+    context: &Context<'_, R, S, G, B>,
+    due_ms: u64,
+) -> u64 {
+    let now_ms = context.moments().now_ms();
+    if now_ms < due_ms {
+        return due_ms;
+    }
+    context.mark_steps();
+    now_ms.saturating_add(MARK_EVERY_MS)
+}
+
 /// Submits what is due, until the end. The history is looked at between them, since workers that have tickets don't.
 fn keep_on<R: Wait + Clock, S: Ledger, G: Ledger, B: Room>(
     context: &Context<'_, R, S, G, B>,
     seat: &mut Seat<S, G, B>,
 ) {
+    let mut due_ms = 0u64;
     for _ in context.rt.forever() {
         if context.shared.is_over() {
             return;
         }
         tend(context, seat);
+        due_ms = mark_steps(context, due_ms);
         settle(context, seat, context.keep_ms);
     }
 }

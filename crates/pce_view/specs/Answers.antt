@@ -99,13 +99,13 @@ IsRunOrNull link (Some x) text = IsRunText link x text
 abbrev pub IsJsonOf : Surroundings → Ask → Seen → List ℕ → Type 0
 IsJsonOf around a (seen.Counts counts) text = document text ≡ Some (status_json around.version.now around.uptime_ms counts)
 IsJsonOf around a (seen.Book book) text = document text ≡ Some (book_json book.nodes.items book.links.items book.left.items)
-IsJsonOf around a (seen.Peers peers) text = document text ≡ Some (peers_json around.uptime_ms around.visits.now peers.lsps.items peers.peers.items)
+IsJsonOf around a (seen.Peers peers) text = document text ≡ Some (peers_json around.uptime_ms around.presences.now peers.lsps.items peers.peers.items)
 IsJsonOf around a (seen.Tickets tickets) text = document text ≡ Some (tickets_json tickets.items)
 IsJsonOf around a (seen.Lsps page) text = document text ≡ Some (page_json (place_of a) page)
 IsJsonOf around a (seen.Lsp lsp) text = document text ≡ Some (lsp_or_null lsp)
 IsJsonOf around a (seen.Link found) text = IsOneLinkText a found text
 IsJsonOf around a (seen.Steps steps) text = document text ≡ Some (steps_json steps.first steps.steps.items)
-IsJsonOf around a (seen.Origins origins) text = document text ≡ Some (origins_or_null origins)
+IsJsonOf around a (seen.Origins origins) text = document text ≡ Some (origins_or_null around.uptime_ms around.marks.now origins)
 IsJsonOf around a (seen.Movable movable) text = IsBetterText (place_of a) movable text
 IsJsonOf around a (seen.Displaced displaced) text = IsRunOrNull (number_of_link a) displaced text
 IsJsonOf around a (seen.Network network) text = IsNetworkText a network text

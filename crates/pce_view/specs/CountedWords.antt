@@ -76,9 +76,9 @@ end_word end.PlaceTaken = codes "place taken by another"
 end_word end.RunEnds = codes "closed by the server"
 end_word end.SecondSession = codes "second session"
 end_word (end.Refused number) = codes "refused"
-end_word end.Unheard = codes "let go unheard"
+end_word end.Unheard = codes "closed unheard"
 
--- the word that tells what is counted from the others of its metric
+-- the word that names what is counted beside the others of its metric
 abbrev pub word_of : Counted → List ℕ
 word_of (counted.Step e r) = reply_word r
 word_of (counted.Refusal number) = refusal_word number

@@ -21,10 +21,13 @@ use Rattle.path_looks.specs.declared.full.FullLink.{FullLink}
 use Rattle.path_looks.specs.declared.link_room.LinkRoom.{LinkRoom}
 use Rattle.path_looks.specs.declared.moves.Move.{Move}
 use Rattle.std.specs.Map.{lookup}
+use Rattle.server_counts.specs.Marks.{before, behind}
+use Rattle.server_counts.specs.declared.marks.Mark.{Mark}
 use Rattle.server_counts.specs.declared.kinds.EndReason.{EndReason}
 use Rattle.server_counts.specs.declared.kinds.EndReason.TheVariants as end
-use Rattle.server_counts.specs.declared.visits.LastEnd.{LastEnd}
-use Rattle.server_counts.specs.declared.visits.Visit.{Visit}
+use Rattle.server_counts.specs.declared.presences.LastEnd.{LastEnd}
+use Rattle.server_counts.specs.declared.presences.Presence.{Presence}
+use Rattle.pce_view.specs.declared.age.Age.{Age}
 use Rattle.pce_view.specs.declared.moments.Moments.{Moments}
 use Rattle.pce_view.specs.declared.moves.BetterLsp.{BetterLsp}
 use Rattle.pce_view.specs.Fields.{address, address_or_null, amounts, end_json, left_or_null, lsp_id, name_at, name_or_null, obstacle_json, srp_id, text_or_null, whole_or_null, wholes, word_or_null}
@@ -105,7 +108,7 @@ ended_at now_ms None = record { since_ms_ago = None; end_ms_ago = None; end = No
 ended_at now_ms (Some e) = record { since_ms_ago = None; end_ms_ago = Some (now_ms - e.at_ms); end = Some e.reason; number = end_number e.reason }
 
 -- how long ago a peer came up or went down, and how long ago its last connection ended, and why
-abbrev pub moments_of : ℕ → Option Visit → Moments
+abbrev pub moments_of : ℕ → Option Presence → Moments
 moments_of now_ms None = ended_at now_ms None
 moments_of now_ms (Some v) = record (ended_at now_ms v.last_end) { since_ms_ago = Some (now_ms - v.since_ms) }
 
@@ -127,16 +130,16 @@ counted_json p lsps delegated m = object
     no_members)))))))))))))
 
 -- a peer with its session, and how many LSPs are its own
-abbrev pub peer_json : ℕ → List (ℕ × Visit) → List LspOwner → KnownPeer → Json
-peer_json now_ms visits owners p =
-    counted_json p (lsps_of owners p.peer) (delegated_of owners p.peer) (moments_of now_ms (lookup (nat_eq p.peer) visits))
+abbrev pub peer_json : ℕ → List (ℕ × Presence) → List LspOwner → KnownPeer → Json
+peer_json now_ms presences owners p =
+    counted_json p (lsps_of owners p.peer) (delegated_of owners p.peer) (moments_of now_ms (lookup (nat_eq p.peer) presences))
 
-abbrev pub peer_items : ℕ → List (ℕ × Visit) → List LspOwner → List KnownPeer → Items
-peer_items now_ms visits owners [] = no_items
-peer_items now_ms visits owners (peer ∷ peers) = item (peer_json now_ms visits owners peer) (peer_items now_ms visits owners peers)
+abbrev pub peer_items : ℕ → List (ℕ × Presence) → List LspOwner → List KnownPeer → Items
+peer_items now_ms presences owners [] = no_items
+peer_items now_ms presences owners (peer ∷ peers) = item (peer_json now_ms presences owners peer) (peer_items now_ms presences owners peers)
 
-abbrev pub peers_json : ℕ → List (ℕ × Visit) → List LspOwner → List KnownPeer → Json
-peers_json now_ms visits owners peers = object (member (codes "peers") (array (peer_items now_ms visits owners peers)) no_members)
+abbrev pub peers_json : ℕ → List (ℕ × Presence) → List LspOwner → List KnownPeer → Json
+peers_json now_ms presences owners peers = object (member (codes "peers") (array (peer_items now_ms presences owners peers)) no_members)
 
 -- a path of an LSP: reported under an LSP ID, or granted under an SRP-ID
 unfoldable pub path_json : Path → Json
@@ -308,34 +311,51 @@ path_answer_json a tightest full = object
     (member (codes "full_links") (array (full_items full))
     no_members)))))))
 
--- a path of an LSP, and by which kept step it came
-unfoldable pub traced_json : TracedPath → Json
-traced_json x = object
+-- A step was taken by the first moment of the first mark that counts it. One that none counts may have been taken just now.
+abbrev pub least_ms : ℕ → Option Mark → ℕ
+least_ms now_ms None = 0
+least_ms now_ms (Some m) = now_ms - m.from_ms
+
+-- it was taken after the last moment of the last mark that doesn't count it
+abbrev pub most_ms : ℕ → Option Mark → Option ℕ
+most_ms now_ms None = None
+most_ms now_ms (Some m) = Some (now_ms - m.to_ms)
+
+-- how long ago a step was taken: at least and at most
+abbrev pub age_of : ℕ → List Mark → Option ℕ → Age
+age_of now_ms marks None = record { least_ms = None; most_ms = None }
+age_of now_ms marks (Some step) = record { least_ms = Some (least_ms now_ms (behind step marks)); most_ms = most_ms now_ms (before step marks) }
+
+-- a path of an LSP, by which kept step it came, and how long ago
+unfoldable pub traced_json : TracedPath → Age → Json
+traced_json x age = object
     (member (codes "lsp_id") (whole_or_null (lsp_id (x.path).part))
     (member (codes "srp_id") (whole_or_null (srp_id (x.path).part))
     (member (codes "links") (array (wholes (x.path).links))
     (member (codes "by") (word_or_null (origin_word x.origin))
     (member (codes "step") (whole_or_null (origin_step x.origin))
     (member (codes "ticket") (whole_or_null (origin_ticket x.origin))
-    no_members))))))
+    (member (codes "least_ms_ago") (whole_or_null age.least_ms)
+    (member (codes "most_ms_ago") (whole_or_null age.most_ms)
+    no_members))))))))
 
-abbrev pub traced_items : List TracedPath → Items
-traced_items [] = no_items
-traced_items (x ∷ xs) = item (traced_json x) (traced_items xs)
+abbrev pub traced_items : ℕ → List Mark → List TracedPath → Items
+traced_items now_ms marks [] = no_items
+traced_items now_ms marks (x ∷ xs) = item (traced_json x (age_of now_ms marks (origin_step x.origin))) (traced_items now_ms marks xs)
 
 -- the paths of an LSP, from which step on they were looked for, and which step is the first that is kept
-abbrev pub origins_json : LspOrigins → Json
-origins_json o = object
+abbrev pub origins_json : ℕ → List Mark → LspOrigins → Json
+origins_json now_ms marks o = object
     (member (codes "peer") (address o.peer)
     (member (codes "plsp_id") (whole o.plsp)
     (member (codes "rolled_steps") (whole o.rolled)
     (member (codes "first_step") (whole o.first)
-    (member (codes "paths") (array (traced_items o.paths.items))
+    (member (codes "paths") (array (traced_items now_ms marks o.paths.items))
     no_members)))))
 
-abbrev pub origins_or_null : Option LspOrigins → Json
-origins_or_null None = null
-origins_or_null (Some o) = origins_json o
+abbrev pub origins_or_null : ℕ → List Mark → Option LspOrigins → Json
+origins_or_null now_ms marks None = null
+origins_or_null now_ms marks (Some o) = origins_json now_ms marks o
 
 -- an LSP for which a cheaper path is admissible
 unfoldable pub better_json : BetterLsp → Json
@@ -376,7 +396,7 @@ abbrev pub move_items : List Move → Items
 move_items [] = no_items
 move_items (m ∷ ms) = item (move_json m) (move_items ms)
 
--- where the LSPs over a link would go, and from which record on others aren't tried
+-- where the LSPs over a link would go, and from which path on others aren't tried
 abbrev pub run_json : ℕ → Option ℕ → List Move → Json
 run_json link rest moves = object
     (member (codes "link") (whole link)

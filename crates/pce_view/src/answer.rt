@@ -29,7 +29,7 @@ use path_looks::{FullLink, LinkRoom, PathAnswer, full_links, path_on, tightest};
 use pce_seen::{Ask, LinkUse, Network, Seen};
 use pcep_objects::{Colours, MetricType};
 use pcep_word::{Bandwidth, Ipv4, Priorities};
-use server_counts::Visit;
+use server_counts::{Mark, Presence};
 use std::alloc::{AllocError, Global};
 use te_snapshot::Snapshot;
 
@@ -49,7 +49,9 @@ pub struct Surroundings<'a> {
     /// Since the run began.
     pub uptime_ms: u64,
     /// Since when each peer is up or down, in milliseconds since the run began.
-    pub visits: &'a [(u32, Visit)],
+    pub presences: &'a [(u32, Presence)],
+    /// How many steps there were at which moments, in milliseconds since the run began.
+    pub marks: &'a [Mark],
 }
 
 /// The place at which the page of LSPs that is asked for starts.
@@ -179,13 +181,13 @@ fn json_text(
     match seen {
         Seen::Counts(counts) => status_text(alloc, around.version, around.uptime_ms, counts),
         Seen::Book(book) => book_text(alloc, book),
-        Seen::Peers(peers) => peers_text(alloc, around.uptime_ms, around.visits, peers),
+        Seen::Peers(peers) => peers_text(alloc, around.uptime_ms, around.presences, peers),
         Seen::Tickets(tickets) => tickets_text(alloc, tickets),
         Seen::Lsps(page) => page_text(alloc, place_of(ask), page),
         Seen::Lsp(lsp) => lsp_text(alloc, lsp),
         Seen::Link(found) => one_link_text(alloc, ask, found),
         Seen::Steps(steps) => steps_text(alloc, steps),
-        Seen::Origins(origins) => origins_text(alloc, origins),
+        Seen::Origins(origins) => origins_text(alloc, around.uptime_ms, around.marks, origins),
         Seen::Movable(movable) => better_text(alloc, place_of(ask), movable),
         Seen::Displaced(displaced) => without_text(alloc, number_of_link(ask), displaced),
         Seen::Network(network) => network_text(alloc, ask, network),
@@ -256,13 +258,13 @@ fn add_rows(
     match seen {
         Seen::Counts(counts) => add_status(text, around.version, around.uptime_ms, counts),
         Seen::Book(book) => add_book(text, book),
-        Seen::Peers(peers) => add_peers(text, around.uptime_ms, around.visits, peers),
+        Seen::Peers(peers) => add_peers(text, around.uptime_ms, around.presences, peers),
         Seen::Tickets(tickets) => add_tickets(text, tickets),
         Seen::Lsps(page) => add_page(text, place_of(ask), page),
         Seen::Lsp(lsp) => add_one_lsp(text, lsp),
         Seen::Link(found) => add_one_link(alloc, text, ask, found),
         Seen::Steps(steps) => add_steps(text, steps),
-        Seen::Origins(origins) => add_origins(text, origins),
+        Seen::Origins(origins) => add_origins(text, around.uptime_ms, around.marks, origins),
         Seen::Movable(movable) => add_better(alloc, text, place_of(ask), movable),
         Seen::Displaced(displaced) => add_without(alloc, text, number_of_link(ask), displaced),
         Seen::Network(network) => add_network(alloc, text, ask, network),

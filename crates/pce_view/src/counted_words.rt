@@ -92,11 +92,11 @@ pub(crate) fn end_word(reason: EndReason) -> &'static str
         EndReason::RunEnds => "closed by the server",
         EndReason::SecondSession => "second session",
         EndReason::Refused(_) => "refused",
-        EndReason::Unheard => "let go unheard",
+        EndReason::Unheard => "closed unheard",
     }
 }
 
-/// The word that tells what is counted from the others of its metric.
+/// The word that names what is counted beside the others of its metric.
 pub(crate) fn word_of(what: Counted) -> &'static str
     ensures { result.now ≡ word_of what }
 {

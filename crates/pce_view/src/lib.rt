@@ -1,10 +1,10 @@
-//! What an operator is told of what was seen of the database: JSON for programs, columns for people. Nothing here takes
+//! What an operator is shown of what was seen of the database: JSON for programs, columns for people. Nothing here takes
 //! a handle. A reader of JSON (RFC 8259) reads the text of a value as exactly the tree that `specs/Views.antt` gives it;
 //! of the columns nothing is claimed. `answer_text` searches for a path, where one is asked for (`path_looks`).
 //!
 //! - `fields`, `closing`: objects from tables of their members, and the text of a whole value
 //! - `words`: words for what is seen
-//! - `moments`: how long ago a peer came up or went down
+//! - `moments`, `age`: how long ago a peer came up or went down, and how long ago a step was taken
 //! - `moves`: paths that LSPs could have elsewhere (`specs/Moves.antt`)
 //! - `status`, `book`, `peers`, `tickets`, `lsps`, `link`, `steps`, `origins`, `path`, `better`, `without`: one kind of answer
 //!   each, as JSON
@@ -15,12 +15,13 @@
 //!
 //! ```text
 //! fn status_of(alloc: Global, counts: Counts) -> Result<Vec<u8>, AllocError> {
-//!     let around = Surroundings { version: "1.0", uptime_ms: 0 };
+//!     let around = Surroundings { version: "1.0", uptime_ms: 0, presences: &[], marks: &[] };
 //!     answer_text(alloc, Form::Json, &around, &Ask::Status, &Seen::Counts(counts))
 //! }
 //! ```
 #![tactic(auto)]
 
+mod age;
 mod answer;
 mod better;
 mod book;

@@ -1,11 +1,13 @@
 //! Tables for people: LSPs, by what their paths came, and a link with the tunnels on it.
+use crate::age::age_of;
 use crate::columns::{add_links, add_name, add_percent, add_rate};
 use crate::fields::{lsp_id, srp_id};
-use crate::tables::{add_end, add_priorities};
+use crate::tables::{add_ago, add_end, add_priorities};
 use crate::words::{origin_step, origin_ticket, origin_word};
 use lsp_base::{Lsp, Path};
 use pce_seen::{HeldPath, KnownLsp, LinkUse, LspOrigins, LspPage, TracedPath, tunnels_on};
 use pcep_word::Ipv4;
+use server_counts::Mark;
 use std::alloc::{AllocError, Global};
 use std::fmt::Write;
 
@@ -158,8 +160,14 @@ pub(crate) fn add_link_use(
     }
 }
 
-/// Adds by what a path came, where a kept step says so.
-fn add_traced(text: &mut String, unknown: &str, seen: &TracedPath) -> Result<(), AllocError> {
+/// Adds by what a path came and how long ago, where a kept step says so.
+fn add_traced(
+    text: &mut String,
+    now_ms: u64,
+    marks: &[Mark],
+    unknown: &str,
+    seen: &TracedPath,
+) -> Result<(), AllocError> {
     add_part(text, &seen.path)?;
     add_links(text, seen.path.links.as_slice())?;
     match (origin_word(seen.origin), origin_step(seen.origin)) {
@@ -167,9 +175,12 @@ fn add_traced(text: &mut String, unknown: &str, seen: &TracedPath) -> Result<(),
         _ => write!(text, "\t{unknown}\t-\t")?,
     }
     match origin_ticket(seen.origin) {
-        Some(ticket) => writeln!(text, "{ticket}"),
-        None => text.push_str("-\n"),
+        Some(ticket) => write!(text, "{ticket}\t")?,
+        None => text.push_str("-\t")?,
     }
+    let age = age_of(now_ms, marks, origin_step(seen.origin));
+    add_ago(text, age.least_ms)?;
+    text.push('\n')
 }
 
 /// Says of a path that came by none of the steps that were read where it came from: from a step that is rolled away, or
@@ -182,14 +193,19 @@ fn word_of_unknown(seen: &LspOrigins) -> &'static str {
     }
 }
 
-/// Adds a line for each path of an LSP: by which kept step it came.
-pub(crate) fn add_origins(text: &mut String, seen: &Option<LspOrigins>) -> Result<(), AllocError> {
+/// Adds a line for each path of an LSP: by which kept step it came, and how long ago.
+pub(crate) fn add_origins(
+    text: &mut String,
+    now_ms: u64,
+    marks: &[Mark],
+    seen: &Option<LspOrigins>,
+) -> Result<(), AllocError> {
     let Some(seen) = seen else {
         return text.push_str("no such LSP\n");
     };
-    text.push_str("PATH\tLINKS\tBY\tSTEP\tTICKET\n")?;
+    text.push_str("PATH\tLINKS\tBY\tSTEP\tTICKET\tAGO\n")?;
     for path in &seen.paths {
-        add_traced(text, word_of_unknown(seen), path)?;
+        add_traced(text, now_ms, marks, word_of_unknown(seen), path)?;
     }
     Ok(())
 }

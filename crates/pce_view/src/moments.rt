@@ -2,9 +2,9 @@
 ghost use Rattle.std.specs.Prelude.{◌≡◌};
 ghost use Rattle.pce_view.specs.Views.{end_number, ended_at, moments_of};
 
-use server_counts::{EndReason, LastEnd, Visit};
+use server_counts::{EndReason, LastEnd, Presence};
 
-/// What is told of a peer beside its session, as far as it is known.
+/// What is shown of a peer beside its session, as far as it is known.
 #[derive(Clone, Copy)]
 pub(crate) struct Moments {
     /// So long it has been up or down, in milliseconds.
@@ -43,11 +43,11 @@ fn ended_at(now_ms: u64, end: Option<LastEnd>) -> Moments
     }
 }
 
-/// What is told at this moment of a peer of which this is noted.
-pub(crate) fn moments_of(now_ms: u64, visit: Option<Visit>) -> Moments
-    ensures { result ≡ moments_of now_ms visit }
+/// What is shown at this moment of a peer of which this is noted.
+pub(crate) fn moments_of(now_ms: u64, presence: Option<Presence>) -> Moments
+    ensures { result ≡ moments_of now_ms presence }
 {
-    let Some(visit) = visit else {
+    let Some(presence) = presence else {
         return ended_at(now_ms, None);
     };
     let Moments {
@@ -55,9 +55,9 @@ pub(crate) fn moments_of(now_ms: u64, visit: Option<Visit>) -> Moments
         end_ms_ago,
         end,
         number,
-    } = ended_at(now_ms, visit.last_end);
+    } = ended_at(now_ms, presence.last_end);
     Moments {
-        since_ms_ago: Some(now_ms.saturating_sub(visit.since_ms)),
+        since_ms_ago: Some(now_ms.saturating_sub(presence.since_ms)),
         end_ms_ago,
         end,
         number,

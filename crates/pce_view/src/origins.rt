@@ -1,19 +1,28 @@
-//! By which kept steps the paths of an LSP came, as JSON.
+//! By which kept steps the paths of an LSP came, and how long ago, as JSON.
 ghost use Rattle.std.specs.Prelude.{◌≡◌, ◌++◌, Some, IfOk, OnOk};
 ghost use Rattle.json.specs.Tree.{json_tokens};
 ghost use Rattle.json.specs.Json.{array, document};
-ghost use Rattle.pce_view.specs.Views.{origins_json, origins_or_null, traced_items, traced_json};
+ghost use Rattle.pce_view.specs.Views.{age_of, origins_json, origins_or_null, traced_items, traced_json};
+ghost use Rattle.pce_view.specs.Words.{origin_step};
 
+use crate::age::{Age, age_of};
 use crate::closing::closed;
 use crate::fields::{Field, Member, begin_with, put_object};
+use crate::words::origin_step;
 use json::Writer;
 use pce_seen::{LspOrigins, TracedPath};
+use server_counts::Mark;
 use std::alloc::{AllocError, Global};
 
 #[tactic(auto, unfolding(crate::specs::Views::traced_json))]
-fn put_traced(alloc: Global, writer: &mut Writer, seen: &TracedPath) -> Result<(), AllocError>
+fn put_traced(
+    alloc: Global,
+    writer: &mut Writer,
+    seen: &TracedPath,
+    age: Age,
+) -> Result<(), AllocError>
     ensures before { writer.new.before ≡ writer.old.before }
-    ensures written { OnOk result (writer.new.tokens ≡ writer.old.tokens ++ json_tokens (traced_json seen.now)) }
+    ensures written { OnOk result (writer.new.tokens ≡ writer.old.tokens ++ json_tokens (traced_json seen.now age)) }
 {
     put_object(
         alloc,
@@ -43,6 +52,14 @@ fn put_traced(alloc: Global, writer: &mut Writer, seen: &TracedPath) -> Result<(
                 name: "ticket",
                 value: Field::OriginTicket(seen.origin),
             },
+            Member {
+                name: "least_ms_ago",
+                value: Field::WholeOr(age.least_ms),
+            },
+            Member {
+                name: "most_ms_ago",
+                value: Field::WholeOr(age.most_ms),
+            },
         ],
     )
 }
@@ -50,21 +67,30 @@ fn put_traced(alloc: Global, writer: &mut Writer, seen: &TracedPath) -> Result<(
 fn put_each_traced(
     alloc: Global,
     writer: &mut Writer,
+    now_ms: u64,
+    marks: &[Mark],
     paths: &[TracedPath],
 ) -> Result<(), AllocError>
     ensures before { writer.new.before ≡ writer.old.before }
-    ensures written { OnOk result (writer.new.tokens ≡ writer.old.tokens ++ json_tokens (array (traced_items paths.now))) }
+    ensures written { OnOk result (writer.new.tokens ≡ writer.old.tokens ++ json_tokens (array (traced_items now_ms marks.now paths.now))) }
 {
     writer.begin_array()?;
     for seen in paths {
-        put_traced(alloc, writer, seen)?;
+        let age = age_of(now_ms, marks, origin_step(seen.origin));
+        put_traced(alloc, writer, seen, age)?;
     }
     writer.end_array()
 }
 
-fn put_origins(alloc: Global, writer: &mut Writer, seen: &LspOrigins) -> Result<(), AllocError>
+fn put_origins(
+    alloc: Global,
+    writer: &mut Writer,
+    now_ms: u64,
+    marks: &[Mark],
+    seen: &LspOrigins,
+) -> Result<(), AllocError>
     ensures before { writer.new.before ≡ writer.old.before }
-    ensures written { OnOk result (writer.new.tokens ≡ writer.old.tokens ++ json_tokens (origins_json seen.now)) }
+    ensures written { OnOk result (writer.new.tokens ≡ writer.old.tokens ++ json_tokens (origins_json now_ms marks.now seen.now)) }
 {
     begin_with(
         alloc,
@@ -89,7 +115,7 @@ fn put_origins(alloc: Global, writer: &mut Writer, seen: &LspOrigins) -> Result<
         ],
         "paths",
     )?;
-    put_each_traced(alloc, writer, &seen.paths)?;
+    put_each_traced(alloc, writer, now_ms, marks, &seen.paths)?;
     writer.end_object()?;
     Ok(())
 }
@@ -97,22 +123,29 @@ fn put_origins(alloc: Global, writer: &mut Writer, seen: &LspOrigins) -> Result<
 fn put_origins_or(
     alloc: Global,
     writer: &mut Writer,
+    now_ms: u64,
+    marks: &[Mark],
     seen: &Option<LspOrigins>,
 ) -> Result<(), AllocError>
     ensures before { writer.new.before ≡ writer.old.before }
-    ensures written { OnOk result (writer.new.tokens ≡ writer.old.tokens ++ json_tokens (origins_or_null seen.now)) }
+    ensures written { OnOk result (writer.new.tokens ≡ writer.old.tokens ++ json_tokens (origins_or_null now_ms marks.now seen.now)) }
 {
     match seen {
-        Some(seen) => put_origins(alloc, writer, seen),
+        Some(seen) => put_origins(alloc, writer, now_ms, marks, seen),
         None => writer.null(),
     }
 }
 
-/// Writes by which steps the paths of an LSP came as JSON, or `null`.
-pub(crate) fn origins_text(alloc: Global, seen: &Option<LspOrigins>) -> Result<Vec<u8>, AllocError>
-    ensures { IfOk result (λ text. document text.items ≡ Some (origins_or_null seen.now)) }
+/// Writes by which steps the paths of an LSP came, and how long ago, as JSON, or `null`.
+pub(crate) fn origins_text(
+    alloc: Global,
+    now_ms: u64,
+    marks: &[Mark],
+    seen: &Option<LspOrigins>,
+) -> Result<Vec<u8>, AllocError>
+    ensures { IfOk result (λ text. document text.items ≡ Some (origins_or_null now_ms marks.now seen.now)) }
 {
     let mut writer = Writer::new(Vec::new(alloc));
-    put_origins_or(alloc, &mut writer, seen)?;
+    put_origins_or(alloc, &mut writer, now_ms, marks, seen)?;
     Ok(closed(writer))
 }

@@ -9,7 +9,7 @@ use crate::fields::{Field, Member, put_object};
 use crate::moments::{Moments, moments_of};
 use json::Writer;
 use pce_seen::{KnownPeer, LspOwner, SeenPeers};
-use server_counts::{Visit, visit_in};
+use server_counts::{Presence, presence_in};
 use std::alloc::{AllocError, Global};
 
 /// Counts the LSPs of a peer.
@@ -105,16 +105,16 @@ fn put_peer(
     alloc: Global,
     writer: &mut Writer,
     now_ms: u64,
-    visits: &[(u32, Visit)],
+    presences: &[(u32, Presence)],
     owners: &[LspOwner],
     peer: &KnownPeer,
 ) -> Result<(), AllocError>
     ensures before { writer.new.before ≡ writer.old.before }
-    ensures written { OnOk result (writer.new.tokens ≡ writer.old.tokens ++ json_tokens (peer_json now_ms visits.now owners.now peer.now)) }
+    ensures written { OnOk result (writer.new.tokens ≡ writer.old.tokens ++ json_tokens (peer_json now_ms presences.now owners.now peer.now)) }
 {
     let lsps = lsps_of(owners, peer.peer);
     let delegated = delegated_of(owners, peer.peer);
-    let moments = moments_of(now_ms, visit_in(visits, peer.peer));
+    let moments = moments_of(now_ms, presence_in(presences, peer.peer));
     put_counted(alloc, writer, peer, lsps, delegated, moments)
 }
 
@@ -122,16 +122,16 @@ fn put_peers(
     alloc: Global,
     writer: &mut Writer,
     now_ms: u64,
-    visits: &[(u32, Visit)],
+    presences: &[(u32, Presence)],
     owners: &[LspOwner],
     peers: &[KnownPeer],
 ) -> Result<(), AllocError>
     ensures before { writer.new.before ≡ writer.old.before }
-    ensures written { OnOk result (writer.new.tokens ≡ writer.old.tokens ++ json_tokens (array (peer_items now_ms visits.now owners.now peers.now))) }
+    ensures written { OnOk result (writer.new.tokens ≡ writer.old.tokens ++ json_tokens (array (peer_items now_ms presences.now owners.now peers.now))) }
 {
     writer.begin_array()?;
     for peer in peers {
-        put_peer(alloc, writer, now_ms, visits, owners, peer)?;
+        put_peer(alloc, writer, now_ms, presences, owners, peer)?;
     }
     writer.end_array()
 }
@@ -140,15 +140,15 @@ fn put_all(
     alloc: Global,
     writer: &mut Writer,
     now_ms: u64,
-    visits: &[(u32, Visit)],
+    presences: &[(u32, Presence)],
     seen: &SeenPeers,
 ) -> Result<(), AllocError>
     ensures before { writer.new.before ≡ writer.old.before }
-    ensures written { OnOk result (writer.new.tokens ≡ writer.old.tokens ++ json_tokens (peers_json now_ms visits.now seen.now.lsps.items seen.now.peers.items)) }
+    ensures written { OnOk result (writer.new.tokens ≡ writer.old.tokens ++ json_tokens (peers_json now_ms presences.now seen.now.lsps.items seen.now.peers.items)) }
 {
     writer.begin_object()?;
     writer.key("peers")?;
-    put_peers(alloc, writer, now_ms, visits, &seen.lsps, &seen.peers)?;
+    put_peers(alloc, writer, now_ms, presences, &seen.lsps, &seen.peers)?;
     writer.end_object()
 }
 
@@ -156,12 +156,12 @@ fn put_all(
 pub(crate) fn peers_text(
     alloc: Global,
     now_ms: u64,
-    visits: &[(u32, Visit)],
+    presences: &[(u32, Presence)],
     seen: &SeenPeers,
 ) -> Result<Vec<u8>, AllocError>
-    ensures { IfOk result (λ text. document text.items ≡ Some (peers_json now_ms visits.now seen.now.lsps.items seen.now.peers.items)) }
+    ensures { IfOk result (λ text. document text.items ≡ Some (peers_json now_ms presences.now seen.now.lsps.items seen.now.peers.items)) }
 {
     let mut writer = Writer::new(Vec::new(alloc));
-    put_all(alloc, &mut writer, now_ms, visits, seen)?;
+    put_all(alloc, &mut writer, now_ms, presences, seen)?;
     Ok(closed(writer))
 }

@@ -9,7 +9,7 @@ use crate::pieces::{Piece, put_line};
 use server_counts::{Counted, Counters, EndReason, MessageKind};
 use std::alloc::AllocError;
 
-/// The types and values of PCErr that are told apart.
+/// The types and values of PCErr that are counted apart.
 const NUMBERS: [u8; 32] = [
     0, 1, 2, 3, 4, 5, 6, 7, 8, 9, 10, 11, 12, 13, 14, 15, 16, 17, 18, 19, 20, 21, 22, 23, 24, 25,
     26, 27, 28, 29, 30, 31,

@@ -11,7 +11,7 @@ use commit_core::{Purpose, Ticket};
 use path_looks::{FullLink, LinkRoom, PathAnswer};
 use pce_seen::{Book, Counts, KnownPeer, KnownStep, LastSteps, LinkUse, LspOwner, SeenPeers};
 use pcep_word::{Ipv4, Priorities, Priority};
-use server_counts::{Visit, visit_in};
+use server_counts::{Presence, presence_in};
 use std::alloc::AllocError;
 use std::fmt::Write;
 use te_base::{Link, LinkNumber, Node};
@@ -54,7 +54,7 @@ fn yes(flag: bool) -> &'static str {
 }
 
 /// Adds how long ago that was, or a dash.
-fn add_ago(text: &mut String, ms_ago: Option<u64>) -> Result<(), AllocError> {
+pub(crate) fn add_ago(text: &mut String, ms_ago: Option<u64>) -> Result<(), AllocError> {
     match ms_ago {
         Some(ms_ago) => add_duration(text, ms_ago),
         None => text.push('-'),
@@ -77,7 +77,7 @@ fn add_last_end(text: &mut String, moments: Moments) -> Result<(), AllocError> {
 fn add_peer(
     text: &mut String,
     now_ms: u64,
-    visits: &[(u32, Visit)],
+    presences: &[(u32, Presence)],
     owners: &[LspOwner],
     peer: &KnownPeer,
 ) -> Result<(), AllocError> {
@@ -87,7 +87,7 @@ fn add_peer(
     let update = yes(peer.may_update);
     let create = yes(peer.may_create);
     let waiting = peer.waiting_messages;
-    let moments = moments_of(now_ms, visit_in(visits, peer.peer));
+    let moments = moments_of(now_ms, presence_in(presences, peer.peer));
     let lsps = lsps_of(owners, peer.peer);
     let delegated = delegated_of(owners, peer.peer);
     let session = peer.session;
@@ -104,14 +104,14 @@ fn add_peer(
 pub(crate) fn add_peers(
     text: &mut String,
     now_ms: u64,
-    visits: &[(u32, Visit)],
+    presences: &[(u32, Presence)],
     seen: &SeenPeers,
 ) -> Result<(), AllocError> {
     text.push_str(
         "PEER\tSTATE\tSINCE\tSESSION\tSYNCHRONIZING\tUPDATES\tINITIATES\tMESSAGES\tLSPS\tDELEGATED\tLAST END\n",
     )?;
     for peer in &seen.peers {
-        add_peer(text, now_ms, visits, &seen.lsps, peer)?;
+        add_peer(text, now_ms, presences, &seen.lsps, peer)?;
     }
     Ok(())
 }

@@ -14,12 +14,12 @@ use Rattle.pced.specs.declared.serve.ServeFault.{ServeFault}
 use Rattle.pced.specs.declared.serve.ServeFault.TheVariants as serve
 use Rattle.pced.specs.declared.tell.TellFault.{TellFault}
 use Rattle.pced.specs.declared.tell.TellFault.TheVariants as tell
-use Rattle.pced.specs.declared.tell.Told.{Told}
-use Rattle.pced.specs.declared.tell.Told.TheVariants.{AllHeard, SomeRefused}
+use Rattle.pced.specs.declared.tell.LinesEnd.{LinesEnd}
+use Rattle.pced.specs.declared.tell.LinesEnd.TheVariants.{AllHeard, SomeRefused}
 use Rattle.pce_engine.specs.declared.fault.ScriptFault.{ScriptFault}
 use Rattle.pce_engine.specs.declared.fault.ScriptFault.TheVariants.{BadLine, Te, ReadFault, WriteFault, OutOfMemory, HistoryFull}
 
--- want of memory is told as such, wherever it came
+-- want of memory is given as such, wherever it came
 abbrev pub te_status : TeFault → ℕ
 te_status te.OutOfMemory = 5
 te_status fault = 2
@@ -79,13 +79,13 @@ tell_status tell.BrokenOff = 3
 tell_status tell.Device = 3
 tell_status tell.OutOfMemory = 5
 
--- the exit status of lines that were told
-abbrev pub told_status : Told → ℕ
-told_status AllHeard = 0
-told_status SomeRefused = 2
+-- the exit status of lines that were answered
+abbrev pub lines_status : LinesEnd → ℕ
+lines_status AllHeard = 0
+lines_status SomeRefused = 2
 
-abbrev pub ended_tell_status : Result Told TellFault → ℕ
-ended_tell_status (Ok told) = told_status told
+abbrev pub ended_tell_status : Result LinesEnd TellFault → ℕ
+ended_tell_status (Ok end) = lines_status end
 ended_tell_status (Err fault) = tell_status fault
 
 -- the exit status of words that are no command: 0 where they ask for help or the version

@@ -25,8 +25,8 @@ Standard input is a link text (TOML), a line ---, and lines:
                    the link N has these values from now on
   book             what is left of each link at the priorities 0 to 7
   history          the events so far, with their replies
-  roll             the steps so far are let go, and stay counted
-PEER is a number or a dotted address. docs/FORMAT.md tells all of it.";
+  roll             the steps so far are dropped, and stay counted
+PEER is a number or a dotted address. docs/FORMAT.md has all of it.";
 
 /// The lines that are said in words, in short.
 const DECODED_LINES: &str = "\
@@ -52,9 +52,9 @@ Standard input has an operator's lines, each answered on standard output, and so
   without N
                    what stands, as a table; as JSON behind the word json
   end              the end of the run
-PEER is a number or a dotted address. docs/OPERATING.md tells how to run it.";
+PEER is a number or a dotted address. docs/OPERATING.md says how to run it.";
 
-/// What `serve` is told.
+/// The words of `serve`.
 #[derive(Drop)]
 pub struct ServeWords<'a> {
     /// The path of the link text.
@@ -74,7 +74,7 @@ pub struct ServeWords<'a> {
     pub orders: Orders,
 }
 
-/// What `tell` is told.
+/// The words of `tell`.
 #[derive(Drop)]
 pub struct TellWords<'a> {
     /// The path of the server's control socket.
@@ -271,7 +271,7 @@ fn lines_arg<'a>(alloc: Global) -> Arg<'a> {
         .value_name("LINE")
         .num_args(..)
         .action(ArgAction::Append)
-        .help("What is told, a line each; without any, the lines of standard input")
+        .help("The lines, each a word; without any, the lines of standard input")
 }
 
 fn json_arg<'a>(alloc: Global) -> Arg<'a> {
@@ -283,7 +283,7 @@ fn json_arg<'a>(alloc: Global) -> Arg<'a> {
 
 fn tell_command<'a>(alloc: Global) -> Result<Command<'a>, AllocError> {
     Command::new(alloc, "tell")
-        .about("Tells a running server lines, and prints what it answers")
+        .about("Sends lines to a running server, and prints what it answers")
         .arg(json_arg(alloc))?
         .arg(path_arg(alloc))?
         .arg(lines_arg(alloc))

@@ -1,5 +1,5 @@
 //! A stateful path computation element for MPLS-TE. `pced serve` serves routers over TCP, and an operator's lines
-//! on standard input (`pce_server`) and at a control socket; docs/OPERATING.md tells how to run it. `pced tell` speaks to
+//! on standard input (`pce_server`) and at a control socket; docs/OPERATING.md says how to run it. `pced tell` speaks to
 //! such a server (`control_socket`). `pced script` reads a link text, a line
 //! `---` and lines on standard input, and writes what they print: the bytes and the ends of PCEP sessions, the
 //! replies to state reports, the bandwidth book, the history. What a script prints is proved of
@@ -30,7 +30,7 @@ use log::Log;
 use pce_engine::{ScriptFault, run_script};
 use pce_server::ErrorOutput;
 use serve::{ServeFault, serve};
-use status::{failed, refused, serve_status, status, tell_status, told_status};
+use status::{failed, lines_status, refused, serve_status, status, tell_status};
 use std::alloc::Global;
 use std::io;
 use std::net::{Net, TcpListener, TcpStream};
@@ -39,7 +39,7 @@ use std::rt::Runtime;
 use std::sync::Wait;
 use std::thread::Threads;
 use std::time::Duration;
-use tell::{TellFault, Told, tell_all};
+use tell::{LinesEnd, TellFault, tell_all};
 
 /// Help goes to standard output, a refusal of the words to standard error.
 fn refuse<R: Print + Eprint>(rt: &R, error: Error) -> io::Result<u8>
@@ -106,13 +106,13 @@ fn decode_all<R: Runtime<A = Global>>(rt: &R) -> io::Result<u8> {
     Ok(0)
 }
 
-/// How lines were told, likewise.
-fn end_telling<R: Eprint>(rt: &R, outcome: Result<Told, TellFault>) -> io::Result<u8>
+/// How lines were answered, likewise.
+fn end_lines<R: Eprint>(rt: &R, outcome: Result<LinesEnd, TellFault>) -> io::Result<u8>
     ensures status { IfOk result (λ given. given ≡ ended_tell_status outcome) }
     ensures nothing_to_write { IsOk outcome → IsOk result }
 {
     match outcome {
-        Ok(told) => Ok(told_status(told)),
+        Ok(end) => Ok(lines_status(end)),
         Err(fault) => {
             eprintln!(rt; "{fault}")?;
             Ok(tell_status(fault))
@@ -139,7 +139,7 @@ fn run<
         Ok(Task::Decode) => decode_all(rt),
         Ok(Task::Check(file)) => check(rt, file),
         Ok(Task::Serve(words)) => end_serving(rt, serve(rt, files, &words)),
-        Ok(Task::Tell(words)) => end_telling(rt, tell_all(rt, &words)),
+        Ok(Task::Tell(words)) => end_lines(rt, tell_all(rt, &words)),
     }
 }
 

@@ -24,7 +24,7 @@ impl fmt::Display for Stamp {
     }
 }
 
-/// The time it is. `None` where the system doesn't tell.
+/// The time it is. `None` where the system doesn't say.
 fn time_now<R: Clock>(rt: &R) -> Option<Stamp> {
     let time = SystemTime::now(rt).ok()?;
     let passed = time.duration_since(SystemTime::UNIX_EPOCH).ok()?;

@@ -12,7 +12,7 @@ use std::rt::Runtime;
 use std::time::Clock;
 use std::{error, fmt, io};
 
-/// Why lines weren't all told. `Display` gives the text for standard error.
+/// Why lines weren't all answered. `Display` gives the text for standard error.
 #[derive(Clone, Copy, Debug, PartialEq, Eq)]
 pub enum TellFault {
     /// A line break stands in a line.
@@ -40,9 +40,9 @@ impl fmt::Display for TellFault {
 
 impl error::Error for TellFault {}
 
-/// What came of the lines that were told.
+/// What came of the lines that were sent.
 #[derive(Clone, Copy, Debug, PartialEq, Eq)]
-pub enum Told {
+pub enum LinesEnd {
     AllHeard,
     /// A line was bad.
     SomeRefused,
@@ -74,21 +74,21 @@ fn sent(alloc: Global, is_json: bool, line: &str) -> Result<String, AllocError>
 }
 
 /// What came of a line that was heard. One that asked for the end has come to it once the server is gone.
-fn heard<R: Net + Clock>(rt: &R, path: &str, line: &str) -> Result<Told, TellFault> {
+fn heard<R: Net + Clock>(rt: &R, path: &str, line: &str) -> Result<LinesEnd, TellFault> {
     if line == "end" && !await_end(rt, path) {
         return Err(TellFault::BrokenOff);
     }
-    Ok(Told::AllHeard)
+    Ok(LinesEnd::AllHeard)
 }
 
-/// Tells a line, and writes what it is answered.
+/// Sends a line, and writes its answer.
 fn tell_line<R: Net + Clock, O: Write>(
     rt: &R,
     alloc: Global,
     path: &str,
     line: &str,
     writer: &mut O,
-) -> Result<Told, TellFault> {
+) -> Result<LinesEnd, TellFault> {
     let answer = match tell(rt, alloc, path, line) {
         Ok(answer) => answer,
         Err(error) => return Err(tell_fault(error.kind())),
@@ -98,19 +98,19 @@ fn tell_line<R: Net + Clock, O: Write>(
     }
     match outcome_of(line, &answer) {
         Outcome::Answered => heard(rt, path, line),
-        Outcome::Refused => Ok(Told::SomeRefused),
+        Outcome::Refused => Ok(LinesEnd::SomeRefused),
         Outcome::BrokenOff => Err(TellFault::BrokenOff),
     }
 }
 
-/// Tells a line, as the words ask for it.
+/// Sends a line, as the words ask for it.
 fn tell_one<R: Net + Clock, O: Write>(
     rt: &R,
     alloc: Global,
     words: &TellWords<'_>,
     line: &str,
     writer: &mut O,
-) -> Result<Told, TellFault> {
+) -> Result<LinesEnd, TellFault> {
     if !is_line(line) {
         return Err(TellFault::BadArgument);
     }
@@ -121,24 +121,24 @@ fn tell_one<R: Net + Clock, O: Write>(
 }
 
 /// What came of these lines and of one more.
-fn told_too(all: Told, one: Told) -> Told {
+fn worse_end(all: LinesEnd, one: LinesEnd) -> LinesEnd {
     match one {
-        Told::AllHeard => all,
-        Told::SomeRefused => Told::SomeRefused,
+        LinesEnd::AllHeard => all,
+        LinesEnd::SomeRefused => LinesEnd::SomeRefused,
     }
 }
 
-/// Tells the lines of the words, in their order.
+/// Sends the lines of the words, in their order.
 fn tell_words<R: Net + Clock, O: Write>(
     rt: &R,
     alloc: Global,
     words: &TellWords<'_>,
     writer: &mut O,
-) -> Result<Told, TellFault> {
-    let mut all = Told::AllHeard;
+) -> Result<LinesEnd, TellFault> {
+    let mut all = LinesEnd::AllHeard;
     for line in words.lines.iter() {
         let one = tell_one(rt, alloc, words, line, writer)?;
-        all = told_too(all, one);
+        all = worse_end(all, one);
     }
     Ok(all)
 }
@@ -151,28 +151,28 @@ fn input_fault(error: &io::Error) -> TellFault {
     }
 }
 
-/// Tells each line of standard input once it has come, up to its end.
+/// Sends each line of standard input once it has come, up to its end.
 fn tell_input<R: Runtime<A = Global> + Net, O: Write>(
     rt: &R,
     words: &TellWords<'_>,
     writer: &mut O,
-) -> Result<Told, TellFault> {
-    let mut all = Told::AllHeard;
+) -> Result<LinesEnd, TellFault> {
+    let mut all = LinesEnd::AllHeard;
     for line in rt.lines(rt.alloc()) {
         let one = match line {
             Ok(line) => tell_one(rt, rt.alloc(), words, &line, writer)?,
             Err(error) => return Err(input_fault(&error)),
         };
-        all = told_too(all, one);
+        all = worse_end(all, one);
     }
     Ok(all)
 }
 
-/// Tells the lines of the words; where there are none, those of standard input. The first fault ends it.
+/// Sends the lines of the words; where there are none, those of standard input. The first fault ends it.
 pub fn tell_all<R: Runtime<A = Global> + Net>(
     rt: &R,
     words: &TellWords<'_>,
-) -> Result<Told, TellFault> {
+) -> Result<LinesEnd, TellFault> {
     let mut writer = io::writer(rt);
     if words.lines.is_empty() {
         tell_input(rt, words, &mut writer)

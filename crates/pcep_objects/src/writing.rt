@@ -30,7 +30,7 @@ fn kept_kind(class: KeptClass) -> Kind
     }
 }
 
-/// Appends an object whose lengths fit, as `Object::fits` tells. Where memory is lacking, nothing is appended.
+/// Appends an object whose lengths fit, as `Object::fits` says. Where memory is lacking, nothing is appended.
 fn put_fitting(object: &Object, out: &mut Vec<u8>) -> Result<(), AllocError>
     requires { fits object.now ≡ true }
     ensures written { OnOk result (out.new.items ≡ out.old.items ++ written object.now) }

@@ -12,6 +12,6 @@ abbrev pub is_reached : Option ℕ → ℕ → Bool
 is_reached None moment_ms = false
 is_reached (Some due_ms) moment_ms = not (nat_lt moment_ms due_ms)
 
--- Of the moments that a clock tells, a timer is due at this one and at no earlier one; None: at none.
+-- Of the moments that a clock shows, a timer is due at this one and at no earlier one; None: at none.
 abbrev pub IsNextDue : Option ℕ → Contents → Type 0
 IsNextDue next c = (moment_ms : ℕ) → moment_ms < 2 ^ 64 → is_reached next moment_ms ≡ is_due_at moment_ms c

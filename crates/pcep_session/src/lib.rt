@@ -7,7 +7,7 @@
 //! that after `most_turns` turns nothing is left to handle.
 //!
 //! The definitions stand in `specs/`: `Table` has the reaction to what comes, state by state, and the timers;
-//! `Framing` tells a whole message, a bad header and a part of a message apart; `Turns` is `next`, `Timers` says
+//! `Framing` knows a whole message, a bad header and a part of a message apart; `Turns` is `next`, `Timers` says
 //! when a timer is due, `Calls` are the other calls, `Runs` lists of calls, `Cuts` the law of pieces, `Ends` that
 //! the turns end.
 //!

@@ -8,7 +8,7 @@ use crate::contents::Contents;
 use crate::table::State;
 use pcep_objects::Open;
 
-/// When a timer that was set at a moment is due. `None` where no clock tells that moment.
+/// When a timer that was set at a moment is due. `None` where no clock shows that moment.
 fn due_after(set_ms: u64, after_ms: u64) -> Option<u64>
     requires { 0 < after_ms }
     ensures { (moment_ms : ℕ) → moment_ms < 2 ^ 64 → is_reached result moment_ms ≡ is_due after_ms (moment_ms - set_ms) }

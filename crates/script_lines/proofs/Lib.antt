@@ -2,4 +2,4 @@ pub mod Cutting
 pub mod Numbers
 mod Spaces
 mod Taking
-pub mod Telling
+pub mod LineAnswers

@@ -1,4 +1,4 @@
--- What the line `take` tells, for an answer that its search may give.
+-- What the line `take` answers, for an answer that its search may give.
 use Rattle.std.proofs.Common.{◌≡◌, ℕ, Bool, true, false, List, ◌++◌, codes, Option, Result, Ok, Err, sym, ap, subst, ◌∙◌, if◌then◌else◌}
 use Rattle.step_core.specs.Steps.{step}
 use Rattle.step_core.specs.declared.event.Event.{Event}
@@ -9,7 +9,7 @@ use Rattle.history_core.specs.declared.fault.Fault.TheVariants.{HistoryFull}
 use Rattle.script_lines.specs.Submits.{Answer, answer, answer_of, submitted}
 use Rattle.step_core.specs.Searches.{MayAnswerTo}
 use Rattle.script_lines.specs.Takes.{taken_text, take_line}
-use Rattle.script_lines.specs.Told.{told, ◌>>=◌}
+use Rattle.script_lines.specs.LineAnswer.{line_answer, ◌>>=◌}
 use Rattle.script_lines.specs.declared.fault.CommandFault.{CommandFault}
 
 reply_at : (full : Bool) (reply : Reply) (after : Content) (a : Answer) → answer_of (if full then Err HistoryFull else Ok (reply, after)) ≡ Ok a → a.reply ≡ reply
@@ -22,10 +22,10 @@ unfolding submitted
 reply_of d event a h = reply_at (is_full d) (step d.state event).reply (stepped d event (step d.state event).reply) a h
 
 pub taken : (d new : Content) (reply : Reply) (found : Option (List ℕ)) (text : List ℕ) → submitted d event.Take ≡ Ok (answer reply new) → MayAnswerTo reply found → text ≡ taken_text found reply ++ codes "\n"
-    → (x : Option (List ℕ)) × MayAnswerTo (step d.state event.Take).reply x × (take_line x d ≡ Ok (told text new))
+    → (x : Option (List ℕ)) × MayAnswerTo (step d.state event.Take).reply x × (take_line x d ≡ Ok (line_answer text new))
 unfolding take_line
 taken d new reply found text e may is = (
   found,
   subst (λ (r : Reply). MayAnswerTo r found) (reply_of d event.Take (answer reply new) e) may,
-  ap (λ (r : Result Answer CommandFault). r >>= λ given. Ok (told (taken_text found given.reply ++ codes "\n") given.after)) e ∙ ap (λ (t : List ℕ). Ok (told t new)) (sym is),
+  ap (λ (r : Result Answer CommandFault). r >>= λ given. Ok (line_answer (taken_text found given.reply ++ codes "\n") given.after)) e ∙ ap (λ (t : List ℕ). Ok (line_answer t new)) (sym is),
 )

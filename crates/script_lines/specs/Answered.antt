@@ -16,7 +16,7 @@ use Rattle.script_lines.specs.declared.fault.CommandFault.TheVariants.{BadLine, 
 abbrev pub Replied : {S : Type 0} → (S → List Call → S → Type 0) → Event → List ℕ → S → S → Type 0
 Replied moves event text old new = (reply : Reply) × moves old (called event reply ∷ []) new × (text ≡ reply_text reply)
 
--- the history was rolled, and this tells how many steps were taken before its base
+-- the history was rolled, and this says how many steps were taken before its base
 abbrev pub Rolled : {S : Type 0} → (S → ℕ → S → Type 0) → List ℕ → S → S → Type 0
 Rolled rolls text old new = (steps : ℕ) × rolls old steps new × (text ≡ rolled_text steps)
 
@@ -36,7 +36,7 @@ abbrev pub AnswersRoll : {X S : Type 0} → (X → List ℕ) → (S → List Cal
 AnswersRoll view moves rolls (Ok text) old new = Rolled rolls (view text) old new
 AnswersRoll view moves rolls (Err fault) old new = moves old [] new × (fault ≡ Store OutOfMemory)
 
--- what a line asks for is done, once, and told; a bad line leaves the store alone
+-- what a line asks for is done, once, and answered; a bad line leaves the store alone
 abbrev pub Answers : {X S : Type 0} → (X → List ℕ) → (S → List Call → S → Type 0) → (S → ℕ → S → Type 0) → (S → Type 0) → Option Command → Result X CommandFault → S → S → Type 0
 Answers view moves rolls is_full None result old new = (result ≡ Err BadLine) × (new ≡ old)
 Answers view moves rolls is_full (Some Roll) result old new = AnswersRoll view moves rolls result old new

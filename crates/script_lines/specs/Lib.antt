@@ -4,7 +4,7 @@ pub mod Orders
 pub mod Texts
 pub mod Book
 pub mod Lines
-pub mod Told
+pub mod LineAnswer
 pub mod Submits
 pub mod Takes
 pub mod Rolls

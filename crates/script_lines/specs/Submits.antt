@@ -9,7 +9,7 @@ use Rattle.step_core.specs.declared.event.Event.{Event}
 use Rattle.step_core.specs.declared.event.Event.TheVariants as event
 use Rattle.step_core.specs.declared.event.Reply.{Reply}
 use Rattle.script_lines.specs.Texts.{reply_text}
-use Rattle.script_lines.specs.Told.{Told, told, ◌>>=◌, each}
+use Rattle.script_lines.specs.LineAnswer.{LineAnswer, line_answer, ◌>>=◌, each}
 use Rattle.script_lines.specs.declared.fault.CommandFault.{CommandFault}
 use Rattle.script_lines.specs.declared.fault.CommandFault.TheVariants.{Store}
 
@@ -48,17 +48,17 @@ abbrev pub reply_line : Reply → List ℕ
 reply_line reply = reply_text reply ++ codes "\n"
 
 -- an event, with its reply on a line
-unfoldable pub event_line : Event → Content → Result (Told Content) CommandFault
+unfoldable pub event_line : Event → Content → Result (LineAnswer Content) CommandFault
 event_line event d = do
   given ← submitted d event
-  Ok (told (reply_line given.reply) given.after)
+  Ok (line_answer (reply_line given.reply) given.after)
 
 -- each report in turn
-abbrev pub reports_told : ℕ → List StateReport → Content → Result (Told Content) CommandFault
-reports_told peer reports d = each (λ report. event_line (event.Report peer report)) reports d
+abbrev pub reports_answer : ℕ → List StateReport → Content → Result (LineAnswer Content) CommandFault
+reports_answer peer reports d = each (λ report. event_line (event.Report peer report)) reports d
 
 -- `report PEER HEX`: what it prints, and the database after it
-unfoldable pub report_line : Content → ℕ → List StateReport → Result (Told Content) CommandFault
+unfoldable pub report_line : Content → ℕ → List StateReport → Result (LineAnswer Content) CommandFault
 report_line d peer reports = do
   up ← up_at_least d peer
-  reports_told peer reports up
+  reports_answer peer reports up

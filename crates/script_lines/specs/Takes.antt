@@ -9,7 +9,7 @@ use Rattle.history_core.specs.Histories.{Content}
 use Rattle.step_core.specs.Searches.{MayAnswerTo}
 use Rattle.script_lines.specs.Texts.{reply_text, job_text, answer_text}
 use Rattle.script_lines.specs.Submits.{submitted}
-use Rattle.script_lines.specs.Told.{Told, told, ◌>>=◌, Fails}
+use Rattle.script_lines.specs.LineAnswer.{LineAnswer, line_answer, ◌>>=◌, Fails}
 use Rattle.script_lines.specs.declared.fault.CommandFault.{CommandFault}
 
 -- what a job's line says, where its search answers this
@@ -22,12 +22,12 @@ taken_text answer (reply.Job job) = job_line job answer
 taken_text answer reply = reply_text reply
 
 -- `take`, where the search answers this
-unfoldable pub take_line : Option (List ℕ) → Content → Result (Told Content) CommandFault
+unfoldable pub take_line : Option (List ℕ) → Content → Result (LineAnswer Content) CommandFault
 take_line answer d = do
   given ← submitted d event.Take
-  Ok (told (taken_text answer given.reply ++ codes "\n") given.after)
+  Ok (line_answer (taken_text answer given.reply ++ codes "\n") given.after)
 
 -- some answer that the search may give leads there; a fault comes before the search
-abbrev pub TellsTaken : {X : Type 0} → (X → List ℕ) → Result X CommandFault → Content → Content → Type 0
-TellsTaken view (Ok x) old new = (answer : Option (List ℕ)) × MayAnswerTo (step old.state event.Take).reply answer × (take_line answer old ≡ Ok (told (view x) new))
-TellsTaken view (Err fault) old new = Fails fault (take_line None old)
+abbrev pub AnswersTaken : {X : Type 0} → (X → List ℕ) → Result X CommandFault → Content → Content → Type 0
+AnswersTaken view (Ok x) old new = (answer : Option (List ℕ)) × MayAnswerTo (step old.state event.Take).reply answer × (take_line answer old ≡ Ok (line_answer (view x) new))
+AnswersTaken view (Err fault) old new = Fails fault (take_line None old)

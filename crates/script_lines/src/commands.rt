@@ -31,7 +31,7 @@ fn put_rolled(text: &mut String, steps: u64)
     prove!(added.is_ok());
 }
 
-/// Submits an event, and gives the text of its reply. After a fault of the store, which tells want of memory too, it is
+/// Submits an event, and gives the text of its reply. After a fault of the store, want of memory among them, it is
 /// as before.
 pub fn answer_event<S: Store>(
     alloc: Global,
@@ -58,7 +58,7 @@ fn answer_roll<S: Store>(alloc: Global, store: &mut S) -> Result<String, Command
 
 /// Does what an operator's line asks for (docs/FORMAT.md: `expire`, `initiate`, `update`, `return`, `delete`, `commit`
 /// with their words, and `roll`), and gives the text of its reply. A bad line leaves the store alone. After a fault of
-/// the store, which tells want of memory too, it is as before.
+/// the store, want of memory among them, it is as before.
 #[tactic(auto, unfolding(crate::specs::Commands::command_in))]
 pub fn command<S: Store>(alloc: Global, line: &str, store: &mut S) -> Result<String, CommandFault>
     ensures { Answers string_bytes S.moves S.rolls S.is_full (command_in line.now) result store.old store.new }

@@ -2,7 +2,7 @@
 
 ghost use Rattle.std.specs.Prelude.{◌≡◌, ◌++◌, IfOk, codes, string_bytes};
 ghost use Rattle.script_lines.specs.Rolls.{roll_line, rolled_text};
-ghost use Rattle.script_lines.specs.Told.{Tells};
+ghost use Rattle.script_lines.specs.LineAnswer.{AnswersLine};
 
 use crate::fault::CommandFault;
 use history_core::Database;
@@ -17,11 +17,11 @@ fn rolled_line(alloc: Global, steps: u64) -> Result<String, AllocError>
     Ok(text)
 }
 
-/// Rolls the history, and tells how many steps were taken before its base. Where memory is refused nothing has
+/// Rolls the history, and says how many steps were taken before its base. Where memory is refused nothing has
 /// changed.
 #[tactic(auto, unfolding(crate::specs::Rolls::roll_line))]
 pub fn roll_line(alloc: Global, database: &mut Database) -> Result<String, CommandFault>
-    ensures { Tells string_bytes result (roll_line database.old) database.new }
+    ensures { AnswersLine string_bytes result (roll_line database.old) database.new }
 {
     let text = rolled_line(alloc, database.steps())?;
     database.roll()?;

@@ -1,8 +1,8 @@
 //! The events of a line.
 
 ghost use Rattle.std.specs.Prelude.{◌≡◌, ◌++◌, List, ℕ, OnOk, string_bytes};
-ghost use Rattle.script_lines.specs.Submits.{answer, submitted, came_up, up_at_least, reply_line, event_line, reports_told, report_line};
-ghost use Rattle.script_lines.specs.Told.{told, behind, Gives, Tells, Leaves};
+ghost use Rattle.script_lines.specs.Submits.{answer, submitted, came_up, up_at_least, reply_line, event_line, reports_answer, report_line};
+ghost use Rattle.script_lines.specs.LineAnswer.{line_answer, behind, Gives, AnswersLine, Leaves};
 
 use crate::fault::CommandFault;
 use crate::texts::add_reply;
@@ -54,7 +54,7 @@ fn add_reply_line(text: &mut String, reply: &Reply) -> Result<(), AllocError>
 /// Submits an event, and adds its reply on a line.
 #[tactic(auto, unfolding(crate::specs::Submits::event_line))]
 fn add_event(database: &mut Database, event: Event, text: &mut String) -> Result<(), CommandFault>
-    ensures { Leaves result (behind (string_bytes text.old) (event_line event database.old)) (told (string_bytes text.new) database.new) }
+    ensures { Leaves result (behind (string_bytes text.old) (event_line event database.old)) (line_answer (string_bytes text.new) database.new) }
 {
     let reply = submit(database, event)?;
     add_reply_line(text, &reply)?;
@@ -67,7 +67,7 @@ fn report_each(
     text: &mut String,
     reports: Vec<StateReport>,
 ) -> Result<(), CommandFault>
-    ensures { Leaves result (behind (string_bytes text.old) (reports_told peer reports.items database.old)) (told (string_bytes text.new) database.new) }
+    ensures { Leaves result (behind (string_bytes text.old) (reports_answer peer reports.items database.old)) (line_answer (string_bytes text.new) database.new) }
 {
     for report in reports {
         add_event(database, Event::Report { peer, report }, text)?;
@@ -76,14 +76,14 @@ fn report_each(
 }
 
 /// Submits the reports of a peer, which comes up first where it isn't, and gives their replies.
-#[tactic(auto, unfolding(crate::specs::Submits::report_line), using(crate::proofs::Telling::behind_nothing))]
+#[tactic(auto, unfolding(crate::specs::Submits::report_line), using(crate::proofs::LineAnswers::behind_nothing))]
 pub fn report_line(
     alloc: Global,
     database: &mut Database,
     peer: u32,
     reports: Sequence<StateReport>,
 ) -> Result<String, CommandFault>
-    ensures { Tells string_bytes result (report_line database.old peer reports) database.new }
+    ensures { AnswersLine string_bytes result (report_line database.old peer reports) database.new }
 {
     come_up_first(database, peer)?;
     let mut text = String::new(alloc);
@@ -92,13 +92,13 @@ pub fn report_line(
 }
 
 /// Submits an event, and gives its reply on a line.
-#[tactic(auto, using(crate::proofs::Telling::behind_nothing))]
+#[tactic(auto, using(crate::proofs::LineAnswers::behind_nothing))]
 pub fn event_line(
     alloc: Global,
     database: &mut Database,
     event: Event,
 ) -> Result<String, CommandFault>
-    ensures { Tells string_bytes result (event_line event database.old) database.new }
+    ensures { AnswersLine string_bytes result (event_line event database.old) database.new }
 {
     let mut text = String::new(alloc);
     add_event(database, event, &mut text)?;

@@ -2,7 +2,7 @@
 
 ghost use Rattle.std.specs.Prelude.{◌≡◌, ◌++◌, List, ℕ, Option, OnOk, codes, string_bytes};
 ghost use Rattle.step_core.specs.Searches.{MayAnswer, MayAnswerTo};
-ghost use Rattle.script_lines.specs.Takes.{job_line, taken_text, TellsTaken};
+ghost use Rattle.script_lines.specs.Takes.{job_line, taken_text, AnswersTaken};
 
 use crate::fault::CommandFault;
 use crate::submits::submit;
@@ -36,7 +36,7 @@ fn add_taken(alloc: Global, text: &mut String, reply: &Reply) -> Result<(), Allo
 /// Takes the ticket of the least number that waits, searches for its path, and gives the answer on a line.
 #[tactic(auto, unfolding(crate::specs::Takes::take_line))]
 pub fn take_line(alloc: Global, database: &mut Database) -> Result<String, CommandFault>
-    ensures { TellsTaken string_bytes result database.old database.new }
+    ensures { AnswersTaken string_bytes result database.old database.new }
 {
     let reply = submit(database, Event::Take)?;
     let mut text = String::new(alloc);

@@ -3,18 +3,18 @@ use Rattle.std.specs.Prelude.{ℕ, ◌≡◌, ◌⊎◌, true, List, [], ◌∷�
 use Rattle.std.specs.Borrow.{MutBor}
 use Rattle.history_core.specs.Histories.{Content, Replays, is_full}
 use Rattle.history_seats.specs.Receipts.{SeatContent, tidy}
-use Rattle.shared_pce.specs.Turns.{Told}
+use Rattle.shared_pce.specs.Turns.{Received}
 use Rattle.engine_core.specs.declared.store.Call.{Call}
 
 -- each call is a step under the lock, of which the seat has the receipt
-abbrev pub Tells : SeatContent → List Call → SeatContent → Type 0
-Tells s [] t = t ≡ s
-Tells s (call ∷ calls) t = (mid : SeatContent) × Told s call.event mid call.reply × Tells mid calls t
+abbrev pub Receives : SeatContent → List Call → SeatContent → Type 0
+Receives s [] t = t ≡ s
+Receives s (call ∷ calls) t = (mid : SeatContent) × Received s call.event mid call.reply × Receives mid calls t
 
--- the lent seat was told these calls, and they are added to the list
+-- the lent seat received these calls, and they are added to the list
 pub record SeatedMoves (old : MutBor SeatContent) (listed : List Call) (made : List Call) (new : MutBor SeatContent) (list : List Call) : Type 0 where
   pub same_loan : new.ghost_name ≡ old.ghost_name
-  pub told : Tells old.now made new.now
+  pub received : Receives old.now made new.now
   pub added : list ≡ listed ++ made
 
 -- the history was rolled, and `steps` steps were taken before its base. The seat and the list stay as they were

@@ -1,6 +1,7 @@
 pub mod Places
 pub mod Counts
-pub mod Visits
+pub mod Presences
 pub mod Times
 pub mod Streams
 pub mod Waits
+pub mod Marks

@@ -10,7 +10,7 @@ use Rattle.server_counts.specs.declared.stream.MessageStream.TheVariants.{Start,
 use Rattle.server_counts.specs.declared.stream.Way.{Way}
 use Rattle.server_counts.specs.declared.stream.Way.TheVariants.{In, Out}
 
--- the types of messages that are told apart
+-- the types of messages that are counted apart
 abbrev pub kind_of_type : ℕ → MessageKind
 kind_of_type number =
     if number == 1 then message.Open

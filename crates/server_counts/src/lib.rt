@@ -4,8 +4,9 @@
 //! - `kinds`: what there is to count
 //! - `counters`: the table
 //! - `histogram`: times, by how long they were
+//! - `marks`: how many steps there were at which moments
 //! - `stream`: messages counted in a stream of bytes
-//! - `visits`: since when each peer is up or down, and how its last connection ended
+//! - `presences`: since when each peer is up or down, and how its last connection ended
 //! - `waits`: when paths were asked for, and when their tickets were settled
 //!
 //! ```
@@ -18,13 +19,15 @@
 mod counters;
 mod histogram;
 mod kinds;
+mod marks;
+mod presences;
 mod stream;
-mod visits;
 mod waits;
 
 pub use counters::{Counters, Timed};
 pub use histogram::{BOUNDS_US, Histogram};
 pub use kinds::{Counted, EndReason, MessageKind, ReplyKind};
+pub use marks::{Mark, Marks, mark_before, mark_behind};
+pub use presences::{LastEnd, Presence, Presences, presence_in};
 pub use stream::{MessageStream, Way};
-pub use visits::{LastEnd, Visit, Visits, visit_in};
 pub use waits::{Moment, Waits};

@@ -2,7 +2,7 @@
 ghost use Rattle.std.specs.Prelude.{◌≡◌};
 ghost use Rattle.server_counts.specs.Waits.{asked, moment_of, nothing_asked, settled, wait_before, wait_behind};
 
-/// The number of tickets that are told apart at once.
+/// The number of tickets that are counted apart at once.
 const SLOTS: usize = 1024;
 
 /// What is known of a ticket, with a moment in microseconds.

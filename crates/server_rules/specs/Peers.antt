@@ -54,8 +54,8 @@ abbrev pub known_in : Expiry → ℕ → Known
 known_in expiry peer = unwrap_or (get nat_eq expiry.peers peer) nothing
 
 -- the table has of each peer what is known from all that happened
-abbrev pub Tells : Expiry → List (ℕ × Happening) → Type 0
-Tells expiry past = (peer : ℕ) → known_in expiry peer ≡ known_from past peer
+abbrev pub Knows : Expiry → List (ℕ × Happening) → Type 0
+Knows expiry past = (peer : ℕ) → known_in expiry peer ≡ known_from past peer
 
 -- the table has of each peer what it had
 abbrev pub IsSame : Expiry → Expiry → Type 0
@@ -65,11 +65,11 @@ IsSame old new = (peer : ℕ) → known_in new peer ≡ known_in old peer
 abbrev pub Notes : Expiry → Expiry → ℕ → Happening → Type 0
 Notes old new peer what = (other : ℕ) → known_in new other ≡ (if nat_eq peer other then after what (known_in old other) else known_in old other)
 
--- the table told all that happened, and tells this besides
+-- the table knew all that happened, and knows this besides
 abbrev pub Adds : Expiry → Expiry → ℕ → Happening → Type 0
-Adds old new peer what = (past : List (ℕ × Happening)) → Tells old past → Tells new ((peer, what) ∷ past)
+Adds old new peer what = (past : List (ℕ × Happening)) → Knows old past → Knows new ((peer, what) ∷ past)
 
--- what is told to be due is; where nothing is told, nothing is due of any peer
+-- what is said to be due is; where nothing is said, nothing is due of any peer
 abbrev pub IsDue : List (ℕ × Happening) → ℕ → ℕ → Option Due → Type 0
 IsDue past now_ms keep_ms (Some due) = owing now_ms keep_ms (known_from past due.peer) ≡ Some due.what
 IsDue past now_ms keep_ms None = (peer : ℕ) → owing now_ms keep_ms (known_from past peer) ≡ None

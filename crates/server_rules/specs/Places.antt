@@ -32,7 +32,7 @@ IsEnded taken at = IsFirstBest (outweighs taken) taken (length taken) at × ((c 
 abbrev pub AllUp : List Taken → Type 0
 AllUp taken = (k : ℕ) (c : Taken) → slice_get taken k ≡ Some c → c.is_up ≡ true
 
--- an address of which a session is up has one connection more at most, which is told so
+-- an address of which a session is up has one connection more at most, which is answered so
 abbrev pub IsOneTooMany : List Taken → ℕ → Type 0
 IsOneTooMany taken address = IsTrue (up_of taken address) × (2 ≤ of_address taken address)
 

@@ -1,6 +1,6 @@
 //! When a router is forgotten, and which Down is still to be submitted.
 ghost use Rattle.std.specs.Prelude.{◌≡◌, ℕ, List, [], ◌∷◌, Option, None, Some, IsTrue, OnOk, OnErr, ◌+◌, IfSome, IfNone};
-ghost use Rattle.server_rules.specs.Peers.{needs_no_room, Notes, IsSame, Adds, Tells, IsDue};
+ghost use Rattle.server_rules.specs.Peers.{needs_no_room, Notes, IsSame, Adds, Knows, IsDue};
 ghost use Rattle.server_rules.specs.declared.known.Happening.{Happening};
 ghost use Rattle.server_rules.specs.declared.known.Happening.TheVariants.{Connected, Up, Down, Owed, Submitted, Gone, Forgotten};
 
@@ -23,7 +23,7 @@ pub struct Expiry {
 
 impl Expiry {
     pub fn new(alloc: Global) -> Expiry
-        ensures { Tells result [] }
+        ensures { Knows result [] }
     {
         Expiry {
             peers: IndexMap::new(alloc),
@@ -100,7 +100,7 @@ impl Expiry {
 
     /// What is due of a peer at this moment, where peers are kept for this time after their last Down.
     pub fn due(&self, now_ms: u64, keep_ms: u64) -> Option<Due>
-        ensures { (past : List (ℕ × Happening)) → Tells self.now past → IsDue past now_ms keep_ms result }
+        ensures { (past : List (ℕ × Happening)) → Knows self.now past → IsDue past now_ms keep_ms result }
     {
         for at in 0..self.peers.len() {
             if let Some((peer, known)) = self.peers.get_index(at) {

@@ -39,7 +39,7 @@ impl LineRate {
         }
     }
 
-    /// A line is written at this moment, and tells how many were withheld.
+    /// A line is written at this moment, and says how many were withheld.
     fn say(&mut self, now_ms: u64) -> u64
         ensures said { self.new ≡ said self.old now_ms }
         ensures withheld { result ≡ self.old.withheld }
@@ -52,7 +52,7 @@ impl LineRate {
         withheld
     }
 
-    /// Asks for a line at this moment: it is to be written, and tells how many were withheld before it; or it is
+    /// Asks for a line at this moment: it is to be written, and says how many were withheld before it; or it is
     /// withheld itself (`None`).
     pub fn offer(&mut self, now_ms: u64) -> Option<u64>
         ensures said { may_say self.old now_ms ≡ true → (result ≡ Some self.old.withheld) × (self.new ≡ said self.old now_ms) }
@@ -65,7 +65,7 @@ impl LineRate {
         None
     }
 
-    /// How many were withheld, where that is to be told now though no line comes.
+    /// How many were withheld, where that is to be said now though no line comes.
     pub fn rest(&mut self, now_ms: u64) -> Option<u64>
         ensures said { 0 < self.old.withheld → may_say self.old now_ms ≡ true → (result ≡ Some self.old.withheld) × (self.new ≡ said self.old now_ms) }
         ensures none { self.old.withheld ≡ 0 → (result ≡ None) × (self.new ≡ self.old) }

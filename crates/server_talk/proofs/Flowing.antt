@@ -8,7 +8,7 @@ use Rattle.std.specs.Io.KnownBytes.{Appends, Keeps}
 use Rattle.history_core.specs.declared.fault.Fault.{Fault}
 use Rattle.server_talk.specs.declared.talk.Ended.{Ended}
 use Rattle.server_talk.specs.declared.talk.Ended.TheVariants.{PeerClosed, SessionEnded, ReadFault, WriteFault, StoreFault}
-use Rattle.server_talk.specs.Visits.{TakesSome, Takes, TakesPart, GoesOut}
+use Rattle.server_talk.specs.Connections.{TakesSome, Takes, TakesPart, GoesOut}
 
 pub appends_none : (a : Option (List ℕ)) → Appends a a []
 appends_none None = tt
@@ -52,7 +52,7 @@ goes_out_behind (Some (StoreFault fault)) a b c x y h k = some_behind a b c x y 
 pub all_are_some : (a b : Option (List ℕ)) (x : List ℕ) → Appends a b x → TakesSome a b x
 all_are_some a b x h = (length x, subst (λ (bytes : List ℕ). Appends a b bytes) (sym (take-length x)) h)
 
--- whatever the end, a fault of the store may be told in its place
+-- whatever the end, a fault of the store may be given in its place
 pub out_at_fault : (end : Option Ended) (a b : Option (List ℕ)) (x : List ℕ) (fault : Fault) → GoesOut end a b x → GoesOut (Some (StoreFault fault)) a b x
 out_at_fault None a b x fault h = all_are_some a b x h
 out_at_fault (Some PeerClosed) a b x fault h = all_are_some a b x h
@@ -108,7 +108,7 @@ pub first_goes_out : (r second : Bool) (a b c : Option (List ℕ)) (x y : List �
 first_goes_out true second a b c x y is h k = takes_behind second a b c x y h k
 first_goes_out false second a b c x y is h k = cc
 
--- what was taken stays, whatever is told then
+-- what was taken stays, whatever is given then
 pub takes_kept : (r : Bool) (a b c : Option (List ℕ)) (x : List ℕ) → Appends a b x → Keeps b c → Takes r a c x
 takes_kept true a b c x h k = appends_kept a b c x h k
 takes_kept false a b c x h k = all_are_some a c x (appends_kept a b c x h k)

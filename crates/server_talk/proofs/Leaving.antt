@@ -1,4 +1,4 @@
--- The end of a visit: what hanging up does.
+-- The end of a connection: what hanging up does.
 use Rattle.std.proofs.Common.{◌≡◌, inl, inr, ℕ, Bool, true, false, if◌then◌else◌, List, [], ◌∷◌, ◌++◌, None, refl, ap, subst}
 use Rattle.step_core.specs.declared.event.Event.TheVariants.{Down}
 use Rattle.engine_core.specs.Calls.{called}
@@ -7,7 +7,7 @@ use Rattle.engine_core.specs.Joining.{joined_by, joined_after}
 use Rattle.engine_core.specs.Plans.{Plan, Returns, Reaches, LeadsTo, submitting}
 use Rattle.engine_core.specs.declared.client.Client.{Client}
 use Rattle.engine_core.specs.declared.store.Call.{Call}
-use Rattle.server_talk.specs.Visits.{IsDown}
+use Rattle.server_talk.specs.Connections.{IsDown}
 
 pub joined_on : (joined : Bool) (first second : List Call) → joined_after joined (first ++ second) ≡ joined_after (joined_after joined first) second
 joined_on joined [] second = refl

@@ -1,6 +1,6 @@
 pub mod Going
 pub mod Flowing
 pub mod Leaving
-pub mod Visiting
+pub mod Connecting
 pub mod Requesting
 pub mod Operating

@@ -10,7 +10,7 @@ use Rattle.history_core.specs.declared.fault.Fault.TheVariants.{OutOfMemory, His
 use Rattle.te_base.specs.Values.{Values}
 use Rattle.step_core.specs.declared.event.Event.{Event}
 use Rattle.step_core.specs.declared.event.Event.TheVariants as event
-use Rattle.step_core.specs.declared.reload.LinkReload.{LinkReload}
+use Rattle.link_reload.specs.declared.entry.LinkReload.{LinkReload}
 use Rattle.engine_core.specs.Calls.{called}
 use Rattle.engine_core.specs.declared.store.Call.{Call}
 use Rattle.script_lines.specs.Answered.{Replied, NotTaken}
@@ -30,14 +30,14 @@ use Rattle.server_talk.specs.declared.requests.Request.{Request}
 use Rattle.server_talk.specs.declared.requests.Request.TheVariants.{Book, Check, End, Reload, Submit, View}
 use Rattle.server_talk.specs.Goings.{Goes}
 use Rattle.server_talk.specs.Goings.Goes.{Stays, Moves, Empties, Rolls}
-use Rattle.server_talk.specs.Listening.{said_of, Comes, Answered, Answers, Told, TakesLine, IsKept, SoFar, StopsAt, Stopped, HearsOn, Turns}
+use Rattle.server_talk.specs.Listening.{said_of, Comes, Answered, Answers, AnswersLines, TakesLine, IsKept, SoFar, StopsAt, Stopped, HearsOn, Turns}
 use Rattle.server_talk.specs.Operators.{bad_line, unread_line, number_behind, AreOperators, IsAnswered, Listens, is_out, FailsAs, IsOver, Operated}
 use Rattle.server_talk.specs.Operators.IsAnswered.{Obeyed, Shown, Reloaded, Unread, Checked, Viewed, Refused, Starved, StillFull}
 use Rattle.server_talk.specs.Operators.Listens.{Begins, Hears, Waits}
 use Rattle.server_talk.specs.Servers.{Server}
 use Rattle.server_talk.specs.ReloadChecks.{check_text}
 use Rattle.server_talk.specs.Requests.{asks_reading, asks_step, is_operators, request_of}
-use Rattle.server_talk.specs.Visits.{Takes}
+use Rattle.server_talk.specs.Connections.{Takes}
 use Rattle.server_talk.proofs.Flowing.{appends_none, takes_behind}
 use Rattle.server_talk.proofs.Requesting.{operators_alone}
 
@@ -100,8 +100,8 @@ module _ {S : Type 0} (server : Server S) where
   abbrev Answering : Result Answer CommandFault → S → List (List ℕ) → List ℕ → List ℕ → S → Type 0
   Answering r start lines said line now = Answers server r start lines said line now
 
-  abbrev Tells : S → List (List ℕ) → Option (List ℕ) → Bool → S → Option (List ℕ) → Type 0
-  Tells start lines blank goes_out now written = Told server start lines blank goes_out now written
+  abbrev AnswersThem : S → List (List ℕ) → Option (List ℕ) → Bool → S → Option (List ℕ) → Type 0
+  AnswersThem start lines blank goes_out now written = AnswersLines server start lines blank goes_out now written
 
   abbrev Line : Option OperatorEnd → S → List (List ℕ) → Option (List ℕ) → List ℕ → S → Option (List ℕ) → Type 0
   Line end start lines blank line now written = TakesLine server end start lines blank line now written
@@ -161,17 +161,17 @@ module _ {S : Type 0} (server : Server S) where
   -- by the calls of all lines the store goes on
   pub listens_goes : (start now : S) (lines : List (List ℕ)) (calls : List Call) (said : List ℕ) → Heard start lines calls said now → Goings start calls now
   listens_goes start now lines calls said Begins = Stays
-  listens_goes start now lines calls said (Hears before first made told text line a b h answer) =
-      goes_behind start a b first made (listens_goes start a before first told h) (answer_goes (number_behind before) line a b made text answer)
-  listens_goes start now lines calls said (Waits before first told a b h way) =
-      subst (λ (all : List Call). Goings start all b) (append-nil first) (goes_behind start a b first [] (listens_goes start a before first told h) way)
+  listens_goes start now lines calls said (Hears before first made answers text line a b h answer) =
+      goes_behind start a b first made (listens_goes start a before first answers h) (answer_goes (number_behind before) line a b made text answer)
+  listens_goes start now lines calls said (Waits before first answers a b h way) =
+      subst (λ (all : List Call). Goings start all b) (append-nil first) (goes_behind start a b first [] (listens_goes start a before first answers h) way)
 
   -- and each is an operator's event
   pub listens_operators : (start now : S) (lines : List (List ℕ)) (calls : List Call) (said : List ℕ) → Heard start lines calls said now → AreOperators calls
   listens_operators start now lines calls said Begins = All-nil IsOperators
-  listens_operators start now lines calls said (Hears before first made told text line a b h answer) =
-      All-append IsOperators first made (listens_operators start a before first told h) (answer_operators (number_behind before) line a b made text answer)
-  listens_operators start now lines calls said (Waits before first told a b h way) = listens_operators start a before first told h
+  listens_operators start now lines calls said (Hears before first made answers text line a b h answer) =
+      All-append IsOperators first made (listens_operators start a before first answers h) (answer_operators (number_behind before) line a b made text answer)
+  listens_operators start now lines calls said (Waits before first answers a b h way) = listens_operators start a before first answers h
 
   -- ---- what a line comes to
 
@@ -257,7 +257,7 @@ module _ {S : Type 0} (server : Server S) where
 
   -- the line was answered, and that was written
   pub said_of_line : (r : Result Answer CommandFault) (goes_out : Bool) (start now : S) (lines : List (List ℕ)) (blank old new : Option (List ℕ)) (said line : List ℕ) → r ≢ Ok answers.End → Answering r start lines said line now → Takes true blank old said
-      → Takes goes_out old new (said_of (number_behind lines) r) → Tells start (lines ++ line ∷ []) blank goes_out now new
+      → Takes goes_out old new (said_of (number_behind lines) r) → AnswersThem start (lines ++ line ∷ []) blank goes_out now new
   said_of_line (Ok (answers.Reply text)) goes_out start now lines blank old new said line other a was out = record { said = said ++ said_of (number_behind lines) (Ok (answers.Reply text)); answered = a; out = takes_behind goes_out blank old new said (said_of (number_behind lines) (Ok (answers.Reply text))) was out }
   said_of_line (Ok (answers.Table text)) goes_out start now lines blank old new said line other a was out = record { said = said ++ said_of (number_behind lines) (Ok (answers.Table text)); answered = a; out = takes_behind goes_out blank old new said (said_of (number_behind lines) (Ok (answers.Table text))) was out }
   said_of_line (Ok (answers.Viewed text)) goes_out start now lines blank old new said line other a was out = record { said = said ++ said_of (number_behind lines) (Ok (answers.Viewed text)); answered = a; out = takes_behind goes_out blank old new said (said_of (number_behind lines) (Ok (answers.Viewed text))) was out }
@@ -268,7 +268,7 @@ module _ {S : Type 0} (server : Server S) where
 
   -- the line asks for the end
   pub end_of_line : (r : Result Answer CommandFault) (start now : S) (lines : List (List ℕ)) (blank old : Option (List ℕ)) (said line : List ℕ) → r ≡ Ok answers.End → Answering r start lines said line now → Takes true blank old said
-      → (request_of line ≡ Some End) × Tells start lines blank true now old
+      → (request_of line ≡ Some End) × AnswersThem start lines blank true now old
   end_of_line (Ok answers.End) start now lines blank old said line is a was = (a.0, record { said = said; answered = a.1; out = was })
   end_of_line (Ok (answers.Reply text)) start now lines blank old said line is a was = cc
   end_of_line (Ok (answers.Table text)) start now lines blank old said line is a was = cc
@@ -288,13 +288,13 @@ module _ {S : Type 0} (server : Server S) where
 
   -- both of a line that was answered, and of one that asks for the end
   pub line_taken : (r : Result Answer CommandFault) (goes_out : Bool) (number : ℕ) (start now a b : S) (lines : List (List ℕ)) (blank old new : Option (List ℕ)) (line : List ℕ) → r ≢ Ok answers.End → number ≡ number_behind lines
-      → ((said : List ℕ) → Stands start lines said now → Answering r start lines said line a) → server.ways.same_but_calls a b → Takes goes_out old new (said_of number r) → Tells start lines blank true now old → Tells start (lines ++ line ∷ []) blank goes_out b new
+      → ((said : List ℕ) → Stands start lines said now → Answering r start lines said line a) → server.ways.same_but_calls a b → Takes goes_out old new (said_of number r) → AnswersThem start lines blank true now old → AnswersThem start (lines ++ line ∷ []) blank goes_out b new
   line_taken r goes_out number start now a b lines blank old new line other counted answer same out t =
       said_of_line r goes_out start b lines blank old new t.said line other (answer_emptied r start a b lines t.said line same (answer t.said t.answered)) t.out
       (subst (λ (n : ℕ). Takes goes_out old new (said_of n r)) counted out)
 
   pub end_taken : (r : Result Answer CommandFault) (start now a b : S) (lines : List (List ℕ)) (blank old : Option (List ℕ)) (line : List ℕ) → r ≡ Ok answers.End
-      → ((said : List ℕ) → Stands start lines said now → Answering r start lines said line a) → server.ways.same_but_calls a b → Tells start lines blank true now old → (request_of line ≡ Some End) × Tells start lines blank true b old
+      → ((said : List ℕ) → Stands start lines said now → Answering r start lines said line a) → server.ways.same_but_calls a b → AnswersThem start lines blank true now old → (request_of line ≡ Some End) × AnswersThem start lines blank true b old
   end_taken r start now a b lines blank old line is answer same t =
       end_of_line r start b lines blank old t.said line is (answer_emptied r start a b lines t.said line same (answer t.said t.answered)) t.out
 
@@ -303,7 +303,7 @@ module _ {S : Type 0} (server : Server S) where
   -- nothing was heard yet
   pub begun : (start : S) (blank : Option (List ℕ)) (pending : Pending) → IsKept pending [] → pending.number ≡ 1 → Keeps start blank [] pending start blank
   begun start blank pending kept first = record {
-    told = record { said = []; answered = record { calls = []; listens = Begins }; out = appends_none blank };
+    answers = record { said = []; answered = record { calls = []; listens = Begins }; out = appends_none blank };
     kept = kept;
     number = first;
   }
@@ -311,7 +311,7 @@ module _ {S : Type 0} (server : Server S) where
   -- the store's list was emptied in between
   pub rested : (start a b : S) (blank written : Option (List ℕ)) (heard : List ℕ) (pending : Pending) → server.ways.same_but_calls a b → Keeps start blank heard pending a written → Keeps start blank heard pending b written
   rested start a b blank written heard pending h s = record {
-    told = record { said = s.told.said; answered = waited start a b (cut heard).0 s.told.said (Empties [] a b Stays h) s.told.answered; out = s.told.out };
+    answers = record { said = s.answers.said; answered = waited start a b (cut heard).0 s.answers.said (Empties [] a b Stays h) s.answers.answered; out = s.answers.out };
     kept = s.kept;
     number = s.number;
   }
@@ -322,18 +322,18 @@ module _ {S : Type 0} (server : Server S) where
   byte_heard start now blank written heard byte pending next other same keeps s =
       let more = byte_cut heard byte other in
       record {
-        told = subst (λ (c : Cut). Tells start c.0 blank true now written) (sym more) s.told;
+        answers = subst (λ (c : Cut). AnswersThem start c.0 blank true now written) (sym more) s.answers;
         kept = subst (λ (c : Cut). IsKept next c.1) (sym more) (keeps (cut heard).1 s.kept);
         number = same ∙ subst (λ (c : Cut). pending.number ≡ number_behind c.0) (sym more) s.number;
       }
 
   -- a line break, and the line before it was answered
   pub break_heard : (start now : S) (blank written : Option (List ℕ)) (heard : List ℕ) (byte : ℕ) (pending next : Pending) → byte ≡ 10 → next.number ≡ min (pending.number + 1) (2 ^ 64 - 1) → ((line : List ℕ) → IsKept pending line → IsKept next [])
-      → IsKept pending (cut heard).1 → pending.number ≡ number_behind (cut heard).0 → Tells start ((cut heard).0 ++ (cut heard).1 ∷ []) blank true now written → Keeps start blank (heard ++ byte ∷ []) next now written
+      → IsKept pending (cut heard).1 → pending.number ≡ number_behind (cut heard).0 → AnswersThem start ((cut heard).0 ++ (cut heard).1 ∷ []) blank true now written → Keeps start blank (heard ++ byte ∷ []) next now written
   break_heard start now blank written heard byte pending next ends counted keeps kept number t =
       let more = break_cut heard byte ends in
       record {
-        told = subst (λ (c : Cut). Tells start c.0 blank true now written) (sym more) t;
+        answers = subst (λ (c : Cut). AnswersThem start c.0 blank true now written) (sym more) t;
         kept = subst (λ (c : Cut). IsKept next c.1) (sym more) (keeps (cut heard).1 kept);
         number = subst (λ (c : Cut). next.number ≡ number_behind c.0) (sym more) (counted ∙ next_number pending.number (cut heard).0 (cut heard).1 number);
       }
@@ -347,7 +347,7 @@ module _ {S : Type 0} (server : Server S) where
         rest = (cut heard).1 ++ byte ∷ [];
         whole = ap (λ (all : List ℕ). all ++ byte ∷ []) f.whole ∙ append_assoc f.front (cut heard).1 (byte ∷ []);
         ended = ap (λ (c : Cut). c.1) f.ended;
-        told = subst (λ (c : Cut). Tells start c.0 blank true now written) (sym f.ended) t.1;
+        answers = subst (λ (c : Cut). AnswersThem start c.0 blank true now written) (sym f.ended) t.1;
         cause = ((cut heard).1, t.0, [], ap (λ (last : ℕ). (cut heard).1 ++ last ∷ []) ends);
       }
   break_stops WriteFault start now blank written heard byte ends t =
@@ -357,7 +357,7 @@ module _ {S : Type 0} (server : Server S) where
         rest = [];
         whole = sym (append-nil (heard ++ byte ∷ []));
         ended = ap (λ (c : Cut). c.1) more;
-        told = subst (λ (c : Cut). Tells start c.0 blank false now written) (sym more) t;
+        answers = subst (λ (c : Cut). AnswersThem start c.0 blank false now written) (sym more) t;
         cause = tt;
       }
   break_stops InputEnded start now blank written heard byte ends t = absurd t
@@ -371,7 +371,7 @@ module _ {S : Type 0} (server : Server S) where
     rest = s.rest ++ more;
     whole = ap (λ (all : List ℕ). all ++ more) s.whole ∙ append_assoc s.front s.rest more;
     ended = s.ended;
-    told = s.told;
+    answers = s.answers;
     cause = stops_at_more end s.rest more s.cause;
   }
 
@@ -382,12 +382,12 @@ module _ {S : Type 0} (server : Server S) where
   stopped end start now unread blank left written may_close heard read s = record {
     front = s.front;
     rest = s.rest;
-    calls = s.told.answered.calls;
-    said = s.told.said;
+    calls = s.answers.answered.calls;
+    said = s.answers.said;
     read = subst (λ (all : List ℕ). Consumes unread left all) s.whole read;
     whole = inl s.ended;
-    listens = subst (λ (lines : List (List ℕ)). Heard start lines s.told.answered.calls s.told.said now) (sym (ended_lines s.front s.ended)) s.told.answered.listens;
-    out = s.told.out;
+    listens = subst (λ (lines : List (List ℕ)). Heard start lines s.answers.answered.calls s.answers.said now) (sym (ended_lines s.front s.ended)) s.answers.answered.listens;
+    out = s.answers.out;
     over = cause_over end may_close left s.rest s.cause;
   }
 
@@ -401,12 +401,12 @@ module _ {S : Type 0} (server : Server S) where
       record {
         front = f.front;
         rest = (cut heard).1 ++ more;
-        calls = s.told.answered.calls;
-        said = s.told.said;
+        calls = s.answers.answered.calls;
+        said = s.answers.said;
         read = subst (λ (all : List ℕ). Consumes unread left all) (ap (λ (all : List ℕ). all ++ more) f.whole ∙ append_assoc f.front (cut heard).1 more) read;
         whole = inl ended;
-        listens = subst (λ (lines : List (List ℕ)). Heard start lines s.told.answered.calls s.told.said now) lines s.told.answered.listens;
-        out = subst (λ (goes_out : Bool). Takes goes_out blank written s.told.said) (sym out) s.told.out;
+        listens = subst (λ (lines : List (List ℕ)). Heard start lines s.answers.answered.calls s.answers.said now) lines s.answers.answered.listens;
+        out = subst (λ (goes_out : Bool). Takes goes_out blank written s.answers.said) (sym out) s.answers.out;
         over = over ((cut heard).1 ++ more);
       }
 
@@ -429,7 +429,7 @@ module _ {S : Type 0} (server : Server S) where
   taken (Some end) start now unread blank left written may_close heard pending read s = stopped end start now unread blank left written may_close heard read s
 
   -- all lines of what the reader gave are answered
-  all_lines : (end : OperatorEnd) (start now : S) (unread blank left written : Option (List ℕ)) (may_close : Type 0) (heard : List ℕ) → Consumes unread left heard → IsAtEnd left → IsOver end may_close left [] → Tells start (lines_of heard) blank (is_out end) now written
+  all_lines : (end : OperatorEnd) (start now : S) (unread blank left written : Option (List ℕ)) (may_close : Type 0) (heard : List ℕ) → Consumes unread left heard → IsAtEnd left → IsOver end may_close left [] → AnswersThem start (lines_of heard) blank (is_out end) now written
       → Ends start unread blank end may_close now left written
   all_lines end start now unread blank left written may_close heard read at_end over t = record {
     front = heard;
@@ -447,13 +447,13 @@ module _ {S : Type 0} (server : Server S) where
   pub none_left : (start now : S) (unread blank left written : Option (List ℕ)) (may_close : Type 0) (heard : List ℕ) (pending : Pending) → Consumes unread left heard → IsAtEnd left → (cut heard).1 ≡ [] → Keeps start blank heard pending now written
       → Ends start unread blank InputEnded may_close now left written
   none_left start now unread blank left written may_close heard pending read at_end none s =
-      all_lines InputEnded start now unread blank left written may_close heard read at_end (at_end, refl) (subst (λ (lines : List (List ℕ)). Tells start lines blank true now written) (sym (ended_lines heard none)) s.told)
+      all_lines InputEnded start now unread blank left written may_close heard read at_end (at_end, refl) (subst (λ (lines : List (List ℕ)). AnswersThem start lines blank true now written) (sym (ended_lines heard none)) s.answers)
 
   -- or it is answered too
   pub last_answered : (start now : S) (unread blank left written : Option (List ℕ)) (may_close : Type 0) (heard : List ℕ) → Consumes unread left heard → IsAtEnd left → (cut heard).1 ≢ [] → Line None start (cut heard).0 blank (cut heard).1 now written
       → Ends start unread blank InputEnded may_close now left written
   last_answered start now unread blank left written may_close heard read at_end some t =
-      all_lines InputEnded start now unread blank left written may_close heard read at_end (at_end, refl) (subst (λ (lines : List (List ℕ)). Tells start lines blank true now written) (sym (unended_lines heard some)) t)
+      all_lines InputEnded start now unread blank left written may_close heard read at_end (at_end, refl) (subst (λ (lines : List (List ℕ)). AnswersThem start lines blank true now written) (sym (unended_lines heard some)) t)
 
   pub last_stops : (end : OperatorEnd) (start now : S) (unread blank left written : Option (List ℕ)) (may_close : Type 0) (heard : List ℕ) → Consumes unread left heard → IsAtEnd left → (cut heard).1 ≢ [] → Line (Some end) start (cut heard).0 blank (cut heard).1 now written
       → Ends start unread blank end may_close now left written
@@ -473,7 +473,7 @@ module _ {S : Type 0} (server : Server S) where
         over = ((cut heard).1, t.0, inr (at_end, refl));
       }
   last_stops WriteFault start now unread blank left written may_close heard read at_end some t =
-      all_lines WriteFault start now unread blank left written may_close heard read at_end tt (subst (λ (lines : List (List ℕ)). Tells start lines blank false now written) (sym (unended_lines heard some)) t)
+      all_lines WriteFault start now unread blank left written may_close heard read at_end tt (subst (λ (lines : List (List ℕ)). AnswersThem start lines blank false now written) (sym (unended_lines heard some)) t)
   last_stops InputEnded start now unread blank left written may_close heard read at_end some t = absurd t
   last_stops RunEnding start now unread blank left written may_close heard read at_end some t = absurd t
   last_stops ReadFault start now unread blank left written may_close heard read at_end some t = absurd t

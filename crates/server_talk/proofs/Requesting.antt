@@ -11,7 +11,7 @@ use Rattle.script_lines.specs.declared.views.ViewLine.{ViewLine}
 use Rattle.script_lines.specs.Words.{cut_at_space, peer_in, name_in}
 use Rattle.server_talk.specs.declared.requests.Request.{Request}
 use Rattle.server_talk.specs.declared.requests.Request.TheVariants.{Submit}
-use Rattle.server_talk.specs.Listening.{AreKept, Asks as Told}
+use Rattle.server_talk.specs.Listening.{AreKept, Asks as AnswersLines}
 use Rattle.server_talk.specs.Requests.{is_operators, line_limit, request_in, request_of, view_or_event}
 
 -- an event that is found is an operator's
@@ -102,12 +102,12 @@ pub long_is_bad : (line : List ℕ) → line_limit < length line → None ≡ re
 unfolding request_of
 long_is_bad line long = let no : nat_le (length line) 4096 ≡ false = grind (arith, nat_tests) in rw no refl
 
--- what is asked for is told, or memory was refused to something
-pub told_what_is_asked : {E : Type 0} (r : Result (Option Request) E) (asked : Option Request) → IfOk r (λ request. request ≡ asked) → IfErr r (λ _. IsSome asked) → Told r asked
-told_what_is_asked (Ok request) asked is some = is
-told_what_is_asked (Err fault) (Some request) is some = tt
-told_what_is_asked (Err fault) None is some = cc
+-- what is asked for is given, or memory was refused to something
+pub given_what_is_asked : {E : Type 0} (r : Result (Option Request) E) (asked : Option Request) → IfOk r (λ request. request ≡ asked) → IfErr r (λ _. IsSome asked) → AnswersLines r asked
+given_what_is_asked (Ok request) asked is some = is
+given_what_is_asked (Err fault) (Some request) is some = tt
+given_what_is_asked (Err fault) None is some = cc
 
-pub some_asked : {E : Type 0} (fault : E) (asked : Option Request) → Told (Err fault) asked → IsSome asked
+pub some_asked : {E : Type 0} (fault : E) (asked : Option Request) → AnswersLines (Err fault) asked → IsSome asked
 some_asked fault (Some request) h = refl
 some_asked fault None h = absurd h

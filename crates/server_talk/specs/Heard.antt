@@ -44,7 +44,7 @@ abbrev pub taken_of_fault : ErrorKind → Option ℕ
 taken_of_fault Interrupted = Some 0
 taken_of_fault kind = None
 
--- A session is served though no bytes came where it is told that messages wait for its peer, or a timer is due at a moment
--- that is told.
+-- A session is served though no bytes came where it is said that messages wait for its peer, or a timer is due at a moment
+-- that is shown.
 abbrev pub IsDue : (Bool → Type 0) → (ℕ → Type 0) → Contents → Bool → Type 0
-IsDue queues tells c due = (is_queued : Bool) × (now_ms : ℕ) × queues is_queued × tells now_ms × (due ≡ (is_queued || is_due_at now_ms c))
+IsDue queues may_show c due = (is_queued : Bool) × (now_ms : ℕ) × queues is_queued × may_show now_ms × (due ≡ (is_queued || is_due_at now_ms c))

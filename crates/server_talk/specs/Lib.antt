@@ -2,7 +2,7 @@ pub mod Heard
 pub mod Goings
 pub mod Servers
 pub mod Watches
-pub mod Visits
+pub mod Connections
 pub mod Requests
 pub mod ReloadChecks
 pub mod Operators

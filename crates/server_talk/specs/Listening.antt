@@ -17,7 +17,7 @@ use Rattle.server_talk.specs.declared.requests.Request.TheVariants.{End}
 use Rattle.server_talk.specs.Servers.{Server}
 use Rattle.server_talk.specs.Operators.{IsAnswered, Listens, Operated, bad_line, is_out, number_behind, unread_line}
 use Rattle.server_talk.specs.Requests.{asks_step, line_limit, request_of}
-use Rattle.server_talk.specs.Visits.{Takes}
+use Rattle.server_talk.specs.Connections.{Takes}
 
 -- ---- a line that has ended
 
@@ -66,7 +66,7 @@ module _ {S : Type 0} (server : Server S) where
     pub listens : Listens server start lines calls said now
 
   -- and it went out, or some of it did
-  pub record Told (start : S) (lines : List (List ℕ)) (blank : Option (List ℕ)) (goes_out : Bool) (now : S) (written : Option (List ℕ)) : Type 0 where
+  pub record AnswersLines (start : S) (lines : List (List ℕ)) (blank : Option (List ℕ)) (goes_out : Bool) (now : S) (written : Option (List ℕ)) : Type 0 where
     pub said : List ℕ
     pub answered : Answered start lines said now
     pub out : Takes goes_out blank written said
@@ -78,16 +78,16 @@ module _ {S : Type 0} (server : Server S) where
 
   -- and more may be heard, or not
   abbrev pub TakesLine : Option OperatorEnd → S → List (List ℕ) → Option (List ℕ) → List ℕ → S → Option (List ℕ) → Type 0
-  TakesLine None start lines blank line now written = Told start (lines ++ line ∷ []) blank true now written
-  TakesLine (Some EndAsked) start lines blank line now written = (request_of line ≡ Some End) × Told start lines blank true now written
-  TakesLine (Some WriteFault) start lines blank line now written = Told start (lines ++ line ∷ []) blank false now written
+  TakesLine None start lines blank line now written = AnswersLines start (lines ++ line ∷ []) blank true now written
+  TakesLine (Some EndAsked) start lines blank line now written = (request_of line ≡ Some End) × AnswersLines start lines blank true now written
+  TakesLine (Some WriteFault) start lines blank line now written = AnswersLines start (lines ++ line ∷ []) blank false now written
   TakesLine (Some end) start lines blank line now written = ⊥
 
   -- ---- bytes
 
   -- All lines of the bytes that were heard are answered; what is behind the last line break is kept.
   pub record SoFar (start : S) (blank : Option (List ℕ)) (heard : List ℕ) (pending : Pending) (now : S) (written : Option (List ℕ)) : Type 0 where
-    pub told : Told start (cut heard).0 blank true now written
+    pub answers : AnswersLines start (cut heard).0 blank true now written
     pub kept : IsKept pending (cut heard).1
     pub number : pending.number ≡ number_behind (cut heard).0
 
@@ -97,7 +97,7 @@ module _ {S : Type 0} (server : Server S) where
     pub rest : List ℕ
     pub whole : heard ≡ front ++ rest
     pub ended : (cut front).1 ≡ []
-    pub told : Told start (cut front).0 blank (is_out end) now written
+    pub answers : AnswersLines start (cut front).0 blank (is_out end) now written
     pub cause : StopsAt end rest
 
   -- the one or the other

@@ -10,7 +10,7 @@ use Rattle.te_base.specs.declared.fault.TeFault.TheVariants as te
 use Rattle.te_base.specs.Faults.{fault_number}
 use Rattle.step_core.specs.declared.event.Event.{Event}
 use Rattle.step_core.specs.declared.event.Event.TheVariants as event
-use Rattle.step_core.specs.declared.reload.LinkReload.{LinkReload}
+use Rattle.link_reload.specs.declared.entry.LinkReload.{LinkReload}
 use Rattle.step_core.specs.declared.event.Reply.{Reply}
 use Rattle.history_core.specs.Faults.{fault_text}
 use Rattle.history_core.specs.declared.fault.Fault.TheVariants.{OutOfMemory, HistoryFull}
@@ -29,7 +29,7 @@ use Rattle.server_talk.specs.Goings.{Goes}
 use Rattle.server_talk.specs.Servers.{Server}
 use Rattle.server_talk.specs.ReloadChecks.{check_text}
 use Rattle.server_talk.specs.Requests.{asks_reading, asks_step, is_operators, request_of}
-use Rattle.server_talk.specs.Visits.{Takes}
+use Rattle.server_talk.specs.Connections.{Takes}
 
 -- what is said to a bad line, by its number
 abbrev pub bad_line : ℕ → List ℕ

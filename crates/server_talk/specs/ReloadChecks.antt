@@ -1,9 +1,9 @@
--- What a reload would change, as an operator is told.
+-- What a reload would change, as an operator is shown.
 use Rattle.std.specs.Prelude.{ℕ, ◌+◌, ◌==◌, ◌&&◌, not, ℤ, pos, ◌-ℤ◌, int_le, Bool, false, List, [], ◌∷◌, ◌++◌, codes, Option, Some, None, slice_get, if◌then◌else◌}
 use Rattle.std.specs.List.{list_any}
 use Rattle.std.specs.Fmt.{decimal}
 use Rattle.te_base.specs.Values.{Values}
-use Rattle.step_core.specs.declared.reload.LinkReload.{LinkReload}
+use Rattle.link_reload.specs.declared.entry.LinkReload.{LinkReload}
 
 -- ---- the links that would change
 

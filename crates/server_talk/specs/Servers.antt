@@ -1,7 +1,7 @@
 -- A running server, as its operator meets it.
 use Rattle.std.specs.Prelude.{ℕ, ℤ, List, Result}
 use Rattle.te_base.specs.Values.{Values}
-use Rattle.step_core.specs.declared.reload.LinkReload.{LinkReload}
+use Rattle.link_reload.specs.declared.entry.LinkReload.{LinkReload}
 use Rattle.script_lines.specs.declared.views.ViewLine.{ViewLine}
 use Rattle.server_talk.specs.declared.plan.PlanFault.{PlanFault}
 use Rattle.server_talk.specs.Goings.{Ways}

@@ -15,7 +15,7 @@ const STANDARD_INPUT: RawFd = 0;
 /// What a wait found it by.
 const INPUT: Token = Token(0);
 
-/// Standard input that is waited for no longer than it is told. A regular file, which can't be waited for, is read at
+/// Standard input that is waited for no longer than it is asked. A regular file, which can't be waited for, is read at
 /// once.
 #[derive(Drop)]
 pub struct PolledInput<'a, I: Read> {

@@ -1,8 +1,8 @@
 //! PCEP over one connection, and an operator's lines: over any reader, writer, watch and store, on one thread.
 //!
-//! `connection` is one connection. However it ends, the peer's Down is submitted before it returns, or that is told as
+//! `connection` is one connection. However it ends, the peer's Down is submitted before it returns, or that is answered as
 //! a fault of the store; every other call is one that the engine's table names for this peer and the bytes that came
-//! (`specs/Visits`). `operate` is an operator: each line asks for one thing or for none (`specs/Requests`), that is done
+//! (`specs/Connections`). `operate` is an operator: each line asks for one thing or for none (`specs/Requests`), that is done
 //! once, and what came of it is said (`specs/Operators`). What a session makes of bytes and what a step does is proved
 //! in the layers below. `PolledSocket` is a peer's socket as a reader whose wait another thread may end, `PolledInput`
 //! and `PolledOutput` are standard input and output; that they deliver is shown by tests alone.

@@ -5,10 +5,10 @@ ghost use Rattle.std.specs.Io.KnownBytes.{Consumes, IsAtEnd};
 ghost use Rattle.history_core.specs.Faults.{fault_text};
 ghost use Rattle.engine_core.specs.declared.store.Call.{Call};
 ghost use Rattle.server_talk.specs.Goings.{Goes};
-ghost use Rattle.server_talk.specs.Listening.{Told, TakesLine, IsKept, SoFar, HearsOn, Turns, said_of};
+ghost use Rattle.server_talk.specs.Listening.{AnswersLines, TakesLine, IsKept, SoFar, HearsOn, Turns, said_of};
 ghost use Rattle.server_talk.specs.Servers.{server_of};
 ghost use Rattle.server_talk.specs.Operators.{AreOperators, FailsAs, Operated, EndsAs, is_quiet, te_line, unread_line, number_behind};
-ghost use Rattle.server_talk.specs.Visits.{Takes};
+ghost use Rattle.server_talk.specs.Connections.{Takes};
 
 use crate::commands::{Answer, answer_line, asks_end};
 use crate::pending::Pending;
@@ -155,7 +155,7 @@ fn take_line<D: Desk, O: Write, W: Watch, P: Show>(
 ) -> Option<OperatorEnd>
     ensures empty { D.calls store.new ≡ [] }
     ensures taken { (start : D) (lines : List (List ℕ)) (blank : Option (List ℕ)) (text : List ℕ) → IsKept line.now text → line.now.number ≡ number_behind lines
-        → Told (server_of D.Store D.is_left P.Show plan.now) start lines blank true store.old (O.contents writer.old)
+        → AnswersLines (server_of D.Store D.is_left P.Show plan.now) start lines blank true store.old (O.contents writer.old)
         → TakesLine (server_of D.Store D.is_left P.Show plan.now) result start lines blank text store.new (O.contents writer.new) }
 {
     let came = answer_line(alloc, line, watch, plan, store);
@@ -302,7 +302,7 @@ fn turn<D: Desk, I: Patient, O: Write, W: Watch, P: Show>(
 }
 
 /// Answers an operator's lines until no more is to be heard, and gives why. A line that asks for an event submits it,
-/// once, and is told the reply; `book` is told what is left of each link at each priority, in bytes per second; `end`
+/// once, and is answered by the reply; `book` by what is left of each link at each priority, in bytes per second; `end`
 /// asks for the end of the run. A bad line is answered `bad line N`, want of memory `out of memory`, and the next line
 /// is read. Where the run is to end, what was read last is left. The only fault is want of memory before the first
 /// read.

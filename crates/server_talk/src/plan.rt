@@ -16,7 +16,7 @@ pub enum PlanFault {
 /// The link text of a server's network. It may be another at each reading.
 pub trait Plan {
     ghost use Rattle.std.specs.Prelude.{List, Result, ⊤};
-    ghost use Rattle.step_core.specs.declared.reload.LinkReload.{LinkReload};
+    ghost use Rattle.link_reload.specs.declared.entry.LinkReload.{LinkReload};
     ghost use Rattle.server_talk.specs.declared.plan.PlanFault.{PlanFault};
 
     /// A reading may give this.

@@ -1,4 +1,4 @@
-//! What a reload would change, as an operator is told.
+//! What a reload would change, as an operator is shown.
 ghost use Rattle.std.specs.Prelude.{◌≡◌, ◌++◌, IfOk, OnOk, string_bytes, slice_get, None};
 ghost use Rattle.std.specs.Option.{option_copied};
 ghost use Rattle.std.specs.List.{list_any};

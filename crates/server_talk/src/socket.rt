@@ -125,7 +125,7 @@ fn may_send(stream: &TcpStream, buffer: &mut [u8]) -> bool {
     }
 }
 
-/// Tells the peer that no more comes, and hears for a while what it still sends: a socket that is closed over
+/// Shows the peer that no more comes, and hears for a while what it still sends: a socket that is closed over
 /// unread bytes is reset, and the peer may lose the last bytes that were sent to it.
 pub fn part<W: Watch>(stream: &TcpStream, watch: &W) {
     if stream.shutdown(Shutdown::Write).is_err() {

@@ -9,7 +9,7 @@ ghost use Rattle.engine_core.specs.declared.store.Call.{Call};
 ghost use Rattle.server_talk.specs.Goings.{Goes};
 ghost use Rattle.server_talk.specs.Heard.{IsWithin, Hears, IsDue, wait_until, heard_of_fault, taken_of_fault};
 ghost use Rattle.server_talk.specs.Watches.{watch_of};
-ghost use Rattle.server_talk.specs.Visits.{SoFar, TakesAll, GoesOut, IsToldOf, IsUnexplained, spoken, Leaves, owes_down, Visited, IsNoVisit};
+ghost use Rattle.server_talk.specs.Connections.{SoFar, TakesAll, GoesOut, MayEndSo, IsUnexplained, spoken, Leaves, owes_down, IsServed, IsUnserved};
 
 use crate::traits::{Patient, Watch};
 use engine_core::{Client, Desk, Fault, hang_up, serve};
@@ -71,7 +71,7 @@ struct Talk {
 /// Serves one peer until its end. Every call that the store gets is one that the engine's table names for this peer and
 /// the bytes that the reader gave, or the Down of its end; the store's list has that alone, or nothing where the peer
 /// wasn't joined. All that the session says goes to the writer. Where there is no memory for a session, nothing is
-/// done, and that is told as `SessionEnded`.
+/// done, and that is answered as `SessionEnded`.
 pub fn connection<R: Wait, I: Patient, O: Write, W: Watch, D: Desk>(
     rt: &R,
     alloc: Global,
@@ -82,8 +82,8 @@ pub fn connection<R: Wait, I: Patient, O: Write, W: Watch, D: Desk>(
     store: &mut D,
 ) -> Ended
     ensures down { (calls : List Call) × Goes D.Store store.old calls store.new × (joined_after false calls ≡ owes_down result) }
-    ensures visited { IsNoVisit result store.old store.new reader.old reader.new writer.old writer.new
-        ⊎ Visited D.Store (watch_of W.Watch watch.now) peer store.old (I.remaining reader.old) (O.contents writer.old) result store.new (I.remaining reader.new) (O.contents writer.new) }
+    ensures is_served { IsUnserved result store.old store.new reader.old reader.new writer.old writer.new
+        ⊎ IsServed D.Store (watch_of W.Watch watch.now) peer store.old (I.remaining reader.old) (O.contents writer.old) result store.new (I.remaining reader.new) (O.contents writer.new) }
 {
     let served_ms = watch.now_ms();
     let Ok(client) = Client::new(alloc, served_ms) else {
@@ -214,7 +214,7 @@ fn is_timer_due(talk: &Talk, now_ms: u64) -> bool
 
 /// Whether the session is to be served though no bytes came: messages wait for the peer, or a timer is due.
 fn is_due<W: Watch, D: Desk>(talk: &Talk, watch: &W, store: &D) -> bool
-    ensures { IsDue (D.queues store.now talk.now.peer) (W.tells watch.now) talk.now.client.session result }
+    ensures { IsDue (D.queues store.now talk.now.peer) (W.may_show watch.now) talk.now.client.session result }
 {
     let is_queued = store.queued(talk.peer);
     let now_ms = watch.now_ms();
@@ -249,8 +249,8 @@ fn hear<I: Patient>(reader: &mut I, buffer: &mut [u8]) -> Heard
 /// The moment that it is, or the last one at which the session was served, where that is later.
 fn moment_ms<W: Watch>(talk: &Talk, watch: &W) -> u64
     ensures rises { talk.now.served_ms ≤ result }
-    ensures told { (result ≡ talk.now.served_ms) ⊎ W.tells watch.now result }
-    ensures latest { (now_ms : ℕ) × W.tells watch.now now_ms × (result ≡ max talk.now.served_ms now_ms) }
+    ensures shown { (result ≡ talk.now.served_ms) ⊎ W.may_show watch.now result }
+    ensures latest { (now_ms : ℕ) × W.may_show watch.now now_ms × (result ≡ max talk.now.served_ms now_ms) }
 {
     let now_ms = watch.now_ms();
     if now_ms < talk.served_ms {
@@ -300,7 +300,7 @@ fn say<O: Write, W: Watch>(talk: &mut Talk, writer: &mut O, watch: &W) -> Option
     ensures moment { talk.new.served_ms ≡ talk.old.served_ms }
     ensures spoken { talk.new.client ≡ spoken talk.old.client }
     ensures out { GoesOut result (O.contents writer.old) (O.contents writer.new) talk.old.client.session.output }
-    ensures told { (left : Option (List ℕ)) → IsToldOf result left talk.new.client }
+    ensures ends_so { (left : Option (List ℕ)) → MayEndSo result left talk.new.client }
     ensures open { result ≡ None → is_closed talk.new.client.session.state ≡ false }
 {
     let output = talk.client.session.take_output();

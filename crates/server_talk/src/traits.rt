@@ -4,7 +4,7 @@ ghost use Rattle.std.specs.Io.KnownBytes.{Keeps};
 use std::io::Read;
 use std::time::Duration;
 
-/// A reader that waits for bytes, but no longer than it is told, and only until it is rung for. Where none came, it
+/// A reader that waits for bytes, but no longer than it is asked, and only until it is rung for. Where none came, it
 /// answers `WouldBlock` or `TimedOut`.
 pub trait Patient: Read {
     /// The reads from now on wait for this time at most. What they give stays the same.
@@ -16,15 +16,15 @@ pub trait Patient: Read {
 pub trait Watch {
     ghost use Rattle.std.specs.Prelude.{◌≡◌, ℕ, true, ⊤};
 
-    /// The run may be told to end.
+    /// The run may be asked to end.
     ghost may_close: { Self → Type 0 } = { λ _. ⊤ };
 
-    /// The moments that it may tell.
-    ghost tells: { Self → ℕ → Type 0 } = { λ _ _. ⊤ };
+    /// The moments that it may show.
+    ghost may_show: { Self → ℕ → Type 0 } = { λ _ _. ⊤ };
 
     /// The moment, in milliseconds since the run began.
     fn now_ms(&self) -> u64
-        ensures { tells self.now result };
+        ensures { may_show self.now result };
 
     /// Whether the run is to end, so that each session is to be closed.
     fn is_closing(&self) -> bool

@@ -1,65 +1,27 @@
-//! The lock, what is done under it, and the waits for what it holds.
+//! The lock, and what is done under it.
 ghost use Rattle.std.specs.Prelude.{◌≡◌, ◌≤◌, ◌==◌, [], true, not, nat_lt, filter, length, IfOk, IfErr, OnErr, replicate};
 ghost use Rattle.step_core.specs.States.{has_waiting, is_queued};
 ghost use Rattle.te_base.specs.Values.{values_in};
 ghost use Rattle.te_snapshot.specs.Left.{all_left};
 ghost use Rattle.history_core.specs.Histories.{Content, Replays, IsSound, is_full, steps_of, grants_of};
-ghost use Rattle.history_seats.specs.Receipts.{SeatContent, new_seat, tidy};
+ghost use Rattle.history_seats.specs.Receipts.{new_seat, tidy};
 ghost use Rattle.history_seats.specs.Audits.{IsAudited, Fails};
-ghost use Rattle.shared_pce.specs.Turns.{Takes, TakesNext, MayTake, Told, Commits, Works, RollsIf};
+ghost use Rattle.shared_pce.specs.Turns.{Received, RollsIf};
 
 use crate::audit::{Audit, AuditRefused};
 use crate::bell::Bell;
 use crate::looks::{links_of, lsp_count};
-use crate::work::{Gate, Worked};
 use database_looks::{LeftLook, Look};
-use history_core::{Database, Event, Fault, Job, Reply, SharedEvent};
+use history_core::{Database, Event, Fault, Reply, SharedEvent};
 use history_seats::{Held, Seat};
 use place_tokens::{Room, Unopened};
 use sequence::PlainData;
 use std::alloc::{AllocError, Global};
-use std::hint::spin_loop;
 use std::sync::ledger::{Blank, Ledger};
-use std::sync::{CondvarTimeouts, Mutex, MutexGuard, Wait};
-use std::time::{Clock, Duration};
+use std::sync::{Mutex, Wait};
 use te_base::LinkValues;
 
-/// The number of times that the lock is tried before a thread sleeps for it: for some steps of others.
-const TRIES: u32 = 50;
-
-/// The number of pauses between two tries.
-const PAUSES: u32 = 16;
-
-fn pause() {
-    for _ in 0..PAUSES {
-        spin_loop();
-    }
-}
-
-/// Takes the next ticket while the lock is held, where one waits. `None` too where no further step can be kept, or memory is
-/// refused: then it waits as before.
-fn take_next<S: Ledger, G: Ledger, B: Room>(
-    held: &mut Held<S, G, B>,
-    seat: &mut Seat<S, G, B>,
-    take: &SharedEvent,
-) -> Option<Job>
-    requires { take.now ≡ Event.Take }
-    ensures { TakesNext seat.old seat.new result }
-{
-    if !held.database().waiting() {
-        return None;
-    }
-    let Ok(event) = take.copy() else {
-        return None;
-    };
-    match held.step_and_fold(seat, event) {
-        Ok((reply, _none)) => match reply {
-            Reply::Job(job) => Some(job),
-            _ => None,
-        },
-        Err(_) => None,
-    }
-}
+mod turns;
 
 /// One database for all threads, behind one lock.
 pub struct Shared<S: Ledger, G: Ledger, B: Room> {
@@ -82,17 +44,6 @@ impl<S: Ledger, G: Ledger, B: Room> Drop for Shared<S, G, B> {
 }
 
 impl<S: Ledger, G: Ledger, B: Room> Shared<S, G, B> {
-    /// The lock. A step takes less time than a sleep and its end, so it is tried for a while before a thread sleeps for it.
-    fn hold<R: Wait>(&self, rt: &R) -> MutexGuard<'_, Held<S, G, B>> {
-        for _ in 0..TRIES {
-            if let Some(held) = self.held.try_lock() {
-                return held;
-            }
-            pause();
-        }
-        self.held.lock(rt)
-    }
-
     /// Puts a database of which no step was taken behind a lock, with 1 to 256 seats. All is dropped
     /// where memory is refused.
     pub fn new(
@@ -127,7 +78,7 @@ impl<S: Ledger, G: Ledger, B: Room> Shared<S, G, B> {
         seat: &mut Seat<S, G, B>,
         event: Event,
     ) -> Result<Reply, Fault>
-        ensures told { IfOk result (Told seat.old event seat.new) }
+        ensures received { IfOk result (Received seat.old event seat.new) }
         ensures unchanged_on_fault { OnErr result (seat.new ≡ seat.old) }
         ensures full { result ≡ Err Fault.HistoryFull → (d : Content) × Replays d × (is_full d ≡ true) }
     {
@@ -143,130 +94,40 @@ impl<S: Ledger, G: Ledger, B: Room> Shared<S, G, B> {
         seat: &mut Seat<S, G, B>,
         event: SharedEvent,
     ) -> Result<Reply, Fault>
-        ensures told { IfOk result (Told seat.old event seat.new) }
+        ensures received { IfOk result (Received seat.old event seat.new) }
         ensures unchanged_on_fault { OnErr result (seat.new ≡ seat.old) }
         ensures full { result ≡ Err Fault.HistoryFull → (d : Content) × Replays d × (is_full d ≡ true) }
     {
         seat.reserve(1)?;
-        let mut held = self.hold(rt);
-        let (reply, let_go) = held.step_and_fold(seat, event)?;
+        let mut held = self.held.lock(rt);
+        let (reply, unkept) = held.step_and_fold(seat, event)?;
         drop(held);
         if matches!(reply, Reply::Asked(_) | Reply::Again) {
             self.bell.ring();
         }
-        drop(let_go);
+        drop(unkept);
         Ok(reply)
-    }
-
-    /// Takes a ticket, if one waits.
-    fn take<R: Wait>(&self, rt: &R, seat: &mut Seat<S, G, B>) -> Result<Option<Job>, Fault>
-        ensures took { IfOk result (Takes seat.old seat.new) }
-        ensures unchanged_on_fault { OnErr result (seat.new ≡ seat.old) }
-        ensures full { result ≡ Err Fault.HistoryFull → (d : Content) × Replays d × (is_full d ≡ true) }
-    {
-        match self.submit(rt, seat, Event::Take)? {
-            Reply::Job(job) => Ok(Some(job)),
-            _ => Ok(None),
-        }
-    }
-
-    /// Commits what a search found, and takes the next ticket, where one waits, before the lock is free.
-    fn commit_and_take<R: Wait>(
-        &self,
-        rt: &R,
-        seat: &mut Seat<S, G, B>,
-        commit: SharedEvent,
-        take: &SharedEvent,
-    ) -> Result<(Reply, Option<Job>), Fault>
-        requires { take.now ≡ Event.Take }
-        ensures told { IfOk result (λ r. (mid : SeatContent) × Told seat.old commit mid r.0 × TakesNext mid seat.new r.1) }
-        ensures unchanged_on_fault { OnErr result (seat.new ≡ seat.old) }
-        ensures full { result ≡ Err Fault.HistoryFull → (d : Content) × Replays d × (is_full d ≡ true) }
-    {
-        seat.reserve(2)?;
-        let mut held = self.hold(rt);
-        let (reply, let_go) = held.step_and_fold(seat, commit)?;
-        let next = take_next(&mut held, seat, take);
-        drop(held);
-        drop(let_go);
-        Ok((reply, next))
-    }
-
-    /// Searches for the job's path, commits what was found, and takes the next ticket. No lock is held during the search.
-    fn finish_job<R: Wait>(
-        &self,
-        rt: &R,
-        seat: &mut Seat<S, G, B>,
-        job: &Job,
-    ) -> Result<(Reply, Option<Job>), Fault>
-        ensures committed { IfOk result (λ r. (mid : SeatContent) × Commits seat.old job.now mid r.0 × TakesNext mid seat.new r.1) }
-        ensures unchanged_on_fault { OnErr result (seat.new ≡ seat.old) }
-        ensures full { result ≡ Err Fault.HistoryFull → (d : Content) × Replays d × (is_full d ≡ true) }
-    {
-        let take = SharedEvent::new(self.alloc, Event::Take)?;
-        let offer = job.search(self.alloc)?;
-        let event = Event::Commit {
-            ticket: job.ticket.id,
-            offer,
-        };
-        let commit = SharedEvent::new(self.alloc, event)?;
-        self.commit_and_take(rt, seat, commit, &take)
-    }
-
-    /// One turn of a worker: the job in the seat's hand, or else a ticket that waits, is searched for and
-    /// committed, and the job of the next ticket that waits comes to the hand. No lock is held while the gate is told, nor
-    /// during the search. After a fault nothing was done, or the ticket was taken and its job is in hand, to be finished by
-    /// the next turn. `HistoryFull` where no further step could be kept.
-    pub fn work_one<R: Wait, A: Gate>(
-        &self,
-        rt: &R,
-        seat: &mut Seat<S, G, B>,
-        gate: &mut A,
-    ) -> Result<Worked, Fault>
-        ensures worked { IfOk result (Works seat.old seat.new) }
-        ensures paused { OnErr result (MayTake seat.old seat.new) }
-        ensures full { result ≡ Err Fault.HistoryFull → (d : Content) × Replays d × (is_full d ≡ true) }
-    {
-        let in_hand = seat.hand().take();
-        let job = match in_hand {
-            Some(job) => job,
-            None => match self.take(rt, seat)? {
-                Some(job) => job,
-                None => return Ok(Worked::Idle),
-            },
-        };
-        gate.computing(job.ticket.id);
-        match self.finish_job(rt, seat, &job) {
-            Ok((reply, next)) => {
-                *seat.hand() = next;
-                Ok(Worked::Done { job, reply })
-            }
-            Err(fault) => {
-                *seat.hand() = Some(job);
-                Err(fault)
-            }
-        }
     }
 
     /// Whether a ticket waits to be searched for.
     pub fn waiting<R: Wait>(&self, rt: &R) -> bool
         ensures { (d : Content) × Replays d × (result ≡ has_waiting d.state) }
     {
-        self.hold(rt).database().waiting()
+        self.held.lock(rt).database().waiting()
     }
 
     /// Whether messages wait to be sent to the peer.
     pub fn queued<R: Wait>(&self, rt: &R, peer: u32) -> bool
         ensures { (d : Content) × Replays d × (result ≡ is_queued d.state peer) }
     {
-        self.hold(rt).database().queued(peer)
+        self.held.lock(rt).database().queued(peer)
     }
 
     /// How many steps are kept, of those that were taken.
     pub fn kept<R: Wait>(&self, rt: &R) -> u64
         ensures { (d : Content) × Replays d × (result ≡ length d.history) }
     {
-        self.hold(rt).database().history().len() as u64
+        self.held.lock(rt).database().history().len() as u64
     }
 
     /// What is left of every link at each of the eight priorities, in bytes per second, by the number of the link:
@@ -283,7 +144,7 @@ impl<S: Ledger, G: Ledger, B: Room> Shared<S, G, B> {
         ensures { IfOk result (λ table. (d : Content) × Replays d × (table.0.items ≡ values_in d.state.te)
             × (table.1.items ≡ all_left d.state.te.links d.state.base.paths)) }
     {
-        let held = self.hold(rt);
+        let held = self.held.lock(rt);
         // for the proof alone: the history replays
         let _replays = held.database().history();
         links_of(self.alloc, held.database())
@@ -293,7 +154,7 @@ impl<S: Ledger, G: Ledger, B: Room> Shared<S, G, B> {
     pub fn lsp_count<R: Wait>(&self, rt: &R, peer: u32) -> usize
         ensures { (d : Content) × Replays d × (result ≡ length (filter (λ r. r.peer == peer) d.state.base.records)) }
     {
-        let held = self.hold(rt);
+        let held = self.held.lock(rt);
         // for the proof alone: the history replays
         let _replays = held.database().history();
         lsp_count(held.database(), peer)
@@ -304,7 +165,7 @@ impl<S: Ledger, G: Ledger, B: Room> Shared<S, G, B> {
     pub fn look<R: Wait, L: Look>(&self, rt: &R, look: &L) -> Result<L::Seen, AllocError>
         ensures { IfOk result (λ seen. (d : Content) × Replays d × L.sees look.now d seen) }
     {
-        let held = self.hold(rt);
+        let held = self.held.lock(rt);
         // for the proof alone: the history replays
         let _replays = held.database().history();
         look.see(self.alloc, held.database())
@@ -316,11 +177,11 @@ impl<S: Ledger, G: Ledger, B: Room> Shared<S, G, B> {
     pub fn roll<R: Wait>(&self, rt: &R, seat: &Seat<S, G, B>) -> Result<u64, AllocError>
         ensures { IfOk result (λ steps. (d : Content) × Replays d × (steps ≡ d.rolled) × (d.history ≡ [])) }
     {
-        let mut held = self.hold(rt);
-        let let_go = held.take_rolled(seat)?;
+        let mut held = self.held.lock(rt);
+        let unkept = held.take_rolled(seat)?;
         let steps = held.database().rolled();
         drop(held);
-        drop(let_go);
+        drop(unkept);
         Ok(steps)
     }
 
@@ -335,14 +196,14 @@ impl<S: Ledger, G: Ledger, B: Room> Shared<S, G, B> {
     ) -> Result<Option<u64>, AllocError>
         ensures { IfOk result (λ rolled. (d : Content) × Replays d × RollsIf (not (nat_lt (length d.history) at_least)) d rolled) }
     {
-        let mut held = self.hold(rt);
+        let mut held = self.held.lock(rt);
         if (held.database().history().len() as u64) < at_least {
             return Ok(None);
         }
-        let let_go = held.take_rolled(seat)?;
+        let unkept = held.take_rolled(seat)?;
         let steps = held.database().rolled();
         drop(held);
-        drop(let_go);
+        drop(unkept);
         Ok(Some(steps))
     }
 
@@ -354,16 +215,16 @@ impl<S: Ledger, G: Ledger, B: Room> Shared<S, G, B> {
     ) -> Result<Option<u64>, AllocError>
         ensures { IfOk result (λ rolled. (d : Content) × Replays d × RollsIf (is_full d) d rolled) }
     {
-        let mut held = self.hold(rt);
+        let mut held = self.held.lock(rt);
         // for the proof alone: the history replays
         let _replays = held.database().history();
         if !held.database().is_full() {
             return Ok(None);
         }
-        let let_go = held.take_rolled(seat)?;
+        let unkept = held.take_rolled(seat)?;
         let steps = held.database().rolled();
         drop(held);
-        drop(let_go);
+        drop(unkept);
         Ok(Some(steps))
     }
 
@@ -371,34 +232,22 @@ impl<S: Ledger, G: Ledger, B: Room> Shared<S, G, B> {
     pub fn fold<R: Wait>(&self, rt: &R, seat: &mut Seat<S, G, B>)
         ensures { (d : Content) × Replays d × (seat.new ≡ tidy d.rolled seat.old) }
     {
-        let held = self.hold(rt);
+        let held = self.held.lock(rt);
         // for the proof alone: the history replays
         let _replays = held.database().history();
-        let let_go = held.fold(seat);
+        let unkept = held.fold(seat);
         drop(held);
-        drop(let_go);
+        drop(unkept);
     }
 
-    /// Waits until a ticket waits, the end was told or the time is up, and says whether a ticket waits.
-    pub fn await_work<R: Wait + Clock>(&self, rt: &R, most: Duration) -> bool
-        ensures { (d : Content) × Replays d × (result ≡ has_waiting d.state) }
-    {
-        let bell = &self.bell;
-        let held = self.hold(rt);
-        let (held, _timeout) = bell.work.wait_timeout_while(rt, held, most, |held| {
-            !held.database().waiting() && !bell.is_over()
-        });
-        held.database().waiting()
-    }
-
-    /// Tells the workers that the end has come.
+    /// Wakes the workers, since the end has come.
     pub fn finish<R: Wait>(&self, rt: &R) {
-        let held = self.hold(rt);
+        let held = self.held.lock(rt);
         self.bell.ring_out();
         drop(held);
     }
 
-    /// Whether the end was told.
+    /// Whether the end was announced.
     pub fn is_over(&self) -> bool {
         self.bell.is_over()
     }

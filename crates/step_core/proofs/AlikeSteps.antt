@@ -35,15 +35,16 @@ use Rattle.commit_core.specs.declared.ticket.Ticket.{Ticket}
 use Rattle.commit_core.specs.declared.verdict.PeerView.{PeerView}
 use Rattle.commit_core.specs.declared.verdict.Verdict.{Verdict}
 use Rattle.commit_core.specs.declared.verdict.Verdict.TheVariants as verdicts
-use Rattle.step_core.specs.Asks.{asked_with, is_name_held, may_be_asked, may_have_one_more, must_have_ends, new_ticket, with_ticket}
+use Rattle.step_core.specs.Asks.{asked_with, is_name_held, may_be_asked, may_have_one_more, must_have_ends, new_ticket, with_ticket, constraints_for}
 use Rattle.step_core.specs.Consistent.{IsConsistent, count}
-use Rattle.step_core.specs.Grants.{asking, committed, ended, granted, held_by, job_of, judged, name_of_grant, path_of, taken, told_in_vain, verdict_on, view_of, with_name}
+use Rattle.step_core.specs.Grants.{asking, committed, ended, granted, held_by, job_of, judged, name_of_grant, path_of, taken, answered_in_vain, verdict_on, view_of, with_name}
 use Rattle.step_core.specs.Names.{is_of_grant}
 use Rattle.step_core.specs.Outcomes.{Outcome, decided, done, must_be_down, must_be_known, must_be_up, must_have_a_number, must_take_initiations, must_take_updates}
-use Rattle.step_core.specs.Reloads.{after_reload, must_have_links}
+use Rattle.link_reload.specs.Reloads.{must_have_links}
+use Rattle.step_core.specs.Reloads.{after_reload}
 use Rattle.step_core.specs.States.{State, affected, asked, in_session, is_awaited_as, is_peer, next_number, peer_at, put_peer, synchronized}
 use Rattle.step_core.specs.Steps.{after_delete, after_down, after_expire, after_marker, after_refused, after_return, after_up, booked, deleted, drained, may_be_known, removal_asked, step}
-use Rattle.step_core.specs.Tickets.{constraints_for, first_waiting, is_name_asked, is_update_asked, searched_for, take_first, ticket_at}
+use Rattle.ticket_table.specs.Tickets.{first_waiting, is_name_asked, is_update_asked, searched_for, take_first, ticket_at}
 use Rattle.step_core.specs.declared.event.Event.{Event}
 use Rattle.step_core.specs.declared.event.Event.TheVariants.{Up, Report, Marker, Down, Expire, Drain, Refused as PeerRefused, Return, Delete, Ask, Take, Commit, Reload}
 use Rattle.step_core.specs.declared.event.Reply.TheVariants.{Booked, Job as JobOf}
@@ -330,21 +331,21 @@ module _ (s : State) (b : Lsps) (ns : List AwaitedName) (c : IsConsistent s) (pa
         last_ticket = refl;
       }
 
-  told_alike : (ticket : Ticket) (peers : List Peer) → AreAlike (record (ended s ticket) { peers = peers }) (record (ended (with_lists s b ns) ticket) { peers = peers })
-  told_alike ticket peers = kept peers (ended s ticket).tickets s.last_ticket
+  alike_with_message : (ticket : Ticket) (peers : List Peer) → AreAlike (record (ended s ticket) { peers = peers }) (record (ended (with_lists s b ns) ticket) { peers = peers })
+  alike_with_message ticket peers = kept peers (ended s ticket).tickets s.last_ticket
 
-  vain_alike : (ticket : Ticket) (purpose : Purpose) → AreAlike (told_in_vain (ended s ticket) ticket.peer purpose) (told_in_vain (ended (with_lists s b ns) ticket) ticket.peer purpose)
-  vain_alike ticket (purposes.Update plsp) = told_alike ticket s.peers
-  vain_alike ticket (purposes.Initiate name constraints) = told_alike ticket s.peers
-  vain_alike ticket (purposes.Answer request plsp constraints) = told_alike ticket _
+  vain_alike : (ticket : Ticket) (purpose : Purpose) → AreAlike (answered_in_vain (ended s ticket) ticket.peer purpose) (answered_in_vain (ended (with_lists s b ns) ticket) ticket.peer purpose)
+  vain_alike ticket (purposes.Update plsp) = alike_with_message ticket s.peers
+  vain_alike ticket (purposes.Initiate name constraints) = alike_with_message ticket s.peers
+  vain_alike ticket (purposes.Answer request plsp constraints) = alike_with_message ticket _
 
   judged_alike : (ticket : Ticket) (links : List ℕ) (v : Verdict) → AreAlikeOutcomes (judged s ticket links v) (judged (with_lists s b ns) ticket links v)
   judged_alike ticket links verdicts.Grant = (refl, granted_alike ticket links)
-  judged_alike ticket links verdicts.Answer = (refl, told_alike ticket _)
+  judged_alike ticket links verdicts.Answer = (refl, alike_with_message ticket _)
   judged_alike ticket links verdicts.Again = (refl, kept s.peers _ s.last_ticket)
   judged_alike ticket links verdicts.NoPath = (refl, vain_alike ticket ticket.purpose)
   judged_alike ticket links verdicts.GivenUp = (refl, vain_alike ticket ticket.purpose)
-  judged_alike ticket links verdicts.Gone = (refl, told_alike ticket s.peers)
+  judged_alike ticket links verdicts.Gone = (refl, alike_with_message ticket s.peers)
 
   commit_alike : (offer : Option (List ℕ)) (o : Option Ticket) → AreAlikeOutcomes (committed s offer o) (committed (with_lists s b ns) offer o)
   commit_alike offer None = (refl, here)

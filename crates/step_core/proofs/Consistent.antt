@@ -11,7 +11,7 @@ use Rattle.lsp_base.proofs.Distinct.{set_records_distinct}
 use Rattle.step_core.specs.Consistent.{AreRising, asked_as, count, IsConsistent, NoneAbove}
 use Rattle.step_core.specs.Names.{is_of_grant}
 use Rattle.step_core.specs.States.{State, is_peer, names_without, peer_at, put_peer}
-use Rattle.step_core.specs.Tickets.{AreInOrder}
+use Rattle.ticket_table.specs.Tickets.{AreInOrder}
 use Rattle.step_core.specs.declared.peer.Peer.{Peer}
 use Rattle.step_core.proofs.Counts.{count-exchanged, count-map, count-same}
 use Rattle.step_core.proofs.Kept.{HasPaths, KeepsPaths}

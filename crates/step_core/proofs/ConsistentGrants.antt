@@ -40,7 +40,7 @@ use Rattle.step_core.proofs.Kept.{no_effect-keeps, one_record-keeps}
 use Rattle.step_core.proofs.PeerCounts.{put_peer-once, put_peer-own}
 use Rattle.step_core.proofs.Plain.{no_effect-plain, sets_numbered}
 use Rattle.step_core.proofs.RecordCounts.{known_numbered, put_awaiting, set-numbered}
-use Rattle.step_core.proofs.TicketOrders.{order_without}
+use Rattle.ticket_table.proofs.TicketOrders.{order_without}
 use Rattle.lsp_base.proofs.Distinct.{set_records_distinct}
 
 -- ---- SRP-IDs that are free
@@ -82,7 +82,7 @@ free_next s above rising = record {
 
 -- ---- peers
 
--- the peer that is asked, told or found in another session
+-- the peer that is asked, written to or found in another session
 pub keeps_once : (s : State) (p : Peer) → IsConsistent s → (m : ℕ) → count (is_peer m) (put_peer s.peers p) ≤ 1
 keeps_once s p c m = put_peer-once p m s.peers (c.peers m)
 

@@ -36,15 +36,16 @@ use Rattle.commit_core.specs.declared.ticket.Ticket.{Ticket}
 use Rattle.commit_core.specs.declared.verdict.PeerView.{PeerView}
 use Rattle.commit_core.specs.declared.verdict.Verdict.{Verdict}
 use Rattle.commit_core.specs.declared.verdict.Verdict.TheVariants as verdicts
-use Rattle.step_core.specs.Asks.{asked_with, may_be_asked, may_have_one_more, must_have_ends, new_ticket, with_ticket}
+use Rattle.step_core.specs.Asks.{asked_with, may_be_asked, may_have_one_more, must_have_ends, new_ticket, with_ticket, constraints_for}
 use Rattle.step_core.specs.Consistent.{AreRising, asked_as, count, has_srps_left, IsConsistent, NoneAbove}
-use Rattle.step_core.specs.Grants.{committed, ended, judged, name_of_grant, path_of, taken, telling, told_in_vain, verdict_on, view_of}
+use Rattle.step_core.specs.Grants.{committed, ended, judged, name_of_grant, path_of, taken, saying, answered_in_vain, verdict_on, view_of}
 use Rattle.step_core.specs.Names.{is_of_grant}
 use Rattle.step_core.specs.Outcomes.{Outcome, decided, done, must_be_down, must_be_known, must_be_up, must_have_a_number, must_take_initiations, must_take_updates}
-use Rattle.step_core.specs.Reloads.{after_reload, must_have_links}
-use Rattle.step_core.specs.States.{State, affected, asked, emptied, in_session, is_peer, next_number, out_of_session, peer_at, put_peer, synchronized, told, unknown_peer, empty}
+use Rattle.link_reload.specs.Reloads.{must_have_links}
+use Rattle.step_core.specs.Reloads.{after_reload}
+use Rattle.step_core.specs.States.{State, affected, asked, emptied, in_session, is_peer, next_number, out_of_session, peer_at, put_peer, synchronized, with_message, unknown_peer, empty}
 use Rattle.step_core.specs.Steps.{after_down, after_expire, after_marker, after_refused, after_return, after_up, booked, deleted, drained, may_be_known, step}
-use Rattle.step_core.specs.Tickets.{AreInOrder, constraints_for, first_waiting, put_back, ticket_at}
+use Rattle.ticket_table.specs.Tickets.{AreInOrder, first_waiting, put_back, ticket_at}
 use Rattle.step_core.specs.declared.event.Event.{Event}
 use Rattle.step_core.specs.declared.event.Event.TheVariants.{Up, Report, Marker, Down, Expire, Drain, Refused as PeerRefused, Return, Delete, Ask, Take, Commit, Reload}
 use Rattle.step_core.specs.declared.event.Reply.{Reply}
@@ -60,7 +61,7 @@ use Rattle.step_core.proofs.PeerCounts.{forgotten-other}
 use Rattle.step_core.proofs.Plain.{IsPlain, no_effect-plain, down-plain, expire-plain, marker-plain, refused-plain, report-plain, sets_numbered, up-plain}
 use Rattle.step_core.proofs.RecordCounts.{AllTake-map, known_numbered, none_awaited, put-same, taken_all}
 use Rattle.step_core.proofs.OtherTickets.{found_by_own}
-use Rattle.step_core.proofs.TicketOrders.{order_pushed, order_put_back, order_taken, order_without}
+use Rattle.ticket_table.proofs.TicketOrders.{order_pushed, order_put_back, order_taken, order_without}
 use Rattle.step_core.proofs.StepLaws.{booked-has, by_step, decided-has, in_vain-has}
 use Rattle.lsp_base.proofs.Removal.{has_filter}
 use Rattle.step_core.proofs.ConsistentGrants.{asked_rises, keeps_delete, keeps_granted, keeps_once, may_grant, no_name_yet}
@@ -190,11 +191,11 @@ keeps_tickets s t c base names peers tickets = keeps_lsps s t c base names (λ m
 keeps_ended : (s : State) (t : Ticket) → IsConsistent s → Keeps s (ended s t)
 keeps_ended s t c = keeps_tickets s (ended s t) c refl refl refl (order_without t.id s.last_ticket s.tickets c.tickets)
 
-keeps_told : (s : State) (t : Ticket) (message : Message) → IsConsistent s → Keeps s (telling (ended s t) t.peer message)
-keeps_told s t message c = keeps_lsps s _ c refl refl (keeps_once s (told (peer_at s.peers t.peer) message) c) (put_rise s.peers t.peer (told (peer_at s.peers t.peer) message) (number_of t.peer s.peers) (omega arith)) (order_without t.id s.last_ticket s.tickets c.tickets)
+keeps_with_message : (s : State) (t : Ticket) (message : Message) → IsConsistent s → Keeps s (saying (ended s t) t.peer message)
+keeps_with_message s t message c = keeps_lsps s _ c refl refl (keeps_once s (with_message (peer_at s.peers t.peer) message) c) (put_rise s.peers t.peer (with_message (peer_at s.peers t.peer) message) (number_of t.peer s.peers) (omega arith)) (order_without t.id s.last_ticket s.tickets c.tickets)
 
-keeps_in_vain : (s : State) (t : Ticket) → IsConsistent s → Keeps s (told_in_vain (ended s t) t.peer t.purpose)
-keeps_in_vain s t c = in_vain-has (Keeps s) (ended s t) t.peer t.purpose (keeps_ended s t c) (λ m. keeps_told s t m c)
+keeps_in_vain : (s : State) (t : Ticket) → IsConsistent s → Keeps s (answered_in_vain (ended s t) t.peer t.purpose)
+keeps_in_vain s t c = in_vain-has (Keeps s) (ended s t) t.peer t.purpose (keeps_ended s t c) (λ m. keeps_with_message s t m c)
 
 -- a ticket is searched for again only where it has tries left
 offer_again : (gone acceptable low request many used : Bool) → (if gone then verdicts.Gone else (if acceptable then (if request then verdicts.Answer else (if many || used then verdicts.GivenUp else verdicts.Grant)) else (if low then verdicts.Again else verdicts.GivenUp))) ≡ verdicts.Again → low ≡ true
@@ -227,7 +228,7 @@ keeps_again s t offer there is c =
 
 keeps_judged : (s : State) (t : Ticket) (offer : Option (List ℕ)) (v : Verdict) → ticket_at s.tickets t.id ≡ Some t → verdict_on s t offer ≡ v → IsConsistent s → Keeps s (judged s t (unwrap_or offer []) v).state
 keeps_judged s t offer verdicts.Grant there is c = keeps_granted s t (unwrap_or offer []) c (may_grant s t offer is)
-keeps_judged s t offer verdicts.Answer there is c = keeps_told s t _ c
+keeps_judged s t offer verdicts.Answer there is c = keeps_with_message s t _ c
 keeps_judged s t offer verdicts.Again there is c = keeps_again s t offer there is c
 keeps_judged s t offer verdicts.NoPath there is c = keeps_in_vain s t c
 keeps_judged s t offer verdicts.GivenUp there is c = keeps_in_vain s t c

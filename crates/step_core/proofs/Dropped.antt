@@ -15,7 +15,7 @@ use Rattle.sync_rules.specs.Peers.{is_stale_of, is_of_peer, marker_effect, up_ef
 use Rattle.lsp_base.specs.Pending.{is_grant_as}
 use Rattle.delegate_rules.specs.Refusals.{refused_by, refused_effect}
 use Rattle.delegate_rules.specs.Returns.{given_back}
-use Rattle.delegate_rules.specs.Effects.{goes_by_report, report_effect_by, goes_by_removal, removal_effect_by, told_effect, is_reserved, is_too_many, allowed, report_result}
+use Rattle.delegate_rules.specs.Effects.{goes_by_report, report_effect_by, goes_by_removal, removal_effect_by, reported_effect, is_reserved, is_too_many, allowed, report_result}
 use Rattle.step_core.specs.Steps.{removal_asked}
 
 -- the paths that stand have what the effect drops
@@ -58,13 +58,13 @@ removal_by-has : (granted : Bool) (base : Lsps) (n : ℕ) (r : StateReport) → 
 unfolding removal_effect_by
 removal_by-has granted base n r = has_filter (goes_by_removal granted n r) base.paths
 
-told-by : (base : Lsps) (removes : Bool) (removal report : Effect) → HasDropped base removal → HasDropped base report → HasDropped base (if removes then removal else report)
-told-by base true removal report a b = a
-told-by base false removal report a b = b
+either-of : (base : Lsps) (removes : Bool) (removal report : Effect) → HasDropped base removal → HasDropped base report → HasDropped base (if removes then removal else report)
+either-of base true removal report a b = a
+either-of base false removal report a b = b
 
-told-has : (base : Lsps) (te : Base) (n : ℕ) (r : StateReport) → HasDropped base (told_effect base te n r)
-unfolding told_effect
-told-has base te n r = told-by base r.remove _ _ (removal_by-has (has_grant base.paths n r.plsp) base n r) (report_by-has (has_grant base.paths n r.plsp) _ base te n r)
+reported-has : (base : Lsps) (te : Base) (n : ℕ) (r : StateReport) → HasDropped base (reported_effect base te n r)
+unfolding reported_effect
+reported-has base te n r = either-of base r.remove _ _ (removal_by-has (has_grant base.paths n r.plsp) base n r) (report_by-has (has_grant base.paths n r.plsp) _ base te n r)
 
 allowed-has : (base : Lsps) (e given : Effect) (many : Bool) → HasDropped base given → (if many then Err TooManyPaths else Ok given) ≡ Ok e → HasDropped base e
 allowed-has base e given true has is = absurd (cc (is))
@@ -76,7 +76,7 @@ result-has base e given false has is = allowed-has base e given (is_too_many bas
 
 report-has : (base : Lsps) (te : Base) (n : ℕ) (r : StateReport) (e : Effect) → report_result base te n r ≡ Ok e → HasDropped base e
 unfolding report_result
-report-has base te n r e is = result-has base e (told_effect base te n r) (is_reserved r.plsp) (told-has base te n r) is
+report-has base te n r e is = result-has base e (reported_effect base te n r) (is_reserved r.plsp) (reported-has base te n r) is
 
 -- ---- what the PCE asks a peer for, and what the peer refuses
 

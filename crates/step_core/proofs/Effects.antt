@@ -16,7 +16,7 @@ use Rattle.delegate_rules.specs.Grants.{is_grant_met, is_grant_kept, is_grant_se
 use Rattle.lsp_base.specs.Pending.{is_grant_as}
 use Rattle.delegate_rules.specs.Refusals.{refused_by, refused_effect}
 use Rattle.delegate_rules.specs.Returns.{given_back}
-use Rattle.delegate_rules.specs.Effects.{is_replaced, goes_by_report, report_effect_by, is_removed, goes_by_removal, removal_effect_by, told_effect, is_reserved, is_too_many, allowed, report_result}
+use Rattle.delegate_rules.specs.Effects.{is_replaced, goes_by_report, report_effect_by, is_removed, goes_by_removal, removal_effect_by, reported_effect, is_reserved, is_too_many, allowed, report_result}
 use Rattle.step_core.specs.Grants.{granting}
 use Rattle.step_core.specs.Steps.{removal_asked}
 use Rattle.step_core.proofs.Others.{same_number, first_of_both, AllOwn, AllOwn-filter, AllOwn-map, IsOwn}
@@ -89,13 +89,13 @@ removal_by-own granted base n r = record {
   added = bound_grants-own (are_zero (identifiers_of r)) granted base.paths n r;
 }
 
-told-by : (removes : Bool) (n : ℕ) (removal report : Effect) → IsOwn n removal → IsOwn n report → IsOwn n (if removes then removal else report)
-told-by true n removal report a b = a
-told-by false n removal report a b = b
+either-of : (removes : Bool) (n : ℕ) (removal report : Effect) → IsOwn n removal → IsOwn n report → IsOwn n (if removes then removal else report)
+either-of true n removal report a b = a
+either-of false n removal report a b = b
 
-told-own : (n : ℕ) (base : Lsps) (te : Base) (r : StateReport) → IsOwn n (told_effect base te n r)
-unfolding told_effect
-told-own n base te r = told-by r.remove n _ _ (removal_by-own (has_grant base.paths n r.plsp) base n r) (report_by-own (has_grant base.paths n r.plsp) _ base.paths te n r)
+reported-own : (n : ℕ) (base : Lsps) (te : Base) (r : StateReport) → IsOwn n (reported_effect base te n r)
+unfolding reported_effect
+reported-own n base te r = either-of r.remove n _ _ (removal_by-own (has_grant base.paths n r.plsp) base n r) (report_by-own (has_grant base.paths n r.plsp) _ base.paths te n r)
 
 allowed-own : (n : ℕ) (e given : Effect) (many : Bool) → IsOwn n given → (if many then Err TooManyPaths else Ok given) ≡ Ok e → IsOwn n e
 allowed-own n e given true own is = absurd (cc (is))
@@ -107,7 +107,7 @@ result-own n e given base false own is = allowed-own n e given (is_too_many base
 
 pub report-own : (n : ℕ) (base : Lsps) (te : Base) (r : StateReport) (e : Effect) → report_result base te n r ≡ Ok e → IsOwn n e
 unfolding report_result
-report-own n base te r e is = result-own n e (told_effect base te n r) base (is_reserved r.plsp) (told-own n base te r) is
+report-own n base te r e is = result-own n e (reported_effect base te n r) base (is_reserved r.plsp) (reported-own n base te r) is
 
 -- ---- what the PCE asks a peer for, and what the peer refuses
 

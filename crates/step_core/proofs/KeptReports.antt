@@ -20,7 +20,7 @@ use Rattle.lsp_base.proofs.Distinct.{set_records_distinct}
 use Rattle.lsp_base.proofs.Removal.{has_filter}
 use Rattle.delegate_rules.specs.Reports.{are_zero, identifiers_of, reported_lsp, reported_path}
 use Rattle.delegate_rules.specs.Grants.{bound_grant, is_grant_bound, is_grant_kept, is_grant_met, is_grant_settled, moved_grant}
-use Rattle.delegate_rules.specs.Effects.{allowed, bound_grants, goes_by_removal, goes_by_report, is_nil, is_removed, is_replaced, is_too_many, one_record, records_left, removal_effect_by, report_effect_by, report_result, told_effect}
+use Rattle.delegate_rules.specs.Effects.{allowed, bound_grants, goes_by_removal, goes_by_report, is_nil, is_removed, is_replaced, is_too_many, one_record, records_left, removal_effect_by, report_effect_by, report_result, reported_effect}
 use Rattle.step_core.specs.Consistent.{asked_as, count}
 use Rattle.step_core.proofs.Counts.{one, count-exchanged, count-filter, count-filtered, count-fewer, count-map, count-none, count_of_none}
 use Rattle.step_core.proofs.Kept.{HasPaths, KeepsPaths, count-split, none_chosen, once, put-apart, some_of, take-fewer}
@@ -298,13 +298,13 @@ removal_by-keeps granted base n r has bound h = record {
 
 -- ---- any report
 
-told-by : (base : Lsps) (n : ℕ) (removes : Bool) (removal report : Effect) → KeepsPaths base n removal → KeepsPaths base n report → KeepsPaths base n (if removes then removal else report)
-told-by base n true removal report a b = a
-told-by base n false removal report a b = b
+either-of : (base : Lsps) (n : ℕ) (removes : Bool) (removal report : Effect) → KeepsPaths base n removal → KeepsPaths base n report → KeepsPaths base n (if removes then removal else report)
+either-of base n true removal report a b = a
+either-of base n false removal report a b = b
 
-told-keeps : (base : Lsps) (te : Base) (n : ℕ) (r : StateReport) → (r.plsp == 0) ≡ false → HasPaths base → KeepsPaths base n (told_effect base te n r)
-unfolding told_effect
-told-keeps base te n r bound h = told-by base n r.remove _ _ (removal_by-keeps (has_grant base.paths n r.plsp) base n r refl bound h) (report_by-keeps (has_grant base.paths n r.plsp) base te n r refl bound h)
+reported-keeps : (base : Lsps) (te : Base) (n : ℕ) (r : StateReport) → (r.plsp == 0) ≡ false → HasPaths base → KeepsPaths base n (reported_effect base te n r)
+unfolding reported_effect
+reported-keeps base te n r bound h = either-of base n r.remove _ _ (removal_by-keeps (has_grant base.paths n r.plsp) base n r refl bound h) (report_by-keeps (has_grant base.paths n r.plsp) base te n r refl bound h)
 
 allowed-keeps : (base : Lsps) (n : ℕ) (e given : Effect) (many : Bool) → KeepsPaths base n given → (if many then Err TooManyPaths else Ok given) ≡ Ok e → KeepsPaths base n e
 allowed-keeps base n e given true keeps is = absurd (cc (is))
@@ -317,4 +317,4 @@ result-keeps base n e given false false keeps is = allowed-keeps base n e given 
 
 pub report-keeps : (base : Lsps) (te : Base) (n : ℕ) (r : StateReport) (e : Effect) → HasPaths base → report_result base te n r ≡ Ok e → KeepsPaths base n e
 unfolding report_result
-report-keeps base te n r e h is = result-keeps base n e (told_effect base te n r) (r.plsp == 0) (r.plsp == 0xFFFFF) (λ bound. told-keeps base te n r bound h) is
+report-keeps base te n r e h is = result-keeps base n e (reported_effect base te n r) (r.plsp == 0) (r.plsp == 0xFFFFF) (λ bound. reported-keeps base te n r bound h) is

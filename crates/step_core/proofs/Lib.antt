@@ -1,5 +1,4 @@
 pub mod PeerLists
-pub mod TicketLists
 pub mod Others
 pub mod OtherTickets
 pub mod Effects
@@ -13,8 +12,6 @@ pub mod SoundSteps
 pub mod Concluded
 pub mod AskTests
 pub mod NameEntries
-pub mod TicketEntries
-pub mod TicketOrders
 pub mod Counts
 pub mod RecordCounts
 pub mod NameCounts

@@ -14,7 +14,7 @@ use Rattle.step_core.specs.declared.names.AwaitedName.{AwaitedName}
 use Rattle.step_core.specs.Consistent.{count}
 use Rattle.step_core.proofs.Counts.{one, without_first-one, without_first-other}
 
--- the grant's SRP-ID tells its name's
+-- the grant's SRP-ID gives its name's
 same_srp : (part : Part) (s t : ℕ) → has_srp (Some s) part ≡ true → has_srp (Some t) part ≡ (t == s)
 same_srp (Reported i) s t is = absurd (cc (is))
 same_srp (Granted k) s t is = ap (λ (j : ℕ). t == j) (sym (eqb-true s k is))

@@ -10,7 +10,7 @@ use Rattle.lsp_base.specs.declared.path.Path.{Path}
 use Rattle.commit_core.specs.declared.ticket.Ticket.{Ticket}
 use Rattle.step_core.specs.Grants.{with_name}
 use Rattle.step_core.specs.States.{is_grant_of_name, names_without}
-use Rattle.step_core.specs.Tickets.{edit_first, drop_first, is_ticket, ticket_at}
+use Rattle.ticket_table.specs.Tickets.{edit_first, drop_first, is_ticket, ticket_at}
 use Rattle.step_core.specs.declared.names.AwaitedName.{AwaitedName}
 use Rattle.step_core.proofs.Others.{first_of_both, filter-skip, filter-both, append-nil, AllOwn}
 

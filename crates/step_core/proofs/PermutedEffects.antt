@@ -19,7 +19,7 @@ use Rattle.lsp_base.specs.declared.path.Path.{Path}
 use Rattle.lsp_base.specs.declared.why.Why.{Why}
 use Rattle.lsp_base.specs.declared.why.Why.TheVariants.{BadReport, NameInUse, NotCreatedHere, NotDelegated, Pending, TooManyPaths, UnknownLsp}
 use Rattle.sync_rules.specs.Peers.{down_effect, expire_effect, is_of_peer, is_stale_of, left_alone, marker_effect, up_effect}
-use Rattle.delegate_rules.specs.Effects.{allowed, bound_grants, goes_by_removal, goes_by_report, is_nil, is_reserved, is_too_many, removal_effect, removal_effect_by, report_effect, report_effect_by, report_result, told_effect}
+use Rattle.delegate_rules.specs.Effects.{allowed, bound_grants, goes_by_removal, goes_by_report, is_nil, is_reserved, is_too_many, removal_effect, removal_effect_by, report_effect, report_effect_by, report_result, reported_effect}
 use Rattle.delegate_rules.specs.Grants.{bound_grant, is_grant_bound, is_grant_kept, moved_grant}
 use Rattle.delegate_rules.specs.Refusals.{record_ended, refused_by, refused_effect, removal_cleared}
 use Rattle.delegate_rules.specs.Reports.{are_zero, identifiers_of, is_down, old_removing, reported_path}
@@ -153,9 +153,9 @@ removal-same : (a b : Lsps) → AreSameLsps a b → (n : ℕ) (r : StateReport) 
 removal-same a b same n r =
     subst (λ (g : Bool). DoTheSame (removal_effect a n r) (removal_effect_by g b n r)) (sym (any-permuted (is_grant_of n r.plsp) a.paths b.paths same.paths)) (removal_by-same (has_grant a.paths n r.plsp) a b same n r)
 
-told-same : (a b : Lsps) → AreSameLsps a b → (te : Base) (n : ℕ) (r : StateReport) → DoTheSame (told_effect a te n r) (told_effect b te n r)
-unfolding told_effect
-told-same a b same te n r = by r.remove
+reported-same : (a b : Lsps) → AreSameLsps a b → (te : Base) (n : ℕ) (r : StateReport) → DoTheSame (reported_effect a te n r) (reported_effect b te n r)
+unfolding reported_effect
+reported-same a b same te n r = by r.remove
   where
     by : (c : Bool) → DoTheSame (if c then removal_effect a n r else report_effect a te n r) (if c then removal_effect b n r else report_effect b te n r)
     by true = removal-same a b same n r
@@ -182,9 +182,9 @@ pub result-same : (a b : Lsps) → AreSameLsps a b → (te : Base) (n : ℕ) (r 
 unfolding report_result
 result-same a b same te n r = by (is_reserved r.plsp)
   where
-    by : (c : Bool) → ComeToTheSame (if c then Err BadReport else allowed a (told_effect a te n r)) (if c then Err BadReport else allowed b (told_effect b te n r))
+    by : (c : Bool) → ComeToTheSame (if c then Err BadReport else allowed a (reported_effect a te n r)) (if c then Err BadReport else allowed b (reported_effect b te n r))
     by true = refl
-    by false = allowed-same a b same _ _ (told-same a b same te n r)
+    by false = allowed-same a b same _ _ (reported-same a b same te n r)
 
 -- ---- what a peer refuses
 

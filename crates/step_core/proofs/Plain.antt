@@ -18,7 +18,7 @@ use Rattle.lsp_base.proofs.Removal.{has_filter}
 use Rattle.sync_rules.specs.Peers.{is_stale_of, is_of_peer, left_alone, marker_effect, up_effect, down_effect, expire_effect}
 use Rattle.delegate_rules.specs.Reports.{are_zero, identifiers_of, reported_lsp, reported_path}
 use Rattle.delegate_rules.specs.Grants.{is_grant_met, is_grant_kept, is_grant_settled, is_grant_bound, moved_grant, bound_grant}
-use Rattle.delegate_rules.specs.Effects.{is_replaced, is_removed, is_nil, goes_by_report, report_effect_by, goes_by_removal, removal_effect_by, bound_grants, told_effect, is_too_many, allowed, one_record, report_result}
+use Rattle.delegate_rules.specs.Effects.{is_replaced, is_removed, is_nil, goes_by_report, report_effect_by, goes_by_removal, removal_effect_by, bound_grants, reported_effect, is_too_many, allowed, one_record, report_result}
 use Rattle.delegate_rules.specs.Refusals.{has_no_other, records_ended, removal_cleared, refused_by, refused_effect}
 use Rattle.step_core.specs.Consistent.{count}
 use Rattle.step_core.proofs.Counts.{one, count-filtered, count-map, count-none, count-part}
@@ -197,13 +197,13 @@ removal_by-plain granted base n r bound =
       numbered = takes.numbered;
     }
 
-told-by : (base : Lsps) (n : ℕ) (removes : Bool) (removal report : Effect) → IsPlain base n removal → IsPlain base n report → IsPlain base n (if removes then removal else report)
-told-by base n true removal report a b = a
-told-by base n false removal report a b = b
+either-of : (base : Lsps) (n : ℕ) (removes : Bool) (removal report : Effect) → IsPlain base n removal → IsPlain base n report → IsPlain base n (if removes then removal else report)
+either-of base n true removal report a b = a
+either-of base n false removal report a b = b
 
-told-plain : (base : Lsps) (te : Base) (n : ℕ) (r : StateReport) → (r.plsp == 0) ≡ false → IsPlain base n (told_effect base te n r)
-unfolding told_effect
-told-plain base te n r bound = told-by base n r.remove _ _ (removal_by-plain (has_grant base.paths n r.plsp) base n r bound) (report_by-plain (has_grant base.paths n r.plsp) base te n r bound)
+reported-plain : (base : Lsps) (te : Base) (n : ℕ) (r : StateReport) → (r.plsp == 0) ≡ false → IsPlain base n (reported_effect base te n r)
+unfolding reported_effect
+reported-plain base te n r bound = either-of base n r.remove _ _ (removal_by-plain (has_grant base.paths n r.plsp) base n r bound) (report_by-plain (has_grant base.paths n r.plsp) base te n r bound)
 
 allowed-plain : (base : Lsps) (n : ℕ) (e given : Effect) (many : Bool) → IsPlain base n given → (if many then Err TooManyPaths else Ok given) ≡ Ok e → IsPlain base n e
 allowed-plain base n e given true plain is = absurd (cc (is))
@@ -216,7 +216,7 @@ result-plain base n e given false false plain is = allowed-plain base n e given 
 
 pub report-plain : (base : Lsps) (te : Base) (n : ℕ) (r : StateReport) (e : Effect) → report_result base te n r ≡ Ok e → IsPlain base n e
 unfolding report_result
-report-plain base te n r e is = result-plain base n e (told_effect base te n r) (r.plsp == 0) (r.plsp == 0xFFFFF) (λ bound. told-plain base te n r bound) is
+report-plain base te n r e is = result-plain base n e (reported_effect base te n r) (r.plsp == 0) (r.plsp == 0xFFFFF) (λ bound. reported-plain base te n r bound) is
 
 -- ---- what a peer refuses, and what is given back to it
 

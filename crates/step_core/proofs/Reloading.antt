@@ -1,13 +1,12 @@
--- What a reload leaves: nodes, owners, and ends and addresses of links; and the book of the network.
-use Rattle.std.proofs.Common.{◌≡◌, ◌∙◌, ◌<◌, ◌+◌, ◌&&◌, ℕ, zero, suc, Bool, true, false, List, [], ◌∷◌, add-one, drop, drop-cons, get_or, length, map, sym, ap, refl, subst, arith}
+-- What is known over a network with other values of its links, and what is unreserved after a reload of one link.
+use Rattle.std.proofs.Common.{◌≡◌, ◌∙◌, ◌<◌, ◌&&◌, ℕ, zero, suc, Bool, true, List, [], ◌∷◌, length, map, sym, ap, refl, subst, arith}
 use Rattle.std.proofs.Math.IntN.{+ℤ_assoc, +ℤ_comm, -ℤ-+ℤ_cancel}
 use Rattle.std.proofs.lemmas.Bool.Decides.{nat_tests}
 use Rattle.std.specs.Prelude.{ℤ, nat_lt, ◌≢◌, pos, neg_ℤ, ◌+ℤ◌, ◌-ℤ◌, Option, option_map, unwrap_or}
-use Rattle.std.specs.List.{list_all}
 use Rattle.te_base.specs.declared.network.Link.{Link}
 use Rattle.te_base.specs.Base.{Base}
-use Rattle.te_base.specs.Values.{Ends, Values, IsSameNetwork, ends_in, set_all_values, set_values, with_all_values, with_link_values, with_values}
-use Rattle.te_base.proofs.Values.{own_values, same-refl, same-set, same-trans, set-other}
+use Rattle.te_base.specs.Values.{Ends, Values, IsSameNetwork, ends_in, set_all_values, set_values, with_all_values, with_values}
+use Rattle.te_base.proofs.Values.{own_values, set-other}
 use Rattle.lsp_base.specs.Refusals.{unless}
 use Rattle.lsp_base.specs.Shares.{reservable, reserved, unreserved}
 use Rattle.lsp_base.specs.declared.path.Path.{Path}
@@ -15,45 +14,12 @@ use Rattle.lsp_base.specs.declared.why.Why.TheVariants.{UnknownLink}
 use Rattle.step_core.specs.Bases.{known_in, state_over}
 use Rattle.step_core.specs.Laws.{MovesAlone}
 use Rattle.step_core.specs.Outcomes.{decided, done}
-use Rattle.step_core.specs.Reloads.{after_reload, with_entries}
+use Rattle.step_core.specs.Reloads.{after_reload}
 use Rattle.step_core.specs.Steps.{step}
 use Rattle.step_core.specs.States.{State}
 use Rattle.step_core.specs.declared.base.Base as known
 use Rattle.step_core.specs.declared.event.Event.TheVariants.{Reload}
-use Rattle.step_core.specs.declared.reload.LinkReload.{LinkReload}
-
-pub with_entries-same : (te : Base) (entries : List LinkReload) → IsSameNetwork te (with_entries te entries)
-with_entries-same te [] = same-refl te
-with_entries-same te (e ∷ es) = same-trans te (with_link_values te e.link e.values) (with_entries te (e ∷ es)) (same-set te e.link e.values) (with_entries-same (with_link_values te e.link e.values) es)
-
--- ---- one entry after the other
-
-next_entry : (xs : List LinkReload) (i : ℕ) (x : LinkReload) → i < length xs → x ≡ get_or xs i x → drop i xs ≡ x ∷ drop (i + 1) xs
-next_entry xs i x less is =
-    let cons = drop-cons xs i x less in
-    let next = add-one i in
-    cc
-
-pub network_set : (old new first : Base) (xs : List LinkReload) (i : ℕ) (x : LinkReload) → i < length xs → x ≡ get_or xs i x → new ≡ with_link_values old x.link x.values
-    → with_entries old (drop i xs) ≡ with_entries first xs → with_entries new (drop (i + 1) xs) ≡ with_entries first xs
-network_set old new first xs i x less is new_is before =
-    ap (λ (te : Base). with_entries te (drop (i + 1) xs)) new_is ∙ ap (with_entries old) (sym (next_entry xs i x less is)) ∙ before
-
-both : (a b : Bool) → (a && b) ≡ true → (a ≡ true) × (b ≡ true)
-both true b is = (refl, is)
-both false b is = absurd (cc (is))
-
-is_less : (n count : ℕ) → nat_lt n count ≡ true → n < count
-is_less n count is = grind (arith, nat_tests)
-
--- each entry names one of `count` links
-abbrev pub AreLinks : ℕ → List LinkReload → Type 0
-AreLinks count xs = list_all (λ e. nat_lt e.link count) xs ≡ true
-
-pub this_and_next : (count : ℕ) (xs : List LinkReload) (i : ℕ) (x : LinkReload) → i < length xs → x ≡ get_or xs i x → AreLinks count (drop i xs) → (x.link < count) × AreLinks count (drop (i + 1) xs)
-this_and_next count xs i x less is all =
-    let two = both (nat_lt x.link count) (list_all (λ e. nat_lt e.link count) (drop (i + 1) xs)) (subst (AreLinks count) (next_entry xs i x less is) all) in
-    (is_less x.link count two.0, two.1)
+use Rattle.link_reload.specs.declared.entry.LinkReload.{LinkReload}
 
 -- ---- what is known over a network, and over the same with other values
 

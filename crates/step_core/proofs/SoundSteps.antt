@@ -22,14 +22,15 @@ use Rattle.commit_core.specs.declared.verdict.Verdict.TheVariants as verdicts
 use Rattle.delegate_rules.specs.Effects.{report_result}
 use Rattle.delegate_rules.specs.Returns.{must_be_held}
 use Rattle.initiate_rules.specs.Checks.{may_be_deleted}
-use Rattle.step_core.specs.Asks.{asked_with, may_be_asked, must_have_ends, may_have_one_more, with_ticket, new_ticket}
+use Rattle.step_core.specs.Asks.{asked_with, may_be_asked, must_have_ends, may_have_one_more, with_ticket, new_ticket, constraints_for}
 use Rattle.step_core.specs.Grants.{committed, granted, judged, path_of, taken, verdict_on, view_of}
 use Rattle.step_core.specs.Outcomes.{Outcome, decided, done, must_be_up, must_be_down, must_be_known, must_take_updates, must_take_initiations, must_have_a_number}
-use Rattle.step_core.specs.Reloads.{must_have_links, after_reload}
+use Rattle.link_reload.specs.Reloads.{must_have_links}
+use Rattle.step_core.specs.Reloads.{after_reload}
 use Rattle.step_core.specs.Sound.{IsCovered, IsSoundGrant}
 use Rattle.step_core.specs.States.{State}
 use Rattle.step_core.specs.Steps.{booked, step, may_be_known, after_up, after_marker, after_down, after_expire, drained, after_refused, after_return, deleted}
-use Rattle.step_core.specs.Tickets.{constraints_for, first_waiting, is_ticket, ticket_at}
+use Rattle.ticket_table.specs.Tickets.{first_waiting, is_ticket, ticket_at}
 use Rattle.step_core.specs.declared.event.Event.{Event}
 use Rattle.step_core.specs.declared.event.Event.TheVariants.{Up, Report, Marker, Down, Expire, Drain, Refused as PeerRefused, Return, Delete, Ask, Take, Commit, Reload}
 use Rattle.step_core.specs.declared.event.Reply.{Reply}

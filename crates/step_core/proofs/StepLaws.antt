@@ -28,19 +28,20 @@ use Rattle.step_core.specs.declared.event.Event.{Event}
 use Rattle.step_core.specs.declared.event.Event.TheVariants.{Up, Report, Marker, Down, Expire, Drain, Refused as PeerRefused, Return, Delete, Ask, Take, Commit, Reload}
 use Rattle.step_core.specs.declared.event.Reply.{Reply}
 use Rattle.step_core.specs.declared.event.Reply.TheVariants.{Refused}
-use Rattle.step_core.specs.States.{State, affected, moves_paths, peer_at, in_session, synchronized, out_of_session, emptied, asked, told, next_number}
+use Rattle.step_core.specs.States.{State, affected, moves_paths, peer_at, in_session, synchronized, out_of_session, emptied, asked, with_message, next_number}
 use Rattle.step_core.specs.Outcomes.{Outcome, decided, done, must_be_up, must_be_down, must_be_known, must_take_updates, must_take_initiations, must_have_a_number}
-use Rattle.step_core.specs.Asks.{may_be_asked, must_have_ends, may_have_one_more, with_ticket, new_ticket, asked_with}
-use Rattle.step_core.specs.Grants.{asking, telling, ended, granting, granted, told_in_vain, judged, committed, taken, path_of, message_of, name_of_grant, verdict_on}
-use Rattle.step_core.specs.Reloads.{must_have_links, after_reload}
-use Rattle.step_core.specs.declared.reload.LinkReload.{LinkReload}
+use Rattle.step_core.specs.Asks.{may_be_asked, must_have_ends, may_have_one_more, with_ticket, new_ticket, asked_with, constraints_for}
+use Rattle.step_core.specs.Grants.{asking, saying, ended, granting, granted, answered_in_vain, judged, committed, taken, path_of, message_of, name_of_grant, verdict_on}
+use Rattle.link_reload.specs.Reloads.{must_have_links}
+use Rattle.step_core.specs.Reloads.{after_reload}
+use Rattle.link_reload.specs.declared.entry.LinkReload.{LinkReload}
 use Rattle.step_core.specs.Steps.{step, booked, may_be_known, after_up, after_marker, after_down, after_expire, drained, after_refused, after_return, removal_asked, after_delete, deleted}
-use Rattle.step_core.specs.Tickets.{constraints_for, first_waiting, is_ticket, is_waiting, put_back, searched_for, ticket_at, waiting_again, without_ticket}
+use Rattle.ticket_table.specs.Tickets.{first_waiting, is_ticket, is_waiting, put_back, searched_for, ticket_at, waiting_again, without_ticket}
 use Rattle.step_core.specs.Laws.{peer_of, peer_of_ticket, OthersStay, CountsRise}
 use Rattle.step_core.specs.declared.peer.Peer.{Peer}
 use Rattle.step_core.proofs.Others.{IsOwn, same_number, other_paths, other_records, other_peers, changed-paths, changed-records, changed-known, with_stale-paths, with_stale-records, peer_at-number, put_peer-others, forget-others}
 use Rattle.step_core.proofs.Effects.{up-own, marker-own, down-own, expire-own, report-own, refused-own, return-own, removal_asked-own, granting-own}
-use Rattle.step_core.proofs.Reloading.{with_entries-same}
+use Rattle.link_reload.proofs.Entries.{with_entries-same}
 use Rattle.step_core.proofs.OtherTickets.{other_names, other_tickets, names_without-others, same_others, with_name-others, with_ticket-others, edit-others, drop-others, only_own, found_by_own}
 
 -- what holds of the state, and of what follows where no test fails, holds after
@@ -58,14 +59,14 @@ pub asked-has : (P : State → Type 0) (s : State) (n : ℕ) (purpose : Purpose)
 asked-has P s n purpose None here there = here
 asked-has P s n purpose (Some c) here there = decided-has P s (must_have_ends s.te c ⨟ may_have_one_more s.tickets) (with_ticket s (new_ticket s n purpose c)) here (there (new_ticket s n purpose c) refl refl)
 
--- what holds of a state to which messages are told holds after a ticket that ended in vain
-pub in_vain-has : (P : State → Type 0) (s : State) (n : ℕ) (purpose : Purpose) → P s → ((m : Message) → P (telling s n m)) → P (told_in_vain s n purpose)
+-- what holds of a state to which messages are added holds after a ticket that ended in vain
+pub in_vain-has : (P : State → Type 0) (s : State) (n : ℕ) (purpose : Purpose) → P s → ((m : Message) → P (saying s n m)) → P (answered_in_vain s n purpose)
 in_vain-has P s n (purposes.Update plsp) here there = here
 in_vain-has P s n (purposes.Initiate name constraints) here there = here
 in_vain-has P s n (purposes.Answer request plsp constraints) here there = there _
 
 -- what each verdict does
-judged-has : (P : State → Type 0) (s : State) (t : Ticket) (links : List ℕ) (v : Verdict) → P (granted s t links) → P (record s { tickets = put_back s.tickets t.id }) → P (ended s t) → ((m : Message) → P (telling (ended s t) t.peer m)) → P (judged s t links v).state
+judged-has : (P : State → Type 0) (s : State) (t : Ticket) (links : List ℕ) (v : Verdict) → P (granted s t links) → P (record s { tickets = put_back s.tickets t.id }) → P (ended s t) → ((m : Message) → P (saying (ended s t) t.peer m)) → P (judged s t links v).state
 judged-has P s t links verdicts.Grant grant again end tell = grant
 judged-has P s t links verdicts.Answer grant again end tell = tell _
 judged-has P s t links verdicts.Again grant again end tell = again
@@ -272,7 +273,7 @@ commit_others s offer (Some t) distinct is = decided-has (OthersStay (Some t.pee
     (granted_others s t (unwrap_or offer []) distinct is)
     (kept_others t.peer s _ refl refl refl (edit-others t.peer (is_ticket t.id) waiting_again s.tickets (λ u. refl) (only_own t.peer (is_ticket t.id) s.tickets t is (same_number t.peer))))
     (kept_others t.peer s _ refl refl refl (ended_tickets s t is))
-    (λ m. kept_others t.peer s _ refl (put_peer-others t.peer (told (peer_at s.peers t.peer) m) s.peers (peer_at-number t.peer s.peers)) refl (ended_tickets s t is)))
+    (λ m. kept_others t.peer s _ refl (put_peer-others t.peer (with_message (peer_at s.peers t.peer) m) s.peers (peer_at-number t.peer s.peers)) refl (ended_tickets s t is)))
 
 reload_others : (s : State) (entries : List LinkReload) → OthersStay None s (after_reload s entries)
 reload_others s entries = record { paths = IsPermutation-refl _; records = IsPermutation-refl _; known = λ m plsp other. refl; peers = refl; names = IsPermutation-refl _; tickets = refl }

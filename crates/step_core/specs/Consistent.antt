@@ -6,7 +6,7 @@ use Rattle.lsp_base.specs.Pending.{is_grant_as, is_removed_as}
 use Rattle.initiate_rules.specs.Numbers.{is_srp_used}
 use Rattle.step_core.specs.Names.{is_of_grant}
 use Rattle.step_core.specs.States.{State, is_peer, next_number, peer_at}
-use Rattle.step_core.specs.Tickets.{AreInOrder}
+use Rattle.ticket_table.specs.Tickets.{AreInOrder}
 use Rattle.step_core.specs.declared.peer.Peer.{Peer}
 
 -- how many of the items pass a test

@@ -29,8 +29,8 @@ use Rattle.step_core.specs.declared.event.Reply.TheVariants.{Job as JobOf, Idle,
 use Rattle.step_core.specs.declared.job.Job.{Job}
 use Rattle.step_core.specs.declared.names.AwaitedName.{AwaitedName}
 use Rattle.step_core.specs.Outcomes.{Outcome, decided}
-use Rattle.step_core.specs.States.{State, peer_at, put_peer, asked, told, next_number, affected}
-use Rattle.step_core.specs.Tickets.{first_waiting, ticket_at, searched_for, take_first, put_back, without_ticket}
+use Rattle.step_core.specs.States.{State, peer_at, put_peer, asked, with_message, next_number, affected}
+use Rattle.ticket_table.specs.Tickets.{first_waiting, ticket_at, searched_for, take_first, put_back, without_ticket}
 
 -- ---- a ticket is taken
 
@@ -64,8 +64,8 @@ abbrev pub asking : State → ℕ → Effect → Message → State
 asking s n e message = record (affected s n e) { peers = put_peer s.peers (asked (peer_at s.peers n) message) }
 
 -- the state after a message to a peer that takes no number
-abbrev pub telling : State → ℕ → Message → State
-telling s n message = record s { peers = put_peer s.peers (told (peer_at s.peers n) message) }
+abbrev pub saying : State → ℕ → Message → State
+saying s n message = record s { peers = put_peer s.peers (with_message (peer_at s.peers n) message) }
 
 -- the ticket is gone
 abbrev pub ended : State → Ticket → State
@@ -81,7 +81,7 @@ message_of links srp c numbers (purposes.Update plsp) = update_message links srp
 message_of links srp c numbers (purposes.Initiate name constraints) = initiate_message links srp name c numbers
 message_of links srp c numbers (purposes.Answer request plsp constraints) = answer_message links request c.minimise (cost_of c.minimise links numbers) numbers
 
--- the name of an initiation is held until a report tells of its LSP
+-- the name of an initiation is held until a report names its LSP
 abbrev pub name_of_grant : ℕ → ℕ → Purpose → Option AwaitedName
 name_of_grant n srp (purposes.Update plsp) = None
 name_of_grant n srp (purposes.Initiate name constraints) = Some (record { peer = n; srp = srp; name = name })
@@ -112,16 +112,16 @@ granted s t links =
 
 -- the request is answered, and nothing is booked
 abbrev pub answered : State → Ticket → List ℕ → State
-answered s t links = telling (ended s t) t.peer (message_of s.te.links (next_number s t.peer) t.constraints links t.purpose)
+answered s t links = saying (ended s t) t.peer (message_of s.te.links (next_number s t.peer) t.constraints links t.purpose)
 
--- there is no answer: a request is told so
-abbrev pub told_in_vain : State → ℕ → Purpose → State
-told_in_vain s n (purposes.Update plsp) = s
-told_in_vain s n (purposes.Initiate name constraints) = s
-told_in_vain s n (purposes.Answer request plsp constraints) = telling s n (no_path_message request)
+-- there is no path: a request is answered so
+abbrev pub answered_in_vain : State → ℕ → Purpose → State
+answered_in_vain s n (purposes.Update plsp) = s
+answered_in_vain s n (purposes.Initiate name constraints) = s
+answered_in_vain s n (purposes.Answer request plsp constraints) = saying s n (no_path_message request)
 
 abbrev pub in_vain : State → Ticket → State
-in_vain s t = told_in_vain (ended s t) t.peer t.purpose
+in_vain s t = answered_in_vain (ended s t) t.peer t.purpose
 
 -- an offer that is searched for again waits; each other verdict ends the ticket
 abbrev pub judged : State → Ticket → List ℕ → Verdict → Outcome

@@ -5,9 +5,9 @@ use Rattle.lsp_base.specs.Shares.{reservable, unreserved}
 use Rattle.step_core.specs.declared.event.Event.{Event}
 use Rattle.step_core.specs.declared.event.Event.TheVariants.{Up, Report, Marker, Down, Expire, Drain, Refused, Return, Delete, Ask, Take, Commit, Reload}
 use Rattle.commit_core.specs.declared.ticket.Ticket.{Ticket}
-use Rattle.step_core.specs.declared.reload.LinkReload.{LinkReload}
+use Rattle.link_reload.specs.declared.entry.LinkReload.{LinkReload}
 use Rattle.step_core.specs.States.{State}
-use Rattle.step_core.specs.Tickets.{first_waiting, ticket_at}
+use Rattle.ticket_table.specs.Tickets.{first_waiting, ticket_at}
 
 abbrev pub peer_of_ticket : Option Ticket → Option ℕ
 peer_of_ticket ticket = option_map (λ t. t.peer) ticket

@@ -1,5 +1,3 @@
-pub mod Tickets
-pub mod TicketTables
 pub mod States
 pub mod Names
 pub mod Bases

@@ -7,7 +7,7 @@ use Rattle.step_core.specs.declared.event.Event.{Event}
 use Rattle.step_core.specs.declared.event.Event.TheVariants.{Commit}
 use Rattle.step_core.specs.Grants.{path_of}
 use Rattle.step_core.specs.States.{State}
-use Rattle.step_core.specs.Tickets.{ticket_at}
+use Rattle.ticket_table.specs.Tickets.{ticket_at}
 
 -- with the path, no link of it is below zero at a priority, setup or better, at which its tunnel reserves more than before
 abbrev pub IsCovered : State → State → Path → ℕ → Type 0

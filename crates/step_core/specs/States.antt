@@ -10,14 +10,14 @@ use Rattle.lsp_base.specs.declared.path.Path.{Path}
 use Rattle.lsp_base.specs.declared.effect.Effect.{Effect}
 use Rattle.initiate_rules.specs.Numbers.{next_srp}
 use Rattle.commit_core.specs.declared.ticket.Ticket.{Ticket}
-use Rattle.step_core.specs.Tickets.{first_waiting}
+use Rattle.ticket_table.specs.Tickets.{first_waiting}
 use Rattle.step_core.specs.declared.names.AwaitedName.{AwaitedName}
 use Rattle.step_core.specs.declared.peer.Peer.{Peer}
 
 pub record State : Type 0 where
   pub te : Base
   pub base : Lsps
-  -- the names of granted initiations that no report told of yet
+  -- the names of granted initiations that no report named yet
   pub names : List AwaitedName
   pub peers : List Peer
   -- in the order in which they were asked for
@@ -79,8 +79,8 @@ abbrev pub asked : Peer → Message → Peer
 asked p message = record p { last_srp = next_srp p.last_srp; outgoing = p.outgoing ++ message ∷ [] }
 
 -- a peer to which a message waits to be sent that takes no number
-abbrev pub told : Peer → Message → Peer
-told p message = record p { outgoing = p.outgoing ++ message ∷ [] }
+abbrev pub with_message : Peer → Message → Peer
+with_message p message = record p { outgoing = p.outgoing ++ message ∷ [] }
 
 -- what waits for a peer to be sent, oldest first
 abbrev pub outgoing : State → ℕ → List Message
@@ -103,7 +103,7 @@ has_waiting s = is_some (first_waiting s.tickets)
 
 -- ---- names of initiations
 
--- a granted initiation of the peer that no report told of yet has the name
+-- a granted initiation of the peer that no report named yet has the name
 abbrev pub is_awaited_as : ℕ → List ℕ → AwaitedName → Bool
 is_awaited_as peer name a = a.peer == peer && same_links a.name name
 

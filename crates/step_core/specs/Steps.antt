@@ -23,7 +23,7 @@ use Rattle.step_core.specs.Grants.{asking, take_step, commit_step}
 use Rattle.step_core.specs.Outcomes.{Outcome, decided, done, must_be_known, must_be_up, must_be_down, must_take_updates, must_take_initiations, must_have_a_number}
 use Rattle.step_core.specs.Reloads.{reload_step}
 use Rattle.step_core.specs.States.{State, is_known, peer_at, is_peer, put_peer, in_session, synchronized, out_of_session, emptied, outgoing, next_number, affected}
-use Rattle.step_core.specs.Tickets.{is_update_asked}
+use Rattle.ticket_table.specs.Tickets.{is_update_asked}
 
 -- ---- a session comes up: it has the next number (RFC 8231 section 5.6)
 

@@ -17,7 +17,7 @@ pub struct Base {
     pub values: Sequence<LinkValues>,
     pub paths: Sequence<Path>,
     pub records: Sequence<Record>,
-    /// The names of granted initiations that no report told of yet.
+    /// The names of granted initiations that no report named yet.
     pub names: Sequence<AwaitedName>,
     pub peers: Sequence<Peer>,
     /// In the order in which they were asked for.

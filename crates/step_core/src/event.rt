@@ -1,7 +1,7 @@
 //! Events, and what the database answers.
 use crate::job::Job;
-use crate::reload::LinkReload;
 use commit_core::Purpose;
+use link_reload::LinkReload;
 use lsp_base::Why;
 use pcep_messages::{Message, StateReport};
 use pcep_objects::{Capabilities, Plsp};

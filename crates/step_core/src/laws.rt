@@ -3,7 +3,7 @@ ghost use Rattle.std.specs.Prelude.{◌≡◌, ◌<◌, ◌∷◌, [], length};
 ghost use Rattle.step_core.specs.Consistent.{IsConsistent};
 ghost use Rattle.step_core.specs.declared.event.Event.{Event};
 ghost use Rattle.step_core.specs.declared.event.Event.TheVariants.{Reload};
-ghost use Rattle.step_core.specs.declared.reload.LinkReload.{LinkReload};
+ghost use Rattle.link_reload.specs.declared.entry.LinkReload.{LinkReload};
 ghost use Rattle.step_core.specs.Laws.{AreAlike, MovesAlone};
 ghost use Rattle.step_core.specs.States.{State};
 ghost use Rattle.step_core.specs.Steps.{step};

@@ -94,7 +94,7 @@ impl NameTable {
         }
     }
 
-    /// Whether a granted initiation of the peer that no report told of yet has the name.
+    /// Whether a granted initiation of the peer that no report named yet has the name.
     pub fn is_awaited(&self, peer: u32, name: &[u8]) -> bool
         ensures { result ≡ list_any (is_awaited_as peer name.now) self.now.names }
     {

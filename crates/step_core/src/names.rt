@@ -9,7 +9,7 @@ use lsp_base::{Part, Path};
 use sequence::PlainData;
 use std::alloc::AllocError;
 
-/// The name of an LSP that was granted, and of which no report told yet: its grant has no PLSP-ID.
+/// The name of an LSP that was granted, and that no report named yet: its grant has no PLSP-ID.
 #[derive(Debug, Drop)]
 pub struct AwaitedName {
     pub peer: u32,

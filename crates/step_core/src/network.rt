@@ -1,5 +1,5 @@
 //! A network with the LSPs over it, and the book of what their paths reserve.
-ghost use Rattle.std.specs.Prelude.{◌≡◌, ◌↔◌, ◌<◌, ◌≤◌, ◌++◌, ◌∷◌, [], false, List, length, OnOk, OnErr, IsNone, IfOk, IfSome, option_copied};
+ghost use Rattle.std.specs.Prelude.{◌≡◌, ◌↔◌, ◌<◌, ◌≤◌, ◌+◌, ◌^◌, ◌++◌, ◌∷◌, [], Some, None, false, List, length, OnOk, OnErr, IsNone, IfOk, IfErr, IfSome, option_copied};
 ghost use Rattle.std.specs.List.{list_any};
 ghost use Rattle.lsp_base.specs.Base.{HasAll, no_lsps, changed, with_stale, without};
 ghost use Rattle.lsp_base.specs.Rooms.{IsWithinLimit, HasRoom};
@@ -7,6 +7,7 @@ ghost use Rattle.lsp_base.specs.Shares.{unreserved};
 ghost use Rattle.lsp_base.specs.declared.path.Path.{Path};
 ghost use Rattle.bandwidth_book.specs.Books.{IsReady, StandsFor, network_of};
 ghost use Rattle.commit_core.specs.Verdicts.{verdict};
+ghost use Rattle.link_reload.specs.Reloads.{must_have_links, with_entries};
 ghost use Rattle.step_core.specs.Grants.{granting, own_of, snapshot_of, with_name};
 ghost use Rattle.step_core.specs.Names.{is_of_grant};
 ghost use Rattle.step_core.specs.Networks.{carried_out};
@@ -18,7 +19,8 @@ use crate::names::AwaitedName;
 use crate::queue::Queue;
 use bandwidth_book::Book;
 use commit_core::{PeerView, Ticket, Verdict, judge, own_tunnel};
-use lsp_base::{Effect, LspBase, Path, Tunnel};
+use link_reload::{LinkReload, reload};
+use lsp_base::{Effect, LspBase, Path, Tunnel, Why};
 use pcep_messages::Message;
 use pcep_word::Priority;
 use sequence::Sequence;
@@ -28,10 +30,7 @@ use std::sync::Arc;
 use te_base::{LinkNumber, TeBase};
 use te_snapshot::{OwnShares, Snapshot, Topology};
 
-mod links;
-
-/// The links and nodes, what is known of the LSPs over them, the names of granted initiations that no report told of
-/// yet, and the book of what the paths reserve. A contract sees no book: of every value of `Network` it holds that the
+/// The links and nodes, what is known of the LSPs over them, the names of granted initiations that no report named yet, and the book of what the paths reserve. A contract sees no book: of every value of `Network` it holds that the
 /// book stands for its paths.
 #[derive(Drop)]
 pub struct Network {
@@ -195,6 +194,20 @@ impl Network {
         self.lsps.mark_stale(peer);
     }
 
+    /// Gives links other values, and counts the reload. A list that names a link that isn't there is refused, and changes
+    /// nothing. Takes no memory.
+    pub fn reload(&mut self, entries: &[LinkReload], changes: &mut u64) -> Result<(), Why>
+        requires { changes.old < 2 ^ 62 }
+        ensures taken { OnOk result (must_have_links self.old.te entries.now ≡ None) }
+        ensures refused { IfErr result (λ why. must_have_links self.old.te entries.now ≡ Some why) }
+        ensures values { OnOk result (self.new ≡ record self.old { te = with_entries self.old.te entries.now }) }
+        ensures counted { OnOk result (changes.new ≡ changes.old + 1) }
+        ensures same_network { OnErr result (self.new ≡ self.old) }
+        ensures same_count { OnErr result (changes.new ≡ changes.old) }
+    {
+        reload(&mut self.te, &mut self.book, entries, changes)
+    }
+
     /// What is left on a link at a priority, in bytes per second, from the book's stored sums. `None` where
     /// there is no such link. It takes no memory.
     pub fn unreserved(&self, link: LinkNumber, priority: Priority) -> Option<i64>
@@ -238,14 +251,14 @@ impl Network {
         judge(ticket, offer, &self.lsps, &self.book, &self.te, view)
     }
 
-    /// Whether a granted initiation of the peer that no report told of yet has the name.
+    /// Whether a granted initiation of the peer that no report named yet has the name.
     pub fn is_name_awaited(&self, peer: u32, name: &[u8]) -> bool
         ensures { result ≡ list_any (is_awaited_as peer name.now) self.now.names }
     {
         self.names.is_awaited(peer, name)
     }
 
-    /// The names of granted initiations that no report told of yet.
+    /// The names of granted initiations that no report named yet.
     pub fn names(&self) -> &[AwaitedName]
         ensures { result.now ≡ self.now.names }
     {

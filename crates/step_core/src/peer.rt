@@ -1,6 +1,6 @@
 //! Peers, and what befalls one of a list.
 ghost use Rattle.std.specs.Prelude.{◌≡◌, ◌<◌, [], true, false, length, OnOk, OnErr};
-ghost use Rattle.step_core.specs.States.{is_known, peer_at, put_peer, in_session, synchronized, out_of_session, emptied, told};
+ghost use Rattle.step_core.specs.States.{is_known, peer_at, put_peer, in_session, synchronized, out_of_session, emptied, with_message};
 
 use crate::peer_list::PeerList;
 use crate::queue::Queue;
@@ -104,13 +104,13 @@ pub(crate) fn end_session(peers: &mut PeerList, number: u32)
 }
 
 /// A message waits for the peer that takes no number.
-pub(crate) fn tell_peer(
+pub(crate) fn queue_for_peer(
     peers: &mut PeerList,
     number: u32,
     message: Message,
 ) -> Result<(), AllocError>
     requires { is_known peers.old number ≡ true }
-    ensures told { OnOk result (peers.new ≡ put_peer peers.old (told (peer_at peers.old number) message)) }
+    ensures with_message { OnOk result (peers.new ≡ put_peer peers.old (with_message (peer_at peers.old number) message)) }
     ensures unchanged { OnErr result (peers.new ≡ peers.old) }
 {
     let Some(place) = peers.place_of(number) else {

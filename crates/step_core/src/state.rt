@@ -15,7 +15,6 @@ use crate::event::{Event, Reply};
 use crate::network::Network;
 use crate::peer::Peer;
 use crate::peer_list::PeerList;
-use crate::ticket_table::TicketTable;
 use commit_core::Ticket;
 use lsp_base::{LspBase, Tunnel};
 use pcep_word::Priority;
@@ -24,6 +23,7 @@ use std::alloc::{AllocError, Global};
 use std::marker::Model;
 use te_base::{LinkNumber, TeBase};
 use te_snapshot::OwnShares;
+use ticket_table::TicketTable;
 
 mod asks;
 mod grants;
@@ -115,7 +115,7 @@ impl Tables {
             records: copies(self.alloc, self.network.lsps().records())?,
             names: copies(self.alloc, self.network.names())?,
             peers: copies(self.alloc, self.peers.as_slice())?,
-            tickets: copies(self.alloc, self.tickets.as_slice())?,
+            tickets: Sequence::from_vec(self.tickets.copies(self.alloc)?),
             changes: self.changes,
             last_session: self.last_session,
             last_ticket: self.tickets.last(),
@@ -184,10 +184,16 @@ impl Tables {
         self.peers.as_slice()
     }
 
-    fn tickets(&self) -> &[Ticket]
-        ensures { result.now ≡ self.now.tickets }
+    fn ticket_count(&self) -> usize
+        ensures { result ≡ length self.now.tickets }
     {
-        self.tickets.as_slice()
+        self.tickets.len()
+    }
+
+    fn copy_tickets(&self, alloc: Global) -> Result<Vec<Ticket>, AllocError>
+        ensures { IfOk result (λ copies. copies.items ≡ self.now.tickets) }
+    {
+        self.tickets.copies(alloc)
     }
 }
 
@@ -309,11 +315,18 @@ impl State {
         self.tables.peers()
     }
 
-    /// The tickets in rising order of their numbers.
-    pub fn tickets(&self) -> &[Ticket]
-        ensures { result.now ≡ self.now.tickets }
+    /// How many tickets stand.
+    pub fn ticket_count(&self) -> usize
+        ensures { result ≡ length self.now.tickets }
     {
-        self.tables.tickets()
+        self.tables.ticket_count()
+    }
+
+    /// Copies the tickets, in rising order of their numbers.
+    pub fn copy_tickets(&self, alloc: Global) -> Result<Vec<Ticket>, AllocError>
+        ensures { IfOk result (λ copies. copies.items ≡ self.now.tickets) }
+    {
+        self.tables.copy_tickets(alloc)
     }
 
     /// What is known, in plain lists.

@@ -67,7 +67,7 @@ owner_of-append (o ∷ os) address node x =
     ≡ option_or (option_map (λ (o : Owner). o.node) (if b then Some o else find (λ (o : Owner). o.address == x) os)) (one_more address node x))
     [ true ↦ refl | false ↦ owner_of-append os address node x ]
 
--- what a list of owners tells is what another one tells, and that a node owns an address
+-- what a list of owners says is what another one says, and that a node owns an address
 TellsMore : List Owner → ℕ → ℕ → List Owner → Type 0
 TellsMore owners address node more = (x m : ℕ) → is_node (owner_of more x) m ≡ (is_node (owner_of owners x) m || (node == m && address == x))
 

@@ -51,7 +51,7 @@ same_ok text base is = sym (same_base text) ∙ ap (λ (r : Result Base PlacedFa
 same_err : (text : List ℕ) (e : PlacedFault) → placed_base text ≡ Err e → base_of text ≡ Err e.fault
 same_err text e is = sym (same_base text) ∙ ap (λ (r : Result Base PlacedFault). unplaced r) is
 
--- what is told with a place is told without it
+-- what is said with a place is said without it
 pub same_fails : (text : List ℕ) (fault : TeFault) (place : FaultPlace) → FailsAt fault (record { fault = fault; place = place }) (placed_base text) → Fails fault (base_of text)
 same_fails text NotToml place is = same_err text _ is
 same_fails text MissingField place is = same_err text _ is

@@ -68,7 +68,7 @@ abbrev pub is_distinct : List ℕ → Bool
 is_distinct [] = true
 is_distinct (x ∷ xs) = not (list_any (λ y. y == x) xs) && is_distinct xs
 
--- the node that owns the address of an end; none where the end isn't told
+-- the node that owns the address of an end; none where the end isn't given
 abbrev pub node_of : List Owner → Option ℕ → Option ℕ
 node_of owners None = None
 node_of owners (Some address) = owner_of owners address

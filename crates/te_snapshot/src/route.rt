@@ -7,7 +7,7 @@ use pcep_objects::{Colours, MetricType};
 use pcep_word::Ipv4;
 use te_base::{Link, LinkNumber, NodeNumber, OwnerTable};
 
-/// Finds the node that owns the address of an end, None where the end isn't told.
+/// Finds the node that owns the address of an end, None where the end isn't given.
 pub fn node_of(owners: &OwnerTable, end: Option<Ipv4>) -> Option<NodeNumber>
     ensures { result ≡ node_of owners.now end }
 {

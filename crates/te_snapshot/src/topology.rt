@@ -93,7 +93,7 @@ impl Topology {
         self.links.get(number).copied()
     }
 
-    /// The node that owns the address of an end, None where the end isn't told or no node owns it.
+    /// The node that owns the address of an end, None where the end isn't given or no node owns it.
     pub fn node_of(&self, end: Option<Ipv4>) -> Option<NodeNumber>
         ensures node { result ≡ node_of self.now.owners end }
         ensures within { IfSome result (λ n. n < self.now.nodes) }

@@ -70,9 +70,9 @@ fn lines_are_answered_and_bad_ones_by_number(rt: HostRuntime) -> Result<(), Fail
         ),
     ];
     for (input, want) in table {
-        let (end, told) = answered(&rt, rt.alloc(), input, 99);
+        let (end, printed) = answered(&rt, rt.alloc(), input, 99);
         assert_eq!(rt; end, Ok(OperatorEnd::InputEnded));
-        assert_eq!(rt; told.as_slice(), want);
+        assert_eq!(rt; printed.as_slice(), want);
     }
     Ok(())
 }
@@ -116,17 +116,17 @@ fn a_long_line_is_bad_and_the_next_is_heard(rt: HostRuntime) -> Result<(), Fail>
         input.push(b'x')?;
     }
     input.extend_from_slice(b"\nupdate 1 1\n")?;
-    let (end, told) = answered(&rt, rt.alloc(), input.as_slice(), 99);
+    let (end, printed) = answered(&rt, rt.alloc(), input.as_slice(), 99);
     assert_eq!(rt; end, Ok(OperatorEnd::InputEnded));
-    assert_eq!(rt; told.as_slice(), b"bad line 1\ndone\n".as_slice());
+    assert_eq!(rt; printed.as_slice(), b"bad line 1\ndone\n".as_slice());
     Ok(())
 }
 
 #[test]
 fn a_writer_that_fails_ends_the_operators_part(rt: HostRuntime) -> Result<(), Fail> {
-    let (end, told) = answered(&rt, rt.alloc(), b"book\nupdate 1 1\n", 0);
+    let (end, printed) = answered(&rt, rt.alloc(), b"book\nupdate 1 1\n", 0);
     assert_eq!(rt; end, Ok(OperatorEnd::WriteFault));
-    assert!(rt; told.is_empty());
+    assert!(rt; printed.is_empty());
     Ok(())
 }
 
@@ -138,9 +138,9 @@ fn nothing_is_heard_behind_the_line_end(rt: HostRuntime) -> Result<(), Fail> {
         (b"end \nend\n", b"bad line 1\n"),
     ];
     for (input, want) in table {
-        let (end, told) = answered(&rt, rt.alloc(), input, 99);
+        let (end, printed) = answered(&rt, rt.alloc(), input, 99);
         assert_eq!(rt; end, Ok(OperatorEnd::EndAsked));
-        assert_eq!(rt; told.as_slice(), want);
+        assert_eq!(rt; printed.as_slice(), want);
     }
     Ok(())
 }
@@ -154,14 +154,14 @@ fn a_read_without_bytes_is_made_again(rt: HostRuntime) -> Result<(), Fail> {
     beats.push_back(Beat::Nothing)?;
     beats.push_back(Beat::Bytes(b"1 1\n"))?;
     beats.push_back(Beat::Fault)?;
-    let (end, told) = answered_to(&rt, alloc, &mut Beats { beats }, 99);
+    let (end, printed) = answered_to(&rt, alloc, &mut Beats { beats }, 99);
     assert_eq!(rt; end, Ok(OperatorEnd::ReadFault));
-    assert_eq!(rt; told.as_slice(), b"done\n".as_slice());
+    assert_eq!(rt; printed.as_slice(), b"done\n".as_slice());
     Ok(())
 }
 
 #[test]
-fn a_reload_is_told_its_reply_or_why_there_is_none(rt: HostRuntime) -> Result<(), Fail> {
+fn a_reload_answers_its_reply_or_why_there_is_none(rt: HostRuntime) -> Result<(), Fail> {
     let alloc = rt.alloc();
     let table: [(Option<PlanFault>, &[u8]); 4] = [
         (

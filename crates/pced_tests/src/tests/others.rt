@@ -14,7 +14,7 @@ use std::time::Clock;
 
 /// How a peer's connection behaves behind its Open and Keepalive, and how it is to end.
 #[derive(Clone, Copy)]
-struct Visit {
+struct Router {
     peer: u32,
     last: Beat,
     /// So many writes succeed.
@@ -23,15 +23,15 @@ struct Visit {
 }
 
 /// Its reads fail.
-const DEAF: Visit = Visit {
+const DEAF: Router = Router {
     peer: 7,
     last: Beat::Fault,
     writes: 9,
     ended: Ended::ReadFault,
 };
 
-/// Its Open and its Keepalive were taken, and the end that it is told isn't.
-const GONE: Visit = Visit {
+/// Its Open and its Keepalive were taken, and the end that it is given isn't.
+const GONE: Router = Router {
     peer: 8,
     last: Beat::Bytes(b"\x00\x00\x00\x00"),
     writes: 2,
@@ -39,38 +39,38 @@ const GONE: Visit = Visit {
 };
 
 /// It closes, and is answered to the end.
-const WELL: Visit = Visit {
+const WELL: Router = Router {
     peer: 9,
     last: Beat::Bytes(CLOSE),
     writes: 9,
     ended: Ended::SessionEnded,
 };
 
-fn beats_of(alloc: Global, visit: Visit) -> Result<Beats, Fail> {
+fn beats_of(alloc: Global, router: Router) -> Result<Beats, Fail> {
     let mut beats = VecDeque::new(alloc);
-    for beat in [Beat::Bytes(OPEN), Beat::Bytes(KEEPALIVE), visit.last] {
+    for beat in [Beat::Bytes(OPEN), Beat::Bytes(KEEPALIVE), router.last] {
         beats.push_back(beat)?;
     }
     Ok(Beats { beats })
 }
 
 /// One connection, and what was written to it.
-fn visited<R: Wait + Clock + Abort, S: Ledger, G: Ledger, B: Room>(
+fn served<R: Wait + Clock + Abort, S: Ledger, G: Ledger, B: Room>(
     rt: &R,
     alloc: Global,
     shared: &Shared<S, G, B>,
     seat: &mut Seat<S, G, B>,
-    visit: Visit,
+    router: Router,
 ) -> Result<Vec<u8>, Fail> {
-    let mut reader = beats_of(alloc, visit)?;
+    let mut reader = beats_of(alloc, router)?;
     let mut writer = Tap {
-        left: visit.writes,
+        left: router.writes,
         most: usize::MAX,
         bytes: Vec::new(alloc),
     };
     let watch = Noon { is_closing: false };
     let mut store = Seated::new(rt, alloc, shared, seat);
-    let peer = visit.peer;
+    let peer = router.peer;
     let ended = connection(
         rt,
         alloc,
@@ -80,7 +80,7 @@ fn visited<R: Wait + Clock + Abort, S: Ledger, G: Ledger, B: Room>(
         &watch,
         &mut store,
     );
-    assert_eq!(rt; ended, visit.ended);
+    assert_eq!(rt; ended, router.ended);
     Ok(writer.bytes)
 }
 
@@ -113,16 +113,16 @@ pub fn are_down<R: Abort, S: Ledger, G: Ledger, B: Room>(
 }
 
 /// Two connections fail, and the one behind them is answered.
-pub fn visit_all<R: Wait + Clock + Abort, S: Ledger, G: Ledger, B: Room>(
+pub fn serve_all<R: Wait + Clock + Abort, S: Ledger, G: Ledger, B: Room>(
     rt: &R,
     alloc: Global,
     shared: &Shared<S, G, B>,
     seat: &mut Seat<S, G, B>,
 ) -> Result<(), Fail> {
-    for visit in [DEAF, GONE] {
-        let _written = visited(rt, alloc, shared, seat, visit)?;
+    for router in [DEAF, GONE] {
+        let _written = served(rt, alloc, shared, seat, router)?;
     }
-    let written = visited(rt, alloc, shared, seat, WELL)?;
+    let written = served(rt, alloc, shared, seat, WELL)?;
     let Some(behind) = written.as_slice().strip_prefix(OPEN) else {
         return Err(Fail::new("no Open was sent"));
     };

@@ -75,7 +75,7 @@ pub fn fold_when_quiet<R: Wait + Abort, S: Ledger, G: Ledger, B: Room>(
     Ok(())
 }
 
-/// The audit passes, with the two steps that the quiet seat was told of.
+/// The audit passes, with the two steps that the quiet seat received.
 pub fn counts_all<R: Abort, S: Ledger, G: Ledger, B: Room>(
     rt: &R,
     shared: Shared<S, G, B>,

@@ -336,7 +336,7 @@ fn has_served<R: Wait + Abort, S: Ledger, G: Ledger, B: Room>(
     Ok(served)
 }
 
-fn visit<R: Wait + Abort, S: Ledger, G: Ledger, B: Room>(
+fn connect_once<R: Wait + Abort, S: Ledger, G: Ledger, B: Room>(
     rt: &R,
     alloc: Global,
     shared: &Shared<S, G, B>,
@@ -357,7 +357,7 @@ pub fn call_all<R: Wait + Abort, S: Ledger, G: Ledger, B: Room>(
     seat: &mut Seat<S, G, B>,
 ) -> Result<(), Fail> {
     obtain_all(rt, alloc, shared, seat)?;
-    let served = visit(rt, alloc, shared, seat)? || visit(rt, alloc, shared, seat)?;
+    let served = connect_once(rt, alloc, shared, seat)? || connect_once(rt, alloc, shared, seat)?;
     assert!(rt; served);
     Ok(())
 }

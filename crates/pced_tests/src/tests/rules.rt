@@ -82,12 +82,12 @@ fn admitted() -> [Entrance; 4] {
         taken(3, true),
         taken(4, true),
     ];
-    let told = [taken(1, true), taken(1, false)];
+    let listed = [taken(1, true), taken(1, false)];
     [
         admit(&full, 4, 4),
         admit(&up, 5, 4),
-        admit(&told, 1, 4),
-        admit(&told, 2, 4),
+        admit(&listed, 1, 4),
+        admit(&listed, 2, 4),
     ]
 }
 

@@ -3,7 +3,7 @@ ghost use Rattle.std.specs.Prelude.{◌≡◌, IfSome};
 ghost use Rattle.history_core.specs.Histories.{steps_of};
 
 use super::meeting::{ask_and_meet, both_are_granted, is_refused_without_a_seat};
-use super::others::{are_down, visit_all};
+use super::others::{are_down, serve_all};
 use super::quiet::{counts_all, fold_when_quiet};
 use super::refused::{are_audited, call_all};
 use super::reloads::{reload_beside_searches, replays};
@@ -55,7 +55,7 @@ fn act<
     match case {
         Case::WorkersMeet => ask_and_meet(rt, alloc, shared, first, second),
         Case::SeatMissing => meeting::come_up(rt, shared, second, 1),
-        Case::OthersFail => visit_all(rt, alloc, shared, first),
+        Case::OthersFail => serve_all(rt, alloc, shared, first),
         Case::LinksReload => reload_beside_searches(rt, alloc, shared, first, second),
         Case::MemoryRefused => call_all(rt, alloc, shared, first),
         Case::SeatQuiet => fold_when_quiet(rt, alloc, shared, first),
@@ -76,7 +76,7 @@ fn quiet_database(alloc: Global) -> Option<Database>
 }
 
 /// Drops them.
-fn let_go<S: Ledger, G: Ledger, B: Room>(_shared: Shared<S, G, B>, _seats: Vec<Seat<S, G, B>>) {}
+fn release<S: Ledger, G: Ledger, B: Room>(_shared: Shared<S, G, B>, _seats: Vec<Seat<S, G, B>>) {}
 
 /// The audit. True: there was memory for the seats.
 fn closed<R: Abort, S: Ledger, G: Ledger, B: Room>(
@@ -123,7 +123,7 @@ fn on_shared<
     match act(rt, alloc, case, &shared, seats.as_mut_slice()) {
         Ok(()) => closed(rt, case, shared, seats),
         Err(fail) => {
-            let_go(shared, seats);
+            release(shared, seats);
             Err(fail)
         }
     }

@@ -190,7 +190,7 @@ fn a_full_store_ends_the_session(rt: HostRuntime) -> Result<(), Fail> {
 /// What two sessions of one peer over one store come to.
 #[derive(Clone, Copy, Debug, PartialEq, Eq)]
 struct Second {
-    is_told: bool,
+    is_said: bool,
     states: [State; 2],
     joined: [bool; 2],
     submitted: u32,
@@ -201,7 +201,7 @@ fn greet_twice(first: &mut Client, second: &mut Client, store: &mut Lent) -> Res
     serve(second, 1, GREETING, 0, store)?;
     hang_up(second, 1, store)?;
     Ok(Second {
-        is_told: is_sent(second, GREETED_AND_REFUSED),
+        is_said: is_sent(second, GREETED_AND_REFUSED),
         states: [first.session.state(), second.session.state()],
         joined: [first.joined, second.joined],
         submitted: digits(store.calls()),
@@ -225,7 +225,7 @@ fn second_in(alloc: Global) -> Result<Second, Fail> {
 fn a_second_session_of_a_peer_ends(rt: HostRuntime) -> Result<(), Fail> {
     let second = second_in(rt.alloc())?;
     let want = Second {
-        is_told: true,
+        is_said: true,
         states: [State::Up, State::Closed],
         joined: [true, false],
         // Up, Marker, Report, a drain behind them, and the second's Up, which is refused

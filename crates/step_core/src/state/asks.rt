@@ -3,10 +3,9 @@ ghost use Rattle.std.specs.Prelude.{◌≡◌, ◌<◌, ◌^◌, length, option_
 ghost use Rattle.lsp_base.specs.Refusals.{◌⨟◌};
 ghost use Rattle.delegate_rules.specs.Returns.{must_be_held};
 ghost use Rattle.initiate_rules.specs.Checks.{must_be_new};
-ghost use Rattle.step_core.specs.Asks.{is_name_held, may_be_asked, must_have_ends, may_have_one_more, new_ticket, ask_step};
+ghost use Rattle.step_core.specs.Asks.{is_name_held, may_be_asked, constraints_for, missing_ends, missing_ends_of, must_have_ends, may_have_one_more, new_ticket, ask_step};
 ghost use Rattle.step_core.specs.Outcomes.{must_take_updates, must_take_initiations};
 ghost use Rattle.step_core.specs.States.{peer_at};
-ghost use Rattle.step_core.specs.Tickets.{constraints_for, missing_ends, missing_ends_of};
 ghost use Rattle.lsp_base.specs.Refusals.{unless};
 
 use super::Tables;
@@ -14,7 +13,6 @@ use super::requests::{why_not_initiated, why_not_updated};
 use super::sessions::why_not_up;
 use crate::event::Reply;
 use crate::peer_list::PeerList;
-use crate::ticket_table::{TICKET_LIMIT, TicketTable};
 use commit_core::{Purpose, Ticket};
 use initiate_rules::check_initiate;
 use lsp_base::{Constraints, Ends, LspBase, Why, is_delegated, is_pending};
@@ -23,6 +21,7 @@ use sequence::PlainData;
 use std::alloc::AllocError;
 use te_base::{NodeNumber, TeBase};
 use te_snapshot::node_of;
+use ticket_table::{TICKET_LIMIT, TicketTable};
 
 /// Why the LSP can't be updated.
 fn why_not_held(base: &LspBase, peer: u32, plsp: Plsp) -> Option<Why>
@@ -99,7 +98,7 @@ fn why_no_ends(te: &TeBase, constraints: &Constraints) -> Option<Why>
 fn why_no_ticket(tickets: &TicketTable) -> Option<Why>
     ensures { result ≡ may_have_one_more tickets.now.tickets }
 {
-    if tickets.as_slice().len() < TICKET_LIMIT {
+    if tickets.len() < TICKET_LIMIT {
         None
     } else {
         Some(Why::TooManyTickets)
@@ -133,7 +132,7 @@ impl Tables {
         None
     }
 
-    /// Whether the name is that of an LSP which the PCE asks for, or which it granted and no report told of yet.
+    /// Whether the name is that of an LSP which the PCE asks for, or which it granted and no report named yet.
     fn is_name_held(&self, peer: u32, name: &[u8]) -> bool
         ensures { result ≡ is_name_held self.now peer name.now }
     {

@@ -7,7 +7,7 @@ ghost use Rattle.step_core.specs.Consistent.{AreFree, IsConsistent};
 ghost use Rattle.step_core.specs.Grants.{take_step, commit_step, judged, verdict_on, view_of, path_of, granted, granting, answered, in_vain, message_of, name_of_grant, with_name};
 ghost use Rattle.step_core.specs.Names.{is_of_grant};
 ghost use Rattle.step_core.specs.States.{asked, is_known, next_number, peer_at, put_peer};
-ghost use Rattle.step_core.specs.Tickets.{ticket_at};
+ghost use Rattle.ticket_table.specs.Tickets.{ticket_at};
 
 use super::Tables;
 use super::requests::next_number;
@@ -15,7 +15,7 @@ use crate::event::Reply;
 use crate::job::Job;
 use crate::names::AwaitedName;
 use crate::network::Network;
-use crate::peer::tell_peer;
+use crate::peer::queue_for_peer;
 use crate::peer_list::PeerList;
 use commit_core::{PeerView, Purpose, Ticket, Verdict, offered_path};
 use initiate_rules::{answer_message, initiate_message, next_srp, no_path_message, update_message};
@@ -198,19 +198,19 @@ impl Tables {
     {
         let srp = next_number(&self.peers, ticket.peer);
         let message = message_of(self.alloc, self.network.te_base(), srp, ticket, links)?;
-        tell_peer(&mut self.peers, ticket.peer, message)?;
+        queue_for_peer(&mut self.peers, ticket.peer, message)?;
         self.tickets.end(ticket.id);
         Ok(Reply::Answered)
     }
 
-    /// The ticket ends without a path, and a request is told so.
+    /// The ticket ends without a path, and a request is answered so.
     fn end_in_vain(&mut self, ticket: &Ticket) -> Result<(), AllocError>
         requires known { is_known self.old.peers ticket.now.peer ≡ true }
         ensures state { OnOk result (self.new ≡ in_vain self.old ticket.now) }
         ensures unchanged_without_memory { OnErr result (self.new ≡ self.old) }
     {
         if let Purpose::Answer { request, .. } = &ticket.purpose {
-            tell_peer(&mut self.peers, ticket.peer, no_path_message(*request))?;
+            queue_for_peer(&mut self.peers, ticket.peer, no_path_message(*request))?;
         }
         self.tickets.end(ticket.id);
         Ok(())

@@ -5,18 +5,18 @@ ghost use Rattle.lsp_base.specs.Rooms.{IsWithinLimit};
 ghost use Rattle.step_core.specs.States.{moves_paths};
 ghost use Rattle.step_core.specs.Networks.{carried_out};
 ghost use Rattle.step_core.specs.Steps.{report_step};
-ghost use Rattle.step_core.specs.Tickets.{is_update_asked};
+ghost use Rattle.ticket_table.specs.Tickets.{is_update_asked};
 
 use super::Tables;
 use crate::event::Reply;
 use crate::network::Network;
 use crate::peer::Peer;
-use crate::ticket_table::TicketTable;
 use delegate_rules::{RuleFault, on_report};
 use lsp_base::{Effect, Why};
 use pcep_messages::StateReport;
 use pcep_objects::Plsp;
 use std::alloc::AllocError;
+use ticket_table::TicketTable;
 
 pub(super) fn moves_a_path(effect: &Effect) -> bool
     ensures { result ≡ moves_paths effect.now }

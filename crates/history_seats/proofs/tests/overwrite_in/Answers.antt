@@ -14,6 +14,6 @@ invariant_of-seat g c =
     let there : c.args.at < length rs = search rules in
     let place : c.args.receipt.place ≡ (get_or rs c.args.at c.index.result.now).place = search rules in
     let count : c.grant_count-2.result ≡ (if is_grant (get_or rs c.args.at c.index-2.result.now).brief then 1 else 0) = search rules in
-    let told : s.told ≡ s.folded + length new = search rules in
+    let received : s.received ≡ s.folded + length new = search rules in
     let same : granted_in new ≡ granted_in rs = granted_set rs new c.args.at c.args.receipt c.index-2.result.now c.grant_count.result c.grant_count-2.result there refl c.grant_count.ensures.value count c.if-grant_count-gt0.false in
-    (i.0, i.1, i.2, i.3, told, i.5 ∙ ap (λ n. s.folded_grants + n) (sym same), i.6, placed_set s.folded s.floor rs new s.drawn c.args.at c.args.receipt c.index.result.now i.7 refl place)
+    (i.0, i.1, i.2, i.3, received, i.5 ∙ ap (λ n. s.folded_grants + n) (sym same), i.6, placed_set s.folded s.floor rs new s.drawn c.args.at c.args.receipt c.index.result.now i.7 refl place)

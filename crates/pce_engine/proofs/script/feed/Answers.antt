@@ -1,6 +1,6 @@
 use Rattle.std.proofs.Common.{Option, None, Ok, false, refl, ap, subst, get_or, List, ℕ, ◌≡◌, ◌==◌, ◌++◌, arith, rules}
 use Rattle.std.proofs.lemmas.Bool.Decides.{nat_tests}
-use Rattle.script_lines.specs.Told.{told}
+use Rattle.script_lines.specs.LineAnswer.{line_answer}
 use Rattle.pce_engine.specs.declared.stage.Stage.{Stage}
 use Rattle.std.proofs.lemmas.Result.{err_from_is_err_and}
 use Rattle.pce_engine.specs.Machine.{Machine, Halts, MayTake, took}
@@ -48,7 +48,7 @@ loop-place-preserved c =
             unbroken = λ j from below. absurd (omega (arith, from, below));
             leads = goes_past bytes c.loop-place.start c.loop-place.place c.args.out.now.items (machine_of c.args.script.now) c.loop-place.out.items n new k
                 c.loop-place.invariant.within c.loop-place-test.true w.if-byte-eq10.true c.loop-place.invariant.unbroken c.loop-place.invariant.leads
-                (subst (λ (at : Machine). (answer : Option (List ℕ)) × (text : List ℕ) × MayTake answer at 10 × (took answer at 10 ≡ Ok (told text k)) × (new ≡ c.loop-place.out.items ++ text)) same w.in_ok-take_break.ensures.took);
+                (subst (λ (at : Machine). (answer : Option (List ℕ)) × (text : List ℕ) × MayTake answer at 10 × (took answer at 10 ≡ Ok (line_answer text k)) × (new ≡ c.loop-place.out.items ++ text)) same w.in_ok-take_break.ensures.took);
             number = omega (arith, number, w.take_break.ensures.number, c.loop-place.invariant.number);
           })
       | else-byte-eq10 w ↦

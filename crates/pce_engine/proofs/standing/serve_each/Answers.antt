@@ -1,8 +1,8 @@
 use Rattle.std.proofs.Common.{◌≡◌, ℕ, ◌+◌, suc, List, [], ◌∷◌, drop, get_or, drop-cons, string_bytes, sym, ap, ◌∙◌, rules, arith}
 use Rattle.pce_engine.specs.SessionLines.{message_line}
 use Rattle.pce_engine.specs.Standing.{served_in_turn}
-use Rattle.script_lines.specs.Told.{behind}
-use Rattle.script_lines.proofs.Telling.{each_goes_on}
+use Rattle.script_lines.specs.LineAnswer.{behind}
+use Rattle.script_lines.proofs.LineAnswers.{each_goes_on}
 use Rattle.pce_engine.proofs.standing.serve_each.Goals as goal
 
 pub loop-peer-preserved : goal.loop-peer-preserved

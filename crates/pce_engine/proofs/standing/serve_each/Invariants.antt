@@ -1,6 +1,6 @@
 use Rattle.std.proofs.Common.{◌≡◌, string_bytes, drop}
 use Rattle.pce_engine.specs.Standing.{served_in_turn}
-use Rattle.script_lines.specs.Told.{behind}
+use Rattle.script_lines.specs.LineAnswer.{behind}
 use Rattle.pce_engine.proofs.standing.serve_each.Given as goal
 
 -- the peers that are left lead to what all of them lead to

@@ -1,5 +1,5 @@
 use Rattle.std.proofs.Common.{List, ◌∙◌, ap, refl, string_bytes}
-use Rattle.step_core.specs.declared.reload.LinkReload.{LinkReload}
+use Rattle.link_reload.specs.declared.entry.LinkReload.{LinkReload}
 use Rattle.server_talk.specs.Servers.{server_of}
 use Rattle.server_talk.specs.ReloadChecks.{check_text}
 use Rattle.server_talk.proofs.Operating.{came_check, came_starved}

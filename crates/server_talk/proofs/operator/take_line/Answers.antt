@@ -1,6 +1,6 @@
 use Rattle.std.proofs.Common.{Bool, true, false, subst}
 use Rattle.server_talk.specs.Listening.{said_of}
-use Rattle.server_talk.specs.Visits.{Takes}
+use Rattle.server_talk.specs.Connections.{Takes}
 use Rattle.server_talk.specs.Servers.{server_of}
 use Rattle.server_talk.proofs.Operating.{line_taken, end_taken}
 use Rattle.server_talk.proofs.operator.take_line.Goals as goal

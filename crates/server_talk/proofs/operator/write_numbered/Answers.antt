@@ -1,6 +1,6 @@
 use Rattle.std.proofs.Common.{ℕ, List, ◌++◌, codes, subst}
 use Rattle.std.specs.Fmt.{decimal}
-use Rattle.server_talk.specs.Visits.{Takes}
+use Rattle.server_talk.specs.Connections.{Takes}
 use Rattle.server_talk.proofs.Flowing.{first_fails, first_goes_out}
 use Rattle.server_talk.proofs.operator.write_numbered.Goals as goal
 

@@ -1,7 +1,7 @@
 use Rattle.std.proofs.Common.{Some, inl, refl, sym, ap}
 use Rattle.pcep_session.specs.declared.contents.Contents.{Contents}
 use Rattle.engine_core.specs.Engine.{client_with}
-use Rattle.server_talk.proofs.Visiting.{ended_ok}
+use Rattle.server_talk.proofs.Connecting.{ended_ok}
 use Rattle.server_talk.proofs.talk.close.Goals as goal
 
 pub returns-else-is_err-clause-closed : goal.returns-else-is_err-clause-closed

@@ -1,15 +1,15 @@
 use Rattle.std.proofs.Common.{inr, ℕ, [], ◌++◌, refl, subst}
 use Rattle.server_talk.specs.Goings.Goes.{Stays}
-use Rattle.server_talk.specs.Visits.{IsDown}
+use Rattle.server_talk.specs.Connections.{IsDown}
 use Rattle.server_talk.specs.Watches.{watch_of}
-use Rattle.server_talk.proofs.Visiting.{begun, over, left_joined}
+use Rattle.server_talk.proofs.Connecting.{begun, over, left_joined}
 use Rattle.server_talk.proofs.talk.connection.Goals as goal
 
 pub returns-in_default-clause-down : goal.returns-in_default-clause-down
 returns-in_default-clause-down g c = ([], Stays, refl)
 
-pub returns-in-Ok-leave-clause-visited : goal.returns-in-Ok-leave-clause-visited
-returns-in-Ok-leave-clause-visited g c =
+pub returns-in-Ok-leave-clause-is_served : goal.returns-in-Ok-leave-clause-is_served
+returns-in-Ok-leave-clause-is_served g c =
     let store = c.args.store.now in
     let unread = g.I.Read.remaining c.args.reader.now in
     let blank = g.O.Write.contents c.args.writer.now in
@@ -33,8 +33,8 @@ returns-in-Ok-leave-clause-down g c =
     (h.0, subst (λ (n : ℕ). IsDown n after.joined h.0) c.talk_on-ended.ensures.peer h.1, h.2, h.3) in
     (v.calls ++ v.last, v.goes, v.down)
 
-pub returns-clause-visited : goal.returns-clause-visited
-returns-clause-visited g c =
+pub returns-clause-is_served : goal.returns-clause-is_served
+returns-clause-is_served g c =
     let store = c.args.store.now in
     let unread = g.I.Read.remaining c.args.reader.now in
     let blank = g.O.Write.contents c.args.writer.now in

@@ -1,6 +1,6 @@
 use Rattle.std.proofs.Common.{◌≡◌, ℕ, false, [], List, Option, None}
 use Rattle.pcep_session.specs.Turns.{is_closed}
-use Rattle.server_talk.specs.Visits.{SoFar}
+use Rattle.server_talk.specs.Connections.{SoFar}
 use Rattle.server_talk.specs.Watches.{watch_of}
 use Rattle.server_talk.proofs.talk.talk_on.Given as goal
 

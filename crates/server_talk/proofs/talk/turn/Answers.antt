@@ -1,12 +1,12 @@
 use Rattle.std.proofs.KnownBytes.{Keeps-trans}
 use Rattle.server_talk.specs.Watches.{watch_of}
-use Rattle.server_talk.proofs.Visiting.{said, closed, rested}
+use Rattle.server_talk.proofs.Connecting.{said, closed, rested}
 use Rattle.server_talk.proofs.talk.turn.Goals as goal
 
 pub returns-then-is_closing-clause-turned : goal.returns-then-is_closing-clause-turned
 returns-then-is_closing-clause-turned g c = λ start unread blank s.
     said g.D.Store (watch_of g.W.Watch c.args.watch.now) c.args.talk.now.peer start c.args.store.now unread blank (g.I.Read.remaining c.args.reader.now) (g.O.Write.contents c.args.writer.now) (g.O.Write.contents c.say.new.writer)
-    c.say.result c.close.new.talk.served_ms c.say.new.talk.served_ms c.close.new.talk.client c.say.new.talk.client c.say.ensures.moment c.say.ensures.spoken c.say.ensures.out (c.say.ensures.told (g.I.Read.remaining c.args.reader.now))
+    c.say.result c.close.new.talk.served_ms c.say.new.talk.served_ms c.close.new.talk.client c.say.new.talk.client c.say.ensures.moment c.say.ensures.spoken c.say.ensures.out (c.say.ensures.ends_so (g.I.Read.remaining c.args.reader.now))
     (closed g.D.Store (watch_of g.W.Watch c.args.watch.now) c.args.talk.now.peer start c.args.store.now unread blank (g.I.Read.remaining c.args.reader.now) (g.O.Write.contents c.args.writer.now)
     c.args.talk.now.served_ms c.close.new.talk.served_ms c.args.talk.now.client c.close.new.talk.client c.close.ensures.moment (c.is_closing.ensures c.if-is_closing.true) c.close.ensures.closed s)
 

@@ -1,5 +1,5 @@
 use Rattle.std.proofs.Common.{string_bytes, Ok, None, Some, sym, ap}
-use Rattle.script_lines.specs.Told.{told}
+use Rattle.script_lines.specs.LineAnswer.{line_answer}
 use Rattle.script_lines.specs.declared.orders.Order.TheVariants.{Report, Open, Up, Bytes, End, Tick, Submit, Roll}
 use Rattle.pce_engine.specs.Standing.{obeyed}
 use Rattle.pce_engine.proofs.Searching.{no_search, of_database, of_taken}
@@ -15,11 +15,11 @@ returns-in-Report c =
 
 pub returns-in_ok-book_text-in-Book : goal.returns-in_ok-book_text-in-Book
 unfolding obeyed
-returns-in_ok-book_text-in-Book c = rw c.in-Book.is (None, tt, ap (λ text. Ok (told text c.args.self.now)) (sym c.in_ok-book_text-in-Book.ensures))
+returns-in_ok-book_text-in-Book c = rw c.in-Book.is (None, tt, ap (λ text. Ok (line_answer text c.args.self.now)) (sym c.in_ok-book_text-in-Book.ensures))
 
 pub returns-in_ok-history_text-in-History : goal.returns-in_ok-history_text-in-History
 unfolding obeyed
-returns-in_ok-history_text-in-History c = rw c.in-History.is (None, tt, ap (λ text. Ok (told text c.args.self.now)) (sym c.in_ok-history_text-in-History.ensures))
+returns-in_ok-history_text-in-History c = rw c.in-History.is (None, tt, ap (λ text. Ok (line_answer text c.args.self.now)) (sym c.in_ok-history_text-in-History.ensures))
 
 pub returns-in-Open : goal.returns-in-Open
 unfolding obeyed

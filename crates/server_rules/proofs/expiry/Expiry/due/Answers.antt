@@ -15,9 +15,9 @@ none_found now_ms keep_ms es none peer (Some known) is =
     let place = place_from_lookup (nat_eq peer) es known is in none place.0 (place.1, known) place.2
 
 pub returns : goal.returns
-returns c = λ past tells peer.
+returns c = λ past knows peer.
     let es = c.args.self.now.peers.entries in
     let none = none_found c.args.now_ms c.args.keep_ms es
     (λ k e is. let within : k < length c.args.self.now.peers.entries = slice_get_within es k e is in c.loop-at.invariant k e (omega arith) is)
     peer (lookup (nat_eq peer) es) refl in
-    ap (owing c.args.now_ms c.args.keep_ms) (sym (tells peer)) ∙ none
+    ap (owing c.args.now_ms c.args.keep_ms) (sym (knows peer)) ∙ none

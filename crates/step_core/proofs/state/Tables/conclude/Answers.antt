@@ -1,6 +1,6 @@
 use Rattle.std.proofs.Common.{◌∙◌, sym, ap}
 use Rattle.step_core.specs.States.{State}
-use Rattle.step_core.specs.Tickets.{ticket_at}
+use Rattle.ticket_table.specs.Tickets.{ticket_at}
 use Rattle.step_core.proofs.Concluded.{path_is, peer_is_known, grant_is_possible, answer_is_possible, again_has_tries, found_has_tries}
 use Rattle.step_core.proofs.ConsistentSteps.{grant_is_new}
 use Rattle.step_core.proofs.state.Tables.conclude.Goals as goal

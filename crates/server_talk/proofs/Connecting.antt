@@ -1,0 +1,194 @@
+-- A connection, step by step.
+use Rattle.std.proofs.Common.{◌≡◌, ◌≤◌, ◌⊎◌, inl, inr, ℕ, Bool, true, false, List, [], ◌++◌, Option, Some, None, Result, Ok, Err, refl, sym, ◌∙◌, ap, subst}
+use Rattle.std.proofs.lemmas.List.{append-nil}
+use Rattle.std.proofs.KnownBytes.{Consumes-nil, Consumes-trans, Consumes-kept}
+use Rattle.std.specs.Io.KnownBytes.{Consumes, Keeps}
+use Rattle.std.specs.Result.{is_err}
+use Rattle.pcep_session.specs.Calls.{Does}
+use Rattle.pcep_session.specs.Runs.{or_same}
+use Rattle.pcep_session.specs.declared.contents.Contents.{Contents}
+use Rattle.pcep_session.specs.declared.fault.SessionFault.{SessionFault}
+use Rattle.history_core.specs.declared.fault.Fault.{Fault}
+use Rattle.engine_core.specs.Engine.{new_client, ending, served}
+use Rattle.engine_core.specs.Joining.{joined_after}
+use Rattle.engine_core.specs.Stores.{ServesOrEnds}
+use Rattle.engine_core.specs.declared.client.Client.{Client}
+use Rattle.engine_core.specs.declared.store.Call.{Call}
+use Rattle.server_talk.specs.declared.talk.Ended.{Ended}
+use Rattle.server_talk.specs.declared.talk.Ended.TheVariants.{PeerClosed, SessionEnded, ReadFault, WriteFault, StoreFault}
+use Rattle.server_talk.specs.Goings.{Goes, Ways}
+use Rattle.server_talk.specs.Goings.Goes.{Stays, Moves, Empties}
+use Rattle.server_talk.specs.Watches.{WatchNow}
+use Rattle.server_talk.specs.Connections.{Talks, SoFar, GoesOut, MayEndSo, IsUnexplained, spoken, IsDown, owes_down, Lasts, IsServed}
+use Rattle.server_talk.specs.Connections.Talks.{Begins, Serves, Breaks, Says, Closes}
+use Rattle.server_talk.proofs.Flowing.{appends_none, goes_out_behind, out_at_fault}
+use Rattle.server_talk.proofs.Leaving.{joined_on, is_down}
+
+-- a store that goes on by any calls up to one goes on by them up to the other
+abbrev pub LeadsOn : {S : Type 0} → Ways S → S → S → S → Type 0
+LeadsOn w start a b = (calls : List Call) → Goes w start calls a → Goes w start calls b
+
+-- it begins
+pub begun : {S : Type 0} (w : Ways S) (watch : WatchNow) (peer : ℕ) (store : S) (unread blank : Option (List ℕ)) (now_ms : ℕ) (c : Client)
+    → c ≡ new_client now_ms → watch.may_show now_ms → SoFar w watch peer store unread blank None store unread blank now_ms c
+begun w watch peer store unread blank now_ms c is shown =
+    subst (λ (k : Client). SoFar w watch peer store unread blank None store unread blank now_ms k) (sym is) (record {
+      heard = [];
+      said = [];
+      calls = [];
+      talks = Begins now_ms shown;
+      shown_at = shown;
+      joined = refl;
+      goes = Stays;
+      read = Consumes-nil unread;
+      out = appends_none blank;
+      ends_so = tt;
+    })
+
+-- a moment that is the last one, or that the watch shows
+shown_then : (watch : WatchNow) (at_ms now_ms : ℕ) → (now_ms ≡ at_ms) ⊎ watch.may_show now_ms → watch.may_show at_ms → watch.may_show now_ms
+shown_then watch at_ms now_ms (inl is) shown = subst (λ (n : ℕ). watch.may_show n) (sym is) shown
+shown_then watch at_ms now_ms (inr shown) before = shown
+
+-- bytes were served
+pub piece_served : {X S : Type 0} (w : Ways S) (watch : WatchNow) (r : Result X Fault) (peer : ℕ) (start old mid new : S) (unread blank left read written : Option (List ℕ)) (piece : List ℕ) (at_ms now_ms : ℕ) (c d : Client)
+    → at_ms ≤ now_ms → (now_ms ≡ at_ms) ⊎ watch.may_show now_ms → ServesOrEnds r w.moves w.is_full old mid c d (served peer piece now_ms c) → LeadsOn w start mid new
+    → SoFar w watch peer start unread blank None old left written at_ms c → Consumes left read piece
+    → SoFar w watch peer start unread blank None new read written now_ms d
+piece_served w watch (Ok x) peer start old mid new unread blank left read written piece at_ms now_ms c d later shown h on s k = record {
+  heard = s.heard ++ piece;
+  said = s.said;
+  calls = s.calls ++ h.calls;
+  talks = Serves s.heard s.said piece s.calls h.calls at_ms now_ms c d (shown_then watch at_ms now_ms shown s.shown_at) later s.talks h.leads;
+  shown_at = shown_then watch at_ms now_ms shown s.shown_at;
+  joined = h.joined ∙ ap (λ (is : Bool). joined_after is h.calls) s.joined ∙ sym (joined_on false s.calls h.calls);
+  goes = on (s.calls ++ h.calls) (Moves s.calls h.calls old mid s.goes h.made);
+  read = Consumes-trans unread left read s.heard piece s.read k;
+  out = s.out;
+  ends_so = tt;
+}
+piece_served w watch (Err fault) peer start old mid new unread blank left read written piece at_ms now_ms c d later shown h on s k =
+    let b = h.broke_off.carried in
+    subst (λ (k : Client). SoFar w watch peer start unread blank None new read written now_ms k) (sym h.ended) (record {
+      heard = s.heard ++ piece;
+      said = s.said;
+      calls = s.calls ++ b.calls;
+      talks = Breaks s.heard s.said piece s.calls b.calls at_ms now_ms c h.reached h.broke_off.rest (shown_then watch at_ms now_ms shown s.shown_at) later s.talks b.leads;
+      shown_at = shown_then watch at_ms now_ms shown s.shown_at;
+      joined = b.joined ∙ ap (λ (is : Bool). joined_after is b.calls) s.joined ∙ sym (joined_on false s.calls b.calls);
+      goes = on (s.calls ++ b.calls) (Moves s.calls b.calls old mid s.goes b.made);
+      read = Consumes-trans unread left read s.heard piece s.read k;
+      out = s.out;
+      ends_so = tt;
+    })
+
+-- nothing came, and the store's list was emptied
+pub rested : {S : Type 0} (w : Ways S) (watch : WatchNow) (peer : ℕ) (start a b : S) (unread blank left read written : Option (List ℕ)) (at_ms : ℕ) (c : Client)
+    → w.same_but_calls a b → Keeps left read → SoFar w watch peer start unread blank None a left written at_ms c → SoFar w watch peer start unread blank None b read written at_ms c
+rested w watch peer start a b unread blank left read written at_ms c h k s = record {
+  heard = s.heard;
+  said = s.said;
+  calls = s.calls;
+  talks = s.talks;
+  shown_at = s.shown_at;
+  joined = s.joined;
+  goes = Empties s.calls a b s.goes h;
+  read = Consumes-kept unread left read s.heard s.read k;
+  out = s.out;
+  ends_so = tt;
+}
+
+-- what there was to say was said
+pub said : {S : Type 0} (w : Ways S) (watch : WatchNow) (peer : ℕ) (start now : S) (unread blank left written after : Option (List ℕ)) (end : Option Ended) (at_ms then_ms : ℕ) (c d : Client)
+    → then_ms ≡ at_ms → d ≡ spoken c → GoesOut end written after c.session.output → MayEndSo end left d
+    → SoFar w watch peer start unread blank None now left written at_ms c → SoFar w watch peer start unread blank end now left after then_ms d
+said w watch peer start now unread blank left written after end at_ms then_ms c d same is out ends_so s = subst (λ (n : ℕ). SoFar w watch peer start unread blank end now left after n d) (sym same) (record {
+  heard = s.heard;
+  said = s.said ++ c.session.output;
+  calls = s.calls;
+  talks = subst (λ (k : Client). Talks watch peer s.heard s.calls (s.said ++ c.session.output) at_ms k) (sym is) (Says s.heard s.said s.calls at_ms c s.talks);
+  shown_at = s.shown_at;
+  joined = ap (λ (k : Client). k.joined) is ∙ s.joined;
+  goes = s.goes;
+  read = s.read;
+  out = goes_out_behind end blank written after s.said c.session.output s.out out;
+  ends_so = ends_so;
+})
+
+-- the session was closed from this side
+pub closed : {S : Type 0} (w : Ways S) (watch : WatchNow) (peer : ℕ) (start now : S) (unread blank left written : Option (List ℕ)) (at_ms then_ms : ℕ) (c d : Client)
+    → then_ms ≡ at_ms → watch.may_close → (reason : Option ℕ) × IsUnexplained reason × (d ≡ ending None reason c)
+    → SoFar w watch peer start unread blank None now left written at_ms c → SoFar w watch peer start unread blank None now left written then_ms d
+closed w watch peer start now unread blank left written at_ms then_ms c d same may h s = subst (λ (n : ℕ). SoFar w watch peer start unread blank None now left written n d) (sym same) (record {
+  heard = s.heard;
+  said = s.said;
+  calls = s.calls;
+  talks = subst (λ (k : Client). Talks watch peer s.heard s.calls s.said at_ms k) (sym h.2) (Closes s.heard s.said s.calls at_ms c h.0 may h.1 s.talks);
+  shown_at = s.shown_at;
+  joined = ap (λ (k : Client). k.joined) h.2 ∙ s.joined;
+  goes = s.goes;
+  read = s.read;
+  out = s.out;
+  ends_so = tt;
+})
+
+-- a session that could be ended is the one that has ended
+pub ended_ok : {X : Type 0} (r : Result X SessionFault) (old new : Contents) (step : Result Contents SessionFault) → is_err r ≡ false → Does r old new step → new ≡ or_same old step
+ended_ok (Ok x) old new step h k = rw k refl
+ended_ok (Err fault) old new step h k = cc
+
+-- ---- the end
+
+-- what the last calls are where the Down was submitted
+lasts_at : {S : Type 0} (w : Ways S) (ended : Ended) (peer : ℕ) (joined : Bool) (new : S) (last : List Call) → owes_down ended ≡ false → IsDown peer joined last → w.calls new ≡ last → Lasts ended w peer joined new last
+lasts_at w PeerClosed peer joined new last here h k = (h, k)
+lasts_at w SessionEnded peer joined new last here h k = (h, k)
+lasts_at w ReadFault peer joined new last here h k = (h, k)
+lasts_at w WriteFault peer joined new last here h k = (h, k)
+lasts_at w (StoreFault fault) peer joined new last here h k = cc
+
+-- a connection is over, and its Down was submitted where its peer was joined
+pub over : {S : Type 0} (w : Ways S) (watch : WatchNow) (peer : ℕ) (start mid new : S) (unread blank left written : Option (List ℕ)) (ended : Ended) (at_ms : ℕ) (c : Client)
+    → (s : SoFar w watch peer start unread blank (Some ended) mid left written at_ms c) → c.session.output ≡ []
+    → (last : List Call) × IsDown peer c.joined last × Goes w start (s.calls ++ last) new × (w.calls new ≡ last)
+    → IsServed w watch peer start unread blank ended new left written
+over w watch peer start mid new unread blank left written ended at_ms c s silent h =
+    let down : IsDown peer (joined_after false s.calls) h.0 = subst (λ (is : Bool). IsDown peer is h.0) s.joined h.1 in
+    record {
+      heard = s.heard;
+      said = s.said;
+      calls = s.calls;
+      last = h.0;
+      at_ms = at_ms;
+      client = c;
+      talks = s.talks;
+      silent = silent;
+      goes = h.2;
+      down = joined_on false s.calls h.0 ∙ is_down peer (joined_after false s.calls) h.0 down ∙ sym s.ends_so.1;
+      lasts = lasts_at w ended peer (joined_after false s.calls) new h.0 s.ends_so.1 down h.3;
+      read = s.read;
+      out = s.out;
+      ends_so = s.ends_so.0;
+    }
+
+-- a connection is over, and its peer is left joined
+pub left_joined : {S : Type 0} (w : Ways S) (watch : WatchNow) (peer : ℕ) (start mid new : S) (unread blank left written : Option (List ℕ)) (ended : Ended) (fault : Fault) (at_ms : ℕ) (c : Client)
+    → (s : SoFar w watch peer start unread blank (Some ended) mid left written at_ms c) → c.session.output ≡ []
+    → (c.joined ≡ true) × Goes w start s.calls new
+    → IsServed w watch peer start unread blank (StoreFault fault) new left written
+left_joined w watch peer start mid new unread blank left written ended fault at_ms c s silent h = record {
+  heard = s.heard;
+  said = s.said;
+  calls = s.calls;
+  last = [];
+  at_ms = at_ms;
+  client = c;
+  talks = s.talks;
+  silent = silent;
+  goes = subst (λ (all : List Call). Goes w start all new) (sym (append-nil s.calls)) h.1;
+  down = joined_on false s.calls [] ∙ sym s.joined ∙ h.0;
+  lasts = refl;
+  read = s.read;
+  out = out_at_fault (Some ended) blank written s.said fault s.out;
+  ends_so = tt;
+}

@@ -1,0 +1,149 @@
+-- A connection of a peer: what its session hears and says, what it does to the store, and how it ends.
+use Rattle.std.specs.Prelude.{◌≡◌, ◌<◌, ◌≤◌, ◌⊎◌, ℕ, Bool, true, false, List, [], ◌∷◌, ◌++◌, length, take, ⊤, Option, Some, None, Result, Ok, Err}
+use Rattle.std.specs.Io.KnownBytes.{Appends, Consumes, IsAtEnd}
+use Rattle.pcep_session.specs.Calls.{output_taken}
+use Rattle.pcep_session.specs.Turns.{is_closed}
+use Rattle.step_core.specs.declared.event.Event.TheVariants.{Down}
+use Rattle.step_core.specs.declared.event.Reply.{Reply}
+use Rattle.history_core.specs.declared.fault.Fault.{Fault}
+use Rattle.engine_core.specs.Calls.{called}
+use Rattle.engine_core.specs.Engine.{new_client, client_with, ending, served}
+use Rattle.engine_core.specs.Joining.{joined_after}
+use Rattle.engine_core.specs.Plans.{Plan, Returns, Reaches, LeadsTo}
+use Rattle.engine_core.specs.declared.client.Client.{Client}
+use Rattle.engine_core.specs.declared.store.Call.{Call}
+use Rattle.server_talk.specs.declared.talk.Ended.{Ended}
+use Rattle.server_talk.specs.declared.talk.Ended.TheVariants.{PeerClosed, SessionEnded, ReadFault, WriteFault, StoreFault}
+use Rattle.server_talk.specs.Goings.{Goes, Ways}
+use Rattle.server_talk.specs.Watches.{WatchNow}
+
+-- ---- the session of a connection
+
+-- what a session had to say is said
+abbrev pub spoken : Client → Client
+spoken c = client_with (output_taken c.session) c
+
+-- no explanation, reason 1, or no Close
+abbrev pub IsUnexplained : Option ℕ → Type 0
+IsUnexplained reason = (reason ≡ Some 1) ⊎ (reason ≡ None)
+
+-- A session of a peer so far: the bytes that it heard, the calls that it led to, the bytes that it said, and what it has
+-- come to, with the moment at which it was served last. Of the watch it is known which moments it shows, and whether the
+-- run may be asked to end.
+pub data Talks (watch : WatchNow) (peer : ℕ) : List ℕ → List Call → List ℕ → ℕ → Client → Type 0 where
+  -- it begins at a moment that the watch shows
+  Begins : (now_ms : ℕ) → watch.may_show now_ms → Talks watch peer [] [] [] now_ms (new_client now_ms)
+  -- it is served with bytes, as the engine's table says, at a moment that the watch shows and that isn't before the last
+  Serves : (heard said piece : List ℕ) (before made : List Call) (at_ms now_ms : ℕ) (c d : Client) → watch.may_show now_ms → at_ms ≤ now_ms
+      → Talks watch peer heard before said at_ms c → LeadsTo (served peer piece now_ms c) made (Returns d) → Talks watch peer (heard ++ piece) (before ++ made) said now_ms d
+  -- the same up to a fault, which ends it
+  Breaks : (heard said piece : List ℕ) (before made : List Call) (at_ms now_ms : ℕ) (c d : Client) (rest : Plan Client) → watch.may_show now_ms → at_ms ≤ now_ms
+      → Talks watch peer heard before said at_ms c → LeadsTo (served peer piece now_ms c) made (Reaches d rest) → Talks watch peer (heard ++ piece) (before ++ made) said now_ms (ending None None d)
+  -- it says what it has to say
+  Says : (heard said : List ℕ) (before : List Call) (at_ms : ℕ) (c : Client)
+      → Talks watch peer heard before said at_ms c → Talks watch peer heard before (said ++ c.session.output) at_ms (spoken c)
+  -- it is closed from this side where the run may be asked to end: with a Close that explains nothing (RFC 5440 section 7.17), or
+  -- without one
+  Closes : (heard said : List ℕ) (before : List Call) (at_ms : ℕ) (c : Client) (reason : Option ℕ) → watch.may_close → IsUnexplained reason
+      → Talks watch peer heard before said at_ms c → Talks watch peer heard before said at_ms (ending None reason c)
+
+-- ---- what is read and written
+
+-- the peer took some of these bytes, from the first on
+abbrev pub TakesSome : Option (List ℕ) → Option (List ℕ) → List ℕ → Type 0
+TakesSome old new bytes = (count : ℕ) × Appends old new (take count bytes)
+
+-- what a write leaves that was to take all of these bytes
+abbrev pub Takes : Bool → Option (List ℕ) → Option (List ℕ) → List ℕ → Type 0
+Takes true old new bytes = Appends old new bytes
+Takes false old new bytes = TakesSome old new bytes
+
+-- the peer took some of these bytes, from the first on, and not all
+abbrev pub TakesPart : Option (List ℕ) → Option (List ℕ) → List ℕ → Type 0
+TakesPart old new bytes = (count : ℕ) × (count < length bytes) × Appends old new (take count bytes)
+
+-- what a peer took that was sent all of these bytes
+abbrev pub TakesAll : Bool → Option (List ℕ) → Option (List ℕ) → List ℕ → Type 0
+TakesAll true old new bytes = Appends old new bytes
+TakesAll false old new bytes = TakesPart old new bytes
+
+-- All that the session said went out, unless a write failed: then a part of it did. A fault of the store is given in place
+-- of one of a write.
+abbrev pub GoesOut : Option Ended → Option (List ℕ) → Option (List ℕ) → List ℕ → Type 0
+GoesOut (Some WriteFault) old new said = TakesPart old new said
+GoesOut (Some (StoreFault fault)) old new said = TakesSome old new said
+GoesOut end old new said = Appends old new said
+
+-- the Down could not be submitted
+abbrev pub owes_down : Ended → Bool
+owes_down (StoreFault fault) = true
+owes_down ended = false
+
+-- The peer closed where the reader has no more, the session has ended where that is answered, and it hasn't where a read failed.
+abbrev pub EndsSo : Ended → Option (List ℕ) → Client → Type 0
+EndsSo PeerClosed left c = IsAtEnd left
+EndsSo SessionEnded left c = is_closed c.session.state ≡ true
+EndsSo ReadFault left c = is_closed c.session.state ≡ false
+EndsSo ended left c = ⊤
+
+-- the same of a connection that may go on, before its Down is submitted
+abbrev pub MayEndSo : Option Ended → Option (List ℕ) → Client → Type 0
+MayEndSo None left c = ⊤
+MayEndSo (Some ended) left c = EndsSo ended left c × (owes_down ended ≡ false)
+
+-- ---- a connection so far
+
+-- From `start` on, in a connection that goes on or has come to this end, but for the Down of its peer. Of the reader and the
+-- writer the known bytes are meant, at the connection's start and now; the session was served at this moment last.
+pub record SoFar {S : Type 0} (w : Ways S) (watch : WatchNow) (peer : ℕ) (start : S) (unread blank : Option (List ℕ)) (end : Option Ended) (now : S) (left written : Option (List ℕ)) (at_ms : ℕ) (client : Client) : Type 0 where
+  pub heard : List ℕ
+  pub said : List ℕ
+  pub calls : List Call
+  pub talks : Talks watch peer heard calls said at_ms client
+  pub shown_at : watch.may_show at_ms
+  pub joined : client.joined ≡ joined_after false calls
+  pub goes : Goes w start calls now
+  pub read : Consumes unread left heard
+  pub out : GoesOut end blank written said
+  pub ends_so : MayEndSo end left client
+
+-- ---- its end
+
+-- one Down of a peer that is joined, else nothing
+abbrev pub IsDown : ℕ → Bool → List Call → Type 0
+IsDown peer true calls = (reply : Reply) × (calls ≡ called (Down peer) reply ∷ [])
+IsDown peer false calls = calls ≡ []
+
+-- What the end of a connection leaves: the Down is submitted and the list has it alone, or it could not be submitted.
+abbrev pub Leaves : {X S : Type 0} → Result X Fault → Ways S → ℕ → Bool → S → List Call → S → Type 0
+Leaves (Ok x) w peer joined start calls new =
+    (last : List Call) × IsDown peer joined last × Goes w start (calls ++ last) new × (w.calls new ≡ last)
+Leaves (Err fault) w peer joined start calls new = (joined ≡ true) × Goes w start calls new
+
+-- the last calls: the Down of a peer that is joined, and the list of the store has nothing else; none after a fault of
+-- the store
+abbrev pub Lasts : {S : Type 0} → Ended → Ways S → ℕ → Bool → S → List Call → Type 0
+Lasts (StoreFault fault) w peer joined new last = last ≡ []
+Lasts ended w peer joined new last = IsDown peer joined last × (w.calls new ≡ last)
+
+-- A whole connection, and what is said to have ended it. Its calls are those of its session and the last ones, and the
+-- peer is left joined only where its Down could not be submitted.
+pub record IsServed {S : Type 0} (w : Ways S) (watch : WatchNow) (peer : ℕ) (start : S) (unread blank : Option (List ℕ)) (ended : Ended) (now : S) (left written : Option (List ℕ)) : Type 0 where
+  pub heard : List ℕ
+  pub said : List ℕ
+  pub calls : List Call
+  pub last : List Call
+  pub at_ms : ℕ
+  pub client : Client
+  pub talks : Talks watch peer heard calls said at_ms client
+  pub silent : client.session.output ≡ []
+  pub goes : Goes w start (calls ++ last) now
+  pub down : joined_after false (calls ++ last) ≡ owes_down ended
+  pub lasts : Lasts ended w peer (joined_after false calls) now last
+  pub read : Consumes unread left heard
+  pub out : GoesOut (Some ended) blank written said
+  pub ends_so : EndsSo ended left client
+
+-- there was no memory for a session: nothing was done
+abbrev pub IsUnserved : {S I O : Type 0} → Ended → S → S → I → I → O → O → Type 0
+IsUnserved ended old new was left blank written = (ended ≡ SessionEnded) × (new ≡ old) × (left ≡ was) × (written ≡ blank)

@@ -1,0 +1,23 @@
+//! Tickets: the paths that are asked for, in the order in which they were asked for. A ticket waits, is taken to be
+//! searched for, waits again or ends.
+//!
+//! The layer above may rely on it that a `TicketTable` is the list of `specs/Tickets.antt` with the last number that was
+//! given: the numbers rise, none is above the last, the first ticket that waits has the least number of those that do,
+//! and none was taken more than four times. `push` and `copies` alone take memory, and where it is refused nothing has
+//! changed.
+//!
+//! A ticket stands in a box, so one that ends is dropped there and then, and pointers close the gap.
+//!
+//! ```text
+//! tickets.push(ticket)?;
+//! if let Some(waiting) = tickets.first_waiting() {
+//!     let id = waiting.id;
+//!     tickets.take_first(changes);
+//!     tickets.end(id);
+//! }
+//! ```
+#![tactic(auto)]
+
+mod table;
+
+pub use table::{TICKET_LIMIT, TicketTable};
