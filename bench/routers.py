@@ -132,13 +132,13 @@ class Server:
 
 def at_once(count, prepare, act):
     """What act(prepare(n)) returns in each of so many processes, which begin together, and how long all took."""
-    ready, go, told = fork.Barrier(count + 1), fork.Event(), fork.SimpleQueue()
+    ready, go, queue = fork.Barrier(count + 1), fork.Event(), fork.SimpleQueue()
 
     def one(number):
         prepared = prepare(number)
         ready.wait()
         go.wait()
-        told.put((act(prepared), time.monotonic()))
+        queue.put((act(prepared), time.monotonic()))
 
     processes = [fork.Process(target=one, args=(number,), daemon=True) for number in range(count)]
     for process in processes:
@@ -146,7 +146,7 @@ def at_once(count, prepare, act):
     ready.wait()
     start = time.monotonic()
     go.set()
-    answers = [told.get() for _ in processes]
+    answers = [queue.get() for _ in processes]
     for process in processes:
         process.join()
     return [answer for answer, _ in answers], max(end for _, end in answers) - start

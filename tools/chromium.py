@@ -20,7 +20,7 @@ SOON = 30
 
 
 class Browser:
-    """One page in a browser of its own. `events` has what the browser told without being asked."""
+    """One page in a browser of its own. `events` has what the browser said without being asked."""
 
     def __init__(self, width=1400, height=1000):
         self.folder = tempfile.mkdtemp()
@@ -41,8 +41,8 @@ class Browser:
         while time.monotonic() < until:
             try:
                 port = open(f"{self.folder}/DevToolsActivePort").read().split()[0]
-                with urllib.request.urlopen(f"http://127.0.0.1:{port}/json/list", timeout=SOON) as told:
-                    pages = [page for page in json.load(told) if page["type"] == "page"]
+                with urllib.request.urlopen(f"http://127.0.0.1:{port}/json/list", timeout=SOON) as answer:
+                    pages = [page for page in json.load(answer) if page["type"] == "page"]
                 if pages:
                     return pages[0]["webSocketDebuggerUrl"].removeprefix("ws://")
             except (OSError, IndexError):
@@ -101,10 +101,10 @@ class Browser:
 
     def run(self, script):
         """The value of an expression in the page."""
-        told = self.ask("Runtime.evaluate", expression=script, returnByValue=True, awaitPromise=True)
-        if "exceptionDetails" in told:
-            raise ValueError(f"{script}: {told['exceptionDetails']['exception'].get('description')}")
-        return told["result"].get("value")
+        reply = self.ask("Runtime.evaluate", expression=script, returnByValue=True, awaitPromise=True)
+        if "exceptionDetails" in reply:
+            raise ValueError(f"{script}: {reply['exceptionDetails']['exception'].get('description')}")
+        return reply["result"].get("value")
 
     def waits_for(self, script, seconds=SOON):
         """Whether an expression becomes true soon."""

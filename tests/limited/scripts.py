@@ -82,7 +82,7 @@ def down(lsp):
 
 
 def longest_report():
-    """A message of 65,532 bytes, and how many LSPs it reports. The last fills it up, by an SRP and by hops that are told
+    """A message of 65,532 bytes, and how many LSPs it reports. The last fills it up, by an SRP and by hops that are said
     again.
     """
     size = len(down(1)) // 2

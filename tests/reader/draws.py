@@ -210,8 +210,8 @@ class Draws:
         elif way == "class":
             data[0] = self.pick(0, 16, 34, 255, data[0] ^ 1)
         else:
-            told = len(data) + self.pick(-8, -4, -1, 1, 4, 8, 64, -len(data), 4 - len(data), 3 - len(data))
-            data[2:4] = struct.pack(">H", told & 0xFFFF)
+            length = len(data) + self.pick(-8, -4, -1, 1, 4, 8, 64, -len(data), 4 - len(data), 3 - len(data))
+            data[2:4] = struct.pack(">H", length & 0xFFFF)
         return [*objects[:place], bytes(data), *objects[place + 1 :]]
 
     def resized(self, objects):

@@ -1,4 +1,4 @@
-"""Objects of PCEP as bytes (RFC 5440 section 7, RFC 8231 section 7): each is read, or told to be broken or unknown."""
+"""Objects of PCEP as bytes (RFC 5440 section 7, RFC 8231 section 7): each is read, or found to be broken or unknown."""
 import struct
 from dataclasses import dataclass
 from typing import Any

@@ -13,7 +13,7 @@ class BadLine(Exception):
 
 
 class Client:
-    """A session, and whether the database was told that it is up."""
+    """A session, and whether the database knows that it is up."""
 
     def __init__(self, peer, now, database):
         self.session, self.peer, self.database, self.joined = Session(now), peer, database, False
@@ -98,9 +98,9 @@ class Script:
         if word in ("open", "up", "msg", "end", "expire", "report", "initiate", "update", "return", "delete") and words:
             words[0] = peer_of(words[0])
         printed = getattr(self, f"do_{word}")(*words)
-        return printed + self.told()
+        return printed + self.printed_of_inputs()
 
-    def told(self):
+    def printed_of_inputs(self):
         """What the sessions that live have to say, in rising order of their peers."""
         lines = []
         for peer in sorted(self.clients):

@@ -130,14 +130,14 @@ class Enemy(Events):
     # ---- an operator, and workers
 
     def next_line(self):
-        """Mostly the next of a plan, if it may be told still."""
+        """Mostly the next of a plan, if it may be sent still."""
         while self.plan and self.chance(0.75):
             line = self.plan.popleft()
-            if self.may_be_told(*line.split(" ")):
+            if self.may_be_sent(*line.split(" ")):
                 return line
         return self.draw_line()
 
-    def may_be_told(self, word, peer="0", *_):
+    def may_be_sent(self, word, peer="0", *_):
         """What a session says or ends by needs one, and `up` needs that there is none."""
         return word not in ("up", "end", "msg") or (int(peer) in self.sessions) == (word != "up")
 

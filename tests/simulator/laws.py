@@ -1,4 +1,4 @@
-"""What holds of the state after each event, whatever was sent, told on its plain lists."""
+"""What holds of the state after each event, whatever was sent, on its plain lists."""
 
 from .facts import MOST_PATHS, MOST_PEERS, MOST_TICKETS, MOST_TRIES
 

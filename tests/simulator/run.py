@@ -16,26 +16,26 @@ def play(scenario):
         for line in scenario.lines():
             number += 1
             lines.append(line)
-            expected += [(number, line, told) for told in scenario.script.line(line)]
+            expected += [(number, line, allowed) for allowed in scenario.script.line(line)]
     except Broken as law:
         expected.append((number, lines[-1], {f"(no state in which {law})"}))
     return "\n".join(lines) + "\n", expected
 
 
 def first_difference(expected, output):
-    """Where the output differs from what may be printed, told in three lines, or None."""
-    for (number, line, told), got in zip(expected, output):
-        if got not in told:
-            return told_difference(number, line, " or ".join(sorted(told)), got)
+    """Where the output differs from what may be printed, in three lines, or None."""
+    for (number, line, allowed), got in zip(expected, output):
+        if got not in allowed:
+            return difference_in_lines(number, line, " or ".join(sorted(allowed)), got)
     if len(output) < len(expected):
-        number, line, told = expected[len(output)]
-        return told_difference(number, line, " or ".join(sorted(told)), "(nothing)")
+        number, line, allowed = expected[len(output)]
+        return difference_in_lines(number, line, " or ".join(sorted(allowed)), "(nothing)")
     if len(output) > len(expected):
-        return told_difference(expected[-1][0] if expected else 0, "(the end)", "(nothing)", output[len(expected)])
+        return difference_in_lines(expected[-1][0] if expected else 0, "(the end)", "(nothing)", output[len(expected)])
     return None
 
 
-def told_difference(number, line, wanted, got):
+def difference_in_lines(number, line, wanted, got):
     return f"  line {number}: {line[:200]}\n  wanted: {wanted[:400]}\n  got:    {got[:400]}"
 
 
@@ -47,10 +47,10 @@ def fault_of(program, text, expected):
         return f"  no end within {SECONDS} s"
     except OSError as fault:
         return f"  {fault}"
-    told = first_difference(expected, run.stdout.splitlines())
-    if told is None and run.returncode:
-        told = f"  status {run.returncode}: {run.stderr[:400]}"
-    return told
+    fault = first_difference(expected, run.stdout.splitlines())
+    if fault is None and run.returncode:
+        fault = f"  status {run.returncode}: {run.stderr[:400]}"
+    return fault
 
 
 class Tally:

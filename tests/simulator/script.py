@@ -59,18 +59,18 @@ class Script:
         method = getattr(self, "line_" + word, None)
         if method is None:
             raise BadLine(text)
-        return [{told} if isinstance(told, str) else told for told in method(*rest)]
+        return [{line} if isinstance(line, str) else line for line in method(*rest)]
 
     # ---- sessions
 
     def line_open(self, peer):
         session = self.begin(peer_in(peer))
-        return self.told([session])
+        return self.printed([session])
 
     def line_up(self, peer):
         session = self.begin(peer_in(peer))
         session.serve(wire.open_message() + wire.KEEPALIVE_MESSAGE, self.moment)
-        return self.told([session])
+        return self.printed([session])
 
     def begin(self, peer):
         if peer in self.sessions:
@@ -82,12 +82,12 @@ class Script:
         session = self.sessions[peer_in(peer)]
         was_up = session.state == UP
         session.serve(bytes.fromhex("".join(digits)), self.moment)
-        return self.told([session], was_up)
+        return self.printed([session], was_up)
 
     def line_end(self, peer):
         session = self.sessions[peer_in(peer)]
         session.end()
-        return self.told([session])
+        return self.printed([session])
 
     def line_tick(self, moment):
         self.moment = int(moment)
@@ -98,9 +98,9 @@ class Script:
         sessions = [self.sessions[peer] for peer in sorted(self.sessions)]
         for session in sessions:
             session.serve(b"", self.moment)
-        return self.told(sessions, True)
+        return self.printed(sessions, True)
 
-    def told(self, sessions, was_up=False):
+    def printed(self, sessions, was_up=False):
         lines = []
         for session in sessions:
             if output := session.take_output():

@@ -1,4 +1,4 @@
-"""A server whose allocations are refused while it is called: the call that is told so is made again."""
+"""A server whose allocations are refused while it is called: the call that is answered so is made again."""
 import shutil
 import socket
 import struct
@@ -126,13 +126,13 @@ class Call:
     """A call of the server, and what has to be before it and comes of it."""
 
     def __init__(self, served):
-        self.served, self.address, self.told = served, "127.0.0.1", 0
+        self.served, self.address, self.met = served, "127.0.0.1", 0
 
     def answer_of(self, line, before):
-        """The answer to an operator's line, which is told again where memory was refused: then nothing was done."""
+        """The answer to an operator's line, which is sent again where memory was refused: then nothing was done."""
         answer = self.served.tell(line)[0]
         if answer == OUT_OF_MEMORY:
-            self.told += 1
+            self.met += 1
             self.served.refusals.lift()
             wants(self.served.book(), before)
             answer = self.served.tell(line)[0]
@@ -168,7 +168,7 @@ def wants(came, wanted):
 
 
 class Initiation(Call):
-    """An initiation is told, searched for, granted and sent; the router refuses it."""
+    """An initiation is asked for, searched for, granted and sent; the router refuses it."""
 
     def run(self, place):
         answer = self.answer_of(f"initiate {self.address} t{place} 10.0.0.1 10.0.0.4 500000 7 0", FREE)
@@ -179,7 +179,7 @@ class Initiation(Call):
 
 
 class Update(Call):
-    """An update is told, searched for, granted and sent; the router refuses it."""
+    """An update is asked for, searched for, granted and sent; the router refuses it."""
 
     def reset(self):
         super().reset()
@@ -284,7 +284,7 @@ class Look(Call):
         wanted = [f"link {link} " + " ".join(map(str, left)) for link, left in enumerate(HELD)]
         printed = self.served.tell("book", 4)
         if printed == [OUT_OF_MEMORY]:
-            self.told += 1
+            self.met += 1
             printed = self.served.tell("book", 4)
         wants(printed, wanted)
 
@@ -317,7 +317,7 @@ def refuse_each_of_a_start(program, network, refusals):
     """The server starts, and ends at once."""
     for place in range(MOST):
         end = Served(program, network, refusals, place).end()
-        # (what a thread lacked that can't be started isn't told)
+        # (what a thread lacked that can't be started isn't named)
         wants(end, end if end in (*ENDS, (3, "device fault")) else ENDS)
         if refusals.met() == 0:
             return f"{place} refusals"
@@ -348,7 +348,7 @@ def refuse_each_of_the_calls(program, network, refusals):
         for kind in CALLS:
             call = kind(served)
             places, ended = refuse_each(call)
-            print(f"      {kind.__doc__} {places} refusals: {call.told} told to the operator, {ended} ended the session", flush=True)
+            print(f"      {kind.__doc__} {places} refusals: {call.met} answered to the operator, {ended} ended the session", flush=True)
         refusals.lift()
         wants(served.end(), (0, ""))
         return "the audit passes"

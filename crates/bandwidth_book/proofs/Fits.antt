@@ -6,11 +6,11 @@ use Rattle.std.proofs.lemmas.Int.{ints}
 use Rattle.std.specs.List.{All, list_all, list_any, range_with_len}
 use Rattle.lsp_base.specs.Shares.{fits_at, has_link, is_of_tunnel, reservable, reserved, rises, share, tunnels_of, unreserved}
 use Rattle.std.proofs.lemmas.List.Elements.{All-head, All-tail}
-use Rattle.te_base.specs.Base.{IsLinkAmong}
+use Rattle.te_base.specs.Ted.{IsLinkAmong}
 use Rattle.te_base.specs.declared.network.Link.{Link}
 use Rattle.lsp_base.specs.declared.path.Path.{Path}
 use Rattle.lsp_base.specs.declared.tunnel.Tunnel.{Tunnel}
-use Rattle.bandwidth_book.specs.Held.{held_of, most}
+use Rattle.bandwidth_book.specs.Reservation.{held_of, most}
 use Rattle.bandwidth_book.specs.Tunnels.{held_by_path}
 use Rattle.bandwidth_book.specs.Paths.{held_by, tunnel_eq}
 use Rattle.bandwidth_book.proofs.Counts.{most_append}

@@ -16,7 +16,7 @@ pub mod Distinct
 pub mod Reserved
 pub mod Fits
 pub mod Runs
-pub mod Pending
+pub mod Promises
 pub mod OwnShares
 pub mod Tables
 pub mod Revalued

@@ -2,11 +2,11 @@
 use Rattle.std.proofs.Common.{◌≡◌, ◌<◌, ◌≤◌, ◌+◌, ◌^◌, ℕ, zero, suc, ◌==◌, Bool, true, false, true≢false, List, [], ◌∷◌, ◌++◌, Option, Some, None, length, get_or, slice_get, slice_set, slice_index, insert, remove, drop, refl, sym, ap, subst, ◌∙◌, arith, inl, inr, if◌then◌else◌, add-one, drop-cons, length-append, length-set}
 use Rattle.std.proofs.lemmas.Bool.{cases_Bool, eqb-true}
 use Rattle.std.specs.List.{refill}
-use Rattle.bandwidth_book.specs.Held.{Held}
+use Rattle.bandwidth_book.specs.Reservation.{Reservation}
 use Rattle.bandwidth_book.specs.declared.link_entries.LinkEntry.{LinkEntry}
 use Rattle.bandwidth_book.specs.Holdings.{Holdings}
-use Rattle.bandwidth_book.specs.Held.{most, moved_all, takes_memory}
-use Rattle.bandwidth_book.specs.declared.held.Motion.{Motion}
+use Rattle.bandwidth_book.specs.Reservation.{most, moved_all, takes_memory}
+use Rattle.bandwidth_book.specs.declared.reservation.Motion.{Motion}
 use Rattle.bandwidth_book.specs.Entries.{AreRising, IsAt, IsMoved, entry_on, held_in, place_on}
 use Rattle.bandwidth_book.specs.Tunnels.{held_by_links, sum_at, sum_in}
 use Rattle.bandwidth_book.proofs.Moved.{most_moved, moved_both, moved_part, unmoved}
@@ -163,30 +163,30 @@ moved_row sums m row p f g h moved others l =
 
 -- ---- a path's links, one by one
 
-pub next_held : (held : Held) (l : ℕ) (xs : List ℕ) (i : ℕ) → i < length xs → held_by_links held l (drop i xs) ≡ (if get_or xs i 0 == l then held ∷ [] else []) ++ held_by_links held l (drop (i + 1) xs)
+pub next_held : (held : Reservation) (l : ℕ) (xs : List ℕ) (i : ℕ) → i < length xs → held_by_links held l (drop i xs) ≡ (if get_or xs i 0 == l then held ∷ [] else []) ++ held_by_links held l (drop (i + 1) xs)
 next_held held l xs i h = rw (add-one, drop-cons xs i 0) refl
 
-pub next_length : (held : Held) (l : ℕ) (xs : List ℕ) (i : ℕ) → i < length xs → length (held_by_links held l (drop i xs)) ≡ length (if get_or xs i 0 == l then held ∷ [] else []) + length (held_by_links held l (drop (i + 1) xs))
-next_length held l xs i h = ap (λ (hs : List Held). length hs) (next_held held l xs i h) ∙ length-append (if get_or xs i 0 == l then held ∷ [] else []) (held_by_links held l (drop (i + 1) xs))
+pub next_length : (held : Reservation) (l : ℕ) (xs : List ℕ) (i : ℕ) → i < length xs → length (held_by_links held l (drop i xs)) ≡ length (if get_or xs i 0 == l then held ∷ [] else []) + length (held_by_links held l (drop (i + 1) xs))
+next_length held l xs i h = ap (λ (hs : List Reservation). length hs) (next_held held l xs i h) ∙ length-append (if get_or xs i 0 == l then held ∷ [] else []) (held_by_links held l (drop (i + 1) xs))
 
 -- one link is moved, and then the rest
-pub next_moved : (m : Motion) (held : Held) (l : ℕ) (xs : List ℕ) (i : ℕ) (o u v : Option Holdings) → i < length xs
+pub next_moved : (m : Motion) (held : Reservation) (l : ℕ) (xs : List ℕ) (i : ℕ) (o u v : Option Holdings) → i < length xs
     → IsMoved m (if get_or xs i 0 == l then held ∷ [] else []) o u → IsMoved m (held_by_links held l (drop (i + 1) xs)) u v → IsMoved m (held_by_links held l (drop i xs)) o v
-next_moved m held l xs i o u v h one rest = subst (λ (hs : List Held). IsMoved m hs o v) (sym (next_held held l xs i h)) (moved_both m _ _ o u v one rest)
+next_moved m held l xs i o u v h one rest = subst (λ (hs : List Reservation). IsMoved m hs o v) (sym (next_held held l xs i h)) (moved_both m _ _ o u v one rest)
 
 -- one link's promise is refused, and so none is made for the rest
-pub last_moved : (m : Motion) (held : Held) (l : ℕ) (xs : List ℕ) (i : ℕ) (o u : Option Holdings) → i < length xs → takes_memory m ≡ true
+pub last_moved : (m : Motion) (held : Reservation) (l : ℕ) (xs : List ℕ) (i : ℕ) (o u : Option Holdings) → i < length xs → takes_memory m ≡ true
     → IsMoved m (if get_or xs i 0 == l then held ∷ [] else []) o u → IsMoved m (held_by_links held l (drop i xs)) o u
-last_moved m held l xs i o u h t one = subst (λ (hs : List Held). IsMoved m hs o u) (sym (next_held held l xs i h)) (moved_part m _ (held_by_links held l (drop (i + 1) xs)) o u t one)
+last_moved m held l xs i o u h t one = subst (λ (hs : List Reservation). IsMoved m hs o u) (sym (next_held held l xs i h)) (moved_part m _ (held_by_links held l (drop (i + 1) xs)) o u t one)
 
 -- another link's entry stays
-pub elsewhere : (m : Motion) (link l : ℕ) (held : Held) (o : Option Holdings) → (link == l) ≡ false → IsMoved m (if link == l then held ∷ [] else []) o o
+pub elsewhere : (m : Motion) (link l : ℕ) (held : Reservation) (o : Option Holdings) → (link == l) ≡ false → IsMoved m (if link == l then held ∷ [] else []) o o
 elsewhere m link l held o other = rw other (unmoved m o)
 
-pub kept_elsewhere : (m : Motion) (link l : ℕ) (held : Held) (o u : Option Holdings) → (link == l) ≡ false → IsMoved m (if link == l then held ∷ [] else []) o u → held_in u ≡ held_in o
+pub kept_elsewhere : (m : Motion) (link l : ℕ) (held : Reservation) (o u : Option Holdings) → (link == l) ≡ false → IsMoved m (if link == l then held ∷ [] else []) o u → held_in u ≡ held_in o
 kept_elsewhere m link l held o u other x = rw other at x.kept
 
 -- one that is added or dropped leaves the greatest below a bound that it is below itself
-pub small_moved : (m : Motion) (b : Bool) (h : Held) (hs us : List Held) (p : ℕ) → us ≡ moved_all m hs (if b then h ∷ [] else []) → h.bandwidth < 2 ^ 48 → most hs p < 2 ^ 48 → most us p < 2 ^ 48
+pub small_moved : (m : Motion) (b : Bool) (h : Reservation) (hs us : List Reservation) (p : ℕ) → us ≡ moved_all m hs (if b then h ∷ [] else []) → h.bandwidth < 2 ^ 48 → most hs p < 2 ^ 48 → most us p < 2 ^ 48
 small_moved m true h hs us p e one old = let all = most_moved m h hs p in rw e (omega (arith, one, old, all))
 small_moved m false h hs us p e one old = rw e old

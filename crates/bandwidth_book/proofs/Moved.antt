@@ -3,58 +3,58 @@ use Rattle.std.proofs.Common.{◌≡◌, ◌≤◌, ◌<◌, ◌+◌, ◌^◌, �
 use Rattle.bandwidth_book.specs.Entries.{IsMoved, held_in, promised_in}
 use Rattle.lsp_base.specs.declared.tunnel.Tunnel.{Tunnel}
 use Rattle.bandwidth_book.specs.Tunnels.{held_by_path, tunnel_eq}
-use Rattle.bandwidth_book.specs.Held.{Held, changes_held, most, moved_all, moved_one, promised_after, room_for, takes_memory, with_all, without_all}
+use Rattle.bandwidth_book.specs.Reservation.{Reservation, changes_held, most, moved_all, moved_one, promised_after, room_for, takes_memory, with_all, without_all}
 use Rattle.bandwidth_book.specs.Holdings.{Holdings}
-use Rattle.bandwidth_book.specs.declared.held.Motion.{Motion}
-use Rattle.bandwidth_book.specs.declared.held.Motion.TheVariants.{Promise, Add, Drop, Withdraw}
+use Rattle.bandwidth_book.specs.declared.reservation.Motion.{Motion}
+use Rattle.bandwidth_book.specs.declared.reservation.Motion.TheVariants.{Promise, Add, Drop, Withdraw}
 use Rattle.bandwidth_book.proofs.Sums.{at_most, most-without_one, most_with_one}
 use Rattle.bandwidth_book.proofs.Written.{no_length}
 
 -- ---- what is held
 
-pub moved_add : (hs xs : List Held) → moved_all Add hs xs ≡ with_all hs xs
+pub moved_add : (hs xs : List Reservation) → moved_all Add hs xs ≡ with_all hs xs
 moved_add hs [] = refl
 moved_add hs (x ∷ xs) = moved_add (moved_one Add x hs) xs
 
-pub moved_drop : (hs xs : List Held) → moved_all Drop hs xs ≡ without_all hs xs
+pub moved_drop : (hs xs : List Reservation) → moved_all Drop hs xs ≡ without_all hs xs
 moved_drop hs [] = refl
 moved_drop hs (x ∷ xs) = moved_drop (moved_one Drop x hs) xs
 
-pub withdrawn : (hs xs : List Held) → moved_all Withdraw hs xs ≡ hs
+pub withdrawn : (hs xs : List Reservation) → moved_all Withdraw hs xs ≡ hs
 withdrawn hs [] = refl
 withdrawn hs (x ∷ xs) = withdrawn hs xs
 
-pub promised : (m : Motion) → takes_memory m ≡ true → (hs xs : List Held) → moved_all m hs xs ≡ hs
+pub promised : (m : Motion) → takes_memory m ≡ true → (hs xs : List Reservation) → moved_all m hs xs ≡ hs
 promised Promise e hs [] = refl
 promised Promise e hs (x ∷ xs) = promised Promise e hs xs
 promised Add e hs xs = absurd (true≢false (sym e))
 promised Drop e hs xs = absurd (true≢false (sym e))
 promised Withdraw e hs xs = absurd (true≢false (sym e))
 
-moved_append : (m : Motion) (hs xs ys : List Held) → moved_all m hs (xs ++ ys) ≡ moved_all m (moved_all m hs xs) ys
+moved_append : (m : Motion) (hs xs ys : List Reservation) → moved_all m hs (xs ++ ys) ≡ moved_all m (moved_all m hs xs) ys
 moved_append m hs [] ys = refl
 moved_append m hs (x ∷ xs) ys = moved_append m (moved_one m x hs) xs ys
 
-pub held_stays : (m : Motion) (h : Held) (hs : List Held) → changes_held m ≡ false → moved_one m h hs ≡ hs
+pub held_stays : (m : Motion) (h : Reservation) (hs : List Reservation) → changes_held m ≡ false → moved_one m h hs ≡ hs
 held_stays Promise h hs e = refl
 held_stays Add h hs e = absurd (true≢false e)
 held_stays Drop h hs e = absurd (true≢false e)
 held_stays Withdraw h hs e = refl
 
 -- one of them rises no higher than the one that is moved
-pub most_moved : (m : Motion) (h : Held) (hs : List Held) (p : ℕ) → most (moved_one m h hs) p ≤ max h.bandwidth (most hs p)
+pub most_moved : (m : Motion) (h : Reservation) (hs : List Reservation) (p : ℕ) → most (moved_one m h hs) p ≤ max h.bandwidth (most hs p)
 most_moved Promise h hs p = omega arith
 most_moved Add h hs p = let m = most_with_one h hs p in let b = at_most (nat_le h.hold p) h.bandwidth in omega (arith, m, b)
 most_moved Drop h hs p = let m = most-without_one h hs p in omega (arith, m)
 most_moved Withdraw h hs p = omega arith
 
 -- so a path's part leaves the greatest below a bound that it is below itself
-pub small_by_path : (m : Motion) (own : Tunnel) (h : Held) (l : ℕ) (t : Tunnel) (links : List ℕ) (hs us : List Held) (p : ℕ) → us ≡ moved_all m hs (held_by_path own h l t links)
+pub small_by_path : (m : Motion) (own : Tunnel) (h : Reservation) (l : ℕ) (t : Tunnel) (links : List ℕ) (hs us : List Reservation) (p : ℕ) → us ≡ moved_all m hs (held_by_path own h l t links)
     → h.bandwidth < 2 ^ 48 → most hs p < 2 ^ 48 → most us p < 2 ^ 48
 small_by_path m own h l t [] hs us p e small old = rw e old
 small_by_path m own h l t (x ∷ xs) hs us p e small old = go (x == l && tunnel_eq own t) (λ ks f low. small_by_path m own h l t xs ks us p f small low) (e ∙ moved_append m hs (if x == l && tunnel_eq own t then h ∷ [] else []) (held_by_path own h l t xs))
   where
-    go : (b : Bool) → ((ks : List Held) → us ≡ moved_all m ks (held_by_path own h l t xs) → most ks p < 2 ^ 48 → most us p < 2 ^ 48) → us ≡ moved_all m (moved_all m hs (if b then h ∷ [] else [])) (held_by_path own h l t xs) → most us p < 2 ^ 48
+    go : (b : Bool) → ((ks : List Reservation) → us ≡ moved_all m ks (held_by_path own h l t xs) → most ks p < 2 ^ 48 → most us p < 2 ^ 48) → us ≡ moved_all m (moved_all m hs (if b then h ∷ [] else [])) (held_by_path own h l t xs) → most us p < 2 ^ 48
     go true rest f = rest (moved_one m h hs) f (let one = most_moved m h hs p in omega (arith, small, old, one))
     go false rest f = rest hs f old
 
@@ -113,7 +113,7 @@ pub unmoved_room : (m : Motion) (o : Option Holdings) → promised_after m 0 (pr
 unmoved_room m o = let e = after_none m (promised_in o) in omega (arith, e)
 
 -- one motion after another
-pub moved_both : (m : Motion) (a b : List Held) (o u v : Option Holdings) → IsMoved m a o u → IsMoved m b u v → IsMoved m (a ++ b) o v
+pub moved_both : (m : Motion) (a b : List Reservation) (o u v : Option Holdings) → IsMoved m a o u → IsMoved m b u v → IsMoved m (a ++ b) o v
 moved_both m a b o u v x y = record {
   kept = y.kept ∙ ap (λ hs. moved_all m hs b) x.kept ∙ sym (moved_append m (held_in o) a b);
   busy = λ h. y.busy (x.busy h);
@@ -125,7 +125,7 @@ moved_both m a b o u v x y = record {
 }
 
 -- a promise that is refused on the way is none for the rest
-pub moved_part : (m : Motion) (a b : List Held) (o u : Option Holdings) → takes_memory m ≡ true → IsMoved m a o u → IsMoved m (a ++ b) o u
+pub moved_part : (m : Motion) (a b : List Reservation) (o u : Option Holdings) → takes_memory m ≡ true → IsMoved m a o u → IsMoved m (a ++ b) o u
 moved_part Promise a b o u e x = record {
   kept = x.kept ∙ promised Promise refl (held_in o) a ∙ sym (promised Promise refl (held_in o) (a ++ b));
   busy = x.busy;
@@ -136,31 +136,31 @@ moved_part Drop a b o u e x = absurd (true≢false (sym e))
 moved_part Withdraw a b o u e x = absurd (true≢false (sym e))
 
 -- a promise that is refused leaves all
-pub refused : (m : Motion) (hs : List Held) (o : Option Holdings) → takes_memory m ≡ true → IsMoved m hs o o
+pub refused : (m : Motion) (hs : List Reservation) (o : Option Holdings) → takes_memory m ≡ true → IsMoved m hs o o
 refused m hs o t = moved_part m [] hs o o t (unmoved m o)
 
 -- an entry that stays, one that goes, one that comes, and none
-pub stays : (m : Motion) (h : Held) (e new : Holdings) → new.held ≡ moved_one m h e.held → new.promised ≤ promised_after m 1 e.promised → (length new.held ≡ 0 → 0 < new.promised) → IsMoved m (h ∷ []) (Some e) (Some new)
-stays m h e new held below busy = record { kept = held; busy = λ b some none. busy (ap (λ (hs : List Held). length hs) none); below = below }
+pub stays : (m : Motion) (h : Reservation) (e new : Holdings) → new.held ≡ moved_one m h e.held → new.promised ≤ promised_after m 1 e.promised → (length new.held ≡ 0 → 0 < new.promised) → IsMoved m (h ∷ []) (Some e) (Some new)
+stays m h e new held below busy = record { kept = held; busy = λ b some none. busy (ap (λ (hs : List Reservation). length hs) none); below = below }
 
-pub goes : (m : Motion) (h : Held) (e new : Holdings) → new.held ≡ moved_one m h e.held → length new.held ≡ 0 → IsMoved m (h ∷ []) (Some e) None
+pub goes : (m : Motion) (h : Reservation) (e new : Holdings) → new.held ≡ moved_one m h e.held → length new.held ≡ 0 → IsMoved m (h ∷ []) (Some e) None
 goes m h e new held none = record { kept = sym (no_length new.held (omega (arith, none))) ∙ held; busy = λ b some. absurd (true≢false (sym some)); below = omega arith }
 
-pub comes : (m : Motion) (h : Held) (e : Holdings) → takes_memory m ≡ true → e.held ≡ moved_one m h [] → e.promised ≡ promised_after m 1 0 → IsMoved m (h ∷ []) None (Some e)
+pub comes : (m : Motion) (h : Reservation) (e : Holdings) → takes_memory m ≡ true → e.held ≡ moved_one m h [] → e.promised ≡ promised_after m 1 0 → IsMoved m (h ∷ []) None (Some e)
 comes Promise h e t held promised = record { kept = held; busy = λ b some none. omega (arith, promised); below = omega (arith, promised) }
 comes Add h e t held promised = absurd (true≢false (sym t))
 comes Drop h e t held promised = absurd (true≢false (sym t))
 comes Withdraw h e t held promised = absurd (true≢false (sym t))
 
-pub missing : (m : Motion) (hs : List Held) → takes_memory m ≡ false → room_for m (length hs) ≤ 0 → IsMoved m hs None None
+pub missing : (m : Motion) (hs : List Reservation) → takes_memory m ≡ false → room_for m (length hs) ≤ 0 → IsMoved m hs None None
 missing m hs t room = record { kept = none m hs t room; busy = λ b. b; below = omega arith }
   where
-    nothing_dropped : (xs : List Held) → [] ≡ moved_all Drop [] xs
+    nothing_dropped : (xs : List Reservation) → [] ≡ moved_all Drop [] xs
     nothing_dropped [] = refl
     nothing_dropped (x ∷ xs) = nothing_dropped xs
 
-    none : (m : Motion) (hs : List Held) → takes_memory m ≡ false → room_for m (length hs) ≤ 0 → [] ≡ moved_all m [] hs
+    none : (m : Motion) (hs : List Reservation) → takes_memory m ≡ false → room_for m (length hs) ≤ 0 → [] ≡ moved_all m [] hs
     none Promise hs t room = absurd (true≢false t)
-    none Add hs t room = ap (λ (xs : List Held). moved_all Add [] xs) (sym (no_length hs room))
+    none Add hs t room = ap (λ (xs : List Reservation). moved_all Add [] xs) (sym (no_length hs room))
     none Drop hs t room = nothing_dropped hs
     none Withdraw hs t room = sym (withdrawn [] hs)

@@ -12,9 +12,9 @@ use Rattle.lsp_base.specs.declared.tunnel.Tunnel.{Tunnel}
 use Rattle.te_snapshot.specs.declared.own.OwnShare.{OwnShare}
 use Rattle.te_snapshot.specs.Own.{is_something, own_share_on, own_shares}
 use Rattle.te_snapshot.specs.Room.{own_share, share_in}
-use Rattle.bandwidth_book.specs.Held.{Held}
+use Rattle.bandwidth_book.specs.Reservation.{Reservation}
 use Rattle.bandwidth_book.specs.declared.link_entries.LinkEntry.{LinkEntry}
-use Rattle.bandwidth_book.specs.Held.{AreMaxima, most, times}
+use Rattle.bandwidth_book.specs.Reservation.{AreMaxima, most, times}
 use Rattle.bandwidth_book.specs.Entries as entries
 use Rattle.bandwidth_book.specs.Links.{AreRising, has_link, is_something_below, own_among}
 use Rattle.bandwidth_book.specs.Paths.{IsHeldBy, held_by}
@@ -23,8 +23,8 @@ use Rattle.bandwidth_book.proofs.Rising.{number_self, numbers_apart}
 use Rattle.bandwidth_book.proofs.Shares.{share_is_most}
 
 -- the maxima of what the tunnel's paths hold are its shares
-pub maxima_are_shares : (maxima : List ℕ) (hs : List Held) (paths : List Path) (t : Tunnel) (l : ℕ) → length maxima ≡ 8 → AreMaxima maxima hs
-    → ((h : Held) → times h hs ≡ times h (held_by l t paths)) → maxima ≡ map (share paths t l) (priorities 0 7)
+pub maxima_are_shares : (maxima : List ℕ) (hs : List Reservation) (paths : List Path) (t : Tunnel) (l : ℕ) → length maxima ≡ 8 → AreMaxima maxima hs
+    → ((h : Reservation) → times h hs ≡ times h (held_by l t paths)) → maxima ≡ map (share paths t l) (priorities 0 7)
 maxima_are_shares maxima hs paths t l long are same =
     fill_by_all (share paths t l) maxima 8 0 long (λ p less. are p less ∙ (most_same hs (held_by l t paths) p same ∙ sym (share_is_most paths t l p)))
 
@@ -72,7 +72,7 @@ none_found f p links l gone a (suc n) =
     ]
 
 -- at a worse priority no less is held
-most_more : (hs : List Held) (p q : ℕ) → p ≤ q → most hs p ≤ most hs q
+most_more : (hs : List Reservation) (p q : ℕ) → p ≤ q → most hs p ≤ most hs q
 most_more [] p q h = omega arith
 most_more (x ∷ hs) p q h =
     let ih = most_more hs p q h in
@@ -101,7 +101,7 @@ own_share_is paths t count l p less small =
     ]
 
 -- what holds nothing on a link reserves nothing there
-pub nothing_there : (paths : List Path) (t : Tunnel) (l : ℕ) (hs : List Held) → hs ≡ [] → ((h : Held) → times h hs ≡ times h (held_by l t paths)) → is_something (own_share_on paths t l) ≡ false
+pub nothing_there : (paths : List Path) (t : Tunnel) (l : ℕ) (hs : List Reservation) → hs ≡ [] → ((h : Reservation) → times h hs ≡ times h (held_by l t paths)) → is_something (own_share_on paths t l) ≡ false
 nothing_there paths t l hs none same =
     let last : slice_index (own_share_on paths t l).shares 7 ≡ share paths t l 7 = get_or-map-range_with_len (share paths t l) 0 8 7 7 0 (omega arith) (omega arith) in
     let here : most hs 7 ≡ 0 = ap (λ xs. most xs 7) none in
@@ -202,7 +202,7 @@ unlisted l (x ∷ xs) e =
     ]
 
 -- the links without an entry of the tunnel list nothing
-pub own_listed : (held : ℕ → Tunnel → List Held) (count : ℕ) (links : List ℕ) (t : Tunnel) → ((l : ℕ) → has_link l links ≡ false → held l t ≡ []) → AreRising links
+pub own_listed : (held : ℕ → Tunnel → List Reservation) (count : ℕ) (links : List ℕ) (t : Tunnel) → ((l : ℕ) → has_link l links ≡ false → held l t ≡ []) → AreRising links
     → (paths : List Path) → IsHeldBy count held paths → own_among paths t count links ≡ own_shares paths t count
 unfolding own_shares
 own_listed held count links t gone rising paths same =

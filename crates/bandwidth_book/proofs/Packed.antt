@@ -3,10 +3,10 @@ use Rattle.std.proofs.Common.{◌≡◌, ◌<◌, ℕ, ◌+◌, ◌*◌, ◌/◌
 use Rattle.std.proofs.lemmas.Bool.{cases_Bool, eq-eqb, eqb-false, eqb-true, le-ltb, lt-ltb, ltb-false, ltb-true, ne_eqb}
 use Rattle.std.proofs.Math.Nat.{div-add-mod, mod-lt}
 use Rattle.std.proofs.lemmas.Nat.{div-mul-add, mod-mul-add}
-use Rattle.bandwidth_book.specs.Held.{Held, is_before, same_held}
+use Rattle.bandwidth_book.specs.Reservation.{Reservation, is_before, same_held}
 
 -- the priority and the bandwidth of a number
-abbrev pub parts : ℕ → Held
+abbrev pub parts : ℕ → Reservation
 parts n = record { hold = n / 2 ^ 48; bandwidth = n % 2 ^ 48 }
 
 pub hold_of : (hold bandwidth : ℕ) → bandwidth < 2 ^ 48 → (hold * 2 ^ 48 + bandwidth) / 2 ^ 48 ≡ hold

@@ -8,9 +8,9 @@ use Rattle.lsp_base.specs.Same.{same_tunnel}
 use Rattle.lsp_base.specs.Shares.{greatest, is_held, is_of_tunnel, reserved, share, tunnels_of}
 use Rattle.lsp_base.specs.declared.path.Path.{Path}
 use Rattle.lsp_base.specs.declared.tunnel.Tunnel.{Tunnel}
-use Rattle.bandwidth_book.specs.Held.{Held}
+use Rattle.bandwidth_book.specs.Reservation.{Reservation}
 use Rattle.bandwidth_book.specs.declared.link_entries.LinkEntry.{LinkEntry}
-use Rattle.bandwidth_book.specs.Held.{times}
+use Rattle.bandwidth_book.specs.Reservation.{times}
 use Rattle.bandwidth_book.specs.Entries.{held_in}
 use Rattle.bandwidth_book.specs.Tunnels.{entry_of, most_on, total}
 use Rattle.bandwidth_book.specs.Paths.{held_by, tunnel_eq}
@@ -89,7 +89,7 @@ everywhere f g [] e = tt
 everywhere f g (t ∷ ts) e = (e t, everywhere f g ts e)
 
 pub total_is_reserved : (es : List (Tunnel × List LinkEntry)) (paths : List Path) (l p : ℕ) → IsDistinct tunnel_eq (keys_of es)
-    → ((t : Tunnel) (h : Held) → times h (held_in (entry_of es l t)) ≡ times h (held_by l t paths)) → total (most_on l p) es ≡ reserved paths l p
+    → ((t : Tunnel) (h : Reservation) → times h (held_in (entry_of es l t)) ≡ times h (held_by l t paths)) → total (most_on l p) es ≡ reserved paths l p
 total_is_reserved es paths l p d s =
     let f : Tunnel → ℕ = λ t. share paths t l p in
     let g : Tunnel → ℕ = λ t. most_on l p (lookup (tunnel_eq t) es) in

@@ -5,8 +5,8 @@ use Rattle.std.proofs.lemmas.Bool.{cases_Bool}
 use Rattle.lsp_base.specs.Shares.{greatest, has_link, is_held, share}
 use Rattle.lsp_base.specs.declared.path.Path.{Path}
 use Rattle.lsp_base.specs.declared.tunnel.Tunnel.{Tunnel}
-use Rattle.bandwidth_book.specs.Held.{Held}
-use Rattle.bandwidth_book.specs.Held.{held_of, most}
+use Rattle.bandwidth_book.specs.Reservation.{Reservation}
+use Rattle.bandwidth_book.specs.Reservation.{held_of, most}
 use Rattle.bandwidth_book.specs.Tunnels.{held_by_path}
 use Rattle.bandwidth_book.specs.Paths.{held_by, tunnel_eq}
 use Rattle.bandwidth_book.proofs.Counts.{most_append}
@@ -20,12 +20,12 @@ one_link true true false n rest more e = omega (arith, e)
 one_link true false low n rest more e = omega (arith, e)
 one_link false b low n rest more e = omega (arith, e)
 
-first_of_one : (a b : Bool) (h : Held) (rest : List Held) (p : ℕ) → most ((if a && b then h ∷ [] else []) ++ rest) p ≡ max (if a && b then (if nat_le h.hold p then h.bandwidth else 0) else 0) (most rest p)
+first_of_one : (a b : Bool) (h : Reservation) (rest : List Reservation) (p : ℕ) → most ((if a && b then h ∷ [] else []) ++ rest) p ≡ max (if a && b then (if nat_le h.hold p then h.bandwidth else 0) else 0) (most rest p)
 first_of_one true true h rest p = refl
 first_of_one true false h rest p = omega arith
 first_of_one false b h rest p = omega arith
 
-pub most_by_path : (own : Tunnel) (h : Held) (l : ℕ) (t : Tunnel) (p : ℕ) (links : List ℕ)
+pub most_by_path : (own : Tunnel) (h : Reservation) (l : ℕ) (t : Tunnel) (p : ℕ) (links : List ℕ)
     → most (held_by_path own h l t links) p ≡ (if tunnel_eq own t && nat_le h.hold p && list_any (λ x. x == l) links then h.bandwidth else 0)
 most_by_path own h l t p [] = nothing (tunnel_eq own t) (nat_le h.hold p) h.bandwidth
   where

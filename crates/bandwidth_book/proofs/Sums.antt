@@ -3,8 +3,8 @@ use Rattle.std.proofs.Common.{◌≡◌, ◌≤◌, ℕ, ◌+◌, Bool, true, fa
 use Rattle.std.proofs.lemmas.Bool.{cases_Bool}
 use Rattle.std.specs.Map.{lookup, set_value}
 use Rattle.indexmap.specs.IndexMap.{insert_entry}
-use Rattle.bandwidth_book.specs.Held.{Held}
-use Rattle.bandwidth_book.specs.Held.{most, is_before, same_held, with_one, without_one}
+use Rattle.bandwidth_book.specs.Reservation.{Reservation}
+use Rattle.bandwidth_book.specs.Reservation.{most, is_before, same_held, with_one, without_one}
 use Rattle.bandwidth_book.specs.Tunnels.{total}
 
 -- no value counts more than the total
@@ -16,7 +16,7 @@ one-le-total f test (e ∷ es) old h =
       | inr other ↦ (let there : lookup test es ≡ Some old = rw other at h in let ih = one-le-total f test es old there in omega (arith, ih))
     ]
 
-pub most_with_one : (h : Held) (hs : List Held) (p : ℕ) → most (with_one h hs) p ≡ max (if nat_le h.hold p then h.bandwidth else 0) (most hs p)
+pub most_with_one : (h : Reservation) (hs : List Reservation) (p : ℕ) → most (with_one h hs) p ≡ max (if nat_le h.hold p then h.bandwidth else 0) (most hs p)
 most_with_one h [] p = refl
 most_with_one h (x ∷ hs) p =
     elim (cases_Bool (is_before x h)) [
@@ -28,7 +28,7 @@ pub at_most : (b : Bool) (n : ℕ) → (if b then n else 0) ≤ n
 at_most true n = omega arith
 at_most false n = omega arith
 
-pub most-without_one : (h : Held) (hs : List Held) (p : ℕ) → most (without_one h hs) p ≤ most hs p
+pub most-without_one : (h : Reservation) (hs : List Reservation) (p : ℕ) → most (without_one h hs) p ≤ most hs p
 most-without_one h [] p = omega arith
 most-without_one h (x ∷ hs) p =
     elim (cases_Bool (same_held h x)) [
@@ -36,7 +36,7 @@ most-without_one h (x ∷ hs) p =
       | inr other ↦ (let ih = most-without_one h hs p in rw other (omega (arith, ih)))
     ]
 
-pub length_without_one : (h : Held) (hs : List Held) → length (without_one h hs) ≤ length hs
+pub length_without_one : (h : Reservation) (hs : List Reservation) → length (without_one h hs) ≤ length hs
 length_without_one h [] = omega arith
 length_without_one h (x ∷ hs) =
     elim (cases_Bool (same_held h x)) [

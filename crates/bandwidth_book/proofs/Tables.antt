@@ -17,7 +17,7 @@ use Rattle.te_snapshot.specs.Left.{all_left, left_on}
 use Rattle.te_snapshot.specs.Network.{Network, NetworkState}
 use Rattle.te_snapshot.specs.Pages.{is_marked, left_beside, row}
 use Rattle.te_snapshot.specs.declared.marks.Marks.{Marks}
-use Rattle.bandwidth_book.specs.Held.{Held, times, with_all, without_all}
+use Rattle.bandwidth_book.specs.Reservation.{Reservation, times, with_all, without_all}
 use Rattle.bandwidth_book.specs.Entries.{held_in}
 use Rattle.bandwidth_book.specs.Paths.{held_by}
 use Rattle.bandwidth_book.specs.Tables.{AreFresh, AreLeft, IsHeldOn, IsLeftOver, IsRowOf}
@@ -30,7 +30,7 @@ use Rattle.bandwidth_book.proofs.Revalued.{left_stays}
 
 -- what the sums leave of a link is what the paths leave
 pub row_left : (sums : List (List ℕ)) (tunnels : List (Tunnel × List LinkEntry)) (links : List Link) (paths : List Path) (l : ℕ) → AreSums sums tunnels → IsDistinct tunnel_eq (keys_of tunnels) → l < length sums
-    → ((t : Tunnel) (h : Held) → times h (held_in (entry_of tunnels l t)) ≡ times h (held_by l t paths)) → left_beside links sums l ≡ left_on links paths l
+    → ((t : Tunnel) (h : Reservation) → times h (held_in (entry_of tunnels l t)) ≡ times h (held_by l t paths)) → left_beside links sums l ≡ left_on links paths l
 unfolding unreserved
 row_left sums tunnels links paths l are distinct less s =
     fill_by_all (unreserved links paths l) (left_beside links sums l) 8 (pos 0) refl
@@ -58,7 +58,7 @@ if_ok (Ok x) P Q h f = f x h
 if_ok (Err e) P Q h f = h
 
 -- the row of a table with the marked rows made anew
-pub row_now : (links : List Link) (held : ℕ → Tunnel → List Held) (marks : Marks) (sums : List (List ℕ)) (table now : List (List ℤ)) (l : ℕ) → l < length links → AreFresh links held marks table
+pub row_now : (links : List Link) (held : ℕ → Tunnel → List Reservation) (marks : Marks) (sums : List (List ℕ)) (table now : List (List ℤ)) (l : ℕ) → l < length links → AreFresh links held marks table
     → ((paths : List Path) → IsHeldOn (held l) l paths → left_beside links sums l ≡ left_on links paths l)
     → row now l ≡ (if is_marked marks l then left_beside links sums l else row table l) → IsRowOf links held l (row now l)
 row_now links held marks sums table now l less fresh left is = λ paths s.
@@ -75,15 +75,15 @@ was_free true after kept free = absurd (true≢false (sym (kept refl) ∙ free))
 was_free false after kept free = refl
 
 -- a row stays right where as much is held
-pub row_stays : (links : List Link) (held now : ℕ → Tunnel → List Held) (l : ℕ) (r : List ℤ) → ((t : Tunnel) → now l t ≡ held l t) → IsRowOf links held l r → IsRowOf links now l r
+pub row_stays : (links : List Link) (held now : ℕ → Tunnel → List Reservation) (l : ℕ) (r : List ℤ) → ((t : Tunnel) → now l t ≡ held l t) → IsRowOf links held l r → IsRowOf links now l r
 row_stays links held now l r same is = λ paths s. is paths (λ t h. ap (times h) (sym (same t)) ∙ s t h)
 
 -- and where another link gets other values
-pub row_beside : (links : List Link) (n : ℕ) (v : Values) (held : ℕ → Tunnel → List Held) (l : ℕ) (r : List ℤ) → (n ≡ l → ⊥) → IsRowOf links held l r → IsRowOf (set_values links n v) held l r
+pub row_beside : (links : List Link) (n : ℕ) (v : Values) (held : ℕ → Tunnel → List Reservation) (l : ℕ) (r : List ℤ) → (n ≡ l → ⊥) → IsRowOf links held l r → IsRowOf (set_values links n v) held l r
 row_beside links n v held l r apart is = λ paths s. is paths s ∙ ap (λ f. map f (priorities 0 7)) (fun_ext (λ p. sym (left_stays links n v paths l p apart)))
 
 -- as much is held where what goes and what comes is nothing
-pub held_as : (hs now dropped added : List Held) → now ≡ with_all (without_all hs dropped) added → dropped ≡ [] → added ≡ [] → now ≡ hs
+pub held_as : (hs now dropped added : List Reservation) → now ≡ with_all (without_all hs dropped) added → dropped ≡ [] → added ≡ [] → now ≡ hs
 held_as hs now dropped added is d a = is ∙ ap (λ xs. with_all (without_all hs dropped) xs) a ∙ ap (λ xs. without_all hs xs) d
 
 -- no path holds nothing
@@ -92,13 +92,13 @@ none_held l t [] none = refl
 none_held l t (x ∷ xs) none = absurd (omega (arith, none))
 
 -- a snapshot stays right where as much is held on each link
-pub left_over_stays : (n : Network) (before after : ℕ) (held now : ℕ → Tunnel → List Held) (s : NetworkState) → after ≡ before → ((l : ℕ) (t : Tunnel) → l < before → now l t ≡ held l t) → IsLeftOver n before held s → IsLeftOver n after now s
+pub left_over_stays : (n : Network) (before after : ℕ) (held now : ℕ → Tunnel → List Reservation) (s : NetworkState) → after ≡ before → ((l : ℕ) (t : Tunnel) → l < before → now l t ≡ held l t) → IsLeftOver n before held s → IsLeftOver n after now s
 left_over_stays n before after held now s same each is = record {
   network = is.network;
   left = λ paths h. is.left paths (λ l t x less. ap (times x) (sym (each l t less)) ∙ h l t x (omega (arith, less, same)));
 }
 
-path_none : (own t : Tunnel) (held : Held) (l : ℕ) (marks : Marks) (links : List ℕ) → All (λ k. is_marked marks k ≡ true) links → is_marked marks l ≡ false → held_by_path own held l t links ≡ []
+path_none : (own t : Tunnel) (held : Reservation) (l : ℕ) (marks : Marks) (links : List ℕ) → All (λ k. is_marked marks k ≡ true) links → is_marked marks l ≡ false → held_by_path own held l t links ≡ []
 path_none own t held l marks [] all free = refl
 path_none own t held l marks (x ∷ xs) all free =
     let ih = path_none own t held l marks xs (All-tail (λ k. is_marked marks k ≡ true) x xs all) free in

@@ -3,7 +3,7 @@ use Rattle.std.proofs.Common.{◌≡◌, ◌<◌, ◌≤◌, ℕ, ◌+◌, ◌==
 use Rattle.std.specs.Cmp.{IsEquivalence}
 use Rattle.std.specs.Map.{lookup}
 use Rattle.std.proofs.lemmas.Bool.{cases_Bool}
-use Rattle.bandwidth_book.specs.Held.{Held}
+use Rattle.bandwidth_book.specs.Reservation.{Reservation}
 use Rattle.lsp_base.specs.declared.tunnel.Tunnel.{Tunnel}
 use Rattle.bandwidth_book.specs.Tunnels.{held_by_links, held_by_path, tunnel_eq}
 
@@ -41,15 +41,15 @@ module _ {K V : Type 0} {eq : K → K → Bool} (laws : IsEquivalence eq) where
       by false other = others (lookup (eq k) es)
 
 -- what a path holds for a tunnel
-pub by_key : (own : Tunnel) (held : Held) (l : ℕ) (t : Tunnel) (links : List ℕ) → held_by_path own held l t links ≡ (if tunnel_eq own t then held_by_links held l links else [])
+pub by_key : (own : Tunnel) (held : Reservation) (l : ℕ) (t : Tunnel) (links : List ℕ) → held_by_path own held l t links ≡ (if tunnel_eq own t then held_by_links held l links else [])
 by_key own held l t [] = by (tunnel_eq own t)
   where
-    by : (b : Bool) → (let none : List Held = [] in none ≡ (if b then none else none))
+    by : (b : Bool) → (let none : List Reservation = [] in none ≡ (if b then none else none))
     by true = refl
     by false = refl
 by_key own held l t (x ∷ xs) = by (x == l) (tunnel_eq own t) (held_by_path own held l t xs) (held_by_links held l xs) (by_key own held l t xs)
   where
-    by : (a b : Bool) (rest more : List Held) → rest ≡ (if b then more else []) → ((if a && b then held ∷ [] else []) ++ rest) ≡ (if b then ((if a then held ∷ [] else []) ++ more) else [])
+    by : (a b : Bool) (rest more : List Reservation) → rest ≡ (if b then more else []) → ((if a && b then held ∷ [] else []) ++ rest) ≡ (if b then ((if a then held ∷ [] else []) ++ more) else [])
     by true true rest more e = ap (λ hs. held ∷ hs) e
     by true false rest more e = e
     by false true rest more e = e

@@ -6,10 +6,10 @@ use Rattle.lsp_base.specs.declared.tunnel.Tunnel.{Tunnel}
 use Rattle.te_base.specs.declared.network.Link.{Link}
 use Rattle.te_snapshot.specs.Network.{Network, NetworkState, with_links}
 use Rattle.bandwidth_book.specs.declared.book.Book.{Book}
-use Rattle.bandwidth_book.specs.Held.{Held}
+use Rattle.bandwidth_book.specs.Reservation.{Reservation}
 use Rattle.bandwidth_book.specs.Ledgers.{count, has_entry_at, held_at, promised_on}
 use Rattle.bandwidth_book.specs.Paths.{IsHeldBy, IsPromised}
-use Rattle.bandwidth_book.specs.Pending.{noted}
+use Rattle.bandwidth_book.specs.Promises.{noted}
 
 -- the network, with the links as they are now
 abbrev pub network_of : Book → Network
@@ -24,7 +24,7 @@ abbrev pub kept_by : Book → Option NetworkState
 kept_by book = if book.is_kept then Some book.last else None
 
 -- what a tunnel's paths hold on a link
-abbrev pub held_on : Book → ℕ → Tunnel → List Held
+abbrev pub held_on : Book → ℕ → Tunnel → List Reservation
 held_on book = held_at book.ledgers
 
 -- for each link, tunnel, holding priority and bandwidth, the book holds as many as there are such paths

@@ -1,14 +1,14 @@
 -- The entries of a tunnel, by link.
 use Rattle.std.specs.Prelude.{⊤, ◌≡◌, ◌<◌, ◌≤◌, ◌==◌, ℕ, suc, Bool, true, List, [], ◌∷◌, Option, Some, None, is_some, length, map, nat_lt, slice_get, if◌then◌else◌}
 use Rattle.std.specs.List.{AllByRecursion}
-use Rattle.bandwidth_book.specs.Held.{Held}
-use Rattle.bandwidth_book.specs.Held.{moved_all, promised_after}
-use Rattle.bandwidth_book.specs.declared.held.Motion.{Motion}
+use Rattle.bandwidth_book.specs.Reservation.{Reservation}
+use Rattle.bandwidth_book.specs.Reservation.{moved_all, promised_after}
+use Rattle.bandwidth_book.specs.declared.reservation.Motion.{Motion}
 use Rattle.bandwidth_book.specs.declared.link_entries.LinkEntry.{LinkEntry}
 use Rattle.bandwidth_book.specs.Holdings.{Holdings}
 
 -- what an entry that may be missing holds
-abbrev pub held_in : Option Holdings → List Held
+abbrev pub held_in : Option Holdings → List Reservation
 held_in None = []
 held_in (Some e) = e.held
 
@@ -23,7 +23,7 @@ IsBusy o = is_some o ≡ true → held_in o ≡ [] → 0 < promised_in o
 
 -- an entry that may be missing, before and after a motion for each of these, of which want of memory may have
 -- left some out
-pub record IsMoved (motion : Motion) (hs : List Held) (old new : Option Holdings) : Type 0 where
+pub record IsMoved (motion : Motion) (hs : List Reservation) (old new : Option Holdings) : Type 0 where
   pub kept : held_in new ≡ moved_all motion (held_in old) hs
   pub busy : IsBusy old → IsBusy new
   pub below : promised_in new ≤ promised_after motion (length hs) (promised_in old)
@@ -38,7 +38,7 @@ abbrev pub has_entry : ℕ → List LinkEntry → Bool
 has_entry l xs = is_some (entry_on l xs)
 
 -- what the link's entry holds
-abbrev pub kept : ℕ → List LinkEntry → List Held
+abbrev pub kept : ℕ → List LinkEntry → List Reservation
 kept l xs = held_in (entry_on l xs)
 
 -- for how many more the link's entry has promised room

@@ -1,8 +1,8 @@
 -- What an entry stands for.
 use Rattle.std.specs.Prelude.{ℕ, List}
-use Rattle.bandwidth_book.specs.Held.{Held}
+use Rattle.bandwidth_book.specs.Reservation.{Reservation}
 
 -- what is held, and for how many more room is promised
 pub record Holdings : Type 0 where
-  pub held : List Held
+  pub held : List Reservation
   pub promised : ℕ

@@ -1,7 +1,7 @@
 -- What is held on links.
 use Rattle.std.specs.Prelude.{ℕ, Bool, List, Option, is_some, length}
 use Rattle.lsp_base.specs.declared.tunnel.Tunnel.{Tunnel}
-use Rattle.bandwidth_book.specs.Held.{Held}
+use Rattle.bandwidth_book.specs.Reservation.{Reservation}
 use Rattle.bandwidth_book.specs.declared.ledgers.Ledgers.{Ledgers}
 use Rattle.bandwidth_book.specs.Holdings.{Holdings}
 use Rattle.bandwidth_book.specs.Entries.{held_in, promised_in}
@@ -16,7 +16,7 @@ abbrev pub entry_at : Ledgers → ℕ → Tunnel → Option Holdings
 entry_at ledgers l t = entry_of ledgers.tunnels.entries l t
 
 -- what the tunnel's paths hold on a link
-abbrev pub held_at : Ledgers → ℕ → Tunnel → List Held
+abbrev pub held_at : Ledgers → ℕ → Tunnel → List Reservation
 held_at ledgers l t = held_in (entry_at ledgers l t)
 
 -- whether the tunnel has an entry on a link

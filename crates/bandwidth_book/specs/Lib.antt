@@ -1,10 +1,10 @@
-pub mod Held
+pub mod Reservation
 pub mod Holdings
 pub mod Entries
 pub mod Tunnels
 pub mod Ledgers
 pub mod Paths
-pub mod Pending
+pub mod Promises
 pub mod Tables
 pub mod Links
 pub mod Books

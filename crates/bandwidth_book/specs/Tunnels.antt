@@ -3,10 +3,10 @@ use Rattle.std.specs.Prelude.{◌≡◌, ◌<◌, ℕ, ◌+◌, ◌&&◌, ◌==�
 use Rattle.std.specs.Map.{lookup}
 use Rattle.lsp_base.specs.contracts.tunnel.TunnelPartialEq.TheImpl.{eq-value}
 use Rattle.lsp_base.specs.declared.tunnel.Tunnel.{Tunnel}
-use Rattle.bandwidth_book.specs.Held.{Held}
+use Rattle.bandwidth_book.specs.Reservation.{Reservation}
 use Rattle.bandwidth_book.specs.declared.link_entries.LinkEntry.{LinkEntry}
 use Rattle.bandwidth_book.specs.Entries.{entry_on, held_in}
-use Rattle.bandwidth_book.specs.Held.{most}
+use Rattle.bandwidth_book.specs.Reservation.{most}
 use Rattle.bandwidth_book.specs.Holdings.{Holdings}
 
 -- the entries of a tunnel that may have none
@@ -49,11 +49,11 @@ abbrev pub HasNoEmptyList : List (Tunnel × List LinkEntry) → Type 0
 HasNoEmptyList tunnels = (t : Tunnel) → lookup (tunnel_eq t) tunnels ≡ Some [] → ⊥
 
 -- what a path holds on a link, once for each time that it has the link
-abbrev pub held_by_links : Held → ℕ → List ℕ → List Held
+abbrev pub held_by_links : Reservation → ℕ → List ℕ → List Reservation
 held_by_links held l [] = []
 held_by_links held l (x ∷ xs) = (if x == l then held ∷ [] else []) ++ held_by_links held l xs
 
 -- what a path of the first tunnel holds on a link for the second, once for each time that it has the link
-abbrev pub held_by_path : Tunnel → Held → ℕ → Tunnel → List ℕ → List Held
+abbrev pub held_by_path : Tunnel → Reservation → ℕ → Tunnel → List ℕ → List Reservation
 held_by_path own held l t [] = []
 held_by_path own held l t (x ∷ xs) = (if x == l && tunnel_eq own t then held ∷ [] else []) ++ held_by_path own held l t xs

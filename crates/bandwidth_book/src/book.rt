@@ -3,7 +3,7 @@ ghost use Rattle.std.specs.Prelude.{◌≡◌, ◌<◌, ◌^◌, ℕ, length, tr
 ghost use Rattle.lsp_base.specs.Shares.{reservable};
 ghost use Rattle.te_snapshot.specs.Network.{AreLinksOf, with_links};
 ghost use Rattle.bandwidth_book.specs.Ledgers.{count, held_at, promised_on};
-ghost use Rattle.bandwidth_book.specs.Pending.{AreNoted};
+ghost use Rattle.bandwidth_book.specs.Promises.{AreNoted};
 ghost use Rattle.bandwidth_book.specs.Tables.{AreFresh, IsLeftOver};
 
 use crate::ledgers::Ledgers;

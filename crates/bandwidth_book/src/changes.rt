@@ -1,11 +1,11 @@
 //! How a book comes to stand for lists of paths.
 ghost use Rattle.std.specs.Prelude.{◌≡◌, ◌<◌, ◌≤◌, ◌++◌, true, ℕ, List, [], length, IfOk, OnOk};
 ghost use Rattle.std.specs.Arc.{arc_value};
-ghost use Rattle.lsp_base.specs.Base.{HasAll, without};
+ghost use Rattle.lsp_base.specs.Lsps.{HasAll, without};
 ghost use Rattle.lsp_base.specs.declared.path.Path.{Path};
 ghost use Rattle.lsp_base.specs.declared.tunnel.Tunnel.{Tunnel};
 ghost use Rattle.bandwidth_book.specs.Books.{HasEmptyEntry, HasNoEmptyEntry, IsReady, StandsFor, held_on, kept_by, links_of, network_of, pending_on};
-ghost use Rattle.bandwidth_book.specs.Held.{with_all, without_all};
+ghost use Rattle.bandwidth_book.specs.Reservation.{with_all, without_all};
 ghost use Rattle.bandwidth_book.specs.Paths.{held_by};
 
 use crate::book::Book;

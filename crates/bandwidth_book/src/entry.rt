@@ -1,9 +1,9 @@
 //! What one tunnel holds on one link.
 ghost use Rattle.std.specs.Prelude.{ℕ, ◌≡◌, ◌<◌, ◌≤◌, ◌+◌, [], length, max, nat_le, slice_index, if◌then◌else◌, false, IsTrue, ◌↔◌, IsOk, OnErr, OnOk};
 ghost use Rattle.smallvec.specs.SmallVec.{HasRoomFor};
-ghost use Rattle.bandwidth_book.specs.Held.{most, most_below, AreMaxima, AreInOrder, moved_one, place_in, promised_after, room_for, takes_memory, with_one, without_one};
+ghost use Rattle.bandwidth_book.specs.Reservation.{most, most_below, AreMaxima, AreInOrder, moved_one, place_in, promised_after, room_for, takes_memory, with_one, without_one};
 
-use crate::held::{Held, Motion, is_before, is_same_held};
+use crate::reservation::{Motion, Reservation, is_before, is_same_held};
 use smallvec::SmallVec;
 use std::alloc::{AllocError, Global};
 use std::default::MadeWith;
@@ -15,13 +15,13 @@ const IN_PLACE: usize = 3;
 /// What the paths of a tunnel hold on a link, in order, and for how many more there is room for sure.
 #[derive(Drop)]
 pub struct Entry {
-    held: SmallVec<Held, IN_PLACE>,
+    held: SmallVec<Reservation, IN_PLACE>,
     promised: usize,
 }
 
 impl Model for Entry {
     ghost use Rattle.smallvec.specs.SmallVec.{HasRoomFor};
-    ghost use Rattle.bandwidth_book.specs.Held.{AreInOrder};
+    ghost use Rattle.bandwidth_book.specs.Reservation.{AreInOrder};
     ghost use Rattle.bandwidth_book.specs.Holdings.{Holdings};
 
     ghost Value = { Holdings };
@@ -44,7 +44,7 @@ impl MadeWith<Global> for Entry {
 
 /// Finds where one belongs in the order.
 #[tactic(auto, using(crate::proofs::Order::place_within))]
-fn place_of(held: &[Held], one: &Held) -> usize
+fn place_of(held: &[Reservation], one: &Reservation) -> usize
     requires { AreInOrder held.now }
     ensures place { result ≡ place_in one.now held.now }
     ensures within { result ≤ length held.now }
@@ -63,12 +63,12 @@ fn place_of(held: &[Held], one: &Held) -> usize
 }
 
 /// Finds the greatest bandwidth that is held at the priority and no better one: the last of them has it.
-fn last_of(held: &[Held], priority: u8) -> u64
+fn last_of(held: &[Reservation], priority: u8) -> u64
     requires order { AreInOrder held.now }
     requires priority { priority < 8 }
     ensures { max (most_below held.now priority) result ≡ most held.now priority }
 {
-    let end = place_of(held, &Held::new(priority + 1, 0));
+    let end = place_of(held, &Reservation::new(priority + 1, 0));
     if end == 0 {
         return 0;
     }
@@ -82,7 +82,7 @@ fn last_of(held: &[Held], priority: u8) -> u64
 
 /// Finds the greatest bandwidth that is held at the priority or a better one, from that at better ones.
 #[tactic(auto, using(crate::proofs::Runs::below_next))]
-fn most_from(held: &[Held], priority: u8, better: u64) -> u64
+fn most_from(held: &[Reservation], priority: u8, better: u64) -> u64
     requires order { AreInOrder held.now }
     requires priority { priority < 8 }
     requires better { better ≡ most_below held.now priority }
@@ -94,7 +94,7 @@ fn most_from(held: &[Held], priority: u8, better: u64) -> u64
 
 /// Finds the greatest bandwidth at each priority, by a binary search for each.
 #[tactic(auto, using(crate::proofs::Runs::below_first))]
-fn maxima_of_many(held: &[Held]) -> [u64; 8]
+fn maxima_of_many(held: &[Reservation]) -> [u64; 8]
     requires { AreInOrder held.now }
     ensures { AreMaxima result held.now }
 {
@@ -108,7 +108,7 @@ fn maxima_of_many(held: &[Held]) -> [u64; 8]
 }
 
 /// Raises the maxima by one more.
-fn raise(maxima: &mut [u64; 8], held: &Held)
+fn raise(maxima: &mut [u64; 8], held: &Reservation)
     ensures { (p : ℕ) → p < 8 → slice_index maxima.new p ≡ max (if nat_le held.now.hold p then held.now.bandwidth else 0) (slice_index maxima.old p) }
 {
     let hold = held.hold();
@@ -121,7 +121,7 @@ fn raise(maxima: &mut [u64; 8], held: &Held)
 }
 
 /// Finds the greatest bandwidth at each priority, by a pass.
-fn maxima_of_few(held: &[Held]) -> [u64; 8]
+fn maxima_of_few(held: &[Reservation]) -> [u64; 8]
     ensures { AreMaxima result held.now }
 {
     let mut maxima = [0; 8];
@@ -133,7 +133,7 @@ fn maxima_of_few(held: &[Held]) -> [u64; 8]
 
 /// Puts one more in its order, into room that is there.
 #[tactic(auto, using(crate::proofs::Order::insert_in_place, crate::proofs::Order::order_with_one, crate::proofs::Order::length_with_one))]
-fn put_held(list: &mut SmallVec<Held, IN_PLACE>, held: Held)
+fn put_held(list: &mut SmallVec<Reservation, IN_PLACE>, held: Reservation)
     requires room { HasRoomFor list.old 1 }
     requires order { AreInOrder list.old.items }
     ensures items { list.new.items ≡ with_one held list.old.items }
@@ -145,7 +145,7 @@ fn put_held(list: &mut SmallVec<Held, IN_PLACE>, held: Held)
 }
 
 /// Takes one out that is the same, if there is one.
-fn take_held(list: &mut SmallVec<Held, IN_PLACE>, held: Held)
+fn take_held(list: &mut SmallVec<Reservation, IN_PLACE>, held: Reservation)
     requires { AreInOrder list.old.items }
     ensures items { list.new.items ≡ without_one held list.old.items }
     ensures order { AreInOrder list.new.items }
@@ -221,7 +221,7 @@ impl Entry {
 
     /// Promises room for one more, adds one into it, drops one that is the same if there is one, or gives the room up.
     #[tactic(auto, using(crate::proofs::Order::length_with_one, crate::proofs::Sums::length_without_one))]
-    pub fn move_one(&mut self, motion: Motion, held: Held) -> Result<(), AllocError>
+    pub fn move_one(&mut self, motion: Motion, held: Reservation) -> Result<(), AllocError>
         requires { room_for motion 1 ≤ self.old.promised }
         ensures held { self.new.held ≡ moved_one motion held self.old.held }
         ensures ok { OnOk result (self.new.promised ≡ promised_after motion 1 self.old.promised) }

@@ -4,7 +4,7 @@ ghost use Rattle.std.proofs.lemmas.Map.Keys.{IsDistinct-prop};
 ghost use Rattle.indexmap.specs.IndexMap.{IsUnique, keys};
 ghost use Rattle.lsp_base.specs.declared.tunnel.Tunnel.{Tunnel};
 ghost use Rattle.bandwidth_book.specs.Entries.{IsBusy, held_in};
-ghost use Rattle.bandwidth_book.specs.Held.{most};
+ghost use Rattle.bandwidth_book.specs.Reservation.{most};
 ghost use Rattle.bandwidth_book.specs.Tunnels.{AreSums, HasNoEmptyList, entry_of, tunnel_eq};
 
 use crate::link_entries::LinkEntries;

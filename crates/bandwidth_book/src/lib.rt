@@ -9,7 +9,7 @@
 //! with the added ones, for each list that had the dropped ones. What it says of a list for which it stands
 //! are the definitions of `lsp_base`. `reserve` makes all the room, and `change` takes no memory and leaves
 //! no entry without paths, so that a book keeps memory for standing paths alone
-//! (`specs/Pending.antt`).
+//! (`specs/Promises.antt`).
 //! `snapshot` gives a table of what is left of every link, of which a search can be made while the book goes
 //! on; while no path and no link's values change it gives the same one again, and else shares with it all pages of links on
 //! which nothing changed (`specs/Tables.antt`).
@@ -32,12 +32,12 @@
 mod book;
 mod changes;
 mod entry;
-mod held;
 mod ledgers;
 mod link_entries;
 mod looks;
 mod own;
 mod paths;
+mod reservation;
 mod snapshots;
 mod tunnels;
 mod values;

@@ -1,11 +1,11 @@
 //! What one tunnel holds on its links, and how that moves the sums of the links.
 ghost use Rattle.std.specs.Prelude.{◌≡◌, ◌<◌, ◌≤◌, ◌+◌, ◌-◌, ◌^◌, ◌==◌, ◌∷◌, [], ℕ, true, false, length, slice_index, IfSome, IfNone, IsTrue, ◌↔◌, IfOk, IsOk, OnOk, if◌then◌else◌, None};
 ghost use Rattle.bandwidth_book.specs.Entries.{AreRising, IsAt, IsMoved, entry_on, kept, place_on, promised_to};
-ghost use Rattle.bandwidth_book.specs.Held.{most, moved_one, promised_after, room_for, takes_memory};
+ghost use Rattle.bandwidth_book.specs.Reservation.{most, moved_one, promised_after, room_for, takes_memory};
 ghost use Rattle.bandwidth_book.specs.Tunnels.{held_by_links, sum_at};
 
 use crate::entry::Entry;
-use crate::held::{Held, Motion};
+use crate::reservation::{Motion, Reservation};
 use smallvec::SmallVec;
 use std::alloc::{AllocError, Global};
 use std::default::MadeWith;
@@ -66,7 +66,7 @@ fn move_in(
     entry: &mut Entry,
     sums: &mut [u64; 8],
     motion: Motion,
-    held: Held,
+    held: Reservation,
 ) -> Result<(), AllocError>
     requires room { room_for motion 1 ≤ entry.old.promised }
     requires within { (p : ℕ) → p < 8 → most entry.old.held p ≤ slice_index sums.old p }
@@ -129,7 +129,7 @@ fn put_entry(
     entries: &mut SmallVec<LinkEntry, 4>,
     link: LinkNumber,
     motion: Motion,
-    held: Held,
+    held: Reservation,
 ) -> Result<(), AllocError>
     requires rising { AreRising entries.old.items }
     requires none { entry_on link entries.old.items ≡ None }
@@ -152,7 +152,7 @@ fn move_at(
     sums: &mut [u64; 8],
     link: LinkNumber,
     motion: Motion,
-    held: Held,
+    held: Reservation,
 ) -> Result<(), AllocError>
     requires rising { AreRising entries.old.items }
     requires within { place < length entries.old.items }
@@ -218,7 +218,7 @@ impl LinkEntries {
         sums: &mut [[u64; 8]],
         link: LinkNumber,
         motion: Motion,
-        held: Held,
+        held: Reservation,
     ) -> Result<(), AllocError>
         requires room { link < length sums.old → room_for motion 1 ≤ promised_to link self.old }
         requires within { (l p : ℕ) → l < length sums.old → p < 8 → most (kept l self.old) p ≤ sum_at sums.old l p }
@@ -258,7 +258,7 @@ impl LinkEntries {
         sums: &mut [[u64; 8]],
         links: &[LinkNumber],
         motion: Motion,
-        held: Held,
+        held: Reservation,
     ) -> Result<(), AllocError>
         requires room { (l : ℕ) → l < length sums.old → room_for motion (length (held_by_links held l links.now)) ≤ promised_to l self.old }
         requires within { (l p : ℕ) → l < length sums.old → p < 8 → most (kept l self.old) p ≤ sum_at sums.old l p }

@@ -4,7 +4,7 @@ ghost use Rattle.std.specs.List.{list_all};
 ghost use Rattle.lsp_base.specs.Shares.{fits, fits_at, has_link, priorities, reservable, reserved, share, unreserved};
 ghost use Rattle.lsp_base.specs.declared.path.Path.{Path};
 ghost use Rattle.bandwidth_book.specs.Books.{StandsFor, links_of};
-ghost use Rattle.bandwidth_book.specs.Held.{most};
+ghost use Rattle.bandwidth_book.specs.Reservation.{most};
 ghost use Rattle.bandwidth_book.specs.Ledgers.{count, held_at};
 ghost use Rattle.bandwidth_book.specs.Paths.{IsHeldBy};
 

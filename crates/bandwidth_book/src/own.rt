@@ -5,8 +5,8 @@ ghost use Rattle.lsp_base.specs.declared.path.Path.{Path};
 ghost use Rattle.te_snapshot.specs.Own.{is_something, own_share_on, own_shares};
 ghost use Rattle.te_snapshot.specs.Room.{own_share};
 ghost use Rattle.bandwidth_book.specs.Books.{StandsFor, links_of};
-ghost use Rattle.bandwidth_book.specs.Held.{Held};
-ghost use Rattle.bandwidth_book.specs.Held.{AreMaxima, times};
+ghost use Rattle.bandwidth_book.specs.Reservation.{Reservation};
+ghost use Rattle.bandwidth_book.specs.Reservation.{AreMaxima, times};
 ghost use Rattle.bandwidth_book.specs.Ledgers.{count, held_at};
 ghost use Rattle.lsp_base.specs.declared.tunnel.Tunnel.{Tunnel};
 ghost use Rattle.bandwidth_book.specs.Links.{own_among};
@@ -29,7 +29,7 @@ fn maxima_in(entry: &LinkEntry) -> [u64; 8]
 
 /// Computes what a tunnel reserves on the link of one of its entries at each priority.
 fn own_of(entry: &LinkEntry) -> OwnShare
-    ensures { (paths : List Path) (t : Tunnel) → ((h : Held) → times h entry.now.entry.held ≡ times h (held_by entry.now.link t paths))
+    ensures { (paths : List Path) (t : Tunnel) → ((h : Reservation) → times h entry.now.entry.held ≡ times h (held_by entry.now.link t paths))
         → result ≡ own_share_on paths t entry.now.link }
 {
     OwnShare {
@@ -50,7 +50,7 @@ fn list_if_some(own: &mut Vec<OwnShare>, held: OwnShare) -> Result<(), AllocErro
 
 /// Appends what a tunnel reserves on the link of one of its entries, if the link exists and it isn't 0.
 fn list_entry(own: &mut Vec<OwnShare>, count: usize, entry: &LinkEntry) -> Result<(), AllocError>
-    ensures { OnOk result ((paths : List Path) (t : Tunnel) → ((h : Held) → entry.now.link < count → times h entry.now.entry.held ≡ times h (held_by entry.now.link t paths))
+    ensures { OnOk result ((paths : List Path) (t : Tunnel) → ((h : Reservation) → entry.now.link < count → times h entry.now.entry.held ≡ times h (held_by entry.now.link t paths))
         → own.new.items ≡ own.old.items ++ own_among paths t count (entry.now.link ∷ [])) }
 {
     if entry.link < count {

@@ -1,16 +1,16 @@
 //! What lists of paths do to the ledgers of the links, by tunnel.
 ghost use Rattle.std.specs.Prelude.{◌≡◌, ◌<◌, ◌≤◌, ◌++◌, false, ℕ, [], List, length, IsOk, OnOk};
-ghost use Rattle.lsp_base.specs.Base.{HasAll, without};
+ghost use Rattle.lsp_base.specs.Lsps.{HasAll, without};
 ghost use Rattle.lsp_base.specs.declared.path.Path.{Path};
 ghost use Rattle.lsp_base.specs.declared.tunnel.Tunnel.{Tunnel};
 ghost use Rattle.bandwidth_book.specs.Entries.{IsMoved};
 ghost use Rattle.bandwidth_book.specs.Paths.{IsHeldBy, IsPromised, held_by};
-ghost use Rattle.bandwidth_book.specs.Pending.{AreNoted};
-ghost use Rattle.bandwidth_book.specs.Held.{promised_after, room_for, takes_memory, with_all, without_all};
+ghost use Rattle.bandwidth_book.specs.Promises.{AreNoted};
+ghost use Rattle.bandwidth_book.specs.Reservation.{promised_after, room_for, takes_memory, with_all, without_all};
 ghost use Rattle.bandwidth_book.specs.Ledgers.{count, entry_at, held_at, promised_on};
 
-use crate::held::{Motion, held_of};
 use crate::ledgers::Ledgers;
+use crate::reservation::{Motion, held_of};
 use lsp_base::Path;
 use sequence::Sequence;
 use std::alloc::{AllocError, Global};

@@ -5,13 +5,13 @@ ghost use Rattle.std.specs.Map.{lookup};
 ghost use Rattle.indexmap.specs.IndexMap.{IsUnique, get, insert_entry, keys, values};
 ghost use Rattle.lsp_base.specs.declared.tunnel.Tunnel.{Tunnel};
 ghost use Rattle.bandwidth_book.specs.Entries.{AreRising, IsMoved, held_in, promised_in};
-ghost use Rattle.bandwidth_book.specs.Held.{most, promised_after, room_for, takes_memory};
+ghost use Rattle.bandwidth_book.specs.Reservation.{most, promised_after, room_for, takes_memory};
 ghost use Rattle.bandwidth_book.specs.Ledgers.{count, entry_at, held_at, promised_on};
 ghost use Rattle.bandwidth_book.specs.Tunnels.{AreSums, HasNoEmptyList, entries_in, entry_of, held_by_links, held_by_path, most_on, sum_at, total, tunnel_eq};
 
-use crate::held::{Held, Motion};
 use crate::ledgers::Ledgers;
 use crate::link_entries::{LinkEntries, LinkEntry};
+use crate::reservation::{Motion, Reservation};
 use indexmap::IndexMap;
 use lsp_base::Tunnel;
 use std::alloc::{AllocError, Global};
@@ -52,7 +52,7 @@ fn put_tunnel(
     tunnel: Tunnel,
     links: &[LinkNumber],
     motion: Motion,
-    held: Held,
+    held: Reservation,
 ) -> Result<(), AllocError>
     requires sums { AreSums sums.old tunnels.old.entries }
     requires small { (l p : ℕ) → l < length sums.old → p < 8 → sum_at sums.old l p < 2 ^ 63 - 2 ^ 48 }
@@ -102,7 +102,7 @@ pub fn move_in_tunnel(
     tunnel: Tunnel,
     links: &[LinkNumber],
     motion: Motion,
-    held: Held,
+    held: Reservation,
 ) -> Result<(), AllocError>
     requires sums { AreSums sums.old tunnels.old.entries }
     requires small { (l p : ℕ) → l < length sums.old → p < 8 → sum_at sums.old l p < 2 ^ 63 - 2 ^ 48 }
@@ -176,7 +176,7 @@ impl Ledgers {
         tunnel: Tunnel,
         path: &[LinkNumber],
         motion: Motion,
-        held: Held,
+        held: Reservation,
     ) -> Result<(), AllocError>
         requires small { held.bandwidth < 2 ^ 48 }
         requires room { (l : ℕ) (t : Tunnel) → l < count self.old → room_for motion (length (held_by_path tunnel held l t path.now)) ≤ promised_on self.old l t }

@@ -5,13 +5,13 @@ use Rattle.std.proofs.lemmas.Bool.{and_parts, or_cases, or_left, or_right}
 use Rattle.std.proofs.lemmas.Bool.Decides.{nat_tests}
 use Rattle.std.proofs.lemmas.Int.{ints}
 use Rattle.std.proofs.lemmas.Option.{slice_get_within}
-use Rattle.te_base.specs.Base.{Base}
+use Rattle.te_base.specs.Ted.{Ted}
 use Rattle.te_base.specs.declared.network.Link.{Link}
 use Rattle.te_snapshot.specs.Admissible.{IsAdmissible, IsJoined, EachOpen, colours_pass, cost_of, is_distinct, is_within, keeps_other_bounds, node_of, nodes_of}
 use Rattle.te_snapshot.specs.Network.{Network, NetworkState, network_of, state_of}
 use Rattle.te_snapshot.specs.Room.{has_room, has_room_at, left, own_share}
 use Rattle.te_snapshot.specs.declared.own.OwnShare.{OwnShare}
-use Rattle.lsp_base.specs.Base.{Lsps}
+use Rattle.lsp_base.specs.Lsps.{Lsps}
 use Rattle.lsp_base.specs.Shares.{fits, fits_at, has_link, priorities, reservable, reserved, share, unreserved}
 use Rattle.lsp_base.specs.declared.lsp.Constraints.{Constraints}
 use Rattle.lsp_base.specs.declared.path.Path.{Path}
@@ -53,7 +53,7 @@ within_of (Some b) n h = grind (arith, nat_tests, h)
 joins_of : (links : List Link) (path : List ℕ) (from to : Option ℕ) (a b : ℕ) → from ≡ Some a → to ≡ Some b → leads a b (map (slice_get links) path) ≡ true → is_distinct (nodes_of links a path) ≡ true → joins links path from to ≡ true
 joins_of links path from to a b ef et joined once = rw (ef, et) (both (leads a b (map (slice_get links) path)) (is_distinct (nodes_of links a path)) joined once)
 
-route_of : (te : Base) (table : List (List ℤ)) (c : Constraints) (own : List OwnShare) (path : List ℕ) → IsAdmissible (state_of (network_of te) table) c own path → is_route te c path ≡ true
+route_of : (te : Ted) (table : List (List ℤ)) (c : Constraints) (own : List OwnShare) (path : List ℕ) → IsAdmissible (state_of (network_of te) table) c own path → is_route te c path ≡ true
 unfolding is_route
 route_of te table c own path h =
     let some = h.some in
@@ -124,13 +124,13 @@ part_fits links paths table c own g (n ∷ ns) here less eh eb small has h =
     both (nat_lt n (length links) && list_all (fits_at links paths g n) (priorities g.hold setup)) _ (both (nat_lt n (length links)) _ there fit)
     (part_fits links paths table c own g ns here less eh eb small (λ k e. has k (or_right (n == k) _ e)) h.3)
 
-fits_of : (te : Base) (paths : List Path) (c : Constraints) (own : List OwnShare) (g : Path) (table : List (List ℤ)) → AreLeft te.links paths table → ((l p : ℕ) → l < length te.links → p < 8 → own_share own l p ≤ share paths g.tunnel l p)
+fits_of : (te : Ted) (paths : List Path) (c : Constraints) (own : List OwnShare) (g : Path) (table : List (List ℤ)) → AreLeft te.links paths table → ((l p : ℕ) → l < length te.links → p < 8 → own_share own l p ≤ share paths g.tunnel l p)
     → g.hold ≡ c.priorities.hold → g.bandwidth ≡ c.bandwidth → c.priorities.setup ≤ 7 → IsAdmissible (state_of (network_of te) table) c own g.links → fits te.links paths g c.priorities.setup ≡ true
 unfolding fits
 fits_of te paths c own g table here less eh eb small h = part_fits te.links paths table c own g g.links here less eh eb small (λ l e. e) h.each
 
 -- what is admissible on a snapshot that still says what there is, is admissible now
-pub found_is_admissible : (te : Base) (paths : List Path) (c : Constraints) (g : Path) (s : NetworkState) (own : List OwnShare) → IsCurrent te paths g.tunnel s own
+pub found_is_admissible : (te : Ted) (paths : List Path) (c : Constraints) (g : Path) (s : NetworkState) (own : List OwnShare) → IsCurrent te paths g.tunnel s own
     → g.hold ≡ c.priorities.hold → g.bandwidth ≡ c.bandwidth → c.priorities.setup ≤ 7 → IsAdmissible s c own g.links → is_admissible te paths c g ≡ true
 found_is_admissible te paths c g s own now eh eb small h =
     let same : s ≡ state_of (network_of te) s.unreserved = ap (λ (n : Network). state_of n s.unreserved) now.network in
@@ -139,7 +139,7 @@ found_is_admissible te paths c g s own now eh eb small h =
     (fits_of te paths c own g s.unreserved now.left now.shares eh eb small on)
 
 -- so a ticket for which it was found, and that isn't gone, is granted or answered, as long as grants can be kept
-pub found_is_accepted : (t : Ticket) (links : List ℕ) (srp : ℕ) (lsps : Lsps) (te : Base) (v : PeerView) (s : NetworkState) (own : List OwnShare) → t.constraints.priorities.setup ≤ 7
+pub found_is_accepted : (t : Ticket) (links : List ℕ) (srp : ℕ) (lsps : Lsps) (te : Ted) (v : PeerView) (s : NetworkState) (own : List OwnShare) → t.constraints.priorities.setup ≤ 7
     → IsCurrent te lsps.paths (offered_path lsps.records srp t links).tunnel s own → IsAdmissible s t.constraints own links → keeps_other_bounds te.links t.constraints links ≡ true → is_gone lsps t v ≡ false
     → verdict t (Some (offered_path lsps.records srp t links)) lsps te v ≡ accepted lsps t v
 unfolding verdict offered_path

@@ -2,10 +2,10 @@
 -- the second (links 0 and 1) and of the third (links 2 and 3), 1,000,000 bytes per second each.
 use Rattle.std.proofs.Common.{◌≡◌, ℕ, List, [], ◌∷◌, refl, true, false}
 use Rattle.std.specs.Prelude.{Some, None, replicate}
-use Rattle.te_base.specs.Base.{Base}
+use Rattle.te_base.specs.Ted.{Ted}
 use Rattle.te_base.specs.declared.network.Link.{Link}
 use Rattle.te_base.specs.declared.network.Owner.{Owner}
-use Rattle.lsp_base.specs.Base.{Lsps}
+use Rattle.lsp_base.specs.Lsps.{Lsps}
 use Rattle.lsp_base.specs.Shares.{fits, share, reserved, unreserved}
 use Rattle.lsp_base.specs.declared.lsp.Constraints.{Constraints}
 use Rattle.lsp_base.specs.declared.lsp.Lsp.{Lsp}
@@ -30,7 +30,7 @@ link from to local remote metric = record { from = from; to = to; local = local;
 abbrev owned : ℕ → ℕ → Owner
 owned address node = record { address = address; node = node }
 
-abbrev diamond : Base
+abbrev diamond : Ted
 diamond = record {
   nodes = [];
   links = link 0 1 0x0a010001 0x0a010002 10 ∷ link 1 3 0x0a020001 0x0a020002 10 ∷ link 0 2 0x0a030001 0x0a030002 20 ∷ link 2 3 0x0a040001 0x0a040002 20 ∷ [];

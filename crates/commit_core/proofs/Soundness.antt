@@ -4,10 +4,10 @@ use Rattle.std.specs.Prelude.{◌≤ℤ◌, Some}
 use Rattle.std.specs.List.{list_all, list_any, range_with_len}
 use Rattle.std.proofs.lemmas.Bool.{cases_Bool, and_parts}
 use Rattle.std.proofs.lemmas.Bool.Decides.{nat_tests}
-use Rattle.te_base.specs.Base.{Base}
+use Rattle.te_base.specs.Ted.{Ted}
 use Rattle.te_base.specs.declared.network.Link.{Link}
 use Rattle.te_snapshot.specs.Admissible.{keeps_other_bounds}
-use Rattle.lsp_base.specs.Base.{Lsps}
+use Rattle.lsp_base.specs.Lsps.{Lsps}
 use Rattle.lsp_base.specs.Shares.{fits, fits_at, has_link, priorities, rises, share, unreserved}
 use Rattle.lsp_base.specs.declared.lsp.Constraints.{Constraints}
 use Rattle.lsp_base.specs.declared.path.Path.{Path}
@@ -33,7 +33,7 @@ fit_of false route true keeps low outcome h = refl
 fit_of false true false keeps low outcome h = absurd (not_tried low h)
 fit_of false false false keeps low outcome h = absurd (not_tried low h)
 
-pub granted_fits : (t : Ticket) (g : Path) (lsps : Lsps) (te : Base) (v : PeerView) → verdict t (Some g) lsps te v ≡ Grant → fits te.links lsps.paths g t.constraints.priorities.setup ≡ true
+pub granted_fits : (t : Ticket) (g : Path) (lsps : Lsps) (te : Ted) (v : PeerView) → verdict t (Some g) lsps te v ≡ Grant → fits te.links lsps.paths g t.constraints.priorities.setup ≡ true
 unfolding verdict
 granted_fits t g lsps te v h =
     fit_of (is_gone lsps t v) (is_route te t.constraints g.links) (fits te.links lsps.paths g t.constraints.priorities.setup) (keeps_other_bounds te.links t.constraints g.links) (nat_lt t.tries 4) (accepted lsps t v) h
@@ -95,7 +95,7 @@ fits_leaves_room links paths g setup h l p has up rise =
     ]
 
 -- a grant leaves no link below zero that it charges anew, at its setup priority or better
-pub no_grant_goes_below : (t : Ticket) (g : Path) (lsps : Lsps) (te : Base) (v : PeerView) → verdict t (Some g) lsps te v ≡ Grant → LeavesRoom te.links lsps.paths g t.constraints.priorities.setup
+pub no_grant_goes_below : (t : Ticket) (g : Path) (lsps : Lsps) (te : Ted) (v : PeerView) → verdict t (Some g) lsps te v ≡ Grant → LeavesRoom te.links lsps.paths g t.constraints.priorities.setup
 no_grant_goes_below t g lsps te v h = fits_leaves_room te.links lsps.paths g t.constraints.priorities.setup (granted_fits t g lsps te v h)
 
 -- ---- what is answered is a path
@@ -109,14 +109,14 @@ accepted_of true accepted low outcome h = cc
 accepted_of false true low outcome h = refl
 accepted_of false false low outcome h = absurd (not_tried_either low h)
 
-route_is_short : (te : Base) (c : Constraints) (path : List ℕ) → is_route te c path ≡ true → length path ≤ 64
+route_is_short : (te : Ted) (c : Constraints) (path : List ℕ) → is_route te c path ≡ true → length path ≤ 64
 unfolding is_route
 route_is_short te c path h =
     let few : nat_le (length path) 64 ≡ true = (and_parts (nat_le (length path) 64) _ (and_parts (nat_lt 0 (length path)) _ h).1).0 in
     grind (arith, nat_tests, few)
 
 -- the answer to a request has at most 64 links
-pub answer_is_short : (t : Ticket) (g : Path) (lsps : Lsps) (te : Base) (v : PeerView) → verdict t (Some g) lsps te v ≡ Answer → length g.links ≤ 64
+pub answer_is_short : (t : Ticket) (g : Path) (lsps : Lsps) (te : Ted) (v : PeerView) → verdict t (Some g) lsps te v ≡ Answer → length g.links ≤ 64
 unfolding verdict
 answer_is_short t g lsps te v h =
     let acceptable = accepted_of (is_gone lsps t v) (is_acceptable te lsps.paths t.constraints g) (nat_lt t.tries 4) (accepted lsps t v) h in

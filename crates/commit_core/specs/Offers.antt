@@ -1,6 +1,6 @@
 -- What a ticket asks for, and the path that a grant of an offer would add.
 use Rattle.std.specs.Prelude.{ℕ, Bool, true, false, List, Option, Some, None, option_map, unwrap_or}
-use Rattle.lsp_base.specs.Base.{lsp_at}
+use Rattle.lsp_base.specs.Lsps.{lsp_at}
 use Rattle.lsp_base.specs.declared.effect.Record.{Record}
 use Rattle.lsp_base.specs.declared.path.Path.{Path}
 use Rattle.lsp_base.specs.declared.tunnel.Part.TheVariants.{Granted}

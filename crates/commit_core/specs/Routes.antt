@@ -2,7 +2,7 @@
 use Rattle.std.specs.Prelude.{ℕ, Bool, false, ◌==◌, ◌&&◌, nat_lt, nat_le, List, [], ◌∷◌, length, map, Option, Some, None, slice_get}
 use Rattle.std.specs.List.{list_all}
 use Rattle.pcep_objects.specs.declared.object.Colours.{Colours}
-use Rattle.te_base.specs.Base.{Base}
+use Rattle.te_base.specs.Ted.{Ted}
 use Rattle.te_base.specs.declared.network.Link.{Link}
 use Rattle.te_snapshot.specs.Admissible.{colours_pass, cost_of, is_distinct, is_within, keeps_other_bounds, node_of, nodes_of}
 use Rattle.lsp_base.specs.Shares.{fits}
@@ -29,7 +29,7 @@ abbrev pub all_have_colours : List Link → Colours → List ℕ → Bool
 all_have_colours links colours path = list_all (λ n. has_colours colours (slice_get links n)) path
 
 -- the links are a path that the constraints allow, leaving bandwidth and other bounds aside
-unfoldable pub is_route : Base → Constraints → List ℕ → Bool
+unfoldable pub is_route : Ted → Constraints → List ℕ → Bool
 is_route te c path =
     nat_lt 0 (length path)
     && (nat_le (length path) 64
@@ -39,9 +39,9 @@ is_route te c path =
     && is_within c.bound (cost_of c.minimise te.links path)))))
 
 -- one more path is admissible now, beside those that stand
-abbrev pub is_admissible : Base → List Path → Constraints → Path → Bool
+abbrev pub is_admissible : Ted → List Path → Constraints → Path → Bool
 is_admissible te paths c g = is_route te c g.links && fits te.links paths g c.priorities.setup
 
 -- and within the bounds on metrics that aren't minimised
-abbrev pub is_acceptable : Base → List Path → Constraints → Path → Bool
+abbrev pub is_acceptable : Ted → List Path → Constraints → Path → Bool
 is_acceptable te paths c g = is_admissible te paths c g && keeps_other_bounds te.links c g.links

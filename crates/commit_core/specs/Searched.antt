@@ -1,7 +1,7 @@
 -- When what a search was given still says what there is.
 use Rattle.std.specs.Prelude.{ℕ, ◌≡◌, ◌<◌, ◌≤◌, true, List, length, Option, Some}
-use Rattle.te_base.specs.Base.{Base}
-use Rattle.lsp_base.specs.Base.{Lsps}
+use Rattle.te_base.specs.Ted.{Ted}
+use Rattle.lsp_base.specs.Lsps.{Lsps}
 use Rattle.lsp_base.specs.Shares.{share}
 use Rattle.lsp_base.specs.declared.path.Path.{Path}
 use Rattle.lsp_base.specs.declared.tunnel.Tunnel.{Tunnel}
@@ -15,14 +15,14 @@ use Rattle.commit_core.specs.declared.ticket.Ticket.{Ticket}
 
 -- the network is the same, its table has what the paths leave now, and the tunnel reserves no less now than its
 -- own shares say
-pub record IsCurrent (te : Base) (paths : List Path) (tunnel : Tunnel) (s : NetworkState) (own : List OwnShare) : Type 0 where
+pub record IsCurrent (te : Ted) (paths : List Path) (tunnel : Tunnel) (s : NetworkState) (own : List OwnShare) : Type 0 where
   pub network : s.network ≡ network_of te
   pub left : AreLeft te.links paths s.unreserved
   pub shares : (l p : ℕ) → l < length te.links → p < 8 → own_share own l p ≤ share paths tunnel l p
 
 -- the offer is the path over links that a search for the ticket may find, on a network that still says what
 -- there is
-pub record IsFoundNow (te : Base) (lsps : Lsps) (t : Ticket) (offer : Option Path) : Type 0 where
+pub record IsFoundNow (te : Ted) (lsps : Lsps) (t : Ticket) (offer : Option Path) : Type 0 where
   pub links : List ℕ
   pub srp : ℕ
   pub searched : NetworkState

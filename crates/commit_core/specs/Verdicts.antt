@@ -1,7 +1,7 @@
 -- What becomes of a ticket when its search answers.
 use Rattle.std.specs.Prelude.{ℕ, Bool, false, ◌==◌, ◌&&◌, ◌||◌, not, nat_lt, nat_le, length, Option, Some, None, if◌then◌else◌}
-use Rattle.te_base.specs.Base.{Base}
-use Rattle.lsp_base.specs.Base.{Lsps, lsp_at}
+use Rattle.te_base.specs.Ted.{Ted}
+use Rattle.lsp_base.specs.Lsps.{Lsps, lsp_at}
 use Rattle.lsp_base.specs.Pending.{is_delegated, is_pending}
 use Rattle.lsp_base.specs.declared.path.Path.{Path}
 use Rattle.commit_core.specs.Offers.{is_request}
@@ -37,9 +37,9 @@ abbrev pub accepted : Lsps → Ticket → PeerView → Verdict
 accepted lsps t v = if is_request t.purpose then Answer else (if cannot_be_granted lsps v then GivenUp else Grant)
 
 -- no offer: where paths came or went, or links were reloaded, since the ticket was taken, it is searched for again
-abbrev pub judged : Ticket → Option Path → Lsps → Base → PeerView → Verdict
+abbrev pub judged : Ticket → Option Path → Lsps → Ted → PeerView → Verdict
 judged t None lsps te v = if v.changes == t.seen then NoPath else unless_tried t NoPath
 judged t (Some g) lsps te v = if is_acceptable te lsps.paths t.constraints g then accepted lsps t v else unless_tried t GivenUp
 
-unfoldable pub verdict : Ticket → Option Path → Lsps → Base → PeerView → Verdict
+unfoldable pub verdict : Ticket → Option Path → Lsps → Ted → PeerView → Verdict
 verdict t offer lsps te v = if is_gone lsps t v then Gone else judged t offer lsps te v

@@ -2,7 +2,7 @@
 use Rattle.std.specs.Prelude.{ℕ, zero, suc, ◌≡◌, ◌+◌, ◌-◌, ◌/◌, max, Bool, true, false, ◌==◌, ◌&&◌, not, List, length, map, filter, take, drop, slice_get, Option, Some, None, IsSome, if◌then◌else◌}
 use Rattle.std.specs.List.{list_any}
 use Rattle.pcep_objects.specs.declared.object.Identifiers.{Identifiers}
-use Rattle.lsp_base.specs.Base.{is_path_of, lsp_at}
+use Rattle.lsp_base.specs.Lsps.{is_path_of, lsp_at}
 use Rattle.lsp_base.specs.declared.path.Path.{Path}
 use Rattle.lsp_base.specs.declared.tunnel.Part.{Part}
 use Rattle.lsp_base.specs.declared.tunnel.Part.TheVariants.{Reported, Granted}

@@ -1,6 +1,6 @@
 //! LSPs with their paths, and a link with the paths over it.
 ghost use Rattle.std.specs.Prelude.{◌≡◌, ◌<◌, [], Some, length, slice_get, IfOk, if◌then◌else◌};
-ghost use Rattle.te_base.specs.Base.{IsLinkAmong};
+ghost use Rattle.te_base.specs.Ted.{IsLinkAmong};
 ghost use Rattle.pce_seen.specs.Lsps.{held_on, lsp_in};
 ghost use Rattle.database_looks.specs.Looks.{IsUse, SeesLink, SeesLsps};
 

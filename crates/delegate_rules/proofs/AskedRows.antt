@@ -1,7 +1,7 @@
 -- LSPs that are given back, and requests that are refused, computed by the definitions.
 use Rattle.std.proofs.Common.{◌≡◌, ℕ, List, [], ◌∷◌, refl, true, false}
 use Rattle.std.specs.Prelude.{Some, None, Ok, Err, option_map}
-use Rattle.lsp_base.specs.Base.{Lsps, no_effect, changed, lsp_at}
+use Rattle.lsp_base.specs.Lsps.{Lsps, no_effect, changed, lsp_at}
 use Rattle.lsp_base.specs.declared.lsp.Lsp.{Lsp}
 use Rattle.lsp_base.specs.declared.path.Path.{Path}
 use Rattle.lsp_base.specs.declared.tunnel.Part.{Part}

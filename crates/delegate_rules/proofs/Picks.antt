@@ -1,7 +1,7 @@
 -- What reports and removals pick is among the LSP's paths and the peer's grants that are not bound.
 use Rattle.std.proofs.Common.{◌≡◌, ◌&&◌, ◌||◌, ◌⊎◌, inl, inr, ℕ, Bool, true, false, not, eqb}
 use Rattle.std.proofs.lemmas.Bool.{and_parts, or_cases, or_left, or_right}
-use Rattle.lsp_base.specs.Base.{is_path_of}
+use Rattle.lsp_base.specs.Lsps.{is_path_of}
 use Rattle.lsp_base.specs.Tables.{PicksFrom}
 use Rattle.lsp_base.specs.declared.path.Path.{Path}
 use Rattle.pcep_messages.specs.declared.message.StateReport.{StateReport}

@@ -3,11 +3,11 @@
 use Rattle.std.proofs.Common.{◌≡◌, ℕ, List, [], ◌∷◌, ◌++◌, map, refl, true, false}
 use Rattle.std.specs.Prelude.{ℤ, pos, negsuc, replicate, Some, None, Err}
 use Rattle.pcep_word.specs.Priority.{in_force}
-use Rattle.te_base.specs.Base.{Base}
+use Rattle.te_base.specs.Ted.{Ted}
 use Rattle.te_base.specs.declared.network.Link.{Link}
 use Rattle.te_base.specs.declared.network.Owner.{Owner}
 use Rattle.lsp_base.specs.Shares.{share, reserved, unreserved, priorities}
-use Rattle.lsp_base.specs.Base.{Lsps, no_lsps, changed}
+use Rattle.lsp_base.specs.Lsps.{Lsps, no_lsps, changed}
 use Rattle.lsp_base.specs.declared.tunnel.Tunnel.TheVariants.{Signalled, Unsignalled, Asked}
 use Rattle.lsp_base.specs.declared.tunnel.Part.TheVariants.{Reported, Granted}
 use Rattle.lsp_base.specs.declared.path.Path.{Path}
@@ -25,7 +25,7 @@ link from to local remote metric = record { from = from; to = to; local = local;
 abbrev owned : ℕ → ℕ → Owner
 owned address node = record { address = address; node = node }
 
-abbrev diamond : Base
+abbrev diamond : Ted
 diamond = record {
   nodes = [];
   links = link 0 1 0x0a010001 0x0a010002 10 ∷ link 1 3 0x0a020001 0x0a020002 10 ∷ link 0 2 0x0a030001 0x0a030002 20 ∷ link 2 3 0x0a040001 0x0a040002 20 ∷ [];

@@ -1,7 +1,7 @@
 -- What a report does to paths and records.
 use Rattle.std.specs.Prelude.{ℕ, ◌+◌, Bool, true, false, ◌==◌, ◌&&◌, ◌||◌, List, [], ◌∷◌, length, map, filter, Option, Some, is_none, Result, Ok, Err, if◌then◌else◌, nat_lt}
-use Rattle.te_base.specs.Base.{Base}
-use Rattle.lsp_base.specs.Base.{Lsps, lsp_at, is_path_of, ended_record, effect_of}
+use Rattle.te_base.specs.Ted.{Ted}
+use Rattle.lsp_base.specs.Lsps.{Lsps, lsp_at, is_path_of, ended_record, effect_of}
 use Rattle.lsp_base.specs.Grants.{has_grant}
 use Rattle.lsp_base.specs.declared.tunnel.Tunnel.{Tunnel}
 use Rattle.lsp_base.specs.declared.tunnel.Tunnel.TheVariants.{Signalled, Unsignalled, Asked}
@@ -49,12 +49,12 @@ abbrev pub one_record : ℕ → Lsp → List RecordChange
 one_record plsp lsp = record { plsp = plsp; lsp = Some lsp } ∷ []
 
 -- by whether the LSP has a grant, and what was known of it
-unfoldable pub report_effect_by : Bool → Option Lsp → List Path → Base → ℕ → StateReport → Effect
+unfoldable pub report_effect_by : Bool → Option Lsp → List Path → Ted → ℕ → StateReport → Effect
 report_effect_by granted old paths te peer r =
     let grants = moved_grants granted paths peer r in
     effect_of (filter (goes_by_report granted peer r) paths) (reported_path te peer r ∷ grants) (one_record r.plsp (reported_lsp peer r old)) (wants_path r grants old)
 
-abbrev pub report_effect : Lsps → Base → ℕ → StateReport → Effect
+abbrev pub report_effect : Lsps → Ted → ℕ → StateReport → Effect
 report_effect lsps te peer r = report_effect_by (has_grant lsps.paths peer r.plsp) (lsp_at lsps.records peer r.plsp) lsps.paths te peer r
 
 -- ---- a removal (R set)
@@ -90,7 +90,7 @@ removal_effect lsps peer r = removal_effect_by (has_grant lsps.paths peer r.plsp
 
 -- ---- any report
 
-unfoldable pub reported_effect : Lsps → Base → ℕ → StateReport → Effect
+unfoldable pub reported_effect : Lsps → Ted → ℕ → StateReport → Effect
 reported_effect lsps te peer r = if r.remove then removal_effect lsps peer r else report_effect lsps te peer r
 
 -- PLSP-ID 0 and the greatest are reserved (RFC 8231 section 7.3)
@@ -105,5 +105,5 @@ abbrev pub allowed : Lsps → Effect → Result Effect Why
 allowed lsps e = if is_too_many lsps e then Err TooManyPaths else Ok e
 
 -- the effect, or why the report is refused
-unfoldable pub report_result : Lsps → Base → ℕ → StateReport → Result Effect Why
+unfoldable pub report_result : Lsps → Ted → ℕ → StateReport → Result Effect Why
 report_result lsps te peer r = if is_reserved r.plsp then Err BadReport else allowed lsps (reported_effect lsps te peer r)

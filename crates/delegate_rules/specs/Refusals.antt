@@ -1,7 +1,7 @@
 -- What it does that a peer refuses a request of the PCE: a PCErr names the SRP-ID (RFC 8231 section 6.3).
 use Rattle.std.specs.Prelude.{ℕ, Bool, false, ◌&&◌, not, List, [], ◌∷◌, map, filter, Some, None, is_some, if◌then◌else◌}
 use Rattle.std.specs.List.{list_any, flat_map}
-use Rattle.lsp_base.specs.Base.{Lsps, lsp_at, is_path_of, effect_of}
+use Rattle.lsp_base.specs.Lsps.{Lsps, lsp_at, is_path_of, effect_of}
 use Rattle.lsp_base.specs.Pending.{is_grant_as, is_removed_as}
 use Rattle.lsp_base.specs.declared.path.Path.{Path}
 use Rattle.lsp_base.specs.declared.effect.Effect.{Effect}

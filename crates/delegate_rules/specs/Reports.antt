@@ -1,6 +1,6 @@
 -- What one report says of a path and of its LSP (RFC 8231 section 6.1).
 use Rattle.std.specs.Prelude.{ℕ, Bool, true, false, ◌==◌, ◌&&◌, List, [], Option, Some, None, unwrap_or, if◌then◌else◌}
-use Rattle.te_base.specs.Base.{Base}
+use Rattle.te_base.specs.Ted.{Ted}
 use Rattle.te_base.specs.Walk.{walk}
 use Rattle.lsp_base.specs.declared.tunnel.Tunnel.{Tunnel}
 use Rattle.lsp_base.specs.declared.tunnel.Tunnel.TheVariants.{Signalled, Unsignalled}
@@ -43,11 +43,11 @@ abbrev pub hops_of : StateReport → List Hop
 hops_of r = unwrap_or r.rro r.ero
 
 -- an LSP that is down reserves nothing
-abbrev pub links_of : Base → StateReport → List ℕ
+abbrev pub links_of : Ted → StateReport → List ℕ
 links_of te r = let i = identifiers_of r in if is_down r.operational then [] else walk te i.sender (hops_of r) i.endpoint
 
 -- the path that the report describes
-unfoldable pub reported_path : Base → ℕ → StateReport → Path
+unfoldable pub reported_path : Ted → ℕ → StateReport → Path
 reported_path te peer r = record {
   peer = peer;
   plsp = r.plsp;

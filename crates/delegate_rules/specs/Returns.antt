@@ -1,6 +1,6 @@
 -- What it does that the PCE gives an LSP back to its peer (RFC 8231 section 5.7.4).
 use Rattle.std.specs.Prelude.{ℕ, false, not, [], Option, Some, None, is_some, Result}
-use Rattle.lsp_base.specs.Base.{Lsps, lsp_at, effect_of, no_effect}
+use Rattle.lsp_base.specs.Lsps.{Lsps, lsp_at, effect_of, no_effect}
 use Rattle.lsp_base.specs.Pending.{is_delegated, is_pending}
 use Rattle.lsp_base.specs.Refusals.{unless, ◌⨟◌, answered_unless}
 use Rattle.lsp_base.specs.declared.lsp.Lsp.{Lsp}

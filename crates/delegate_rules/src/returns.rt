@@ -1,6 +1,6 @@
 //! The PCE gives an LSP back to its peer.
 ghost use Rattle.std.specs.Prelude.{◌≡◌, [], false, IfOk};
-ghost use Rattle.lsp_base.specs.Base.{effect_of};
+ghost use Rattle.lsp_base.specs.Lsps.{effect_of};
 ghost use Rattle.lsp_base.specs.Rooms.{IsWithinLimit};
 ghost use Rattle.delegate_rules.specs.Faults.{Gives};
 ghost use Rattle.delegate_rules.specs.Effects.{one_record};

@@ -1,6 +1,6 @@
 //! Reports as a whole.
 ghost use Rattle.std.specs.Prelude.{◌≡◌, ◌==◌, ◌||◌, IfOk, if◌then◌else◌};
-ghost use Rattle.lsp_base.specs.Base.{changed};
+ghost use Rattle.lsp_base.specs.Lsps.{changed};
 ghost use Rattle.lsp_base.specs.Rooms.{IsWithinLimit};
 ghost use Rattle.delegate_rules.specs.Faults.{Gives};
 ghost use Rattle.delegate_rules.specs.Effects.{is_reserved, is_too_many, allowed, reported_effect, report_result};

@@ -5,7 +5,7 @@ ghost use Rattle.engine_core.specs.Requests.{bound_on, bounds_beside, constraint
 
 use history_core::{Purpose, Why};
 use lsp_base::{Constraints, Ends, OtherBounds};
-use pcep_messages::{Answer, Bounds, Message, PathRequest, Reply};
+use pcep_messages::{Answer, Bounds, Message, PathReply, PathRequest};
 use pcep_objects::{MetricType, NoPathVector};
 
 /// The bound on the metric that the path is to have least of.
@@ -93,7 +93,7 @@ pub(crate) fn vector_for(why: Why) -> Option<NoPathVector>
 pub(crate) fn no_path_for(request: u32, vector: NoPathVector) -> Message
     ensures { result ≡ no_path_for request vector }
 {
-    Message::Reply(Reply {
+    Message::Reply(PathReply {
         request,
         answer: Answer::NoPath(Some(vector)),
     })

@@ -45,7 +45,7 @@ Replays-stepped d event reply whole is = record {
 
 -- a step that was refused left the state as it was
 pub refused-applied : (event : Event) (reply : Reply) (s t : State) (why : Why) (given taken : Result Reply Fault) → reply ≡ (step s event).reply → t ≡ (step s event).state → given ≡ Ok reply → taken ≡ Ok (Refused why) → given ≡ taken → t ≡ s
-refused-applied event reply s t why given taken is t_is given_is told_is same =
+refused-applied event reply s t why given taken is t_is given_is answered_is same =
     let refused : reply ≡ Refused why = cc in
     t_is ∙ refused_stays s event why (sym is ∙ refused)
 

@@ -2,7 +2,7 @@
 use Rattle.std.proofs.Common.{◌≡◌, ℕ, ◌+◌, List, [], ◌∷◌, ◌++◌, length, refl, sym, subst, ap, ◌∙◌, arith, length-append}
 use Rattle.std.proofs.Common.{cond}
 use Rattle.std.proofs.lemmas.List.Sums.{sum_by-append}
-use Rattle.te_base.specs.Base.{Base}
+use Rattle.te_base.specs.Ted.{Ted}
 use Rattle.te_base.specs.Values.{Values, IsSameNetwork, values_in, with_all_values}
 use Rattle.te_base.proofs.Values.{length-values_in, own_values, same-refl, same-trans}
 use Rattle.step_core.specs.declared.base.Base as known
@@ -72,13 +72,13 @@ content-rolled_up s xs ys base new text rolled rolled_grants steps grants new_is
     cc
 
 -- a network of which nothing was reported
-pub content_new : (te : Base) (s : State) (xs : List Step) (new : known.Base) (text : List Values) → s ≡ empty te → xs ≡ [] → new ≡ known_in s → text ≡ values_in s.te → content s xs new text 0 0 ≡ nothing_happened te
+pub content_new : (te : Ted) (s : State) (xs : List Step) (new : known.Base) (text : List Values) → s ≡ empty te → xs ≡ [] → new ≡ known_in s → text ≡ values_in s.te → content s xs new text 0 0 ≡ nothing_happened te
 content_new te s xs new text s_is xs_is new_is text_is =
     let same_base : state_over s.te new ≡ empty te = known_again s new new_is ∙ s_is in
     let same_text : with_all_values s.te text ≡ te = ap (with_all_values s.te) text_is ∙ own_values s.te ∙ ap (λ (u : State). u.te) s_is in
     cc
 
-IsWhole-new : (te : Base) → IsWhole (nothing_happened te) 0
+IsWhole-new : (te : Ted) → IsWhole (nothing_happened te) 0
 IsWhole-new te = record {
   replays = record {
     kept = record { legal = tt; leads = refl };
@@ -89,7 +89,7 @@ IsWhole-new te = record {
   counted = refl;
 }
 
-pub kept_new : (te : Base) (s : State) (xs : List Step) (new : known.Base) (text : List Values) → s ≡ empty te → xs ≡ [] → new ≡ known_in s → text ≡ values_in s.te → IsKept s xs new text 0 0 0
+pub kept_new : (te : Ted) (s : State) (xs : List Step) (new : known.Base) (text : List Values) → s ≡ empty te → xs ≡ [] → new ≡ known_in s → text ≡ values_in s.te → IsKept s xs new text 0 0 0
 kept_new te s xs new text s_is xs_is new_is text_is = record {
   whole = subst (λ (d : Content). IsWhole d 0) (sym (content_new te s xs new text s_is xs_is new_is text_is)) (IsWhole-new te);
   at_base = ap (λ (b : known.Base). length b.values) new_is ∙ length-values_in s.te;

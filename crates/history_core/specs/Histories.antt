@@ -1,7 +1,7 @@
 -- Histories: the steps that were taken from a state, and the state to which they lead.
 use Rattle.std.specs.Prelude.{ℕ, ◌≡◌, ◌+◌, ◌^◌, ◌≤◌, Bool, ◌==◌, ◌||◌, List, [], ◌∷◌, ◌++◌, length, Result, Ok, Err, if◌then◌else◌}
 use Rattle.std.specs.List.{count_by}
-use Rattle.te_base.specs.Base.{Base}
+use Rattle.te_base.specs.Ted.{Ted}
 use Rattle.te_base.specs.Values.{Values, with_all_values}
 use Rattle.step_core.specs.declared.event.Event.{Event}
 use Rattle.step_core.specs.declared.event.Reply.{Reply}
@@ -49,7 +49,7 @@ pub record Content : Type 0 where
   pub state : State
   pub history : List Step
   pub base : State
-  pub text : Base
+  pub text : Ted
   pub rolled : ℕ
   pub rolled_grants : ℕ
 
@@ -72,7 +72,7 @@ pub record ReplaysFrom (start : State) (history : List Step) (state : State) : T
 
 -- `count` steps, `granted` of them grants, led to the state from the network of the link text, of which nothing was
 -- reported yet
-pub record IsPast (text : Base) (past : List Step) (count granted : ℕ) (state : State) : Type 0 where
+pub record IsPast (text : Ted) (past : List Step) (count granted : ℕ) (state : State) : Type 0 where
   pub steps : length past ≡ count
   pub grants : grants_in past ≡ granted
   pub replays : ReplaysFrom (empty text) past state
@@ -103,7 +103,7 @@ pub record IsKept (state : State) (history : List Step) (base : known.Base) (tex
   pub at_base : length base.values ≡ length state.te.links
   pub of_text : length text ≡ length state.te.links
 
-abbrev pub nothing_happened : Base → Content
+abbrev pub nothing_happened : Ted → Content
 nothing_happened te = record { state = empty te; history = []; base = empty te; text = te; rolled = 0; rolled_grants = 0 }
 
 abbrev pub kept_step : Event → Reply → Step

@@ -49,7 +49,7 @@ button.plain { border: 0; padding: 0; background: none; color: var(--mark); text
 #ask { display: grid; grid-template-columns: auto minmax(0, 1fr) auto; gap: 6px 8px; align-items: center; }
 #ask .wide { grid-column: 2 / 4; }
 #ask input { width: 100%; min-width: 0; }
-#told { position: absolute; width: 1px; height: 1px; overflow: hidden; clip-path: inset(50%); }
+#spoken { position: absolute; width: 1px; height: 1px; overflow: hidden; clip-path: inset(50%); }
 #lists { grid-column: 1 / -1; }
 [role=tablist] { display: flex; gap: 4px; }
 [role=tab][aria-selected=true] { background: var(--ink); color: var(--panel); border-color: var(--ink); }
@@ -110,7 +110,7 @@ dd { margin: 0; overflow-wrap: anywhere; }
       <datalist id="routers"></datalist>
     </section>
     <section id="chosen" aria-label="What is chosen"></section>
-    <p id="told" role="status"></p>
+    <p id="spoken" role="status"></p>
   </div>
   <section id="lists" aria-label="Tables">
     <div class="tools">
@@ -735,7 +735,7 @@ function choose(what) {
   showChosen();
   drawSoon();
   showTable();
-  renewChosen().then(() => { $("told").textContent = $("chosen").querySelector("h2").innerText; }, showFault);
+  renewChosen().then(() => { $("spoken").textContent = $("chosen").querySelector("h2").innerText; }, showFault);
 }
 
 /** Reads again what is known of what is chosen. */

@@ -3,7 +3,7 @@
 use Rattle.std.proofs.Common.{◌≡◌, ℕ, List, [], ◌∷◌, refl, true, false}
 use Rattle.std.specs.Prelude.{Some, None}
 use Rattle.te_base.specs.declared.network.Link.{Link}
-use Rattle.lsp_base.specs.Base.{Lsps}
+use Rattle.lsp_base.specs.Lsps.{Lsps}
 use Rattle.lsp_base.specs.declared.lsp.Constraints.{Constraints}
 use Rattle.lsp_base.specs.declared.lsp.Lsp.{Lsp}
 use Rattle.lsp_base.specs.declared.path.Path.{Path}

@@ -1,7 +1,7 @@
 -- What an initiation and a deletion are refused for (RFC 8281 sections 5.3 and 5.4).
 use Rattle.std.specs.Prelude.{ℕ, Bool, ◌==◌, ◌&&◌, ◌||◌, not, List, Option, is_some}
 use Rattle.std.specs.List.{list_any}
-use Rattle.lsp_base.specs.Base.{Lsps, lsp_at}
+use Rattle.lsp_base.specs.Lsps.{Lsps, lsp_at}
 use Rattle.lsp_base.specs.Same.{same_links}
 use Rattle.lsp_base.specs.Pending.{is_delegated, is_created, is_pending}
 use Rattle.lsp_base.specs.Refusals.{unless, ◌⨟◌}

@@ -1,7 +1,7 @@
 -- The numbers of what the PCE asks a peer for (SRP-ID-number, RFC 8231 section 7.2).
 use Rattle.std.specs.Prelude.{ℕ, ◌+◌, Bool, ◌||◌, nat_lt, if◌then◌else◌}
 use Rattle.std.specs.List.{list_any}
-use Rattle.lsp_base.specs.Base.{Lsps}
+use Rattle.lsp_base.specs.Lsps.{Lsps}
 use Rattle.lsp_base.specs.Pending.{is_grant_as, is_removed_as}
 
 -- 0 and 0xFFFFFFFF are reserved: after 0xFFFFFFFE comes 1

@@ -4,7 +4,7 @@ ghost use Rattle.initiate_rules.specs.Messages.{hops_over, attributes_of, update
 ghost use Rattle.pcep_messages.specs.Constraints.{metric_number};
 
 use lsp_base::Constraints;
-use pcep_messages::{Answer, Attributes, Cost, Create, Initiate, Message, Reply, Update};
+use pcep_messages::{Answer, Attributes, Cost, Create, Initiate, Message, PathReply, Update};
 use pcep_objects::{Hop, MetricType, MetricValue, Plsp};
 use pcep_word::Ipv4;
 use sequence::Sequence;
@@ -140,7 +140,7 @@ pub fn answer_message(
         metric_type: metric_number(minimise),
         value: cost,
     };
-    Ok(Message::Reply(Reply {
+    Ok(Message::Reply(PathReply {
         request,
         answer: Answer::Found(hops, Some(cost)),
     }))
@@ -151,7 +151,7 @@ pub fn answer_message(
 pub fn no_path_message(request: u32) -> Message
     ensures { result ≡ no_path_message request }
 {
-    Message::Reply(Reply {
+    Message::Reply(PathReply {
         request,
         answer: Answer::NoPath(None),
     })

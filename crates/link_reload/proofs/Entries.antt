@@ -3,13 +3,13 @@ use Rattle.std.proofs.Common.{◌≡◌, ◌∙◌, ◌<◌, ◌+◌, ◌&&◌, 
 use Rattle.std.proofs.lemmas.Bool.Decides.{nat_tests}
 use Rattle.std.specs.Prelude.{nat_lt}
 use Rattle.std.specs.List.{list_all}
-use Rattle.te_base.specs.Base.{Base}
+use Rattle.te_base.specs.Ted.{Ted}
 use Rattle.te_base.specs.Values.{IsSameNetwork, with_link_values}
 use Rattle.te_base.proofs.Values.{same-refl, same-set, same-trans}
 use Rattle.link_reload.specs.Reloads.{with_entries}
 use Rattle.link_reload.specs.declared.entry.LinkReload.{LinkReload}
 
-pub with_entries-same : (te : Base) (entries : List LinkReload) → IsSameNetwork te (with_entries te entries)
+pub with_entries-same : (te : Ted) (entries : List LinkReload) → IsSameNetwork te (with_entries te entries)
 with_entries-same te [] = same-refl te
 with_entries-same te (e ∷ es) = same-trans te (with_link_values te e.link e.values) (with_entries te (e ∷ es)) (same-set te e.link e.values) (with_entries-same (with_link_values te e.link e.values) es)
 
@@ -19,10 +19,10 @@ next_entry xs i x less is =
     let next = add-one i in
     cc
 
-pub network_set : (old new first : Base) (xs : List LinkReload) (i : ℕ) (x : LinkReload) → i < length xs → x ≡ get_or xs i x → new ≡ with_link_values old x.link x.values
+pub network_set : (old new first : Ted) (xs : List LinkReload) (i : ℕ) (x : LinkReload) → i < length xs → x ≡ get_or xs i x → new ≡ with_link_values old x.link x.values
     → with_entries old (drop i xs) ≡ with_entries first xs → with_entries new (drop (i + 1) xs) ≡ with_entries first xs
 network_set old new first xs i x less is new_is before =
-    ap (λ (te : Base). with_entries te (drop (i + 1) xs)) new_is ∙ ap (with_entries old) (sym (next_entry xs i x less is)) ∙ before
+    ap (λ (te : Ted). with_entries te (drop (i + 1) xs)) new_is ∙ ap (with_entries old) (sym (next_entry xs i x less is)) ∙ before
 
 both : (a b : Bool) → (a && b) ≡ true → (a ≡ true) × (b ≡ true)
 both true b is = (refl, is)

@@ -1,7 +1,7 @@
 -- Links whose metrics, colours and reservable bandwidths are set anew, while paths stand.
 use Rattle.std.specs.Prelude.{◌≡◌, List, [], ◌∷◌, length, nat_lt, Option}
 use Rattle.std.specs.List.{list_all}
-use Rattle.te_base.specs.Base.{Base}
+use Rattle.te_base.specs.Ted.{Ted}
 use Rattle.te_base.specs.Values.{with_link_values}
 use Rattle.lsp_base.specs.Refusals.{unless}
 use Rattle.lsp_base.specs.declared.why.Why.{Why}
@@ -12,14 +12,14 @@ use Rattle.bandwidth_book.specs.declared.book.Book.{Book}
 use Rattle.link_reload.specs.declared.entry.LinkReload.{LinkReload}
 
 -- each entry's link is there
-abbrev pub must_have_links : Base → List LinkReload → Option Why
+abbrev pub must_have_links : Ted → List LinkReload → Option Why
 must_have_links te entries = unless (list_all (λ e. nat_lt e.link (length te.links)) entries) UnknownLink
 
 -- one entry after the other: of several for one link the last counts
-abbrev pub with_entries : Base → List LinkReload → Base
+abbrev pub with_entries : Ted → List LinkReload → Ted
 with_entries te [] = te
 with_entries te (e ∷ es) = with_entries (with_link_values te e.link e.values) es
 
 -- the book is of the network as it is
-abbrev pub IsBookOf : Base → Book → Type 0
+abbrev pub IsBookOf : Ted → Book → Type 0
 IsBookOf te book = books.network_of book ≡ network_of te

@@ -5,7 +5,7 @@ use Rattle.std.proofs.lemmas.Bool.{and_parts, eqb-true, eqb-false, ne_eqb, both_
 use Rattle.std.proofs.lemmas.List.{take-append-drop}
 use Rattle.std.proofs.lemmas.List.Elements.{filter-append}
 use Rattle.std.proofs.lemmas.List.Sorted.{length_permutation}
-use Rattle.lsp_base.specs.Base.{last_in_front, without_first, is_record_of, lsp_at, put, set_record, set_records, AreDistinct}
+use Rattle.lsp_base.specs.Lsps.{last_in_front, without_first, is_record_of, lsp_at, put, set_record, set_records, AreDistinct}
 use Rattle.lsp_base.specs.declared.lsp.Lsp.{Lsp}
 use Rattle.lsp_base.specs.declared.effect.Record.{Record}
 use Rattle.lsp_base.specs.declared.effect.RecordChange.{RecordChange}

@@ -3,7 +3,7 @@ use Rattle.std.proofs.Common.{◌≡◌, ◌⊎◌, inl, inr, ◌&&◌, ℕ, Boo
 use Rattle.std.proofs.lemmas.Bool.{and_parts, or_cases, eqb-true}
 use Rattle.std.specs.List.{list_any}
 use Rattle.keyed_list.specs.List.{AllIn, AllInTwo}
-use Rattle.lsp_base.specs.Base.{is_path_of, made_stale}
+use Rattle.lsp_base.specs.Lsps.{is_path_of, made_stale}
 use Rattle.lsp_base.specs.Same.{same_links, same_path, is_reported}
 use Rattle.lsp_base.specs.Grants.{is_grant_of}
 use Rattle.lsp_base.specs.Tables.{bucket_number, is_named, name_bucket, path_bucket, record_bucket, PicksFrom}

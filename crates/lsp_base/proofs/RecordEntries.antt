@@ -12,7 +12,7 @@ use Rattle.indexmap.specs.IndexMap.{insert_entry, swap_remove_entry}
 use Rattle.indexmap.proofs.MapLemmas.{Found-position, Missing-position, swap_remove-default, swap_remove_entry-found, swap_remove_entry-missing}
 use Rattle.indexmap.proofs.SetLemmas.{map-swap_remove as swapped_values}
 use Rattle.keyed_list.proofs.Finding.{map-swap_remove as swapped_buckets}
-use Rattle.lsp_base.specs.Base.{is_record_of, last_in_front, lsp_at, put, taken_away, without_first}
+use Rattle.lsp_base.specs.Lsps.{is_record_of, last_in_front, lsp_at, put, taken_away, without_first}
 use Rattle.lsp_base.specs.Tables.{AreKeyed, key_of, record_bucket, same_key}
 use Rattle.lsp_base.specs.declared.effect.Record.{Record}
 use Rattle.lsp_base.specs.declared.lsp.Lsp.{Lsp}

@@ -5,7 +5,7 @@ use Rattle.std.proofs.lemmas.List.{append_assoc, length-append}
 use Rattle.std.proofs.lemmas.List.Sums.{sum_by-cons, sum_by-append}
 use Rattle.std.proofs.lemmas.List.Sorted.{IsPermutation-refl, IsPermutation-sym, IsPermutation-cons, IsPermutation-trans, IsPermutation-append_left, IsPermutation-filter_both, length_permutation, sum_by-IsPermutation}
 use Rattle.lsp_base.specs.Same.{same_tunnel, same_part, same_links, same_flag, same_path}
-use Rattle.lsp_base.specs.Base.{Lsps, without_path, without, occurrences, HasAll, effect_of, changed}
+use Rattle.lsp_base.specs.Lsps.{Lsps, without_path, without, occurrences, HasAll, effect_of, changed}
 use Rattle.lsp_base.specs.Rooms.{IsWithinLimit}
 use Rattle.lsp_base.specs.declared.tunnel.Tunnel.{Tunnel}
 use Rattle.lsp_base.specs.declared.tunnel.Tunnel.TheVariants.{Signalled, Unsignalled, Asked}

@@ -2,7 +2,7 @@
 use Rattle.std.proofs.Common.{◌≡◌, ℕ, List, [], ◌∷◌, ◌++◌, map, refl, true, false}
 use Rattle.std.specs.Prelude.{ℤ, pos, negsuc, replicate}
 use Rattle.lsp_base.specs.Shares.{share, reserved, unreserved, priorities, fits}
-use Rattle.lsp_base.specs.Base.{no_lsps, changed, with_stale, effect_of}
+use Rattle.lsp_base.specs.Lsps.{no_lsps, changed, with_stale, effect_of}
 use Rattle.lsp_base.specs.declared.tunnel.Tunnel.{Tunnel}
 use Rattle.lsp_base.specs.declared.tunnel.Tunnel.TheVariants.{Signalled, Unsignalled}
 use Rattle.lsp_base.specs.declared.tunnel.Part.TheVariants.{Reported}

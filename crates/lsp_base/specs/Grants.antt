@@ -2,7 +2,7 @@
 use Rattle.std.specs.Prelude.{ℕ, Bool, false, ◌==◌, ◌&&◌, not, List, Option, Some, None}
 use Rattle.std.specs.List.{list_any}
 use Rattle.lsp_base.specs.Same.{is_reported}
-use Rattle.lsp_base.specs.Base.{is_path_of}
+use Rattle.lsp_base.specs.Lsps.{is_path_of}
 use Rattle.lsp_base.specs.declared.tunnel.Part.{Part}
 use Rattle.lsp_base.specs.declared.tunnel.Part.TheVariants.{Reported, Granted}
 use Rattle.lsp_base.specs.declared.path.Path.{Path}

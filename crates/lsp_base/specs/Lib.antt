@@ -1,7 +1,7 @@
 pub mod Same
 pub mod Whys
 pub mod Shares
-pub mod Base
+pub mod Lsps
 pub mod Rooms
 pub mod Grants
 pub mod Tables

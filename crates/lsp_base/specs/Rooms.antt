@@ -1,6 +1,6 @@
 -- What a base holds, beside the room that was made in it.
 use Rattle.std.specs.Prelude.{ℕ, ◌+◌, ◌≤◌, ◌++◌, length}
-use Rattle.lsp_base.specs.Base.{Lsps, without}
+use Rattle.lsp_base.specs.Lsps.{Lsps, without}
 use Rattle.lsp_base.specs.declared.effect.Effect.{Effect}
 
 pub record Rooms : Type 0 where

@@ -1,7 +1,7 @@
 -- The tables of paths and of records: what a contract sees of them, and how an LSP's items are found.
 use Rattle.std.specs.Prelude.{ℕ, ◌+◌, ◌*◌, ◌%◌, ◌≡◌, ◌==◌, ◌&&◌, ◌||◌, Bool, true, List, fold}
 use Rattle.std.specs.List.{AllByRecursion}
-use Rattle.lsp_base.specs.Base.{is_path_of}
+use Rattle.lsp_base.specs.Lsps.{is_path_of}
 use Rattle.lsp_base.specs.Same.{same_links}
 use Rattle.lsp_base.specs.declared.path.Path.{Path}
 use Rattle.lsp_base.specs.declared.effect.Record.{Record}

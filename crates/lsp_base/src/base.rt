@@ -1,7 +1,7 @@
 //! The LSP-DB.
 ghost use Rattle.std.specs.Prelude.{◌≡◌, ◌≤◌, ◌+◌, ◌++◌, ◌&&◌, ◌||◌, length, filter, map, IsPermutation, OnOk, IfOk, option_copied, slice_get};
 ghost use Rattle.std.specs.List.{list_any};
-ghost use Rattle.lsp_base.specs.Base.{AreDistinct, HasAll, is_path_of, no_lsps, lsp_at, changed, with_stale};
+ghost use Rattle.lsp_base.specs.Lsps.{AreDistinct, HasAll, is_path_of, no_lsps, lsp_at, changed, with_stale};
 ghost use Rattle.lsp_base.specs.Grants.{has_grant};
 ghost use Rattle.lsp_base.specs.Pending.{is_grant_as, is_removed_as};
 ghost use Rattle.lsp_base.specs.Rooms.{HasRoom, IsWithinLimit};
@@ -44,7 +44,7 @@ fn wanted(count: usize, more: usize) -> usize
 
 impl Model for LspBase {
     ghost use Rattle.std.specs.Prelude.{◌≤◌, length};
-    ghost use Rattle.lsp_base.specs.Base.{AreDistinct};
+    ghost use Rattle.lsp_base.specs.Lsps.{AreDistinct};
     ghost use Rattle.lsp_base.specs.Rooms.{Rooms};
 
     ghost Value = { Rooms };
@@ -84,7 +84,7 @@ impl LspBase {
 
     /// Carries out an effect on the LSPs of a peer: removes the dropped paths, the last path taking the place of each,
     /// adds the others at the end, and sets the records in order. No other path comes or goes. Allocates nothing.
-    #[tactic(auto, unfolding(crate::specs::Base::changed), using(crate::proofs::Distinct::set_records_distinct, crate::proofs::Removal::paths_exchanged))]
+    #[tactic(auto, unfolding(crate::specs::Lsps::changed), using(crate::proofs::Distinct::set_records_distinct, crate::proofs::Removal::paths_exchanged))]
     pub fn change(&mut self, peer: u32, effect: Effect)
         requires reserved { HasRoom self.old effect }
         requires few { IsWithinLimit self.old.content effect }
@@ -105,7 +105,7 @@ impl LspBase {
     }
 
     /// Makes the peer's paths stale, and changes nothing else. Allocates nothing.
-    #[tactic(auto, unfolding(crate::specs::Base::with_stale))]
+    #[tactic(auto, unfolding(crate::specs::Lsps::with_stale))]
     pub fn mark_stale(&mut self, peer: u32)
         ensures stale { self.new.content ≡ with_stale self.old.content peer }
         ensures same_path_room { self.new.path_room ≡ self.old.path_room }

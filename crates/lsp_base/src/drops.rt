@@ -1,7 +1,7 @@
 //! Paths that go, with the records that then have none.
 ghost use Rattle.std.specs.Prelude.{◌≡◌, ◌&&◌, not, filter, IfOk, IsPermutation};
 ghost use Rattle.std.specs.List.{list_any};
-ghost use Rattle.lsp_base.specs.Base.{is_path_of, ended_records, ended_record, changed, dropping};
+ghost use Rattle.lsp_base.specs.Lsps.{is_path_of, ended_records, ended_record, changed, dropping};
 ghost use Rattle.lsp_base.specs.Rooms.{IsWithinLimit};
 
 use crate::base::LspBase;
@@ -51,7 +51,7 @@ struct NoneLeft<'a, T: Test<Path>> {
 }
 
 impl<'a, T: Test<Path>> RecordRule for NoneLeft<'a, T> {
-    ghost use Rattle.lsp_base.specs.Base.{has_none_left, taking};
+    ghost use Rattle.lsp_base.specs.Lsps.{has_none_left, taking};
 
     ghost applies = { λ s r. has_none_left (T.passes s.going.now) s.peer s.base.now.content.paths r };
 
@@ -99,7 +99,7 @@ fn ended<T: Test<Path>>(
 }
 
 /// Drops the paths that pass, with the peer's records that then have no path.
-#[tactic(auto, unfolding(crate::specs::Base::dropping))]
+#[tactic(auto, unfolding(crate::specs::Lsps::dropping))]
 pub fn dropping_of_peer<T: Test<Path>>(
     alloc: Global,
     base: &LspBase,

@@ -1,6 +1,6 @@
 //! What an event does to paths and records.
 ghost use Rattle.std.specs.Prelude.{◌≡◌, IfOk};
-ghost use Rattle.lsp_base.specs.Base.{effect_of};
+ghost use Rattle.lsp_base.specs.Lsps.{effect_of};
 
 use crate::lsp::Lsp;
 use crate::path::Path;

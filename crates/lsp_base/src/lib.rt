@@ -3,7 +3,7 @@
 //! allocating. A layer above may rely on it that the lists after a change are exactly `without paths dropped ++ added`
 //! and the records set in the effect's order, where the last path or record takes the place of one that goes; that at
 //! most one record of an LSP stands, and that at most 16,384 paths ever stand. What paths reserve is defined in
-//! `specs/Shares.antt` (shared explicit reservation, RFC 3209), the lists after a change in `specs/Base.antt`.
+//! `specs/Shares.antt` (shared explicit reservation, RFC 3209), the lists after a change in `specs/Lsps.antt`.
 //!
 //! Records stand in an `IndexMap` by LSP, with an index by name; paths in a `KeyedList` by LSP, since an LSP has several.
 //! What concerns a whole peer, and whether an SRP-ID is in use, is a pass over all.

@@ -1,7 +1,7 @@
 //! The paths of the LSP-DB, found by LSP.
 ghost use Rattle.std.specs.Prelude.{◌≡◌, ◌≤◌, ◌+◌, ◌++◌, ◌&&◌, length, map};
 ghost use Rattle.std.specs.List.{list_any};
-ghost use Rattle.lsp_base.specs.Base.{is_path_of, made_stale, without, without_path};
+ghost use Rattle.lsp_base.specs.Lsps.{is_path_of, made_stale, without, without_path};
 ghost use Rattle.lsp_base.specs.Tables.{bucket_number};
 
 use crate::drops::is_path_of_lsp;
@@ -45,7 +45,7 @@ struct OfLsp<'a, T: Test<Path>> {
 
 impl<'a, T: Test<Path>> Test<Path> for OfLsp<'a, T> {
     ghost use Rattle.std.specs.Prelude.{◌&&◌};
-    ghost use Rattle.lsp_base.specs.Base.{is_path_of};
+    ghost use Rattle.lsp_base.specs.Lsps.{is_path_of};
 
     ghost passes = { λ s x. T.passes s.test.now x && is_path_of s.peer s.plsp x };
 
@@ -89,7 +89,7 @@ struct MadeStale {
 }
 
 impl Edit<Path> for MadeStale {
-    ghost use Rattle.lsp_base.specs.Base.{made_stale};
+    ghost use Rattle.lsp_base.specs.Lsps.{made_stale};
 
     ghost edited = { λ s x. made_stale s.peer x };
 

@@ -3,7 +3,7 @@ ghost use Rattle.std.specs.Prelude.{◌≡◌, ◌<◌, ◌≤◌, ◌+◌, [], 
 ghost use Rattle.std.specs.List.{list_any, position_or_len};
 ghost use Rattle.std.specs.Map.{keys_of};
 ghost use Rattle.indexmap.specs.IndexMap.{insert_entry, spare, swap_remove_entry};
-ghost use Rattle.lsp_base.specs.Base.{lsp_at, put, taken_away, set_record, set_records};
+ghost use Rattle.lsp_base.specs.Lsps.{lsp_at, put, taken_away, set_record, set_records};
 ghost use Rattle.lsp_base.specs.Tables.{is_named, key_of, name_bucket, same_key};
 
 use crate::effect::{Record, RecordChange};

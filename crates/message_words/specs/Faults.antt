@@ -11,7 +11,7 @@ use Rattle.pcep_messages.specs.declared.fault.About.TheVariants as about
 use Rattle.pcep_messages.specs.declared.fault.MessageFault.{MessageFault}
 use Rattle.pcep_messages.specs.declared.fault.MessageFault.TheVariants.{BadHeader, BadObject, Missing, MissingIdentifiers, BadP, Refused, OutOfMemory}
 use Rattle.message_words.specs.declared.codes.ErrorCode.{ErrorCode}
-use Rattle.message_words.specs.declared.places.Place.{Place}
+use Rattle.message_words.specs.declared.places.ObjectPlace.{ObjectPlace}
 use Rattle.pcep_messages.specs.declared.message.Message.{Message}
 use Rattle.pcep_session.specs.Table.{missing_value}
 use Rattle.message_words.specs.Fields.{◌+>◌}
@@ -181,7 +181,7 @@ abbrev pub Shows : MessageFault → List ℕ → Type 0
 Shows fault bytes = ShownBy fault (object_at bytes)
 
 -- an object of the message has the fault, at this byte
-abbrev pub StandsAt : MessageFault → List ℕ → Option Place → Type 0
+abbrev pub StandsAt : MessageFault → List ℕ → Option ObjectPlace → Type 0
 StandsAt fault bytes found = IfSome found (λ place. Shows fault (drop place.byte bytes))
 
 -- the classes of objects (RFC 5440 section 7, RFC 8231 section 7)
@@ -213,7 +213,7 @@ class_words class None = codes " in an object of class " +> decimal class
 abbrev pub byte_words : ℕ → List ℕ
 byte_words byte = codes ", at byte " +> decimal byte
 
-abbrev pub place_words : Option Place → List ℕ
+abbrev pub place_words : Option ObjectPlace → List ℕ
 place_words None = []
 place_words (Some place) = byte_words place.byte +> class_words place.class (class_name place.class)
 
@@ -238,12 +238,12 @@ abbrev pub kind_words : MessageFault → ℕ → List ℕ
 kind_words BadHeader kind = []
 kind_words fault kind = kind_name kind +> codes "\n  "
 
-abbrev pub faulty_words : MessageFault → ℕ → Option Place → List ℕ
+abbrev pub faulty_words : MessageFault → ℕ → Option ObjectPlace → List ℕ
 faulty_words fault kind place = kind_words fault kind +> fault_words fault +> place_words place +> answer_words (answering_code fault) (ends_session fault)
 
 -- the text has the words of the fault more, with a byte at which it stands
 abbrev pub SaysFault : List ℕ → MessageFault → List ℕ → List ℕ → Type 0
-SaysFault bytes fault old new = (place : Option Place) × StandsAt fault bytes place × (new ≡ old ++ faulty_words fault (slice_index bytes 1) place)
+SaysFault bytes fault old new = (place : Option ObjectPlace) × StandsAt fault bytes place × (new ≡ old ++ faulty_words fault (slice_index bytes 1) place)
 
 -- the text has the words more of what the message says, or of its first fault
 abbrev pub Says : List ℕ → Result Message MessageFault → List ℕ → List ℕ → Type 0

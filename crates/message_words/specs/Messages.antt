@@ -22,7 +22,7 @@ use Rattle.pcep_messages.specs.declared.message.Initiate.TheVariants as initiate
 use Rattle.pcep_messages.specs.declared.message.Message.{Message}
 use Rattle.pcep_messages.specs.declared.message.Message.TheVariants as messages
 use Rattle.pcep_messages.specs.declared.message.PathRequest.{PathRequest}
-use Rattle.pcep_messages.specs.declared.message.Reply.{Reply}
+use Rattle.pcep_messages.specs.declared.message.PathReply.{PathReply}
 use Rattle.pcep_messages.specs.declared.message.StateReport.{StateReport}
 use Rattle.pcep_messages.specs.declared.message.Update.{Update}
 use Rattle.message_words.specs.declared.fields.LspFields.{LspFields}
@@ -134,7 +134,7 @@ abbrev pub answer_words : Answer → List ℕ
 answer_words (Found hops cost) = ero_line hops +> found_cost cost
 answer_words (NoPath vector) = codes "\n  NO-PATH" +> vector_words vector
 
-abbrev pub reply_words : Reply → List ℕ
+abbrev pub reply_words : PathReply → List ℕ
 reply_words r = codes "PCRep" +> rp_line r.request +> answer_words r.answer
 
 -- ---- errors (RFC 5440 section 6.7)

@@ -8,7 +8,7 @@ ghost use Rattle.message_words.specs.Faults.{kind_name, kind_words, faulty_words
 use crate::codes::{answering_code, ends_session};
 use crate::faults::{add_answer, add_fault};
 use crate::messages::add_message;
-use crate::places::{Place, add_place, find_place};
+use crate::places::{ObjectPlace, add_place, find_place};
 use pcep_messages::{MessageFault, read_message};
 use std::alloc::{AllocError, Global};
 use std::fmt::Write;
@@ -51,7 +51,7 @@ fn add_kind(fault: MessageFault, kind: u8, text: &mut String) -> Result<(), Allo
 fn add_faulty_at(
     fault: MessageFault,
     kind: u8,
-    place: Option<Place>,
+    place: Option<ObjectPlace>,
     text: &mut String,
 ) -> Result<(), AllocError>
     ensures { Adds result text.old text.new (faulty_words fault kind place) }

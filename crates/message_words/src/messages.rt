@@ -9,7 +9,7 @@ use crate::lines::{add_ero_line, add_rp_line, add_srp_line};
 use crate::objects::{add_error, add_open};
 use crate::reports::add_reports;
 use crate::requests::add_requests;
-use pcep_messages::{Answer, Cost, Errors, Message, Reply};
+use pcep_messages::{Answer, Cost, Errors, Message, PathReply};
 use pcep_objects::{Open, PcepError};
 use std::alloc::{AllocError, Global};
 use std::fmt::Write;
@@ -46,7 +46,7 @@ fn add_answer(alloc: Global, answer: &Answer, text: &mut String) -> Result<(), A
     }
 }
 
-fn add_reply(alloc: Global, reply: &Reply, text: &mut String) -> Result<(), AllocError>
+fn add_reply(alloc: Global, reply: &PathReply, text: &mut String) -> Result<(), AllocError>
     ensures { Adds result text.old text.new (reply_words reply.now) }
 {
     text.push_str("PCRep")?;

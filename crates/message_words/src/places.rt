@@ -12,7 +12,7 @@ use std::fmt::Write;
 
 /// An object of a message.
 #[derive(Clone, Copy)]
-pub struct Place {
+pub struct ObjectPlace {
     /// The byte of the message at which it stands.
     pub byte: usize,
     /// Its class.
@@ -115,7 +115,7 @@ pub fn find_place(
     alloc: Global,
     fault: MessageFault,
     bytes: &[u8],
-) -> Result<Option<Place>, AllocError>
+) -> Result<Option<ObjectPlace>, AllocError>
     ensures { IfOk result (StandsAt fault bytes.now) }
 {
     let mut byte = 4;
@@ -123,7 +123,7 @@ pub fn find_place(
         match look_in(alloc, fault, &bytes[byte..])? {
             Look::Here => {
                 let class = bytes[byte];
-                return Ok(Some(Place { byte, class }));
+                return Ok(Some(ObjectPlace { byte, class }));
             }
             Look::Next(size) => byte += size,
             Look::Nowhere => return Ok(None),
@@ -173,7 +173,7 @@ fn add_byte(byte: usize, text: &mut String) -> Result<(), AllocError>
 }
 
 /// Adds where a fault stands: `, at byte 36 in LSPA`.
-pub fn add_place(place: Option<Place>, text: &mut String) -> Result<(), AllocError>
+pub fn add_place(place: Option<ObjectPlace>, text: &mut String) -> Result<(), AllocError>
     ensures { Adds result text.old text.new (place_words place) }
 {
     let Some(place) = place else {

@@ -4,7 +4,7 @@ use Rattle.std.proofs.lemmas.Bool.{cases_lt}
 use Rattle.std.specs.List.{slice_get}
 use Rattle.std.proofs.Math.ListN.{get_or}
 use Rattle.std.proofs.lemmas.Option.{slice_get_within, get_or_from_slice_get}
-use Rattle.te_base.specs.Base.{IsLinkAmong}
+use Rattle.te_base.specs.Ted.{IsLinkAmong}
 use Rattle.te_snapshot.specs.Leaving.{arc_of, turned}
 use Rattle.te_snapshot.proofs.Arcs.{leaving_has, entering_has}
 use Rattle.te_base.specs.declared.network.Link.{Link}

@@ -1,7 +1,7 @@
 //! Labels that show that no walk is cheaper: along no link that a path may take does the label rise by more than
 //! the link's metric.
 ghost use Rattle.std.specs.Prelude.{ℕ, IsTrue, All, ◌≡◌, ◌<◌, ◌^◌, length};
-ghost use Rattle.te_base.specs.Base.{IsLinkAmong};
+ghost use Rattle.te_base.specs.Ted.{IsLinkAmong};
 ghost use Rattle.te_snapshot.specs.Leaving.{IsArcAmong};
 ghost use Rattle.path_finder.specs.Walks.{Rises, RisesFrom, RisesInto, IsRelaxedAt, NoneCheaper};
 

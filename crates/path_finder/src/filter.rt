@@ -1,7 +1,7 @@
 //! Which links a path may take, and what they cost.
 ghost use Rattle.std.specs.Prelude.{◌≡◌, ◌<◌, ◌≤◌, ◌^◌, ◌-◌, ◌||◌, pos, int_le, nat_le, IfSome};
 ghost use Rattle.te_snapshot.specs.Room.{has_room_at, has_room};
-ghost use Rattle.te_base.specs.Base.{IsLinkAmong};
+ghost use Rattle.te_base.specs.Ted.{IsLinkAmong};
 ghost use Rattle.te_snapshot.specs.Leaving.{arc_of, IsArcAmong};
 ghost use Rattle.te_snapshot.specs.Admissible.{is_open};
 ghost use Rattle.path_finder.specs.Passing.{arc_metric, fee, toll};

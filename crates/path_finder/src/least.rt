@@ -1,6 +1,6 @@
 //! A walk of least cost.
 ghost use Rattle.std.specs.Prelude.{◌≡◌, ◌<◌, ◌≤◌, ◌^◌, All, length, IfOk, IfSome, IfNone};
-ghost use Rattle.te_base.specs.Base.{IsLinkAmong};
+ghost use Rattle.te_base.specs.Ted.{IsLinkAmong};
 ghost use Rattle.path_finder.specs.QuickAnswers.{IsQuickAnswer};
 ghost use Rattle.path_finder.specs.Walks.{IsLeastWalk, NoneCheaper, NoneWithin};
 

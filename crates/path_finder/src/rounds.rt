@@ -116,7 +116,7 @@ fn follow(query: &Query<'_>, links: &[Link], old: &[u32], at: usize, cost: u32) 
 
 /// Where the front of a walk ends, and what it costs.
 #[derive(Clone, Copy, Debug)]
-struct Front {
+struct Frontier {
     at: usize,
     paid: u32,
 }
@@ -136,9 +136,9 @@ fn step_back(
     next: &[u32],
     ends: Ends,
     count: Count,
-    front: Front,
+    front: Frontier,
     path: &mut Vec<LinkNumber>,
-) -> Result<Front, AllocError>
+) -> Result<Frontier, AllocError>
     requires metrics { HasMetrics links.now }
     requires links { InRange links.now (length row.now) }
     requires next { IsNext query.now links.now row.now next.now ends.limit }
@@ -157,7 +157,7 @@ fn step_back(
         None => unreachable!(),
         Some(taken) => {
             path.push(taken.number)?;
-            Ok(Front {
+            Ok(Frontier {
                 at: taken.to,
                 paid: front.paid + taken.price,
             })
@@ -180,7 +180,7 @@ fn extend(
     ends: Ends,
     count: Count,
     path: &mut Vec<LinkNumber>,
-) -> Result<Front, AllocError>
+) -> Result<Frontier, AllocError>
     requires metrics { HasMetrics links.now }
     requires links { InRange links.now (length row.now) }
     requires source { ends.source < length row.now }
@@ -191,14 +191,14 @@ fn extend(
     ensures { IfOk result (λ f. IsFront query.now links.now ends.source ends.destination ends.limit row.now count.used count.left path.new.items f.at f.paid) }
 {
     if count.left == 0 {
-        return Ok(Front {
+        return Ok(Frontier {
             at: ends.source,
             paid: 0,
         });
     }
     let next = next_row(alloc, query, links, row, ends.limit)?;
     if is_same(&next, row) {
-        return Ok(Front {
+        return Ok(Frontier {
             at: ends.source,
             paid: 0,
         });
@@ -238,7 +238,7 @@ fn first_row(
 }
 
 /// The walk that the front of a walk of all its links is.
-fn whole(row: &[u32], ends: Ends, front: Front, links: Vec<LinkNumber>) -> Option<Found>
+fn whole(row: &[u32], ends: Ends, front: Frontier, links: Vec<LinkNumber>) -> Option<Found>
     requires at { front.at < length row.now }
     requires small { front.paid ≤ 2 ^ 30 }
     requires limit { ends.limit ≤ 2 ^ 31 }

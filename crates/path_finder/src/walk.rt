@@ -1,6 +1,6 @@
 //! What a path costs, tested link by link.
 ghost use Rattle.std.specs.Prelude.{◌≡◌, ◌<◌, ◌≤◌, ◌^◌, All, length, IfSome, Some, slice_get};
-ghost use Rattle.te_base.specs.Base.{IsLinkAmong};
+ghost use Rattle.te_base.specs.Ted.{IsLinkAmong};
 ghost use Rattle.te_base.specs.declared.network.Link.{Link};
 ghost use Rattle.path_finder.specs.Passing.{toll};
 ghost use Rattle.path_finder.specs.Walks.{Leads};

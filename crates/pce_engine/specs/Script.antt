@@ -3,7 +3,7 @@ use Rattle.std.specs.Prelude.{ℕ, ◌+◌, List, [], ◌∷◌, ◌++◌, lengt
 use Rattle.std.specs.Str.{bytes_eq, is_utf8}
 use Rattle.te_base.specs.declared.fault.TeFault.{TeFault}
 use Rattle.te_base.specs.declared.fault.TeFault.TheVariants.{NotToml}
-use Rattle.te_base.specs.Base.{Base}
+use Rattle.te_base.specs.Ted.{Ted}
 use Rattle.te_base.specs.LinkText.{base_of}
 use Rattle.pce_engine.specs.Faults.{numbered, te_numbered}
 use Rattle.pce_engine.specs.Standing.{at_start, standing_line, MaySearch}
@@ -27,7 +27,7 @@ abbrev pub start : Stage
 start = record { number = 1; header = []; standing = None }
 
 -- a link text that isn't UTF-8 isn't TOML
-unfoldable pub base_in : List ℕ → Result Base TeFault
+unfoldable pub base_in : List ℕ → Result Ted TeFault
 base_in text = if is_utf8 text then base_of text else Err NotToml
 
 -- `---` ends the link text, another line belongs to it

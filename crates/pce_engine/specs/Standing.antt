@@ -2,7 +2,7 @@
 use Rattle.std.specs.Prelude.{◌≡◌, ℕ, Bool, true, false, List, [], Option, Some, None, Result, Ok, Err, if◌then◌else◌}
 use Rattle.std.specs.Map.{keys_of}
 use Rattle.history_core.specs.Histories.{Content, nothing_happened}
-use Rattle.te_base.specs.Base.{Base}
+use Rattle.te_base.specs.Ted.{Ted}
 use Rattle.step_core.specs.declared.event.Event.{Event}
 use Rattle.step_core.specs.declared.event.Event.TheVariants.{Commit, Return, Delete}
 use Rattle.step_core.specs.declared.event.Event.TheVariants as event
@@ -23,7 +23,7 @@ use Rattle.script_lines.specs.declared.orders.Order.TheVariants.{Report, Book, H
 use Rattle.pce_engine.specs.declared.standing.Standing.{Standing}
 
 -- the link text has ended: no session lives
-abbrev pub at_start : Base → Standing
+abbrev pub at_start : Ted → Standing
 at_start te = record { database = nothing_happened te; sessions = []; moment_ms = 0 }
 
 -- a line that changes the database alone

@@ -1,6 +1,6 @@
 -- The paths of an LSP are found by it.
 use Rattle.std.proofs.Common.{◌≡◌, ℕ, Bool, true, ◌||◌}
-use Rattle.lsp_base.specs.Base.{is_path_of}
+use Rattle.lsp_base.specs.Lsps.{is_path_of}
 use Rattle.lsp_base.specs.Tables.{PicksFrom}
 
 or_left : (a b : Bool) → a ≡ true → (a || b) ≡ true

@@ -1,6 +1,6 @@
 -- LSPs as they are seen: each with its paths, in pages.
 use Rattle.std.specs.Prelude.{ℕ, ◌≡◌, ◌<◌, ◌≤◌, ◌-◌, Bool, true, ◌==◌, List, length, map, filter, take, drop, option_map, Option, Some, None, IfSome}
-use Rattle.lsp_base.specs.Base.{Lsps, is_path_of, lsp_at}
+use Rattle.lsp_base.specs.Lsps.{Lsps, is_path_of, lsp_at}
 use Rattle.lsp_base.specs.Shares.{has_link}
 use Rattle.lsp_base.specs.declared.effect.Record.{Record}
 use Rattle.lsp_base.specs.declared.lsp.Lsp.{Lsp}

@@ -1,30 +1,26 @@
 -- The LSPs over a link.
-use Rattle.std.specs.Prelude.{ℕ, ◌≡◌, ◌≤◌, ◌<◌, ◌==◌, ◌&&◌, ◌++◌, Bool, not, List, [], ◌∷◌, length, fold, take, Option, Some, None, IfSome, if◌then◌else◌}
-use Rattle.std.specs.List.{list_any}
-use Rattle.lsp_base.specs.Base.{Lsps}
+use Rattle.std.specs.Prelude.{ℕ, ◌≡◌, ◌≤◌, ◌<◌, ◌==◌, ◌&&◌, Bool, not, List, [], ◌∷◌, length, filter, filter_map, take, Option, Some, None, IfSome}
+use Rattle.lsp_base.specs.Lsps.{Lsps}
 use Rattle.lsp_base.specs.Shares.{has_link}
 use Rattle.lsp_base.specs.declared.path.Path.{Path}
 use Rattle.pce_seen.specs.Lsps.{lsp_in}
 use Rattle.pce_seen.specs.declared.lsps.KnownLsp.{KnownLsp}
 
-abbrev pub is_lsp_of : Path → KnownLsp → Bool
-is_lsp_of x l = (l.known).peer == x.peer && (l.known).plsp == x.plsp
+abbrev pub same_lsp : KnownLsp → KnownLsp → Bool
+same_lsp k l = (k.known).peer == (l.known).peer && (k.known).plsp == (l.known).plsp
 
--- the path goes over the link, and its LSP isn't listed yet
-abbrev pub is_new_over : ℕ → List KnownLsp → Path → Bool
-is_new_over link seen x = has_link link x && not (list_any (is_lsp_of x) seen)
+-- each LSP once, where it stands first
+abbrev pub each_once : List KnownLsp → List KnownLsp
+each_once [] = []
+each_once (l ∷ ls) = l ∷ filter (λ k. not (same_lsp l k)) (each_once ls)
 
--- an LSP more, if there is one; a grant that is bound to no LSP has none
-abbrev pub and_lsp : List KnownLsp → Option KnownLsp → List KnownLsp
-and_lsp seen None = seen
-and_lsp seen (Some l) = seen ++ l ∷ []
+-- the LSP of a path, with all of its paths; a grant that is bound to no LSP has none
+abbrev pub lsp_with : Lsps → Path → Option KnownLsp
+lsp_with lsps x = lsp_in lsps x.peer x.plsp
 
-abbrev pub with_lsp : Lsps → ℕ → List KnownLsp → Path → List KnownLsp
-with_lsp lsps link seen x = if is_new_over link seen x then and_lsp seen (lsp_in lsps x.peer x.plsp) else seen
-
--- the LSPs of those of the paths that go over the link, each once, with all of its paths
+-- the LSPs of those of the paths that go over the link, each once
 abbrev pub lsps_over : Lsps → ℕ → List Path → List KnownLsp
-lsps_over lsps link paths = fold (with_lsp lsps link) [] paths
+lsps_over lsps link paths = each_once (filter_map (lsp_with lsps) (filter (has_link link) paths))
 
 -- the paths up to this place, or all
 abbrev pub paths_up_to : List Path → Option ℕ → List Path

@@ -1,7 +1,10 @@
 //! The LSPs over a link.
-ghost use Rattle.std.specs.Prelude.{◌≡◌, ◌≤◌, ◌+◌, length, IfOk, OnOk};
+ghost use Rattle.std.specs.Prelude.{◌≡◌, ◌≤◌, ◌+◌, ◌++◌, ◌∷◌, [], ◌&&◌, not, List, length, option_to_list, IfOk, OnOk};
 ghost use Rattle.std.specs.List.{list_any};
-ghost use Rattle.pce_seen.specs.Over.{and_lsp, is_lsp_of, is_new_over, with_lsp, AreOver};
+ghost use Rattle.lsp_base.specs.Lsps.{is_record_of};
+ghost use Rattle.lsp_base.specs.Shares.{has_link};
+ghost use Rattle.lsp_base.specs.declared.path.Path.{Path};
+ghost use Rattle.pce_seen.specs.Over.{lsps_over, AreOver};
 
 use crate::lsps::KnownLsp;
 use crate::moves::TRIED_LIMIT;
@@ -12,28 +15,28 @@ use te_base::LinkNumber;
 
 /// Tests whether a path is one of an LSP.
 fn is_lsp_of(path: &Path, lsp: &KnownLsp) -> bool
-    ensures { result ≡ is_lsp_of path.now lsp.now }
+    ensures { result ≡ is_record_of path.now.peer path.now.plsp lsp.now.known }
 {
     lsp.known.peer == path.peer && lsp.known.plsp == path.plsp
 }
 
 /// Tests whether a path's LSP is listed.
 fn is_listed(seen: &[KnownLsp], path: &Path) -> bool
-    ensures { result ≡ list_any (is_lsp_of path.now) seen.now }
+    ensures { result ≡ list_any (λ l. is_record_of path.now.peer path.now.plsp l.known) seen.now }
 {
     seen.iter().any(|lsp| is_lsp_of(path, lsp))
 }
 
 /// Tests whether a path goes over a link, and its LSP isn't listed yet.
 fn is_new_over(link: LinkNumber, seen: &[KnownLsp], path: &Path) -> bool
-    ensures { result ≡ is_new_over link seen.now path.now }
+    ensures { result ≡ (has_link link path.now && not (list_any (λ l. is_record_of path.now.peer path.now.plsp l.known) seen.now)) }
 {
     is_path_over(path, link) && !is_listed(seen, path)
 }
 
 /// Adds an LSP, if there is one.
 fn add_lsp(seen: &mut Vec<KnownLsp>, lsp: Option<KnownLsp>) -> Result<(), AllocError>
-    ensures seen { OnOk result (seen.new.items ≡ and_lsp seen.old.items lsp) }
+    ensures seen { OnOk result (seen.new.items ≡ seen.old.items ++ option_to_list lsp) }
     ensures few { OnOk result (length seen.new.items ≤ length seen.old.items + 1) }
 {
     match lsp {
@@ -53,13 +56,16 @@ fn add_over(
     link: LinkNumber,
     path: &Path,
 ) -> Result<(), AllocError>
-    ensures seen { OnOk result (seen.new.items ≡ with_lsp lsps.now.content link seen.old.items path.now) }
+    ensures seen { OnOk result ((before : List Path) → seen.old.items ≡ lsps_over lsps.now.content link before
+        → seen.new.items ≡ lsps_over lsps.now.content link (before ++ path.now ∷ [])) }
     ensures few { OnOk result (length seen.new.items ≤ length seen.old.items + 1) }
 {
     if is_new_over(link, seen, path) {
-        add_lsp(seen, lsp_of(alloc, lsps, path.peer, path.plsp)?)?;
+        let lsp = lsp_of(alloc, lsps, path.peer, path.plsp)?;
+        add_lsp(seen, lsp)
+    } else {
+        Ok(())
     }
-    Ok(())
 }
 
 /// Sees the LSPs over a link, 512 at most, and at which path others may follow.

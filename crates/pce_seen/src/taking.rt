@@ -1,6 +1,6 @@
 //! LSPs taken out of the LSP-DB.
 ghost use Rattle.std.specs.Prelude.{◌≡◌, ◌<◌, ◌≤◌, ◌++◌, ◌∷◌, [], length, map, filter, take, drop, IfOk, OnOk, IfSome, IfNone};
-ghost use Rattle.lsp_base.specs.Base.{is_path_of};
+ghost use Rattle.lsp_base.specs.Lsps.{is_path_of};
 ghost use Rattle.lsp_base.specs.Shares.{has_link};
 ghost use Rattle.pce_seen.specs.Lsps.{held_on, held_path, is_asked, known_lsp, lsp_in, IsPage};
 
@@ -20,7 +20,7 @@ struct PathOf {
 }
 
 impl Test<Path> for PathOf {
-    ghost use Rattle.lsp_base.specs.Base.{is_path_of};
+    ghost use Rattle.lsp_base.specs.Lsps.{is_path_of};
 
     ghost passes = { λ s x. is_path_of s.peer s.plsp x };
 

@@ -1,5 +1,6 @@
 //! What operators are shown: one look after another at the database, each as a table or as JSON.
-ghost use Rattle.std.specs.Prelude.{◌≡◌, ◌++◌, IfOk, OnOk};
+ghost use Rattle.std.specs.Prelude.{◌≡◌, ◌++◌, All, IfOk, OnOk};
+ghost use Rattle.shared_pce.specs.Lefts.{WasLeft};
 ghost use Rattle.pce_server.specs.Shows.{form_of, line_end, AddsPage, IsShown};
 
 use crate::context::Context;
@@ -8,7 +9,7 @@ use pce_seen::Ask;
 use pce_view::{Form, Surroundings, answer_text};
 use place_tokens::Room;
 use script_lines::ViewLine;
-use server_counts::Mark;
+use server_counts::{LeftRow, Mark};
 use server_talk::{Plan, Show, Watch};
 use std::alloc::{AllocError, Global};
 use std::sync::Wait;
@@ -90,21 +91,38 @@ fn marks_for<R: Wait + Clock, S: Ledger, G: Ledger, B: Room>(
     }
 }
 
+/// What the last steps that brought paths left of their links, for a question that wants to know.
+fn lefts_for<R: Wait + Clock, S: Ledger, G: Ledger, B: Room>(
+    context: &Context<'_, R, S, G, B>,
+    ask: &Ask,
+) -> Result<Vec<LeftRow>, AllocError>
+    ensures { IfOk result (λ rows. All WasLeft rows.items) }
+{
+    match ask {
+        Ask::Why { .. } => context.shared.lefts(context.rt),
+        _ => Ok(Vec::new(context.alloc)),
+    }
+}
+
 impl<'a, 'c, 'p, R: Wait + Clock, S: Ledger, G: Ledger, B: Room, P: Plan> Show
     for ServedNetwork<'a, 'c, 'p, R, P, S, G, B> {
+    ghost use Rattle.std.specs.Prelude.{All};
     ghost use Rattle.pce_view.specs.declared.answer.Surroundings.{Surroundings};
     ghost use Rattle.pce_server.specs.Shows.{form_of, IsShown};
+    ghost use Rattle.shared_pce.specs.Lefts.{WasLeft};
 
-    ghost shows = { λ _ line text. (around : Surroundings) × IsShown (form_of line.is_json) around line.ask text };
+    ghost shows = { λ _ line text. (around : Surroundings) × All WasLeft around.lefts.now × IsShown (form_of line.is_json) around line.ask text };
 
     fn show(&self, _alloc: Global, line: &ViewLine) -> Result<Vec<u8>, AllocError> {
         let presences = self.context.all_presences()?;
         let marks = marks_for(self.context, &line.ask)?;
+        let lefts = lefts_for(self.context, &line.ask)?;
         let around = Surroundings {
             version: VERSION,
             uptime_ms: self.context.moments().now_ms(),
             presences: &presences,
             marks: &marks,
+            lefts: &lefts,
         };
         show_pages(self.context, form_of(line.is_json), &around, line.ask)
     }

@@ -81,6 +81,7 @@ impl<'a, 'c, R: Wait + Clock, S: Ledger, G: Ledger, B: Room> ViewSource
             uptime_ms: self.context.moments().now_ms(),
             presences: &presences,
             marks: &[],
+            lefts: &[],
         };
         document_text(self.context, &around, ask)
     }
@@ -91,6 +92,7 @@ impl<'a, 'c, R: Wait + Clock, S: Ledger, G: Ledger, B: Room> ViewSource
             uptime_ms: self.context.moments().now_ms(),
             presences: &[],
             marks: &[],
+            lefts: &[],
         };
         let counters = *self.context.counters.lock(self.context.rt);
         let memory = resident_bytes(self.files);

@@ -26,13 +26,14 @@ use Rattle.pce_seen.specs.declared.seen.Counts.{Counts}
 use Rattle.pce_seen.specs.declared.steps.KnownStep.{KnownStep}
 use Rattle.std.specs.Map.{lookup}
 use Rattle.server_counts.specs.declared.kinds.EndReason.{EndReason}
+use Rattle.server_counts.specs.declared.lefts.LeftRow.{LeftRow}
 use Rattle.server_counts.specs.declared.marks.Mark.{Mark}
 use Rattle.server_counts.specs.declared.presences.Presence.{Presence}
 use Rattle.pce_view.specs.declared.age.Age.{Age}
 use Rattle.pce_view.specs.declared.moments.Moments.{Moments}
 use Rattle.pce_view.specs.declared.moves.BetterLsp.{BetterLsp}
 use Rattle.pce_view.specs.Fields.{address_or_null, amounts, end_json, left_or_null, lsp_id, name_or_null, obstacle_json, srp_id, text_or_null, whole_or_null, wholes, word_or_null}
-use Rattle.pce_view.specs.Views.{age_of, better_items, better_json, better_page_json, book_json, counted_json, delegated_of, full_items, full_json, held_items, held_json, line_items, line_json, lines_json, link_json, links_json, lsp_items, lsp_json, lsp_or_null, lsps_of, moments_of, move_items, move_json, node_json, nodes_json, origins_or_null, page_json, path_answer_json, path_items, path_json, peer_items, peers_json, run_json, status_json, step_items, step_json, steps_json, ticket_items, ticket_json, tickets_json, traced_items, traced_json, use_json}
+use Rattle.pce_view.specs.Views.{age_of, better_items, better_json, better_page_json, book_json, counted_json, delegated_of, full_items, full_json, held_items, held_json, left_by, left_row_items, left_row_json, left_rows_or_null, line_items, line_json, lines_json, link_json, links_json, lsp_items, lsp_json, lsp_or_null, lsps_of, moments_of, move_items, move_json, node_json, nodes_json, origins_or_null, page_json, path_answer_json, path_items, path_json, peer_items, peers_json, run_json, status_json, step_items, step_json, steps_json, ticket_items, ticket_json, tickets_json, traced_items, traced_json, use_json}
 use Rattle.pce_view.specs.Words.{cost_in, cost_of_path, link_in, links_in, links_of_path, obstacle_of, origin_step, origin_ticket, origin_word, outcome_number, purpose_name, purpose_plsp, purpose_request}
 
 pub document-of_tokens : (text : List ℕ) (j : Json) → tokens text ≡ json_tokens j → depth j ≤ max_depth → document text ≡ Some j
@@ -202,17 +203,29 @@ word_or_shallow : (word : Option (List ℕ)) → depth (word_or_null word) ≤ 0
 word_or_shallow None = omega arith
 word_or_shallow (Some word) = omega arith
 
-traced_shallow : (x : TracedPath) (age : Age) → depth (traced_json x age) ≤ 2
+left_row_shallow : (r : LeftRow) → depth (left_row_json r) ≤ 1
+unfolding left_row_json
+left_row_shallow r = omega arith
+
+left_row_items_shallow : (rs : List LeftRow) → items_depth (left_row_items rs) ≤ 1
+left_row_items_shallow [] = omega arith
+left_row_items_shallow (r ∷ rs) = omega (arith, left_row_shallow r, left_row_items_shallow rs)
+
+left_rows_shallow : (rs : List LeftRow) → depth (left_rows_or_null rs) ≤ 2
+left_rows_shallow [] = omega arith
+left_rows_shallow (r ∷ rs) = omega (arith, left_row_shallow r, left_row_items_shallow rs)
+
+traced_shallow : (x : TracedPath) (age : Age) (left : List LeftRow) → depth (traced_json x age left) ≤ 3
 unfolding traced_json
-traced_shallow x age = omega (arith, whole_or_shallow age.least_ms, whole_or_shallow age.most_ms, whole_or_shallow (lsp_id (x.path).part), whole_or_shallow (srp_id (x.path).part), wholes_shallow (x.path).links, word_or_shallow (origin_word x.origin), whole_or_shallow (origin_step x.origin), whole_or_shallow (origin_ticket x.origin))
+traced_shallow x age left = omega (arith, whole_or_shallow age.least_ms, whole_or_shallow age.most_ms, whole_or_shallow (lsp_id (x.path).part), whole_or_shallow (srp_id (x.path).part), wholes_shallow (x.path).links, word_or_shallow (origin_word x.origin), whole_or_shallow (origin_step x.origin), whole_or_shallow (origin_ticket x.origin), left_rows_shallow left)
 
-traced_items_shallow : (now_ms : ℕ) (marks : List Mark) (xs : List TracedPath) → items_depth (traced_items now_ms marks xs) ≤ 2
-traced_items_shallow now_ms marks [] = omega arith
-traced_items_shallow now_ms marks (x ∷ xs) = omega (arith, traced_shallow x (age_of now_ms marks (origin_step x.origin)), traced_items_shallow now_ms marks xs)
+traced_items_shallow : (now_ms : ℕ) (marks : List Mark) (lefts : List LeftRow) (xs : List TracedPath) → items_depth (traced_items now_ms marks lefts xs) ≤ 3
+traced_items_shallow now_ms marks lefts [] = omega arith
+traced_items_shallow now_ms marks lefts (x ∷ xs) = omega (arith, traced_shallow x (age_of now_ms marks (origin_step x.origin)) (left_by (origin_step x.origin) lefts), traced_items_shallow now_ms marks lefts xs)
 
-pub origins_or_shallow : (now_ms : ℕ) (marks : List Mark) (o : Option LspOrigins) → depth (origins_or_null now_ms marks o) ≤ max_depth
-origins_or_shallow now_ms marks None = omega arith
-origins_or_shallow now_ms marks (Some o) = omega (arith, traced_items_shallow now_ms marks o.paths.items)
+pub origins_or_shallow : (now_ms : ℕ) (marks : List Mark) (lefts : List LeftRow) (o : Option LspOrigins) → depth (origins_or_null now_ms marks lefts o) ≤ max_depth
+origins_or_shallow now_ms marks lefts None = omega arith
+origins_or_shallow now_ms marks lefts (Some o) = omega (arith, traced_items_shallow now_ms marks lefts o.paths.items)
 
 better_lsp_shallow : (b : BetterLsp) → depth (better_json b) ≤ 2
 unfolding better_json

@@ -85,6 +85,7 @@ name_at nodes n = name_or_none (slice_get nodes n)
 abbrev pub field_json : Field → Json
 field_json (field.Whole n) = whole n
 field_json (field.WholeOr n) = whole_or_null n
+field_json (field.Signed n) = signed n
 field_json (field.Text s) = string s.now
 field_json (field.Flag b) = boolean b
 field_json (field.Address a) = address a

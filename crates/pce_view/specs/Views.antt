@@ -21,7 +21,9 @@ use Rattle.path_looks.specs.declared.full.FullLink.{FullLink}
 use Rattle.path_looks.specs.declared.link_room.LinkRoom.{LinkRoom}
 use Rattle.path_looks.specs.declared.moves.Move.{Move}
 use Rattle.std.specs.Map.{lookup}
+use Rattle.server_counts.specs.Lefts.{rows_of}
 use Rattle.server_counts.specs.Marks.{before, behind}
+use Rattle.server_counts.specs.declared.lefts.LeftRow.{LeftRow}
 use Rattle.server_counts.specs.declared.marks.Mark.{Mark}
 use Rattle.server_counts.specs.declared.kinds.EndReason.{EndReason}
 use Rattle.server_counts.specs.declared.kinds.EndReason.TheVariants as end
@@ -31,7 +33,7 @@ use Rattle.pce_view.specs.declared.age.Age.{Age}
 use Rattle.pce_view.specs.declared.moments.Moments.{Moments}
 use Rattle.pce_view.specs.declared.moves.BetterLsp.{BetterLsp}
 use Rattle.pce_view.specs.Fields.{address, address_or_null, amounts, end_json, left_or_null, lsp_id, name_at, name_or_null, obstacle_json, srp_id, text_or_null, whole_or_null, wholes, word_or_null}
-use Rattle.pce_view.specs.Json.{whole}
+use Rattle.pce_view.specs.Json.{whole, signed}
 use Rattle.pce_view.specs.Words.{cost_in, cost_of_path, event_word, is_found, link_in, links_in, links_of_path, obstacle_of, origin_step, origin_ticket, origin_word, outcome_number, outcome_word, purpose_name, purpose_plsp, purpose_request, purpose_word}
 
 -- how much there is of what
@@ -326,9 +328,32 @@ abbrev pub age_of : ℕ → List Mark → Option ℕ → Age
 age_of now_ms marks None = record { least_ms = None; most_ms = None }
 age_of now_ms marks (Some step) = record { least_ms = Some (least_ms now_ms (behind step marks)); most_ms = most_ms now_ms (before step marks) }
 
--- a path of an LSP, by which kept step it came, and how long ago
-unfoldable pub traced_json : TracedPath → Age → Json
-traced_json x age = object
+-- what a step left of a link
+unfoldable pub left_row_json : LeftRow → Json
+left_row_json r = object
+    (member (codes "link") (whole r.link)
+    (member (codes "priority") (whole r.priority)
+    (member (codes "before_bytes_per_second") (signed r.before)
+    (member (codes "after_bytes_per_second") (signed r.after)
+    no_members))))
+
+abbrev pub left_row_items : List LeftRow → Items
+left_row_items [] = no_items
+left_row_items (r ∷ rs) = item (left_row_json r) (left_row_items rs)
+
+-- what a step left of each link, or nothing where no row is of it
+abbrev pub left_rows_or_null : List LeftRow → Json
+left_rows_or_null [] = null
+left_rows_or_null (r ∷ rs) = array (left_row_items (r ∷ rs))
+
+-- the rows of the step by which a path came
+abbrev pub left_by : Option ℕ → List LeftRow → List LeftRow
+left_by None rows = []
+left_by (Some step) rows = rows_of step rows
+
+-- a path of an LSP, by which kept step it came, how long ago, and what that step left of its links
+unfoldable pub traced_json : TracedPath → Age → List LeftRow → Json
+traced_json x age left = object
     (member (codes "lsp_id") (whole_or_null (lsp_id (x.path).part))
     (member (codes "srp_id") (whole_or_null (srp_id (x.path).part))
     (member (codes "links") (array (wholes (x.path).links))
@@ -337,25 +362,26 @@ traced_json x age = object
     (member (codes "ticket") (whole_or_null (origin_ticket x.origin))
     (member (codes "least_ms_ago") (whole_or_null age.least_ms)
     (member (codes "most_ms_ago") (whole_or_null age.most_ms)
-    no_members))))))))
+    (member (codes "left") (left_rows_or_null left)
+    no_members)))))))))
 
-abbrev pub traced_items : ℕ → List Mark → List TracedPath → Items
-traced_items now_ms marks [] = no_items
-traced_items now_ms marks (x ∷ xs) = item (traced_json x (age_of now_ms marks (origin_step x.origin))) (traced_items now_ms marks xs)
+abbrev pub traced_items : ℕ → List Mark → List LeftRow → List TracedPath → Items
+traced_items now_ms marks lefts [] = no_items
+traced_items now_ms marks lefts (x ∷ xs) = let step = origin_step x.origin in item (traced_json x (age_of now_ms marks step) (left_by step lefts)) (traced_items now_ms marks lefts xs)
 
 -- the paths of an LSP, from which step on they were looked for, and which step is the first that is kept
-abbrev pub origins_json : ℕ → List Mark → LspOrigins → Json
-origins_json now_ms marks o = object
+abbrev pub origins_json : ℕ → List Mark → List LeftRow → LspOrigins → Json
+origins_json now_ms marks lefts o = object
     (member (codes "peer") (address o.peer)
     (member (codes "plsp_id") (whole o.plsp)
     (member (codes "rolled_steps") (whole o.rolled)
     (member (codes "first_step") (whole o.first)
-    (member (codes "paths") (array (traced_items now_ms marks o.paths.items))
+    (member (codes "paths") (array (traced_items now_ms marks lefts o.paths.items))
     no_members)))))
 
-abbrev pub origins_or_null : ℕ → List Mark → Option LspOrigins → Json
-origins_or_null now_ms marks None = null
-origins_or_null now_ms marks (Some o) = origins_json now_ms marks o
+abbrev pub origins_or_null : ℕ → List Mark → List LeftRow → Option LspOrigins → Json
+origins_or_null now_ms marks lefts None = null
+origins_or_null now_ms marks lefts (Some o) = origins_json now_ms marks lefts o
 
 -- an LSP for which a cheaper path is admissible
 unfoldable pub better_json : BetterLsp → Json

@@ -29,7 +29,7 @@ use path_looks::{FullLink, LinkRoom, PathAnswer, full_links, path_on, tightest};
 use pce_seen::{Ask, LinkUse, Network, Seen};
 use pcep_objects::{Colours, MetricType};
 use pcep_word::{Bandwidth, Ipv4, Priorities};
-use server_counts::{Mark, Presence};
+use server_counts::{LeftRow, Mark, Presence};
 use std::alloc::{AllocError, Global};
 use te_snapshot::Snapshot;
 
@@ -52,6 +52,8 @@ pub struct Surroundings<'a> {
     pub presences: &'a [(u32, Presence)],
     /// How many steps there were at which moments, in milliseconds since the run began.
     pub marks: &'a [Mark],
+    /// What the last steps that brought paths left of their links.
+    pub lefts: &'a [LeftRow],
 }
 
 /// The place at which the page of LSPs that is asked for starts.
@@ -187,7 +189,13 @@ fn json_text(
         Seen::Lsp(lsp) => lsp_text(alloc, lsp),
         Seen::Link(found) => one_link_text(alloc, ask, found),
         Seen::Steps(steps) => steps_text(alloc, steps),
-        Seen::Origins(origins) => origins_text(alloc, around.uptime_ms, around.marks, origins),
+        Seen::Origins(origins) => origins_text(
+            alloc,
+            around.uptime_ms,
+            around.marks,
+            around.lefts,
+            origins,
+        ),
         Seen::Movable(movable) => better_text(alloc, place_of(ask), movable),
         Seen::Displaced(displaced) => without_text(alloc, number_of_link(ask), displaced),
         Seen::Network(network) => network_text(alloc, ask, network),
@@ -264,7 +272,14 @@ fn add_rows(
         Seen::Lsp(lsp) => add_one_lsp(text, lsp),
         Seen::Link(found) => add_one_link(alloc, text, ask, found),
         Seen::Steps(steps) => add_steps(text, steps),
-        Seen::Origins(origins) => add_origins(text, around.uptime_ms, around.marks, origins),
+        Seen::Origins(origins) => add_origins(
+            alloc,
+            text,
+            around.uptime_ms,
+            around.marks,
+            around.lefts,
+            origins,
+        ),
         Seen::Movable(movable) => add_better(alloc, text, place_of(ask), movable),
         Seen::Displaced(displaced) => add_without(alloc, text, number_of_link(ask), displaced),
         Seen::Network(network) => add_network(alloc, text, ask, network),

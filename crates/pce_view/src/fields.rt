@@ -32,6 +32,7 @@ use te_base::{LinkNumber, Name, Node};
 pub(crate) enum Field<'a> {
     Whole(u64),
     WholeOr(Option<u64>),
+    Signed(i64),
     Text(&'a str),
     Flag(bool),
     Address(Ipv4),
@@ -259,6 +260,7 @@ fn put_value(alloc: Global, writer: &mut Writer, value: &Field<'_>) -> Result<()
     match value {
         Field::Whole(n) => writer.u64(*n),
         Field::WholeOr(n) => put_whole_or(writer, *n),
+        Field::Signed(n) => writer.i64(*n),
         Field::Text(text) => writer.string(text),
         Field::Flag(flag) => writer.boolean(*flag),
         Field::Address(at) => put_address(alloc, writer, *at),

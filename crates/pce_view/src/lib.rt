@@ -5,6 +5,7 @@
 //! - `fields`, `closing`: objects from tables of their members, and the text of a whole value
 //! - `words`: words for what is seen
 //! - `moments`, `age`: how long ago a peer came up or went down, and how long ago a step was taken
+//! - `left`: what a step left of links
 //! - `moves`: paths that LSPs could have elsewhere (`specs/Moves.antt`)
 //! - `status`, `book`, `peers`, `tickets`, `lsps`, `link`, `steps`, `origins`, `path`, `better`, `without`: one kind of answer
 //!   each, as JSON
@@ -15,7 +16,7 @@
 //!
 //! ```text
 //! fn status_of(alloc: Global, counts: Counts) -> Result<Vec<u8>, AllocError> {
-//!     let around = Surroundings { version: "1.0", uptime_ms: 0, presences: &[], marks: &[] };
+//!     let around = Surroundings { version: "1.0", uptime_ms: 0, presences: &[], marks: &[], lefts: &[] };
 //!     answer_text(alloc, Form::Json, &around, &Ask::Status, &Seen::Counts(counts))
 //! }
 //! ```
@@ -30,6 +31,7 @@ mod columns;
 mod counted_words;
 mod families;
 mod fields;
+mod left;
 mod link;
 mod link_metrics;
 mod lsp_tables;

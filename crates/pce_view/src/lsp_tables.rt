@@ -2,12 +2,13 @@
 use crate::age::age_of;
 use crate::columns::{add_links, add_name, add_percent, add_rate};
 use crate::fields::{lsp_id, srp_id};
+use crate::left::left_by;
 use crate::tables::{add_ago, add_end, add_priorities};
 use crate::words::{origin_step, origin_ticket, origin_word};
 use lsp_base::{Lsp, Path};
 use pce_seen::{HeldPath, KnownLsp, LinkUse, LspOrigins, LspPage, TracedPath, tunnels_on};
 use pcep_word::Ipv4;
-use server_counts::Mark;
+use server_counts::{LeftRow, Mark};
 use std::alloc::{AllocError, Global};
 use std::fmt::Write;
 
@@ -160,6 +161,40 @@ pub(crate) fn add_link_use(
     }
 }
 
+/// Adds what a step left of a link, to the line of its path or to a line of its own.
+fn add_left(text: &mut String, is_first: bool, row: &LeftRow) -> Result<(), AllocError> {
+    if !is_first {
+        text.push_str("\t\t\t\t\t\t")?;
+    }
+    let link = row.link;
+    write!(text, "{link}\t")?;
+    add_rate(text, row.before)?;
+    text.push('\t')?;
+    add_rate(text, row.after)?;
+    text.push('\n')
+}
+
+fn add_each_left(text: &mut String, rows: &[LeftRow]) -> Result<(), AllocError> {
+    if rows.is_empty() {
+        return text.push_str("-\t-\t-\n");
+    }
+    for (place, row) in rows.iter().enumerate() {
+        add_left(text, place == 0, row)?;
+    }
+    Ok(())
+}
+
+/// Adds what the step by which a path came left of each of its links.
+fn add_lefts(
+    alloc: Global,
+    text: &mut String,
+    lefts: &[LeftRow],
+    step: Option<u64>,
+) -> Result<(), AllocError> {
+    let rows = left_by(alloc, lefts, step)?;
+    add_each_left(text, &rows)
+}
+
 /// Adds by what a path came and how long ago, where a kept step says so.
 fn add_traced(
     text: &mut String,
@@ -180,7 +215,7 @@ fn add_traced(
     }
     let age = age_of(now_ms, marks, origin_step(seen.origin));
     add_ago(text, age.least_ms)?;
-    text.push('\n')
+    text.push('\t')
 }
 
 /// Says of a path that came by none of the steps that were read where it came from: from a step that is rolled away, or
@@ -193,19 +228,23 @@ fn word_of_unknown(seen: &LspOrigins) -> &'static str {
     }
 }
 
-/// Adds a line for each path of an LSP: by which kept step it came, and how long ago.
+/// Adds a line for each path of an LSP and each link of which it is known what its step left: by which kept step it came,
+/// how long ago, and what was left of the link before and after that step.
 pub(crate) fn add_origins(
+    alloc: Global,
     text: &mut String,
     now_ms: u64,
     marks: &[Mark],
+    lefts: &[LeftRow],
     seen: &Option<LspOrigins>,
 ) -> Result<(), AllocError> {
     let Some(seen) = seen else {
         return text.push_str("no such LSP\n");
     };
-    text.push_str("PATH\tLINKS\tBY\tSTEP\tTICKET\tAGO\n")?;
+    text.push_str("PATH\tLINKS\tBY\tSTEP\tTICKET\tAGO\tLINK\tLEFT BEFORE\tLEFT AFTER\n")?;
     for path in &seen.paths {
         add_traced(text, now_ms, marks, word_of_unknown(seen), path)?;
+        add_lefts(alloc, text, lefts, origin_step(path.origin))?;
     }
     Ok(())
 }

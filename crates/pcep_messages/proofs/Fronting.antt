@@ -10,25 +10,25 @@ use Rattle.pcep_messages.specs.ObjectSteps.{taken_by}
 use Rattle.pcep_messages.specs.ReportSteps.{State, IsEmptyInFront, inside, started, ended, begun_by_srp, begun_by_lsp, after_lsp, after}
 use Rattle.pcep_messages.specs.declared.fault.MessageFault.{MessageFault}
 use Rattle.pcep_messages.specs.declared.items.Item.{Item}
-use Rattle.pcep_messages.specs.declared.items.Place.{Place}
-use Rattle.pcep_messages.specs.declared.items.Place.TheVariants.{InFront, BehindSrp, Within}
+use Rattle.pcep_messages.specs.declared.items.ItemPosition.{ItemPosition}
+use Rattle.pcep_messages.specs.declared.items.ItemPosition.TheVariants.{InFront, BehindSrp, Within}
 use Rattle.pcep_messages.specs.declared.message.StateReport.{StateReport}
 
-behind : (p : Place) (item : Item) → p ≡ BehindSrp → IsEmptyInFront p item
+behind : (p : ItemPosition) (item : Item) → p ≡ BehindSrp → IsEmptyInFront p item
 behind InFront item is = (cc)
 behind BehindSrp item is = tt
 behind Within item is = tt
 
-within : (p : Place) (item : Item) → p ≡ Within → IsEmptyInFront p item
+within : (p : ItemPosition) (item : Item) → p ≡ Within → IsEmptyInFront p item
 within InFront item is = (cc)
 within BehindSrp item is = tt
 within Within item is = tt
 
-at_start : (p : Place) (item : Item) (before : Result (List StateReport) MessageFault) (t : State) → started p item before ≡ Ok t → t.place ≡ p
+at_start : (p : ItemPosition) (item : Item) (before : Result (List StateReport) MessageFault) (t : State) → started p item before ≡ Ok t → t.place ≡ p
 at_start p item (Ok reports) t took = let is : t ≡ record { reports = reports; item = item; place = p } = cc in ap (λ (u : State). u.place) is
 at_start p item (Err fault) t took = (cc)
 
-at_inside : (p : Place) (reports : List StateReport) (item : Item) (t : State) → inside p reports item ≡ Ok t → t.place ≡ Within
+at_inside : (p : ItemPosition) (reports : List StateReport) (item : Item) (t : State) → inside p reports item ≡ Ok t → t.place ≡ Within
 at_inside InFront reports item t took = (cc)
 at_inside BehindSrp reports item t took = let is : t ≡ record { reports = reports; item = item; place = Within } = cc in ap (λ (u : State). u.place) is
 at_inside Within reports item t took = let is : t ≡ record { reports = reports; item = item; place = Within } = cc in ap (λ (u : State). u.place) is
@@ -39,7 +39,7 @@ okay s = Ok s
 placed : (s t : State) → okay s ≡ okay t → t.place ≡ s.place
 placed s t took = let is : t ≡ s = cc in ap (λ (u : State). u.place) is
 
-at_lsp : (p : Place) (lsp : LspObject) (s t : State) → after_lsp p lsp s ≡ Ok t → t.place ≡ Within
+at_lsp : (p : ItemPosition) (lsp : LspObject) (s t : State) → after_lsp p lsp s ≡ Ok t → t.place ≡ Within
 at_lsp InFront lsp s t took = at_start Within (begun_by_lsp lsp) (ended InFront s.reports s.item) t took
 at_lsp BehindSrp lsp s t took = placed (record { reports = s.reports; item = record s.item { lsp = option_or s.item.lsp (Some lsp) }; place = Within }) t took
 at_lsp Within lsp s t took = at_start Within (begun_by_lsp lsp) (ended Within s.reports s.item) t took

@@ -24,7 +24,7 @@ use Rattle.pcep_messages.specs.declared.message.Initiate.{Initiate}
 use Rattle.pcep_messages.specs.declared.message.Initiate.TheVariants as initiates
 use Rattle.pcep_messages.specs.declared.message.Message.{Message}
 use Rattle.pcep_messages.specs.declared.message.Message.TheVariants as messages
-use Rattle.pcep_messages.specs.declared.message.Reply.{Reply}
+use Rattle.pcep_messages.specs.declared.message.PathReply.{PathReply}
 use Rattle.pcep_messages.specs.declared.message.Update.{Update}
 
 -- ---- PCErr
@@ -73,7 +73,7 @@ errors_again errors =
 
 -- ---- PCRep
 
-abbrev replied : ℕ → Answer → Reply
+abbrev replied : ℕ → Answer → PathReply
 replied request answer = record { request = request; answer = answer }
 
 answered_again : (request : ℕ) (answer : Answer) → reply_of (parts_of (reply_objects (replied request answer))) ≡ Ok (messages.Reply (replied request answer))
@@ -82,7 +82,7 @@ answered_again request (answers.Found ero None) = refl
 answered_again request (answers.Found ero (Some cost)) = refl
 answered_again request (answers.NoPath vector) = refl
 
-pub reply_again : (reply : Reply) → reply_of (parts_of (reply_objects reply)) ≡ Ok (messages.Reply reply)
+pub reply_again : (reply : PathReply) → reply_of (parts_of (reply_objects reply)) ≡ Ok (messages.Reply reply)
 reply_again reply = answered_again reply.request reply.answer
 
 -- ---- PCUpd

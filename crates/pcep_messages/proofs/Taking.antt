@@ -16,8 +16,8 @@ use Rattle.pcep_messages.specs.Reports.{report_of, own_fault, reports_of, report
 use Rattle.pcep_messages.specs.ReportSteps.{State, no_objects, begin, begun_by_srp, begun_by_lsp, report_from, started, with_report, after, finished}
 use Rattle.pcep_messages.specs.declared.fault.MessageFault.{MessageFault}
 use Rattle.pcep_messages.specs.declared.items.Item.{Item}
-use Rattle.pcep_messages.specs.declared.items.Place.{Place}
-use Rattle.pcep_messages.specs.declared.items.Place.TheVariants.{BehindSrp, Within}
+use Rattle.pcep_messages.specs.declared.items.ItemPosition.{ItemPosition}
+use Rattle.pcep_messages.specs.declared.items.ItemPosition.TheVariants.{BehindSrp, Within}
 use Rattle.pcep_messages.specs.declared.message.StateReport.{StateReport}
 use Rattle.pcep_messages.proofs.Running.{with_front, regroup, no_front, run, run_to_end, rest_gives}
 
@@ -95,7 +95,7 @@ begins_with_lsp lsp named own =
 
 -- ---- the reader, from within an item on
 
-abbrev place_of : Bool → Place
+abbrev place_of : Bool → ItemPosition
 place_of true = BehindSrp
 place_of false = Within
 

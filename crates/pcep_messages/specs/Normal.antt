@@ -14,7 +14,7 @@ use Rattle.pcep_messages.specs.declared.message.Initiate.{Initiate}
 use Rattle.pcep_messages.specs.declared.message.Initiate.TheVariants as initiates
 use Rattle.pcep_messages.specs.declared.message.Message.{Message}
 use Rattle.pcep_messages.specs.declared.message.Message.TheVariants as messages
-use Rattle.pcep_messages.specs.declared.message.Reply.{Reply}
+use Rattle.pcep_messages.specs.declared.message.PathReply.{PathReply}
 use Rattle.pcep_messages.specs.declared.message.Update.{Update}
 
 abbrev pub IsWord : ℕ → Type 0
@@ -32,7 +32,7 @@ abbrev pub IsAnswer : Answer → Type 0
 IsAnswer (answers.Found ero cost) = AllByRecursion (IsHop true) ero × MayBeCost cost
 IsAnswer (answers.NoPath vector) = Unit {0}
 
-pub record IsReply (reply : Reply) : Type 0 where
+pub record IsReply (reply : PathReply) : Type 0 where
   pub request : IsWord reply.request
   pub answer : IsAnswer reply.answer
 

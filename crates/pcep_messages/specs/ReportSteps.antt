@@ -14,15 +14,15 @@ use Rattle.pcep_messages.specs.declared.fault.About.TheVariants as about
 use Rattle.pcep_messages.specs.declared.fault.MessageFault.{MessageFault}
 use Rattle.pcep_messages.specs.declared.fault.MessageFault.TheVariants.{Refused}
 use Rattle.pcep_messages.specs.declared.items.Item.{Item}
-use Rattle.pcep_messages.specs.declared.items.Place.{Place}
-use Rattle.pcep_messages.specs.declared.items.Place.TheVariants.{InFront, BehindSrp, Within}
+use Rattle.pcep_messages.specs.declared.items.ItemPosition.{ItemPosition}
+use Rattle.pcep_messages.specs.declared.items.ItemPosition.TheVariants.{InFront, BehindSrp, Within}
 use Rattle.pcep_messages.specs.declared.message.StateReport.{StateReport}
 
 -- the reports of the items that have ended, what was read of the next, and where in it the reader stands
 pub record State : Type 0 where
   pub reports : List StateReport
   pub item : Item
-  pub place : Place
+  pub place : ItemPosition
 
 abbrev pub no_objects : Item
 no_objects = record { srp = None; lsp = None; ero = None; rro = None; lspa = None; bandwidth = 0 }
@@ -39,26 +39,26 @@ abbrev pub with_report : List StateReport → Result StateReport MessageFault �
 with_report reports last = last >>= λ report. Ok (reports ++ report ∷ [])
 
 -- the reports with that of the item that ends
-abbrev pub ended : Place → List StateReport → Item → Result (List StateReport) MessageFault
+abbrev pub ended : ItemPosition → List StateReport → Item → Result (List StateReport) MessageFault
 ended InFront reports item = Ok reports
 ended place reports item = with_report reports (report_from item None)
 
 -- an object that starts no item stands in one
-abbrev pub inside : Place → List StateReport → Item → Result State MessageFault
+abbrev pub inside : ItemPosition → List StateReport → Item → Result State MessageFault
 inside InFront reports item = Err (Refused 6 8 about.Nothing)
 inside place reports item = Ok (record { reports = reports; item = item; place = Within })
 
 -- the place behind such an object
-abbrev pub IsInside : Place → Result Place MessageFault → Type 0
+abbrev pub IsInside : ItemPosition → Result ItemPosition MessageFault → Type 0
 IsInside InFront result = result ≡ Err (Refused 6 8 about.Nothing)
 IsInside place result = result ≡ Ok Within
 
 -- in front of the first item nothing of one was read
-abbrev pub IsEmptyInFront : Place → Item → Type 0
+abbrev pub IsEmptyInFront : ItemPosition → Item → Type 0
 IsEmptyInFront InFront item = item ≡ no_objects
 IsEmptyInFront place item = Unit {0}
 
-abbrev pub started : Place → Item → Result (List StateReport) MessageFault → Result State MessageFault
+abbrev pub started : ItemPosition → Item → Result (List StateReport) MessageFault → Result State MessageFault
 started place item before = before >>= λ reports. Ok (record { reports = reports; item = item; place = place })
 
 abbrev pub begun_by_srp : Srp → Item
@@ -67,7 +67,7 @@ begun_by_srp srp = record no_objects { srp = Some srp }
 abbrev pub begun_by_lsp : LspObject → Item
 begun_by_lsp lsp = record no_objects { lsp = Some lsp }
 
-abbrev pub after_lsp : Place → LspObject → State → Result State MessageFault
+abbrev pub after_lsp : ItemPosition → LspObject → State → Result State MessageFault
 after_lsp BehindSrp lsp s = Ok (record { reports = s.reports; item = record s.item { lsp = option_or s.item.lsp (Some lsp) }; place = Within })
 after_lsp place lsp s = started Within (begun_by_lsp lsp) (ended place s.reports s.item)
 
@@ -81,7 +81,7 @@ after (objects.Bandwidth kind bandwidth) s = inside s.place s.reports (record s.
 after object s = Ok s
 
 -- at the end of the objects, or at an object that has a fault of its own
-abbrev pub finished_at : Place → List StateReport → Item → Option ObjectFault → Result (List StateReport) MessageFault
+abbrev pub finished_at : ItemPosition → List StateReport → Item → Option ObjectFault → Result (List StateReport) MessageFault
 finished_at InFront reports item own = Err (no_item own)
 finished_at place reports item own = with_report reports (report_from item own)
 
@@ -89,7 +89,7 @@ abbrev pub finished : State → Option ObjectFault → Result (List StateReport)
 finished s own = finished_at s.place s.reports s.item own
 
 -- what a step returned, with the reports and the item as they are then
-abbrev pub Steps : Result State MessageFault → Result Place MessageFault → List StateReport → Item → Type 0
+abbrev pub Steps : Result State MessageFault → Result ItemPosition MessageFault → List StateReport → Item → Type 0
 Steps step (Ok place) reports item = step ≡ Ok (record { reports = reports; item = item; place = place })
 Steps step (Err fault) reports item = Fails fault step
 

@@ -20,7 +20,7 @@ use Rattle.pcep_messages.specs.declared.message.Initiate.{Initiate}
 use Rattle.pcep_messages.specs.declared.message.Initiate.TheVariants as initiates
 use Rattle.pcep_messages.specs.declared.message.Message.{Message}
 use Rattle.pcep_messages.specs.declared.message.Message.TheVariants as messages
-use Rattle.pcep_messages.specs.declared.message.Reply.{Reply}
+use Rattle.pcep_messages.specs.declared.message.PathReply.{PathReply}
 use Rattle.pcep_messages.specs.declared.message.Update.{Update}
 
 -- ---- objects
@@ -84,7 +84,7 @@ answer_objects (answers.Found ero cost) = objects.Ero ero ∷ cost_objects cost
 answer_objects (answers.NoPath vector) = no_path_object vector ∷ []
 
 -- a PCRep: RP with P set, and its answer
-abbrev pub reply_objects : Reply → List Object
+abbrev pub reply_objects : PathReply → List Object
 reply_objects reply = rp_object true reply.request ∷ answer_objects reply.answer
 
 abbrev pub update_objects : Update → List Object

@@ -6,7 +6,7 @@ ghost use Rattle.pcep_messages.specs.Spelling.{rp_object, srp_object, error_obje
 ghost use Rattle.pcep_objects.specs.declared.fault.WriteFault.TheVariants.{TooLong};
 ghost use Rattle.pcep_objects.specs.declared.object.Object.TheVariants as objects;
 
-use crate::message::{Answer, Create, Errors, Initiate, Message, Reply, Update};
+use crate::message::{Answer, Create, Errors, Initiate, Message, PathReply, Update};
 use crate::putting::{
     put_constraints, put_cost, put_end_points, put_error, put_lsp, put_new_lsp, put_no_path,
     put_route, put_rp, put_srp,
@@ -86,7 +86,7 @@ fn put_answer(answer: &Answer, out: &mut Vec<u8>) -> Result<(), WriteFault>
 
 /// Appends the body of a PCRep.
 #[tactic(auto, using(crate::proofs::Fronts::front_same, crate::proofs::Fronts::front_one, crate::proofs::Fronts::front_again))]
-fn put_reply(reply: &Reply, out: &mut Vec<u8>) -> Result<(), WriteFault>
+fn put_reply(reply: &PathReply, out: &mut Vec<u8>) -> Result<(), WriteFault>
     ensures written { OnOk result (out.new.items ≡ out.old.items ++ objects_spelled (reply_objects reply.now)) }
     ensures fits { IfOk result (λ _. objects_fit (reply_objects reply.now) ≡ true) }
     ensures too_long { IfErr result (λ e. e ≡ TooLong → objects_fit (reply_objects reply.now) ≡ false) }

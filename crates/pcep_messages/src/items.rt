@@ -21,7 +21,7 @@ pub struct Item {
 
 /// Where a reader of items stands.
 #[derive(Clone, Copy, Debug, PartialEq, Eq)]
-pub enum Place {
+pub enum ItemPosition {
     /// In front of the first item.
     InFront,
     /// Right behind the SRP that started an item.

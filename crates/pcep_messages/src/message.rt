@@ -92,7 +92,7 @@ pub enum Answer {
 
 /// The answer to a request (RFC 5440 section 6.5).
 #[derive(Debug, Drop)]
-pub struct Reply {
+pub struct PathReply {
     /// The Request-ID.
     pub request: u32,
     pub answer: Answer,
@@ -170,7 +170,7 @@ pub enum Message {
     /// PCReq: the requests in the order of the message (RFC 5440 section 6.4).
     Request(Sequence<PathRequest>),
     /// PCRep (RFC 5440 section 6.5).
-    Reply(Reply),
+    Reply(PathReply),
     /// PCNtf, which is ignored (RFC 5440 section 6.6).
     Notify,
     /// PCErr (RFC 5440 section 6.7).
@@ -242,9 +242,9 @@ impl PlainData for Answer {
     }
 }
 
-impl PlainData for Reply {
-    fn copy(&self) -> Result<Reply, AllocError> {
-        Ok(Reply {
+impl PlainData for PathReply {
+    fn copy(&self) -> Result<PathReply, AllocError> {
+        Ok(PathReply {
             request: self.request,
             answer: self.answer.copy()?,
         })

@@ -4,14 +4,14 @@ ghost use Rattle.std.specs.Prelude.{◌≡◌, IfOk};
 ghost use Rattle.pcep_messages.specs.Objects.{found_in, IsFound};
 ghost use Rattle.pcep_messages.specs.ObjectSteps.{skipped, IsNext};
 
-use pcep_objects::{BodyFault, Front, Object, ObjectFault, front_of, read_body};
+use pcep_objects::{BodyFault, Object, ObjectFault, RawObject, front_of, read_body};
 use std::alloc::{AllocError, Global};
 
 /// The next object of a message.
 #[derive(Clone, Copy)]
 pub enum Next<'a> {
     /// An object of a known kind by its header, and the bytes behind it.
-    Object(Front<'a>, &'a [u8]),
+    Object(RawObject<'a>, &'a [u8]),
     /// A header with a fault of its own.
     Bad(ObjectFault),
     /// No object follows.

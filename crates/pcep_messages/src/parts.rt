@@ -12,9 +12,9 @@ ghost use Rattle.pcep_objects.specs.declared.object.Object.TheVariants as object
 use crate::counting::{greater, keep_first};
 use crate::objects::{Next, next_object};
 use pcep_objects::{
-    BandwidthType, BodyFault, Close, EndPoints, Front, Hop, Kind, LspObject, Lspa, Metric, NoPath,
-    Object, ObjectFault, Open, Rp, Srp, read_bandwidth, read_body, read_ero, read_lsp, read_lspa,
-    read_rp, read_srp,
+    BandwidthType, BodyFault, Close, EndPoints, Hop, Kind, LspObject, Lspa, Metric, NoPath, Object,
+    ObjectFault, Open, RawObject, Rp, Srp, read_bandwidth, read_body, read_ero, read_lsp,
+    read_lspa, read_rp, read_srp,
 };
 use pcep_word::Bandwidth;
 use sequence::Sequence;
@@ -95,7 +95,7 @@ fn take_in(parts: &mut Parts, object: Object)
 
 /// Reads the body of an object of any class and takes the object in.
 #[inline(never)]
-fn take_any(alloc: Global, front: Front<'_>, parts: &mut Parts) -> Result<(), BodyFault>
+fn take_any(alloc: Global, front: RawObject<'_>, parts: &mut Parts) -> Result<(), BodyFault>
     ensures taken { Gives (λ done. parts.new) result (joined (body_of front.entry.kind front.entry.p front.entry.body.now) parts.old) }
     ensures own_fault { IfErr result (λ fault. Fails fault (body_of front.entry.kind front.entry.p front.entry.body.now)) }
     ensures unchanged { IfErr result (λ fault. parts.new ≡ parts.old) }
@@ -117,7 +117,7 @@ fn take_lsp(alloc: Global, body: &[u8], parts: &mut Parts) -> Result<(), BodyFau
 
 /// Reads the body of an object and takes the object in. After a fault nothing has changed.
 #[inline(always)]
-fn take_front(alloc: Global, front: Front<'_>, parts: &mut Parts) -> Result<(), BodyFault>
+fn take_front(alloc: Global, front: RawObject<'_>, parts: &mut Parts) -> Result<(), BodyFault>
     ensures taken { Gives (λ done. parts.new) result (joined (body_of front.entry.kind front.entry.p front.entry.body.now) parts.old) }
     ensures own_fault { IfErr result (λ fault. Fails fault (body_of front.entry.kind front.entry.p front.entry.body.now)) }
     ensures unchanged { IfErr result (λ fault. parts.new ≡ parts.old) }

@@ -7,7 +7,7 @@ ghost use Rattle.pcep_messages.specs.Faults.{Gives};
 ghost use Rattle.pcep_messages.specs.PartSteps.{kept};
 
 use crate::fault::{About, MessageFault};
-use crate::message::{Answer, Cost, Message, Reply};
+use crate::message::{Answer, Cost, Message, PathReply};
 use crate::parts::{Parts, parts_in};
 use pcep_objects::{Hop, Metric, NoPath, Rp};
 use sequence::Sequence;
@@ -61,7 +61,7 @@ fn reply_of(parts: &mut Parts) -> Result<Message, MessageFault>
     let Some(rp) = parts.rp else {
         return Err(MessageFault::Missing(2, About::Nothing));
     };
-    Ok(Message::Reply(Reply {
+    Ok(Message::Reply(PathReply {
         request: rp.id,
         answer,
     }))

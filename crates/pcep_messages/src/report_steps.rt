@@ -9,16 +9,16 @@ ghost use Rattle.pcep_messages.specs.Reports.{report_body};
 ghost use Rattle.pcep_messages.specs.declared.message.StateReport.{StateReport};
 ghost use Rattle.pcep_messages.specs.ObjectSteps.{taken_by};
 ghost use Rattle.pcep_messages.specs.ReportSteps.{no_objects, ended, started, report_from, with_report, IsInside, IsEmptyInFront, after, after_lsp, finished_at, Steps, Ends, begun_by_srp, begun_by_lsp};
-ghost use Rattle.pcep_messages.specs.declared.items.Place.TheVariants.{BehindSrp};
+ghost use Rattle.pcep_messages.specs.declared.items.ItemPosition.TheVariants.{BehindSrp};
 
 use crate::counting::{greater, keep_first};
 use crate::fault::{About, MessageFault};
-use crate::items::{Item, Place, no_objects};
+use crate::items::{Item, ItemPosition, no_objects};
 use crate::message::StateReport;
 use crate::objects::{Next, next_object};
 use crate::reports::{cut_off, report_from};
 use pcep_objects::{
-    BodyFault, Front, Kind, LspObject, Object, ObjectFault, Srp, read_bandwidth, read_body,
+    BodyFault, Kind, LspObject, Object, ObjectFault, RawObject, Srp, read_bandwidth, read_body,
     read_ero, read_lsp, read_lspa, read_srp,
 };
 use std::alloc::Global;
@@ -82,18 +82,18 @@ fn begin_by_lsp(
 fn take_srp(
     alloc: Global,
     srp: Srp,
-    place: Place,
+    place: ItemPosition,
     item: &mut Item,
     reports: &mut Vec<StateReport>,
-) -> Result<Place, MessageFault>
+) -> Result<ItemPosition, MessageFault>
     requires { IsEmptyInFront place item.old }
     ensures { Steps (started BehindSrp (begun_by_srp srp) (ended place reports.old.items item.old)) result reports.new.items item.new }
 {
     match place {
-        Place::InFront => item.srp = Some(srp),
+        ItemPosition::InFront => item.srp = Some(srp),
         _ => begin_by_srp(alloc, srp, item, reports)?,
     }
-    Ok(Place::BehindSrp)
+    Ok(ItemPosition::BehindSrp)
 }
 
 /// Takes in an LSP, which starts an item where no SRP stands right in front of it.
@@ -101,28 +101,28 @@ fn take_srp(
 fn take_lsp(
     alloc: Global,
     lsp: LspObject,
-    place: Place,
+    place: ItemPosition,
     item: &mut Item,
     reports: &mut Vec<StateReport>,
-) -> Result<Place, MessageFault>
+) -> Result<ItemPosition, MessageFault>
     requires { IsEmptyInFront place item.old }
     ensures { Steps (after_lsp place lsp (record { reports = reports.old.items; item = item.old; place = place })) result reports.new.items item.new }
 {
     match place {
-        Place::BehindSrp => keep_first(&mut item.lsp, lsp),
-        Place::InFront => item.lsp = Some(lsp),
+        ItemPosition::BehindSrp => keep_first(&mut item.lsp, lsp),
+        ItemPosition::InFront => item.lsp = Some(lsp),
         _ => begin_by_lsp(alloc, lsp, item, reports)?,
     }
-    Ok(Place::Within)
+    Ok(ItemPosition::Within)
 }
 
 /// Returns the place behind an object that starts no item.
-fn inside(place: Place) -> Result<Place, MessageFault>
+fn inside(place: ItemPosition) -> Result<ItemPosition, MessageFault>
     ensures { IsInside place result }
 {
     match place {
-        Place::InFront => Err(MessageFault::Refused(6, 8, About::Nothing)),
-        _ => Ok(Place::Within),
+        ItemPosition::InFront => Err(MessageFault::Refused(6, 8, About::Nothing)),
+        _ => Ok(ItemPosition::Within),
     }
 }
 
@@ -131,10 +131,10 @@ fn inside(place: Place) -> Result<Place, MessageFault>
 fn take_in(
     alloc: Global,
     object: Object,
-    place: Place,
+    place: ItemPosition,
     item: &mut Item,
     reports: &mut Vec<StateReport>,
-) -> Result<Place, MessageFault>
+) -> Result<ItemPosition, MessageFault>
     requires { IsEmptyInFront place item.old }
     ensures { Steps (after object (record { reports = reports.old.items; item = item.old; place = place })) result reports.new.items item.new }
 {
@@ -166,10 +166,10 @@ fn take_in(
 fn take_lsp_body(
     alloc: Global,
     body: &[u8],
-    place: Place,
+    place: ItemPosition,
     item: &mut Item,
     reports: &mut Vec<StateReport>,
-) -> Result<Result<Place, MessageFault>, BodyFault>
+) -> Result<Result<ItemPosition, MessageFault>, BodyFault>
     requires { IsEmptyInFront place item.old }
     ensures taken { IfOk result (λ step. Steps (taken_by after (lsp_body body.now) (record { reports = reports.old.items; item = item.old; place = place })) step reports.new.items item.new) }
     ensures own_fault { IfErr result (λ fault. Fails fault (lsp_body body.now)) }
@@ -184,11 +184,11 @@ fn take_lsp_body(
 #[inline(always)]
 fn take_any(
     alloc: Global,
-    front: Front<'_>,
-    place: Place,
+    front: RawObject<'_>,
+    place: ItemPosition,
     item: &mut Item,
     reports: &mut Vec<StateReport>,
-) -> Result<Result<Place, MessageFault>, BodyFault>
+) -> Result<Result<ItemPosition, MessageFault>, BodyFault>
     requires { IsEmptyInFront place item.old }
     ensures taken { IfOk result (λ step. Steps (taken_by after (body_of front.entry.kind front.entry.p front.entry.body.now) (record { reports = reports.old.items; item = item.old; place = place })) step reports.new.items item.new) }
     ensures own_fault { IfErr result (λ fault. Fails fault (body_of front.entry.kind front.entry.p front.entry.body.now)) }
@@ -204,11 +204,11 @@ fn take_any(
 #[inline(always)]
 fn take_front(
     alloc: Global,
-    front: Front<'_>,
-    place: Place,
+    front: RawObject<'_>,
+    place: ItemPosition,
     item: &mut Item,
     reports: &mut Vec<StateReport>,
-) -> Result<Result<Place, MessageFault>, BodyFault>
+) -> Result<Result<ItemPosition, MessageFault>, BodyFault>
     requires { IsEmptyInFront place item.old }
     ensures taken { IfOk result (λ step. Steps (taken_by after (body_of front.entry.kind front.entry.p front.entry.body.now) (record { reports = reports.old.items; item = item.old; place = place })) step reports.new.items item.new) }
     ensures own_fault { IfErr result (λ fault. Fails fault (body_of front.entry.kind front.entry.p front.entry.body.now)) }
@@ -237,11 +237,11 @@ fn take_front(
 }
 
 /// Returns the first fault, where an object has one of its own.
-fn fault_at(place: Place, item: &Item, fault: ObjectFault) -> MessageFault
+fn fault_at(place: ItemPosition, item: &Item, fault: ObjectFault) -> MessageFault
     ensures { (reports : List StateReport) → finished_at place reports item.now (Some fault) ≡ Err result }
 {
     match place {
-        Place::InFront => MessageFault::BadObject(fault, About::Nothing),
+        ItemPosition::InFront => MessageFault::BadObject(fault, About::Nothing),
         _ => cut_off(item, fault),
     }
 }
@@ -250,14 +250,14 @@ fn fault_at(place: Place, item: &Item, fault: ObjectFault) -> MessageFault
 #[inline(always)]
 fn finish(
     alloc: Global,
-    place: Place,
+    place: ItemPosition,
     item: Item,
     mut reports: Vec<StateReport>,
 ) -> Result<Vec<StateReport>, MessageFault>
     ensures { Gives (λ v. v.items) result (finished_at place reports.items item None) }
 {
     match place {
-        Place::InFront => Err(MessageFault::Refused(6, 8, About::Nothing)),
+        ItemPosition::InFront => Err(MessageFault::Refused(6, 8, About::Nothing)),
         _ => {
             reports.push(report_from(alloc, item)?)?;
             Ok(reports)
@@ -273,7 +273,7 @@ pub fn reports_in(alloc: Global, body: &[u8]) -> Result<Vec<StateReport>, Messag
     // Most messages have one.
     let mut reports = Vec::with_capacity(alloc, 1)?;
     let mut item = no_objects();
-    let mut place = Place::InFront;
+    let mut place = ItemPosition::InFront;
     let mut rest = body;
     loop {
         match next_object(rest, false) {

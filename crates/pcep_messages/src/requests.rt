@@ -17,9 +17,9 @@ use crate::message::PathRequest;
 use crate::objects::{Next, next_object};
 use crate::reports::{colours_of, priorities_of};
 use pcep_objects::{
-    BandwidthType, BodyFault, EndPoints, Front, KeptClass, Kind, Lspa, Metric, MetricType, Object,
-    ObjectFault, Plsp, Rp, read_bandwidth, read_body, read_end_points, read_lspa, read_metric,
-    read_rp,
+    BandwidthType, BodyFault, EndPoints, KeptClass, Kind, Lspa, Metric, MetricType, Object,
+    ObjectFault, Plsp, RawObject, Rp, read_bandwidth, read_body, read_end_points, read_lspa,
+    read_metric, read_rp,
 };
 use pcep_word::Bandwidth;
 use std::alloc::Global;
@@ -242,7 +242,7 @@ fn take_metric(metric: Metric, asked: &mut Option<Asked>) -> Result<(), MessageF
 #[inline(always)]
 fn take_any(
     alloc: Global,
-    front: Front<'_>,
+    front: RawObject<'_>,
     asked: &mut Option<Asked>,
     requests: &mut Vec<PathRequest>,
 ) -> Result<Result<(), MessageFault>, BodyFault>
@@ -260,7 +260,7 @@ fn take_any(
 #[inline(always)]
 fn take_front(
     alloc: Global,
-    front: Front<'_>,
+    front: RawObject<'_>,
     asked: &mut Option<Asked>,
     requests: &mut Vec<PathRequest>,
 ) -> Result<Result<(), MessageFault>, BodyFault>

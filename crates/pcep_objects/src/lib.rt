@@ -56,7 +56,7 @@ pub use object::{
 };
 pub use paths::put_lsp;
 pub use putting::{put_bandwidth, put_lspa, put_srp};
-pub use reading::{Front, front_of, objects_are_read_or_faulty, read_body, read_object};
+pub use reading::{RawObject, front_of, objects_are_read_or_faulty, read_body, read_object};
 pub use request_objects::{
     EndPoints, NoPath, NoPathVector, Rp, put_end_points, put_no_path, put_rp, read_end_points,
     read_rp,

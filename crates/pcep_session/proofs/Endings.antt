@@ -14,8 +14,8 @@ use Rattle.pcep_session.specs.Runs.{Call, Feed, Tick, Next, Send, Report_error, 
 use Rattle.pcep_session.specs.Ends.{most_turns, after_turns, TurnsEnd, turns_left_in, turns_left, brings_more, TurnsRunOut}
 use Rattle.pcep_session.specs.declared.contents.Contents.{Contents}
 use Rattle.pcep_session.specs.declared.fault.SessionFault.TheVariants as faults
-use Rattle.pcep_session.specs.declared.framing.Front.{Front}
-use Rattle.pcep_session.specs.declared.framing.Front.TheVariants.{Waiting, Bad, Whole}
+use Rattle.pcep_session.specs.declared.framing.NextMessage.{NextMessage}
+use Rattle.pcep_session.specs.declared.framing.NextMessage.TheVariants.{Waiting, Bad, Whole}
 use Rattle.pcep_session.specs.declared.table.Arrival.{Arrival}
 use Rattle.pcep_session.specs.declared.table.Arrival.TheVariants.{BadHeader}
 use Rattle.pcep_session.specs.declared.table.Input.{Input}
@@ -106,7 +106,7 @@ timer_falls Up waited false false c e left = omega arith
 timer_falls Closed waited silent quiet c e left = omega arith
 
 -- next
-front_falls : (f : Front) (c : Contents) → front_of c.bytes ≡ f → is_closed c.state ≡ false → left_by (by_front f c) ≤ turns_left c
+front_falls : (f : NextMessage) (c : Contents) → front_of c.bytes ≡ f → is_closed c.state ≡ false → left_by (by_front f c) ≤ turns_left c
 front_falls Waiting c e live =
     timer_falls c.state (is_due 60000 (c.moment_ms - c.received_ms)) (is_silent c.peer (c.moment_ms - c.received_ms)) (is_due 30000 (c.moment_ms - c.sent_ms)) c refl
     (live_left c.state c live)

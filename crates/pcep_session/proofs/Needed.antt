@@ -4,7 +4,7 @@ use Rattle.std.specs.Prelude.{nat_lt}
 use Rattle.std.proofs.lemmas.Bool.Decides.{nat_tests}
 use Rattle.std.proofs.lemmas.List.{drop-append-le}
 use Rattle.pcep_session.specs.Framing.{bytes_needed, front_of, is_waiting, is_bad, message_length}
-use Rattle.pcep_session.specs.declared.framing.Front.TheVariants.{Waiting, Whole}
+use Rattle.pcep_session.specs.declared.framing.NextMessage.TheVariants.{Waiting, Whole}
 use Rattle.pcep_session.proofs.Pieces.{front_if}
 
 abbrev needed_if : (short bad : Bool) → ℕ → ℕ

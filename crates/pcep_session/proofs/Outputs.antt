@@ -6,8 +6,8 @@ use Rattle.pcep_session.specs.Table.{on_timer}
 use Rattle.pcep_session.specs.Turns.{Turn, is_closed, next, next_in, after_end, by_front, by_timer, due_in, turn_by, on_arrival, received, sending, going_to, reaction_to, arrival, capabilities_of, notices_text}
 use Rattle.pcep_session.specs.Cuts.{Drains, fed_or_same, with_output}
 use Rattle.pcep_session.specs.declared.contents.Contents.{Contents}
-use Rattle.pcep_session.specs.declared.framing.Front.{Front}
-use Rattle.pcep_session.specs.declared.framing.Front.TheVariants.{Waiting, Bad, Whole}
+use Rattle.pcep_session.specs.declared.framing.NextMessage.{NextMessage}
+use Rattle.pcep_session.specs.declared.framing.NextMessage.TheVariants.{Waiting, Bad, Whole}
 use Rattle.pcep_session.specs.declared.table.Arrival.{Arrival}
 use Rattle.pcep_session.specs.declared.table.Arrival.TheVariants.{BadHeader}
 use Rattle.pcep_session.specs.declared.table.Input.{Input}
@@ -35,7 +35,7 @@ timer_with : (r : Option Timer) (o : List ℕ) (c : Contents) → by_timer r (wi
 timer_with None o c = refl
 timer_with (Some r) o c = reaction_with (on_timer r) o c
 
-front_with : (f : Front) (o : List ℕ) (c : Contents) → by_front f (with_output o c) ≡ turn_with o (by_front f c)
+front_with : (f : NextMessage) (o : List ℕ) (c : Contents) → by_front f (with_output o c) ≡ turn_with o (by_front f c)
 front_with Waiting o c = timer_with (due_in c) o c
 front_with Bad o c = arrival_with BadHeader 0 o c
 front_with (Whole n) o c = arrival_with (arrival c.state (is_some (capabilities_of c.peer)) (take n c.bytes)) n o c

@@ -9,8 +9,8 @@ use Rattle.pcep_session.specs.Table.{on_timer}
 use Rattle.pcep_session.specs.Calls.{fed}
 use Rattle.pcep_session.specs.Cuts.{Drains, NoTimerIsDue, fed_or_same}
 use Rattle.pcep_session.specs.declared.contents.Contents.{Contents}
-use Rattle.pcep_session.specs.declared.framing.Front.{Front}
-use Rattle.pcep_session.specs.declared.framing.Front.TheVariants.{Waiting, Bad, Whole}
+use Rattle.pcep_session.specs.declared.framing.NextMessage.{NextMessage}
+use Rattle.pcep_session.specs.declared.framing.NextMessage.TheVariants.{Waiting, Bad, Whole}
 use Rattle.pcep_session.specs.declared.table.Arrival.{Arrival}
 use Rattle.pcep_session.specs.declared.table.Arrival.TheVariants.{BadHeader}
 use Rattle.pcep_session.specs.declared.table.Input.{Input}
@@ -40,7 +40,7 @@ abbrev pub then_more : List ℕ → Turn → Turn
 then_more q t = turn_of t.input (more_again q t.after)
 
 -- what stands at the front stays there
-abbrev pub front_if : (short bad cut : Bool) → ℕ → Front
+abbrev pub front_if : (short bad cut : Bool) → ℕ → NextMessage
 front_if short bad cut n = cond short Waiting (cond bad Bad (cond cut Waiting (Whole n)))
 
 stays : (short short' bad cut cut' : Bool) (n : ℕ) → front_if short bad cut n ≢ Waiting → (short ≡ false → short' ≡ false) → (cut ≡ false → cut' ≡ false) → front_if short' bad cut' n ≡ front_if short bad cut n
@@ -117,7 +117,7 @@ arrival_more a n q c h =
     ap (λ (bs : List ℕ). turn_of (Some r.input) (going_to r.state (with_bytes d bs))) (drop-append-le n c.bytes q h)
     ∙ ap (λ (e : Contents). turn_of (Some r.input) e) (going_more r.state q d)
 
-front_turn : (f : Front) (q : List ℕ) (c : Contents) → front_of c.bytes ≡ f → f ≢ Waiting → by_front f (more q c) ≡ then_more q (by_front f c)
+front_turn : (f : NextMessage) (q : List ℕ) (c : Contents) → front_of c.bytes ≡ f → f ≢ Waiting → by_front f (more q c) ≡ then_more q (by_front f c)
 front_turn Waiting q c e h = absurd (h refl)
 front_turn Bad q c e h = arrival_more BadHeader 0 q c (omega arith)
 front_turn (Whole n) q c e h =
@@ -134,7 +134,7 @@ goes_on Closed c h = (cc)
 pub next_more : (q : List ℕ) (c : Contents) → is_closed c.state ≡ false → front_of c.bytes ≢ Waiting → next (more q c) ≡ then_more q (next c)
 next_more q c live h =
     goes_on c.state (more q c) live
-    ∙ ap (λ (f : Front). by_front f (more q c)) (front_more c.bytes q h)
+    ∙ ap (λ (f : NextMessage). by_front f (more q c)) (front_more c.bytes q h)
     ∙ front_turn (front_of c.bytes) q c refl h
     ∙ ap (λ (t : Turn). then_more q t) (sym (goes_on c.state c live))
 
@@ -146,7 +146,7 @@ timer_rests : (r : Option Timer) (c m : Contents) → by_timer r c ≡ turn_of N
 timer_rests None c m e = sym (ap (λ (t : Turn). t.after) e)
 timer_rests (Some r) c m e = absurd (given (on_timer r).input (ap (λ (t : Turn). t.input) e))
 
-front_rests : (f : Front) (c m : Contents) → by_front f c ≡ turn_of None m → m ≡ c
+front_rests : (f : NextMessage) (c m : Contents) → by_front f c ≡ turn_of None m → m ≡ c
 front_rests Waiting c m e = timer_rests (due_in c) c m e
 front_rests Bad c m e = absurd (given (reaction_to BadHeader c).input (ap (λ (t : Turn). t.input) e))
 front_rests (Whole n) c m e = absurd (given (reaction_to (arrival c.state (is_some (capabilities_of c.peer)) (take n c.bytes)) c).input (ap (λ (t : Turn). t.input) e))
@@ -169,7 +169,7 @@ timer_moment : (r : Option Timer) (c : Contents) → (by_timer r c).after.moment
 timer_moment None c = refl
 timer_moment (Some r) c = refl
 
-front_moment : (f : Front) (c : Contents) → (by_front f c).after.moment_ms ≡ c.moment_ms
+front_moment : (f : NextMessage) (c : Contents) → (by_front f c).after.moment_ms ≡ c.moment_ms
 front_moment Waiting c = timer_moment (due_in c) c
 front_moment Bad c = refl
 front_moment (Whole n) c = refl
@@ -207,17 +207,17 @@ pub one_piece : (xs ys : List Input) (q : List ℕ) (c m e : Contents) → Drain
 one_piece [] ys q c m e d b rest = subst (λ (k : Contents). Drains (more_again q k) ys e) (state_rests c.state c m d) rest
 one_piece (x ∷ xs) ys q c m e d b rest =
     let mid : Contents = d.0 in
-    let told : next c ≡ turn_of (Some x) mid = d.1 in
-    let after_is : (next c).after ≡ mid = ap (λ (t : Turn). t.after) told in
+    let first : next c ≡ turn_of (Some x) mid = d.1 in
+    let after_is : (next c).after ≡ mid = ap (λ (t : Turn). t.after) first in
     let later : Drains (more_again q mid) (xs ++ ys) e = one_piece xs ys q mid m e d.2 (subst (λ (k : Contents). NoTimerIsDue k xs) after_is b.1) rest in
-    go (is_closed c.state) refl mid told after_is later
+    go (is_closed c.state) refl mid first after_is later
   where
     go : (l : Bool) → is_closed c.state ≡ l → (mid : Contents) → next c ≡ turn_of (Some x) mid → (next c).after ≡ mid → Drains (more_again q mid) (xs ++ ys) e → Drains (more_again q c) (x ∷ xs ++ ys) e
-    go true live mid told after_is later =
+    go true live mid first after_is later =
         let same : is_closed mid.state ≡ true = sym (ap (λ (k : Contents). is_closed k.state) after_is) ∙ ap is_closed (closed_state c.state c live) ∙ live in
-        subst (λ (k : Contents). Drains k (x ∷ (xs ++ ys)) e) (sym (by_live true c live q)) (mid, told, subst (λ (k : Contents). Drains k (xs ++ ys) e) (by_live true mid same q) later)
-    go false live mid told after_is later =
-        subst (λ (k : Contents). Drains k (x ∷ (xs ++ ys)) e) (sym (by_live false c live q)) (more_again q mid, next_more q c live b.0 ∙ ap (λ (t : Turn). then_more q t) told, later)
+        subst (λ (k : Contents). Drains k (x ∷ (xs ++ ys)) e) (sym (by_live true c live q)) (mid, first, subst (λ (k : Contents). Drains k (xs ++ ys) e) (by_live true mid same q) later)
+    go false live mid first after_is later =
+        subst (λ (k : Contents). Drains k (x ∷ (xs ++ ys)) e) (sym (by_live false c live q)) (more_again q mid, next_more q c live b.0 ∙ ap (λ (t : Turn). then_more q t) first, later)
 
 at_moment : Contents → ℕ → Contents
 at_moment c now = record c { moment_ms = now }

@@ -4,8 +4,8 @@ use Rattle.std.specs.Prelude.{Option, Some, None, is_some}
 use Rattle.pcep_session.specs.Framing.{front_of, is_waiting}
 use Rattle.pcep_session.specs.Turns.{is_closed, next, next_in, after_end, by_front, by_timer, due_in}
 use Rattle.pcep_session.specs.declared.contents.Contents.{Contents}
-use Rattle.pcep_session.specs.declared.framing.Front.{Front}
-use Rattle.pcep_session.specs.declared.framing.Front.TheVariants.{Waiting, Bad, Whole}
+use Rattle.pcep_session.specs.declared.framing.NextMessage.{NextMessage}
+use Rattle.pcep_session.specs.declared.framing.NextMessage.TheVariants.{Waiting, Bad, Whole}
 use Rattle.pcep_session.specs.declared.table.Input.{Input}
 use Rattle.pcep_session.specs.declared.table.State.{State}
 use Rattle.pcep_session.specs.declared.table.State.TheVariants.{OpenWait, KeepWait, Up, Closed}
@@ -16,7 +16,7 @@ timer_gives : (timer : Option Timer) (c : Contents) → is_some (by_timer timer 
 timer_gives None c = refl
 timer_gives (Some timer) c = refl
 
-front_gives : (f : Front) (c : Contents) → is_some (by_front f c).input ≡ (not (is_waiting f) || is_some (due_in c))
+front_gives : (f : NextMessage) (c : Contents) → is_some (by_front f c).input ≡ (not (is_waiting f) || is_some (due_in c))
 front_gives Waiting c = timer_gives (due_in c) c
 front_gives Bad c = refl
 front_gives (Whole size) c = refl

@@ -6,7 +6,7 @@ use Rattle.pcep_session.specs.Turns.{next}
 use Rattle.pcep_session.specs.Calls.{fed_by}
 use Rattle.pcep_session.specs.Runs.{or_same}
 use Rattle.pcep_session.specs.declared.contents.Contents.{Contents}
-use Rattle.pcep_session.specs.declared.framing.Front.TheVariants.{Waiting}
+use Rattle.pcep_session.specs.declared.framing.NextMessage.TheVariants.{Waiting}
 use Rattle.pcep_session.specs.declared.table.Input.{Input}
 
 -- `next` gives these inputs, and then None

@@ -1,8 +1,8 @@
 -- What stands at the front of the bytes that a session has received (RFC 5440 section 6.1).
 use Rattle.std.specs.Prelude.{ℕ, ◌/◌, ◌%◌, ◌^◌, ◌≤◌, Bool, true, false, not, ◌||◌, List, length, slice_index, nat_lt, ◌==◌, if◌then◌else◌}
 use Rattle.pcep_objects.specs.Steps.{field}
-use Rattle.pcep_session.specs.declared.framing.Front.{Front}
-use Rattle.pcep_session.specs.declared.framing.Front.TheVariants.{Waiting, Bad, Whole}
+use Rattle.pcep_session.specs.declared.framing.NextMessage.{NextMessage}
+use Rattle.pcep_session.specs.declared.framing.NextMessage.TheVariants.{Waiting, Bad, Whole}
 
 -- the length of the message, header included
 abbrev pub message_length : List ℕ → ℕ
@@ -13,7 +13,7 @@ abbrev pub is_bad : List ℕ → Bool
 is_bad bytes = not (slice_index bytes 0 / 2 ^ 5 == 1) || nat_lt (message_length bytes) 4 || not (message_length bytes % 4 == 0)
 
 -- A header is bad by its four bytes alone. Of a message that isn't whole nothing else is looked at.
-unfoldable pub front_of : List ℕ → Front
+unfoldable pub front_of : List ℕ → NextMessage
 front_of bytes =
     if nat_lt (length bytes) 4 then Waiting
     else (if is_bad bytes then Bad
@@ -29,11 +29,11 @@ bytes_needed bytes =
     else message_length bytes)
 
 -- there is nothing to handle yet
-abbrev pub is_waiting : Front → Bool
+abbrev pub is_waiting : NextMessage → Bool
 is_waiting Waiting = true
 is_waiting front = false
 
 -- a whole message is within the bytes
-abbrev pub FitsIn : ℕ → Front → Type 0
+abbrev pub FitsIn : ℕ → NextMessage → Type 0
 FitsIn len (Whole size) = (4 ≤ size) × (size ≤ len)
 FitsIn len front = Unit {0}

@@ -10,8 +10,8 @@ use Rattle.pcep_messages.specs.declared.message.Message.TheVariants as messages
 use Rattle.pcep_session.specs.Framing.{front_of}
 use Rattle.pcep_session.specs.Table.{reaction, due, on_timer}
 use Rattle.pcep_session.specs.declared.contents.Contents.{Contents}
-use Rattle.pcep_session.specs.declared.framing.Front.{Front}
-use Rattle.pcep_session.specs.declared.framing.Front.TheVariants.{Waiting, Bad, Whole}
+use Rattle.pcep_session.specs.declared.framing.NextMessage.{NextMessage}
+use Rattle.pcep_session.specs.declared.framing.NextMessage.TheVariants.{Waiting, Bad, Whole}
 use Rattle.pcep_session.specs.declared.table.Arrival.{Arrival}
 use Rattle.pcep_session.specs.declared.table.Arrival.TheVariants.{BadHeader, Unrecognized, UnannouncedReport, Read, Faulty}
 use Rattle.pcep_session.specs.declared.table.Input.{Input}
@@ -136,7 +136,7 @@ abbrev pub by_timer : Option Timer → Contents → Turn
 by_timer None c = record { input = None; after = c }
 by_timer (Some timer) c = turn_by (on_timer timer) c
 
-abbrev pub by_front : Front → Contents → Turn
+abbrev pub by_front : NextMessage → Contents → Turn
 by_front Waiting c = by_timer (due_in c) c
 by_front Bad c = on_arrival BadHeader 0 c
 by_front (Whole size) c = on_arrival (arrival c.state (is_some (capabilities_of c.peer)) (take size c.bytes)) size c

@@ -18,7 +18,7 @@ const KEPT_ROOM: usize = 65_536;
 /// Bytes that were received and not handled yet. Handled ones are kept in front of them, but never more than
 /// wait, and where none wait, no more room than for a message.
 #[derive(Debug, Drop)]
-pub struct Pending {
+pub struct ReceivedBytes {
     items: Vec<u8>,
     /// How many of the items are handled.
     start: usize,
@@ -27,7 +27,7 @@ pub struct Pending {
     needed: usize,
 }
 
-impl Model for Pending {
+impl Model for ReceivedBytes {
     ghost use Rattle.std.specs.Prelude.{List, ℕ, drop, length, vec_capacity, ◌-◌, ◌≡◌, ◌≤◌};
     ghost use Rattle.pcep_session.specs.Framing.{bytes_needed};
 
@@ -58,12 +58,12 @@ fn release(items: &mut Vec<u8>)
     }
 }
 
-impl Pending {
+impl ReceivedBytes {
     #[tactic(auto, using(crate::proofs::Needed::none_needs))]
-    pub fn new(alloc: Global) -> Pending
+    pub fn new(alloc: Global) -> ReceivedBytes
         ensures { result ≡ [] }
     {
-        Pending {
+        ReceivedBytes {
             items: Vec::new(alloc),
             start: 0,
             needed: HEADER,

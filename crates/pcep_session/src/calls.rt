@@ -5,7 +5,7 @@ ghost use Rattle.pcep_session.specs.Changes.{IsUpOr};
 ghost use Rattle.pcep_session.specs.Turns.{is_closed};
 ghost use Rattle.pcep_session.specs.Calls.{own_open, begun, ticked, fed_by, sent, error_reported, text_of_error, text_of_reason, ended_by, Does};
 
-use crate::bytes::{Output, Pending};
+use crate::bytes::{Output, ReceivedBytes};
 use crate::contents::Contents;
 use crate::fault::SessionFault;
 use crate::table::State;
@@ -31,7 +31,7 @@ pub fn begin(alloc: Global, now_ms: u64) -> Result<Contents, AllocError>
     put_own_open(&mut output)?;
     Ok(Contents {
         state: State::OpenWait,
-        bytes: Pending::new(alloc),
+        bytes: ReceivedBytes::new(alloc),
         moment_ms: now_ms,
         received_ms: now_ms,
         sent_ms: now_ms,

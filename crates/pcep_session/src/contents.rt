@@ -1,6 +1,6 @@
 //! What a session is made of.
 
-use crate::bytes::{Output, Pending};
+use crate::bytes::{Output, ReceivedBytes};
 use crate::table::State;
 use pcep_objects::Open;
 use sequence::Sequence;
@@ -10,7 +10,7 @@ use sequence::Sequence;
 pub struct Contents {
     pub state: State,
     /// Received bytes that were not handled yet.
-    pub bytes: Pending,
+    pub bytes: ReceivedBytes,
     /// The greatest moment so far.
     pub moment_ms: u64,
     /// When the last message was handled, at first when the session began.

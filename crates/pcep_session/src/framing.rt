@@ -7,7 +7,7 @@ use byteorder::{BigEndian, ByteOrder};
 
 /// What stands at the front of the received bytes.
 #[derive(Clone, Copy, Debug, PartialEq, Eq)]
-pub enum Front {
+pub enum NextMessage {
     /// No whole message, and no bad header.
     Waiting,
     /// A header that no message has.
@@ -36,21 +36,21 @@ fn is_bad(bytes: &[u8]) -> bool
 
 /// Looks at the four bytes of the header alone.
 #[tactic(auto, unfolding(crate::specs::Framing::front_of))]
-pub fn front_in(bytes: &[u8]) -> Front
+pub fn front_in(bytes: &[u8]) -> NextMessage
     ensures front { result ≡ front_of bytes.now }
     ensures size { FitsIn (length bytes.now) result }
 {
     if bytes.len() < HEADER {
-        return Front::Waiting;
+        return NextMessage::Waiting;
     }
     if is_bad(bytes) {
-        return Front::Bad;
+        return NextMessage::Bad;
     }
     let size = message_length(bytes);
     if bytes.len() < size {
-        return Front::Waiting;
+        return NextMessage::Waiting;
     }
-    Front::Whole(size)
+    NextMessage::Whole(size)
 }
 
 /// How many bytes there must be until there is something to handle. Looks at the four bytes of the header alone.

@@ -6,12 +6,12 @@ ghost use Rattle.pcep_session.specs.Changes.{received_as};
 ghost use Rattle.pcep_session.specs.Framing.{front_of};
 ghost use Rattle.pcep_session.specs.Turns.{is_closed, notices_text, sent_at, sending, going_to, IsTurn, turn_by, on_arrival, is_silent, due_in, by_timer, by_front, after_end, next};
 ghost use Rattle.pcep_session.specs.declared.fault.SessionFault.TheVariants.{OutOfMemory};
-ghost use Rattle.pcep_session.specs.declared.framing.Front.TheVariants as fronts;
+ghost use Rattle.pcep_session.specs.declared.framing.NextMessage.TheVariants as fronts;
 
 use crate::arrivals::{arrival, capabilities_of, is_fifth, peer_after, unrecognized_after};
 use crate::contents::Contents;
 use crate::fault::SessionFault;
-use crate::framing::{Front, front_in};
+use crate::framing::{NextMessage, front_in};
 use crate::reactions::{due, on_timer, reaction};
 use crate::table::{Arrival, Input, Notices, Reaction, State, Timer};
 use pcep_messages::put_notice;
@@ -198,9 +198,9 @@ fn on_front(alloc: Global, contents: &mut Contents) -> Result<Option<Input>, All
     ensures err { OnErr result (contents.new ≡ contents.old) }
 {
     match front_in(contents.bytes.as_slice()) {
-        Front::Waiting => by_timer(alloc, contents),
-        Front::Bad => on_bad_header(alloc, contents),
-        Front::Whole(size) => on_whole(alloc, contents, size),
+        NextMessage::Waiting => by_timer(alloc, contents),
+        NextMessage::Bad => on_bad_header(alloc, contents),
+        NextMessage::Whole(size) => on_whole(alloc, contents, size),
     }
 }
 

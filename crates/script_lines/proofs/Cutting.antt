@@ -19,12 +19,12 @@ pub byte_cut : (bytes : List ℕ) (b : ℕ) → b ≢ 10 → cut (bytes ++ b ∷
 byte_cut bytes b e = fold_push cut_at ([], []) bytes b ∙ cut_other (cut bytes).0 (cut bytes).1 b (grind (arith, nat_tests))
 
 -- the bytes up to the last line break
-pub record Front (bytes : List ℕ) : Type 0 where
+pub record WholeLines (bytes : List ℕ) : Type 0 where
   pub front : List ℕ
   pub whole : bytes ≡ front ++ (cut bytes).1
   pub ended : cut front ≡ ((cut bytes).0, [])
 
-front_on : (t : Bool) (bytes : List ℕ) (b : ℕ) → (b == 10) ≡ t → Front bytes → Front (bytes ++ b ∷ [])
+front_on : (t : Bool) (bytes : List ℕ) (b : ℕ) → (b == 10) ≡ t → WholeLines bytes → WholeLines (bytes ++ b ∷ [])
 front_on true bytes b e f =
     let more : cut (bytes ++ b ∷ []) ≡ ((cut bytes).0 ++ (cut bytes).1 ∷ [], []) = break_cut bytes b (grind (arith, nat_tests)) in
     record {
@@ -40,11 +40,11 @@ front_on false bytes b e f =
       ended = f.ended ∙ ap (λ (lines : List (List ℕ)). (lines, [])) (sym (ap (λ (c : Cut). c.0) more));
     }
 
-fronts : (more bytes : List ℕ) → Front bytes → Front (bytes ++ more)
-fronts [] bytes f = subst Front (sym (append-nil bytes)) f
-fronts (b ∷ more) bytes f = subst Front (append_assoc bytes (b ∷ []) more) (fronts more (bytes ++ b ∷ []) (front_on (b == 10) bytes b refl f))
+fronts : (more bytes : List ℕ) → WholeLines bytes → WholeLines (bytes ++ more)
+fronts [] bytes f = subst WholeLines (sym (append-nil bytes)) f
+fronts (b ∷ more) bytes f = subst WholeLines (append_assoc bytes (b ∷ []) more) (fronts more (bytes ++ b ∷ []) (front_on (b == 10) bytes b refl f))
 
-pub front_of : (bytes : List ℕ) → Front bytes
+pub front_of : (bytes : List ℕ) → WholeLines bytes
 front_of bytes = fronts bytes [] record { front = []; whole = refl; ended = refl }
 
 -- the lines of bytes that end in a line break, and of others

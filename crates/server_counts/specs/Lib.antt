@@ -5,3 +5,4 @@ pub mod Times
 pub mod Streams
 pub mod Waits
 pub mod Marks
+pub mod Lefts

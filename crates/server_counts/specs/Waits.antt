@@ -22,12 +22,12 @@ wait_behind (Asked ticket at_us) number now_us = if nat_eq ticket number then So
 wait_behind _ number now_us = None
 
 -- the place is free again once both are known
-abbrev pub kept : Option ℕ → Moment → Moment
-kept None m = m
-kept (Some wait) m = Nothing
+abbrev pub until_known : Option ℕ → Moment → Moment
+until_known None m = m
+until_known (Some wait) m = Nothing
 
 abbrev pub asked : ℕ → ℕ → Waits → Waits
-asked ticket now_us w = record { moments = set w.moments (ticket % 1024) (kept (wait_before (moment_of w ticket) ticket now_us) (Asked ticket now_us)) }
+asked ticket now_us w = record { moments = set w.moments (ticket % 1024) (until_known (wait_before (moment_of w ticket) ticket now_us) (Asked ticket now_us)) }
 
 abbrev pub settled : ℕ → ℕ → Waits → Waits
-settled ticket now_us w = record { moments = set w.moments (ticket % 1024) (kept (wait_behind (moment_of w ticket) ticket now_us) (Settled ticket now_us)) }
+settled ticket now_us w = record { moments = set w.moments (ticket % 1024) (until_known (wait_behind (moment_of w ticket) ticket now_us) (Settled ticket now_us)) }

@@ -5,6 +5,7 @@
 //! - `counters`: the table
 //! - `histogram`: times, by how long they were
 //! - `marks`: how many steps there were at which moments
+//! - `lefts`: what steps left of links
 //! - `stream`: messages counted in a stream of bytes
 //! - `presences`: since when each peer is up or down, and how its last connection ended
 //! - `waits`: when paths were asked for, and when their tickets were settled
@@ -19,6 +20,7 @@
 mod counters;
 mod histogram;
 mod kinds;
+mod lefts;
 mod marks;
 mod presences;
 mod stream;
@@ -27,6 +29,7 @@ mod waits;
 pub use counters::{Counters, Timed};
 pub use histogram::{BOUNDS_US, Histogram};
 pub use kinds::{Counted, EndReason, MessageKind, ReplyKind};
+pub use lefts::{LeftRow, rows_of};
 pub use marks::{Mark, Marks, mark_before, mark_behind};
 pub use presences::{LastEnd, Presence, Presences, presence_in};
 pub use stream::{MessageStream, Way};

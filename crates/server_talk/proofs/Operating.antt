@@ -24,7 +24,7 @@ use Rattle.server_talk.specs.declared.commands.Answer.{Answer}
 use Rattle.server_talk.specs.declared.commands.Answer.TheVariants as answers
 use Rattle.server_talk.specs.declared.operator.OperatorEnd.{OperatorEnd}
 use Rattle.server_talk.specs.declared.operator.OperatorEnd.TheVariants.{InputEnded, EndAsked, RunEnding, ReadFault, WriteFault}
-use Rattle.server_talk.specs.declared.pending.Pending.{Pending}
+use Rattle.server_talk.specs.declared.pending.OpenLine.{OpenLine}
 use Rattle.server_talk.specs.declared.plan.PlanFault.{PlanFault}
 use Rattle.server_talk.specs.declared.requests.Request.{Request}
 use Rattle.server_talk.specs.declared.requests.Request.TheVariants.{Book, Check, End, Reload, Submit, View}
@@ -106,13 +106,13 @@ module _ {S : Type 0} (server : Server S) where
   abbrev Line : Option OperatorEnd → S → List (List ℕ) → Option (List ℕ) → List ℕ → S → Option (List ℕ) → Type 0
   Line end start lines blank line now written = TakesLine server end start lines blank line now written
 
-  abbrev Keeps : S → Option (List ℕ) → List ℕ → Pending → S → Option (List ℕ) → Type 0
+  abbrev Keeps : S → Option (List ℕ) → List ℕ → OpenLine → S → Option (List ℕ) → Type 0
   Keeps start blank heard pending now written = SoFar server start blank heard pending now written
 
   abbrev Stops : OperatorEnd → S → Option (List ℕ) → List ℕ → S → Option (List ℕ) → Type 0
   Stops end start blank heard now written = Stopped server end start blank heard now written
 
-  abbrev Hearing : Option OperatorEnd → S → Option (List ℕ) → List ℕ → Pending → S → Option (List ℕ) → Type 0
+  abbrev Hearing : Option OperatorEnd → S → Option (List ℕ) → List ℕ → OpenLine → S → Option (List ℕ) → Type 0
   Hearing end start blank heard pending now written = HearsOn server end start blank heard pending now written
 
   abbrev Ends : S → Option (List ℕ) → Option (List ℕ) → OperatorEnd → Type 0 → S → Option (List ℕ) → Option (List ℕ) → Type 0
@@ -301,7 +301,7 @@ module _ {S : Type 0} (server : Server S) where
   -- ---- byte by byte
 
   -- nothing was heard yet
-  pub begun : (start : S) (blank : Option (List ℕ)) (pending : Pending) → IsKept pending [] → pending.number ≡ 1 → Keeps start blank [] pending start blank
+  pub begun : (start : S) (blank : Option (List ℕ)) (pending : OpenLine) → IsKept pending [] → pending.number ≡ 1 → Keeps start blank [] pending start blank
   begun start blank pending kept first = record {
     answers = record { said = []; answered = record { calls = []; listens = Begins }; out = appends_none blank };
     kept = kept;
@@ -309,7 +309,7 @@ module _ {S : Type 0} (server : Server S) where
   }
 
   -- the store's list was emptied in between
-  pub rested : (start a b : S) (blank written : Option (List ℕ)) (heard : List ℕ) (pending : Pending) → server.ways.same_but_calls a b → Keeps start blank heard pending a written → Keeps start blank heard pending b written
+  pub rested : (start a b : S) (blank written : Option (List ℕ)) (heard : List ℕ) (pending : OpenLine) → server.ways.same_but_calls a b → Keeps start blank heard pending a written → Keeps start blank heard pending b written
   rested start a b blank written heard pending h s = record {
     answers = record { said = s.answers.said; answered = waited start a b (cut heard).0 s.answers.said (Empties [] a b Stays h) s.answers.answered; out = s.answers.out };
     kept = s.kept;
@@ -317,7 +317,7 @@ module _ {S : Type 0} (server : Server S) where
   }
 
   -- a byte of a line
-  pub byte_heard : (start now : S) (blank written : Option (List ℕ)) (heard : List ℕ) (byte : ℕ) (pending next : Pending) → byte ≢ 10 → next.number ≡ pending.number → ((line : List ℕ) → IsKept pending line → IsKept next (line ++ byte ∷ []))
+  pub byte_heard : (start now : S) (blank written : Option (List ℕ)) (heard : List ℕ) (byte : ℕ) (pending next : OpenLine) → byte ≢ 10 → next.number ≡ pending.number → ((line : List ℕ) → IsKept pending line → IsKept next (line ++ byte ∷ []))
       → Keeps start blank heard pending now written → Keeps start blank (heard ++ byte ∷ []) next now written
   byte_heard start now blank written heard byte pending next other same keeps s =
       let more = byte_cut heard byte other in
@@ -328,7 +328,7 @@ module _ {S : Type 0} (server : Server S) where
       }
 
   -- a line break, and the line before it was answered
-  pub break_heard : (start now : S) (blank written : Option (List ℕ)) (heard : List ℕ) (byte : ℕ) (pending next : Pending) → byte ≡ 10 → next.number ≡ min (pending.number + 1) (2 ^ 64 - 1) → ((line : List ℕ) → IsKept pending line → IsKept next [])
+  pub break_heard : (start now : S) (blank written : Option (List ℕ)) (heard : List ℕ) (byte : ℕ) (pending next : OpenLine) → byte ≡ 10 → next.number ≡ min (pending.number + 1) (2 ^ 64 - 1) → ((line : List ℕ) → IsKept pending line → IsKept next [])
       → IsKept pending (cut heard).1 → pending.number ≡ number_behind (cut heard).0 → AnswersThem start ((cut heard).0 ++ (cut heard).1 ∷ []) blank true now written → Keeps start blank (heard ++ byte ∷ []) next now written
   break_heard start now blank written heard byte pending next ends counted keeps kept number t =
       let more = break_cut heard byte ends in
@@ -392,7 +392,7 @@ module _ {S : Type 0} (server : Server S) where
   }
 
   -- what is behind the last line break is left, and more that was read
-  pub left_there : (end : OperatorEnd) (start now : S) (unread blank left written : Option (List ℕ)) (may_close : Type 0) (heard more : List ℕ) (pending : Pending) → is_out end ≡ true → Consumes unread left (heard ++ more) → ((rest : List ℕ) → IsOver end may_close left rest)
+  pub left_there : (end : OperatorEnd) (start now : S) (unread blank left written : Option (List ℕ)) (may_close : Type 0) (heard more : List ℕ) (pending : OpenLine) → is_out end ≡ true → Consumes unread left (heard ++ more) → ((rest : List ℕ) → IsOver end may_close left rest)
       → Keeps start blank heard pending now written → Ends start unread blank end may_close now left written
   left_there end start now unread blank left written may_close heard more pending out read over s =
       let f = front_of heard in
@@ -411,7 +411,7 @@ module _ {S : Type 0} (server : Server S) where
       }
 
   -- a read failed
-  pub failed : (r : Option OperatorEnd) (kind : ErrorKind) (start now : S) (unread blank left written : Option (List ℕ)) (may_close : Type 0) (heard : List ℕ) (pending : Pending) → FailsAs r kind may_close → Consumes unread left heard
+  pub failed : (r : Option OperatorEnd) (kind : ErrorKind) (start now : S) (unread blank left written : Option (List ℕ)) (may_close : Type 0) (heard : List ℕ) (pending : OpenLine) → FailsAs r kind may_close → Consumes unread left heard
       → Keeps start blank heard pending now written → Turns server r start unread blank may_close pending now left written
   failed None kind start now unread blank left written may_close heard pending why read s = (heard, read, s)
   failed (Some ReadFault) kind start now unread blank left written may_close heard pending why read s =
@@ -423,7 +423,7 @@ module _ {S : Type 0} (server : Server S) where
   failed (Some WriteFault) kind start now unread blank left written may_close heard pending why read s = absurd why
 
   -- bytes were taken up to the end, or all of them
-  pub taken : (r : Option OperatorEnd) (start now : S) (unread blank left written : Option (List ℕ)) (may_close : Type 0) (heard : List ℕ) (pending : Pending) → Consumes unread left heard → Hearing r start blank heard pending now written
+  pub taken : (r : Option OperatorEnd) (start now : S) (unread blank left written : Option (List ℕ)) (may_close : Type 0) (heard : List ℕ) (pending : OpenLine) → Consumes unread left heard → Hearing r start blank heard pending now written
       → Turns server r start unread blank may_close pending now left written
   taken None start now unread blank left written may_close heard pending read s = (heard, read, s)
   taken (Some end) start now unread blank left written may_close heard pending read s = stopped end start now unread blank left written may_close heard read s
@@ -444,7 +444,7 @@ module _ {S : Type 0} (server : Server S) where
   }
 
   -- no line is left behind the last line break
-  pub none_left : (start now : S) (unread blank left written : Option (List ℕ)) (may_close : Type 0) (heard : List ℕ) (pending : Pending) → Consumes unread left heard → IsAtEnd left → (cut heard).1 ≡ [] → Keeps start blank heard pending now written
+  pub none_left : (start now : S) (unread blank left written : Option (List ℕ)) (may_close : Type 0) (heard : List ℕ) (pending : OpenLine) → Consumes unread left heard → IsAtEnd left → (cut heard).1 ≡ [] → Keeps start blank heard pending now written
       → Ends start unread blank InputEnded may_close now left written
   none_left start now unread blank left written may_close heard pending read at_end none s =
       all_lines InputEnded start now unread blank left written may_close heard read at_end (at_end, refl) (subst (λ (lines : List (List ℕ)). AnswersThem start lines blank true now written) (sym (ended_lines heard none)) s.answers)

@@ -11,7 +11,7 @@ use Rattle.server_talk.specs.declared.commands.Answer.{Answer}
 use Rattle.server_talk.specs.declared.commands.Answer.TheVariants as answers
 use Rattle.server_talk.specs.declared.operator.OperatorEnd.{OperatorEnd}
 use Rattle.server_talk.specs.declared.operator.OperatorEnd.TheVariants.{EndAsked, WriteFault}
-use Rattle.server_talk.specs.declared.pending.Pending.{Pending}
+use Rattle.server_talk.specs.declared.pending.OpenLine.{OpenLine}
 use Rattle.server_talk.specs.declared.requests.Request.{Request}
 use Rattle.server_talk.specs.declared.requests.Request.TheVariants.{End}
 use Rattle.server_talk.specs.Servers.{Server}
@@ -27,7 +27,7 @@ AreKept false bytes line = (bytes ≡ line) × (length line ≤ line_limit)
 AreKept true bytes line = line_limit < length line
 
 -- and there is room for as many as a line may have
-pub record IsKept (pending : Pending) (line : List ℕ) : Type 0 where
+pub record IsKept (pending : OpenLine) (line : List ℕ) : Type 0 where
   pub room : line_limit ≤ vec_capacity pending.bytes
   pub kept : AreKept pending.is_long pending.bytes.items line
 
@@ -86,7 +86,7 @@ module _ {S : Type 0} (server : Server S) where
   -- ---- bytes
 
   -- All lines of the bytes that were heard are answered; what is behind the last line break is kept.
-  pub record SoFar (start : S) (blank : Option (List ℕ)) (heard : List ℕ) (pending : Pending) (now : S) (written : Option (List ℕ)) : Type 0 where
+  pub record SoFar (start : S) (blank : Option (List ℕ)) (heard : List ℕ) (pending : OpenLine) (now : S) (written : Option (List ℕ)) : Type 0 where
     pub answers : AnswersLines start (cut heard).0 blank true now written
     pub kept : IsKept pending (cut heard).1
     pub number : pending.number ≡ number_behind (cut heard).0
@@ -101,11 +101,11 @@ module _ {S : Type 0} (server : Server S) where
     pub cause : StopsAt end rest
 
   -- the one or the other
-  abbrev pub HearsOn : Option OperatorEnd → S → Option (List ℕ) → List ℕ → Pending → S → Option (List ℕ) → Type 0
+  abbrev pub HearsOn : Option OperatorEnd → S → Option (List ℕ) → List ℕ → OpenLine → S → Option (List ℕ) → Type 0
   HearsOn None start blank heard pending now written = SoFar start blank heard pending now written
   HearsOn (Some end) start blank heard pending now written = Stopped end start blank heard now written
 
   -- What a turn leaves that began with all lines answered which had been heard.
-  abbrev pub Turns : Option OperatorEnd → S → Option (List ℕ) → Option (List ℕ) → Type 0 → Pending → S → Option (List ℕ) → Option (List ℕ) → Type 0
+  abbrev pub Turns : Option OperatorEnd → S → Option (List ℕ) → Option (List ℕ) → Type 0 → OpenLine → S → Option (List ℕ) → Option (List ℕ) → Type 0
   Turns None start unread blank may_close pending now left written = (heard : List ℕ) × Consumes unread left heard × SoFar start blank heard pending now written
   Turns (Some end) start unread blank may_close pending now left written = Operated server start unread blank end may_close now left written

@@ -12,7 +12,7 @@ ghost use Rattle.server_talk.specs.ReloadChecks.{check_text};
 ghost use Rattle.server_talk.specs.Requests.{request_of};
 ghost use Rattle.server_talk.specs.declared.requests.Request.TheVariants.{Book, Check, Reload, Submit, View};
 
-use crate::pending::Pending;
+use crate::pending::OpenLine;
 use crate::plan::PlanFault;
 use crate::reload_check::check_text;
 use crate::requests::Request;
@@ -190,7 +190,7 @@ fn check_reload<D: Desk, P: Show>(
 /// Does what a line asks for, unless the history is full.
 fn answer_once<D: Desk, W: Watch, P: Show>(
     alloc: Global,
-    line: &Pending,
+    line: &OpenLine,
     watch: &W,
     plan: &P,
     store: &mut D,
@@ -230,7 +230,7 @@ pub(crate) fn asks_end(answer: &Result<Answer, CommandFault>) -> bool
 /// Does what a line asks for. A history that is full is rolled first.
 pub(crate) fn answer_line<D: Desk, W: Watch, P: Show>(
     alloc: Global,
-    line: &Pending,
+    line: &OpenLine,
     watch: &W,
     plan: &P,
     store: &mut D,

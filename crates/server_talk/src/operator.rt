@@ -11,7 +11,7 @@ ghost use Rattle.server_talk.specs.Operators.{AreOperators, FailsAs, Operated, E
 ghost use Rattle.server_talk.specs.Connections.{Takes};
 
 use crate::commands::{Answer, answer_line, asks_end};
-use crate::pending::Pending;
+use crate::pending::OpenLine;
 use crate::plan::PlanFault;
 use crate::requests::LINE_LIMIT;
 use crate::show::Show;
@@ -147,7 +147,7 @@ fn say_at_once<O: Write>(writer: &mut O, number: u64, answer: &Result<Answer, Co
 /// Answers a line that has ended. The store's list is emptied. Gives the end, where that has come.
 fn take_line<D: Desk, O: Write, W: Watch, P: Show>(
     alloc: Global,
-    line: &Pending,
+    line: &OpenLine,
     watch: &W,
     plan: &P,
     store: &mut D,
@@ -172,7 +172,7 @@ fn take_line<D: Desk, O: Write, W: Watch, P: Show>(
 /// Takes a byte: a line break ends a line, which is answered. Gives the end, where that has come.
 fn take_byte<D: Desk, O: Write, W: Watch, P: Show>(
     alloc: Global,
-    pending: &mut Pending,
+    pending: &mut OpenLine,
     byte: u8,
     watch: &W,
     plan: &P,
@@ -200,7 +200,7 @@ fn take_byte<D: Desk, O: Write, W: Watch, P: Show>(
 /// Takes bytes, up to the end, and gives that, where it has come.
 fn take_piece<D: Desk, O: Write, W: Watch, P: Show>(
     alloc: Global,
-    pending: &mut Pending,
+    pending: &mut OpenLine,
     piece: &[u8],
     watch: &W,
     plan: &P,
@@ -224,7 +224,7 @@ fn take_piece<D: Desk, O: Write, W: Watch, P: Show>(
 /// Answers the last line, where no line break ends it.
 fn finish<D: Desk, O: Write, W: Watch, P: Show>(
     alloc: Global,
-    pending: &Pending,
+    pending: &OpenLine,
     watch: &W,
     plan: &P,
     store: &mut D,
@@ -271,7 +271,7 @@ fn after_fault<W: Watch>(kind: ErrorKind, watch: &W) -> Option<OperatorEnd>
 /// has come.
 fn turn<D: Desk, I: Patient, O: Write, W: Watch, P: Show>(
     alloc: Global,
-    pending: &mut Pending,
+    pending: &mut OpenLine,
     piece: &mut [u8],
     reader: &mut I,
     writer: &mut O,
@@ -321,7 +321,7 @@ pub fn operate<R: Wait, D: Desk, I: Patient, O: Write, W: Watch, P: Show>(
         (λ end. Operated (server_of D.Store D.is_left P.Show plan.now) store.old (I.remaining reader.old) (O.contents writer.old) end (W.may_close watch.now) store.new (I.remaining reader.new) (O.contents writer.new))
         ((store.new ≡ store.old) × (reader.new ≡ reader.old) × (writer.new ≡ writer.old)) }
 {
-    let mut pending = Pending {
+    let mut pending = OpenLine {
         number: 1,
         bytes: Vec::with_capacity(alloc, LINE_LIMIT)?,
         is_long: false,

@@ -8,13 +8,13 @@ use std::alloc::{AllocError, Global};
 
 /// A line that hasn't ended, and its number from 1.
 #[derive(Drop)]
-pub(crate) struct Pending {
+pub(crate) struct OpenLine {
     pub number: u64,
     pub bytes: Vec<u8>,
     pub is_long: bool,
 }
 
-impl Pending {
+impl OpenLine {
     /// Adds a byte, or notes that the line is too long. Takes no memory.
     pub fn add(&mut self, byte: u8)
         ensures number { self.new.number ≡ self.old.number }

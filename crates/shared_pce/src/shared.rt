@@ -1,21 +1,25 @@
 //! The lock, and what is done under it.
-ghost use Rattle.std.specs.Prelude.{◌≡◌, ◌≤◌, ◌==◌, [], true, not, nat_lt, filter, length, IfOk, IfErr, OnErr, replicate};
+ghost use Rattle.std.specs.Prelude.{◌≡◌, ◌≤◌, ◌==◌, [], true, not, nat_lt, filter, length, All, IfOk, IfErr, OnErr, replicate};
 ghost use Rattle.step_core.specs.States.{has_waiting, is_queued};
 ghost use Rattle.te_base.specs.Values.{values_in};
 ghost use Rattle.te_snapshot.specs.Left.{all_left};
 ghost use Rattle.history_core.specs.Histories.{Content, Replays, IsSound, is_full, steps_of, grants_of};
 ghost use Rattle.history_seats.specs.Receipts.{new_seat, tidy};
 ghost use Rattle.history_seats.specs.Audits.{IsAudited, Fails};
+ghost use Rattle.shared_pce.specs.Lefts.{WasLeft};
 ghost use Rattle.shared_pce.specs.Turns.{Received, RollsIf};
 
 use crate::audit::{Audit, AuditRefused};
 use crate::bell::Bell;
+use crate::left_table::LeftTable;
 use crate::looks::{links_of, lsp_count};
+use crate::stepped::{Stepped, priority_of, step_seen};
 use database_looks::{LeftLook, Look};
 use history_core::{Database, Event, Fault, Reply, SharedEvent};
 use history_seats::{Held, Seat};
 use place_tokens::{Room, Unopened};
 use sequence::PlainData;
+use server_counts::LeftRow;
 use std::alloc::{AllocError, Global};
 use std::sync::ledger::{Blank, Ledger};
 use std::sync::{Mutex, Wait};
@@ -28,6 +32,8 @@ pub struct Shared<S: Ledger, G: Ledger, B: Room> {
     alloc: Global,
     held: Mutex<Held<S, G, B>>,
     bell: Bell,
+    /// What steps left of links. Its lock is taken with that of the database free.
+    lefts: Mutex<LeftTable>,
 }
 
 /// Drops each part. A derived drop would be proved anew for each owner.
@@ -37,9 +43,11 @@ impl<S: Ledger, G: Ledger, B: Room> Drop for Shared<S, G, B> {
             alloc: _,
             held,
             bell,
+            lefts,
         } = self;
         drop(held);
         drop(bell);
+        drop(lefts);
     }
 }
 
@@ -66,6 +74,7 @@ impl<S: Ledger, G: Ledger, B: Room> Shared<S, G, B> {
             alloc,
             held: Mutex::new(held),
             bell: Bell::new(),
+            lefts: Mutex::new(LeftTable::new(alloc)),
         };
         Ok((shared, seats))
     }
@@ -99,14 +108,40 @@ impl<S: Ledger, G: Ledger, B: Room> Shared<S, G, B> {
         ensures full { result ≡ Err Fault.HistoryFull → (d : Content) × Replays d × (is_full d ≡ true) }
     {
         seat.reserve(1)?;
+        let priority = priority_of(event.event());
         let mut held = self.held.lock(rt);
-        let (reply, unkept) = held.step_and_fold(seat, event)?;
+        let stepped = step_seen(self.alloc, &mut held, seat, event, priority)?;
         drop(held);
-        if matches!(reply, Reply::Asked(_) | Reply::Again) {
+        if matches!(stepped.reply, Reply::Asked(_) | Reply::Again) {
             self.bell.ring();
         }
+        Ok(self.note_step(rt, stepped))
+    }
+
+    /// Keeps what a step left of links, while the lock is free, and gives its reply. Where memory is refused it isn't kept.
+    fn note_step<R: Wait>(&self, rt: &R, stepped: Stepped) -> Reply
+        requires { All WasLeft stepped.rows.items }
+        ensures { result ≡ stepped.reply }
+    {
+        let Stepped {
+            reply,
+            unkept,
+            rows,
+        } = stepped;
+        if !rows.is_empty() {
+            let _noted = self.lefts.lock(rt).note(&rows);
+        }
+        drop(rows);
         drop(unkept);
-        Ok(reply)
+        reply
+    }
+
+    /// Copies what the last steps that brought paths left of their links: fewer than 65,600 rows. What a step left is kept once
+    /// the lock of the database is free, so that the step may stand in the history before.
+    pub fn lefts<R: Wait>(&self, rt: &R) -> Result<Vec<LeftRow>, AllocError>
+        ensures { IfOk result (λ rows. All WasLeft rows.items) }
+    {
+        self.lefts.lock(rt).copies(self.alloc)
     }
 
     /// Whether a ticket waits to be searched for.
@@ -262,7 +297,12 @@ impl<S: Ledger, G: Ledger, B: Room> Shared<S, G, B> {
         ensures handed_back { IfErr result (λ refused. refused.seats.items ≡ seats.items) }
         ensures refused { IfErr result (λ refused. (d : Content) × Replays d × Fails S.parts d seats.items refused.fault) }
     {
-        let Shared { alloc, held, bell } = self;
+        let Shared {
+            alloc,
+            held,
+            bell,
+            lefts,
+        } = self;
         let mut held = held.into_inner();
         // for the proof alone: the history replays
         let _replays = held.database().history();
@@ -273,6 +313,7 @@ impl<S: Ledger, G: Ledger, B: Room> Shared<S, G, B> {
                     alloc,
                     held: Mutex::new(held),
                     bell,
+                    lefts,
                 },
                 seats,
                 fault,

@@ -8,7 +8,7 @@ use Rattle.pcep_messages.specs.declared.message.Message.{Message}
 use Rattle.pcep_messages.specs.declared.message.StateReport.{StateReport}
 use Rattle.te_snapshot.specs.Admissible.{keeps_other_bounds}
 use Rattle.te_snapshot.specs.Network.{network_of, state_of}
-use Rattle.lsp_base.specs.Base.{HasAll, Lsps, changed, lsp_at, made_stale, with_stale}
+use Rattle.lsp_base.specs.Lsps.{HasAll, Lsps, changed, lsp_at, made_stale, with_stale}
 use Rattle.lsp_base.specs.Grants.{has_srp, is_unbound_grant}
 use Rattle.lsp_base.specs.Pending.{is_delegated, is_grant_as}
 use Rattle.lsp_base.specs.Refusals.{unless, ◌⨟◌}

@@ -3,9 +3,9 @@ use Rattle.std.proofs.Common.{◌≡◌, ◌∙◌, ◌==◌, ◌&&◌, ◌||◌
 use Rattle.std.specs.Prelude.{Option, Some, None, IfSome, option_map, unwrap_or, is_some, find, if◌then◌else◌}
 use Rattle.std.proofs.lemmas.Bool.{and_parts}
 use Rattle.std.proofs.lemmas.Bool.Decides.{nat_tests}
-use Rattle.te_base.specs.Base.{Base}
+use Rattle.te_base.specs.Ted.{Ted}
 use Rattle.te_snapshot.specs.Admissible.{keeps_other_bounds}
-use Rattle.lsp_base.specs.Base.{Lsps}
+use Rattle.lsp_base.specs.Lsps.{Lsps}
 use Rattle.lsp_base.specs.Shares.{fits}
 use Rattle.lsp_base.specs.declared.lsp.Constraints.{Constraints}
 use Rattle.lsp_base.specs.declared.path.Path.{Path}
@@ -27,7 +27,7 @@ gone_by : (gone : Bool) (rest w : Verdict) → (if gone then Gone else rest) ≡
 gone_by true rest w is other = absurd (other (sym is))
 gone_by false rest w is other = refl
 
-not_gone : (t : Ticket) (offer : Option Path) (lsps : Lsps) (te : Base) (v : PeerView) (w : Verdict) → verdict t offer lsps te v ≡ w → (w ≡ Gone → ⊥) → is_gone lsps t v ≡ false
+not_gone : (t : Ticket) (offer : Option Path) (lsps : Lsps) (te : Ted) (v : PeerView) (w : Verdict) → verdict t offer lsps te v ≡ w → (w ≡ Gone → ⊥) → is_gone lsps t v ≡ false
 unfolding verdict
 not_gone t offer lsps te v w is other = gone_by (is_gone lsps t v) (judged t offer lsps te v) w is other
 
@@ -53,7 +53,7 @@ granted_by false true low outcome is = (refl, is)
 granted_by false false true outcome is = absurd (cc (is))
 granted_by false false false outcome is = absurd (cc (is))
 
-grant_of : (t : Ticket) (g : Path) (lsps : Lsps) (te : Base) (v : PeerView) → verdict t (Some g) lsps te v ≡ Grant → (is_acceptable te lsps.paths t.constraints g ≡ true) × (accepted lsps t v ≡ Grant)
+grant_of : (t : Ticket) (g : Path) (lsps : Lsps) (te : Ted) (v : PeerView) → verdict t (Some g) lsps te v ≡ Grant → (is_acceptable te lsps.paths t.constraints g ≡ true) × (accepted lsps t v ≡ Grant)
 unfolding verdict
 grant_of t g lsps te v is = granted_by (is_gone lsps t v) (is_acceptable te lsps.paths t.constraints g) (nat_lt t.tries 4) (accepted lsps t v) is
 
@@ -65,13 +65,13 @@ few_by false false used is = refl
 few_paths : (n : ℕ) → nat_le 16384 n ≡ false → n < 16384
 few_paths n is = grind (arith, nat_tests, is)
 
-route_is_short : (te : Base) (c : Constraints) (path : List ℕ) → is_route te c path ≡ true → length path ≤ 64
+route_is_short : (te : Ted) (c : Constraints) (path : List ℕ) → is_route te c path ≡ true → length path ≤ 64
 unfolding is_route
 route_is_short te c path h =
     let few : nat_le (length path) 64 ≡ true = (and_parts (nat_le (length path) 64) _ (and_parts (nat_lt 0 (length path)) _ h).1).0 in
     grind (arith, nat_tests, few)
 
-acceptable_is_short : (te : Base) (paths : List Path) (c : Constraints) (g : Path) → is_acceptable te paths c g ≡ true → length g.links ≤ 64
+acceptable_is_short : (te : Ted) (paths : List Path) (c : Constraints) (g : Path) → is_acceptable te paths c g ≡ true → length g.links ≤ 64
 acceptable_is_short te paths c g h =
     let admissible = and_parts (is_admissible te paths c g) (keeps_other_bounds te.links c g.links) h in
     route_is_short te c g.links (and_parts (is_route te c g.links) (fits te.links paths g c.priorities.setup) admissible.0).0
@@ -120,7 +120,7 @@ again_nothing true same low is = absurd (cc (is))
 again_nothing false true low is = absurd (cc (is))
 again_nothing false false low is = tried_by low NoPath (λ no. cc) is
 
-again_is_low : (t : Ticket) (offer : Option Path) (lsps : Lsps) (te : Base) (v : PeerView) → verdict t offer lsps te v ≡ Again → nat_lt t.tries 4 ≡ true
+again_is_low : (t : Ticket) (offer : Option Path) (lsps : Lsps) (te : Ted) (v : PeerView) → verdict t offer lsps te v ≡ Again → nat_lt t.tries 4 ≡ true
 unfolding verdict
 again_is_low t None lsps te v is = again_nothing (is_gone lsps t v) (v.changes == t.seen) (nat_lt t.tries 4) is
 again_is_low t (Some g) lsps te v is = again_offer (is_gone lsps t v) (is_acceptable te lsps.paths t.constraints g) (nat_lt t.tries 4) (is_request t.purpose) (cannot_be_granted lsps v) is

@@ -2,7 +2,7 @@
 use Rattle.std.proofs.Common.{◌≡◌, ◌≤◌, ◌==◌, ℕ, Bool, true, false, cond, List, map, refl, sym, ap, ◌∙◌, subst, arith}
 use Rattle.std.specs.Prelude.{Some}
 use Rattle.std.proofs.lemmas.Bool.{eqb-true}
-use Rattle.lsp_base.specs.Base.{Lsps, AreDistinct, changed, is_path_of, is_record_of, made_stale, with_stale}
+use Rattle.lsp_base.specs.Lsps.{Lsps, AreDistinct, changed, is_path_of, is_record_of, made_stale, with_stale}
 use Rattle.lsp_base.specs.Grants.{is_grant_of, is_unbound_grant}
 use Rattle.lsp_base.specs.Pending.{is_grant_as}
 use Rattle.lsp_base.specs.declared.path.Path.{Path}

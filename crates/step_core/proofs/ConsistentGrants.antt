@@ -6,7 +6,7 @@ use Rattle.std.specs.Cmp.{nat_eq_equiv}
 use Rattle.std.proofs.lemmas.Bool.{and_from, and_parts, eqb-true}
 use Rattle.std.proofs.lemmas.Bool.Decides.{nat_tests}
 use Rattle.pcep_messages.specs.declared.message.Message.{Message}
-use Rattle.lsp_base.specs.Base.{Lsps, AreDistinct, changed, is_path_of, is_record_of, lsp_at, no_effect}
+use Rattle.lsp_base.specs.Lsps.{Lsps, AreDistinct, changed, is_path_of, is_record_of, lsp_at, no_effect}
 use Rattle.lsp_base.specs.Grants.{has_grant, has_srp, is_grant_of, is_unbound_grant}
 use Rattle.lsp_base.specs.Pending.{is_delegated, is_grant_as, is_removed_as, is_pending}
 use Rattle.lsp_base.specs.Refusals.{unless}

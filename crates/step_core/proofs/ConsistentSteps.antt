@@ -8,8 +8,8 @@ use Rattle.std.proofs.lemmas.Bool.Decides.{nat_tests}
 use Rattle.pcep_objects.specs.declared.object.Capabilities.{Capabilities}
 use Rattle.pcep_messages.specs.declared.message.Message.{Message}
 use Rattle.pcep_messages.specs.declared.message.StateReport.{StateReport}
-use Rattle.te_base.specs.Base.{Base}
-use Rattle.lsp_base.specs.Base.{Lsps, AreDistinct, changed, dropping, has_none_left, is_path_of, is_record_of, lsp_at, taking}
+use Rattle.te_base.specs.Ted.{Ted}
+use Rattle.lsp_base.specs.Lsps.{Lsps, AreDistinct, changed, dropping, has_none_left, is_path_of, is_record_of, lsp_at, taking}
 use Rattle.lsp_base.specs.Grants.{has_srp}
 use Rattle.lsp_base.specs.Pending.{is_grant_as}
 use Rattle.lsp_base.specs.Refusals.{◌⨟◌}
@@ -213,7 +213,7 @@ nothing_again false true low is = absurd (cc (is))
 nothing_again false false true is = refl
 nothing_again false false false is = absurd (cc (is))
 
-again_by : (t : Ticket) (offer : Option Path) (lsps : Lsps) (te : Base) (v : PeerView) → verdict t offer lsps te v ≡ verdicts.Again → nat_lt t.tries 4 ≡ true
+again_by : (t : Ticket) (offer : Option Path) (lsps : Lsps) (te : Ted) (v : PeerView) → verdict t offer lsps te v ≡ verdicts.Again → nat_lt t.tries 4 ≡ true
 unfolding verdict
 again_by t None lsps te v is = nothing_again (is_gone lsps t v) (v.changes == t.seen) (nat_lt t.tries 4) is
 again_by t (Some g) lsps te v is = offer_again (is_gone lsps t v) (is_acceptable te lsps.paths t.constraints g) (nat_lt t.tries 4) (is_request t.purpose) (nat_le 16384 (length lsps.paths)) v.srp_in_use is
@@ -277,10 +277,10 @@ step_keeps s (Reload entries) c = decided-has (Keeps s) s (must_have_links s.te 
 
 -- ---- the empty state
 
-pub empty_consistent : (te : Base) → IsConsistent (empty te)
+pub empty_consistent : (te : Ted) → IsConsistent (empty te)
 empty_consistent te = record { distinct = λ peer plsp. omega arith; numbered = refl; asked = λ peer srp. omega arith; names = λ peer srp. refl; grants = λ peer plsp bound. omega arith; kept = λ peer plsp bound. omega arith; peers = λ number. omega arith; tickets = record { rising = tt; given = refl; tries = refl } }
 
-pub empty_none : (te : Base) → NoneAbove (empty te)
+pub empty_none : (te : Ted) → NoneAbove (empty te)
 empty_none te = record { none = λ peer srp lt. refl }
 
 -- ---- the same of a call that takes the step, or leaves the state where memory is refused

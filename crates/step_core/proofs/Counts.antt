@@ -4,7 +4,7 @@ use Rattle.std.specs.List.{list_any}
 use Rattle.std.proofs.lemmas.List.Sums.{sum_by-cons}
 use Rattle.std.proofs.lemmas.List.Sorted.{sum_by-IsPermutation}
 use Rattle.std.proofs.lemmas.Bool.{both_ways}
-use Rattle.lsp_base.specs.Base.{HasAll, last_in_front, without_first, without}
+use Rattle.lsp_base.specs.Lsps.{HasAll, last_in_front, without_first, without}
 use Rattle.lsp_base.specs.declared.path.Path.{Path}
 use Rattle.lsp_base.proofs.Removal.{paths_exchanged}
 use Rattle.lsp_base.proofs.Swapped.{last_in_front-permutes}

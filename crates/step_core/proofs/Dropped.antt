@@ -3,8 +3,8 @@ use Rattle.std.proofs.Common.{◌≡◌, ℕ, Bool, true, false, List, [], ◌�
 use Rattle.std.specs.Prelude.{Option, Some, None, Ok, Err, if◌then◌else◌}
 use Rattle.pcep_objects.specs.declared.object.Capabilities.{Capabilities}
 use Rattle.pcep_messages.specs.declared.message.StateReport.{StateReport}
-use Rattle.te_base.specs.Base.{Base}
-use Rattle.lsp_base.specs.Base.{Lsps, HasAll, dropping, lsp_at}
+use Rattle.te_base.specs.Ted.{Ted}
+use Rattle.lsp_base.specs.Lsps.{Lsps, HasAll, dropping, lsp_at}
 use Rattle.lsp_base.proofs.Removal.{has_filter}
 use Rattle.lsp_base.specs.Grants.{has_grant}
 use Rattle.lsp_base.specs.declared.path.Path.{Path}
@@ -50,7 +50,7 @@ down-has base n = has_none base.paths
 
 -- ---- reports
 
-report_by-has : (granted : Bool) (old : Option Lsp) (base : Lsps) (te : Base) (n : ℕ) (r : StateReport) → HasDropped base (report_effect_by granted old base.paths te n r)
+report_by-has : (granted : Bool) (old : Option Lsp) (base : Lsps) (te : Ted) (n : ℕ) (r : StateReport) → HasDropped base (report_effect_by granted old base.paths te n r)
 unfolding report_effect_by
 report_by-has granted old base te n r = has_filter (goes_by_report granted n r) base.paths
 
@@ -62,7 +62,7 @@ either-of : (base : Lsps) (removes : Bool) (removal report : Effect) → HasDrop
 either-of base true removal report a b = a
 either-of base false removal report a b = b
 
-reported-has : (base : Lsps) (te : Base) (n : ℕ) (r : StateReport) → HasDropped base (reported_effect base te n r)
+reported-has : (base : Lsps) (te : Ted) (n : ℕ) (r : StateReport) → HasDropped base (reported_effect base te n r)
 unfolding reported_effect
 reported-has base te n r = either-of base r.remove _ _ (removal_by-has (has_grant base.paths n r.plsp) base n r) (report_by-has (has_grant base.paths n r.plsp) _ base te n r)
 
@@ -74,7 +74,7 @@ result-has : (base : Lsps) (e given : Effect) (bad : Bool) → HasDropped base g
 result-has base e given true has is = absurd (cc (is))
 result-has base e given false has is = allowed-has base e given (is_too_many base given) has is
 
-report-has : (base : Lsps) (te : Base) (n : ℕ) (r : StateReport) (e : Effect) → report_result base te n r ≡ Ok e → HasDropped base e
+report-has : (base : Lsps) (te : Ted) (n : ℕ) (r : StateReport) (e : Effect) → report_result base te n r ≡ Ok e → HasDropped base e
 unfolding report_result
 report-has base te n r e is = result-has base e (reported_effect base te n r) (is_reserved r.plsp) (reported-has base te n r) is
 
@@ -109,7 +109,7 @@ has_by_down base given n e same is = has-by base given (λ b. down_effect b n) e
 pub has_by_up : (base given : Lsps) (n : ℕ) (sent : Option Capabilities) (e : Effect) → given ≡ base → e ≡ up_effect given n sent → HasDropped base e
 has_by_up base given n sent e same is = has-by base given (λ b. up_effect b n sent) e same is (up-has base n sent)
 
-pub has_by_report : (base given : Lsps) (te known : Base) (n : ℕ) (r : StateReport) (e : Effect) → given ≡ base → known ≡ te → report_result given known n r ≡ Ok e → HasDropped base e
+pub has_by_report : (base given : Lsps) (te known : Ted) (n : ℕ) (r : StateReport) (e : Effect) → given ≡ base → known ≡ te → report_result given known n r ≡ Ok e → HasDropped base e
 has_by_report base given te known n r e same_base same_te is = report-has base te n r e (ap (λ b. report_result b te n r) (sym same_base) ∙ ap (λ t. report_result given t n r) (sym same_te) ∙ is)
 
 pub has_by_refused : (base given : Lsps) (n srp : ℕ) (e : Effect) → given ≡ base → e ≡ refused_effect given n srp → HasDropped base e

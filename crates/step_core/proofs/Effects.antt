@@ -3,8 +3,8 @@ use Rattle.std.proofs.Common.{◌≡◌, ◌==◌, ◌&&◌, ◌||◌, ℕ, Bool
 use Rattle.std.specs.Prelude.{filter, not, Option, Some, None, Ok, Err, if◌then◌else◌}
 use Rattle.pcep_objects.specs.declared.object.Capabilities.{Capabilities}
 use Rattle.pcep_messages.specs.declared.message.StateReport.{StateReport}
-use Rattle.te_base.specs.Base.{Base}
-use Rattle.lsp_base.specs.Base.{Lsps, dropping, is_path_of}
+use Rattle.te_base.specs.Ted.{Ted}
+use Rattle.lsp_base.specs.Lsps.{Lsps, dropping, is_path_of}
 use Rattle.lsp_base.specs.declared.path.Path.{Path}
 use Rattle.lsp_base.specs.declared.effect.Effect.{Effect}
 use Rattle.lsp_base.specs.declared.why.Why.TheVariants.{BadReport, TooManyPaths}
@@ -71,7 +71,7 @@ kept_own granted n r x is = met_own granted n r x (first_of_both (is_grant_met g
 bound_own : (granted : Bool) (n : ℕ) (r : StateReport) (x : Path) → is_grant_bound granted n r x ≡ true → (x.peer == n) ≡ true
 bound_own granted n r x is = kept_own granted n r x (first_of_both (is_grant_kept granted n r x) _ is)
 
-report_by-own : (granted : Bool) (old : Option Lsp) (paths : List Path) (te : Base) (n : ℕ) (r : StateReport) → IsOwn n (report_effect_by granted old paths te n r)
+report_by-own : (granted : Bool) (old : Option Lsp) (paths : List Path) (te : Ted) (n : ℕ) (r : StateReport) → IsOwn n (report_effect_by granted old paths te n r)
 unfolding report_effect_by reported_path
 report_by-own granted old paths te n r = record {
   dropped = AllOwn-filter n (goes_by_report granted n r) paths (by_report_own granted n r);
@@ -93,7 +93,7 @@ either-of : (removes : Bool) (n : ℕ) (removal report : Effect) → IsOwn n rem
 either-of true n removal report a b = a
 either-of false n removal report a b = b
 
-reported-own : (n : ℕ) (base : Lsps) (te : Base) (r : StateReport) → IsOwn n (reported_effect base te n r)
+reported-own : (n : ℕ) (base : Lsps) (te : Ted) (r : StateReport) → IsOwn n (reported_effect base te n r)
 unfolding reported_effect
 reported-own n base te r = either-of r.remove n _ _ (removal_by-own (has_grant base.paths n r.plsp) base n r) (report_by-own (has_grant base.paths n r.plsp) _ base.paths te n r)
 
@@ -105,7 +105,7 @@ result-own : (n : ℕ) (e given : Effect) (base : Lsps) (bad : Bool) → IsOwn n
 result-own n e given base true own is = absurd (cc (is))
 result-own n e given base false own is = allowed-own n e given (is_too_many base given) own is
 
-pub report-own : (n : ℕ) (base : Lsps) (te : Base) (r : StateReport) (e : Effect) → report_result base te n r ≡ Ok e → IsOwn n e
+pub report-own : (n : ℕ) (base : Lsps) (te : Ted) (r : StateReport) (e : Effect) → report_result base te n r ≡ Ok e → IsOwn n e
 unfolding report_result
 report-own n base te r e is = result-own n e (reported_effect base te n r) base (is_reserved r.plsp) (reported-own n base te r) is
 

@@ -3,7 +3,7 @@ use Rattle.std.proofs.Common.{◌≡◌, ◌≤◌, ◌==◌, ◌&&◌, ℕ, ◌
 use Rattle.std.specs.Prelude.{Some, None, is_some, if◌then◌else◌}
 use Rattle.std.specs.List.{list_any}
 use Rattle.std.proofs.lemmas.Bool.{and_from, and_parts, eqb-true, eq-eqb}
-use Rattle.lsp_base.specs.Base.{Lsps, HasAll, changed, is_path_of, is_record_of, lsp_at, set_records, without}
+use Rattle.lsp_base.specs.Lsps.{Lsps, HasAll, changed, is_path_of, is_record_of, lsp_at, set_records, without}
 use Rattle.lsp_base.specs.Grants.{is_grant_of}
 use Rattle.lsp_base.specs.Pending.{is_grant_as, is_removed_as}
 use Rattle.lsp_base.specs.declared.path.Path.{Path}

@@ -4,8 +4,8 @@ use Rattle.std.specs.Prelude.{Option, Some, None, Ok, Err, if◌then◌else◌}
 use Rattle.std.specs.List.{list_any}
 use Rattle.std.proofs.lemmas.Bool.{and_from, and_parts, both_ways, eqb-true, eq-eqb, false_from_ne_true, or_cases}
 use Rattle.pcep_messages.specs.declared.message.StateReport.{StateReport}
-use Rattle.te_base.specs.Base.{Base}
-use Rattle.lsp_base.specs.Base.{Lsps, changed, is_path_of, is_record_of, lsp_at, put, set_records, without}
+use Rattle.te_base.specs.Ted.{Ted}
+use Rattle.lsp_base.specs.Lsps.{Lsps, changed, is_path_of, is_record_of, lsp_at, put, set_records, without}
 use Rattle.lsp_base.specs.Grants.{has_grant, has_srp, is_grant_of, is_unbound_grant}
 use Rattle.lsp_base.specs.Pending.{is_grant_as}
 use Rattle.lsp_base.specs.Same.{is_reported}
@@ -116,7 +116,7 @@ both_are n m plsp q P is here =
     subst (λ (k : ℕ). P k q) (eqb-true n m parts.0) (subst (λ (k : ℕ). P n k) (eqb-true plsp q parts.1) here)
 
 -- the reported path is no grant, and a path of the LSP
-reported_no_grant : (te : Base) (n : ℕ) (r : StateReport) (m q : ℕ) → is_grant_of m q (reported_path te n r) ≡ false
+reported_no_grant : (te : Ted) (n : ℕ) (r : StateReport) (m q : ℕ) → is_grant_of m q (reported_path te n r) ≡ false
 unfolding reported_path
 reported_no_grant te n r m q = by (n == m && r.plsp == q)
   where
@@ -124,11 +124,11 @@ reported_no_grant te n r m q = by (n == m && r.plsp == q)
     by true = refl
     by false = refl
 
-reported_path_of : (te : Base) (n : ℕ) (r : StateReport) → is_path_of n r.plsp (reported_path te n r) ≡ true
+reported_path_of : (te : Ted) (n : ℕ) (r : StateReport) → is_path_of n r.plsp (reported_path te n r) ≡ true
 unfolding reported_path
 reported_path_of te n r = and_from (n == n) (r.plsp == r.plsp) (eq-eqb n n refl) (eq-eqb r.plsp r.plsp refl)
 
-report_by-keeps : (granted : Bool) (base : Lsps) (te : Base) (n : ℕ) (r : StateReport) → has_grant base.paths n r.plsp ≡ granted → (r.plsp == 0) ≡ false → HasPaths base → KeepsPaths base n (report_effect_by granted (lsp_at base.records n r.plsp) base.paths te n r)
+report_by-keeps : (granted : Bool) (base : Lsps) (te : Ted) (n : ℕ) (r : StateReport) → has_grant base.paths n r.plsp ≡ granted → (r.plsp == 0) ≡ false → HasPaths base → KeepsPaths base n (report_effect_by granted (lsp_at base.records n r.plsp) base.paths te n r)
 unfolding changed report_effect_by
 report_by-keeps granted base te n r has bound h = record {
   grants = λ m q q_bound. grants_by m q q_bound (n == m && r.plsp == q) refl;
@@ -302,7 +302,7 @@ either-of : (base : Lsps) (n : ℕ) (removes : Bool) (removal report : Effect) �
 either-of base n true removal report a b = a
 either-of base n false removal report a b = b
 
-reported-keeps : (base : Lsps) (te : Base) (n : ℕ) (r : StateReport) → (r.plsp == 0) ≡ false → HasPaths base → KeepsPaths base n (reported_effect base te n r)
+reported-keeps : (base : Lsps) (te : Ted) (n : ℕ) (r : StateReport) → (r.plsp == 0) ≡ false → HasPaths base → KeepsPaths base n (reported_effect base te n r)
 unfolding reported_effect
 reported-keeps base te n r bound h = either-of base n r.remove _ _ (removal_by-keeps (has_grant base.paths n r.plsp) base n r refl bound h) (report_by-keeps (has_grant base.paths n r.plsp) base te n r refl bound h)
 
@@ -315,6 +315,6 @@ result-keeps base n e given true last keeps is = absurd (cc (is))
 result-keeps base n e given false true keeps is = absurd (cc (is))
 result-keeps base n e given false false keeps is = allowed-keeps base n e given (is_too_many base given) (keeps refl) is
 
-pub report-keeps : (base : Lsps) (te : Base) (n : ℕ) (r : StateReport) (e : Effect) → HasPaths base → report_result base te n r ≡ Ok e → KeepsPaths base n e
+pub report-keeps : (base : Lsps) (te : Ted) (n : ℕ) (r : StateReport) (e : Effect) → HasPaths base → report_result base te n r ≡ Ok e → KeepsPaths base n e
 unfolding report_result
 report-keeps base te n r e h is = result-keeps base n e (reported_effect base te n r) (r.plsp == 0) (r.plsp == 0xFFFFF) (λ bound. reported-keeps base te n r bound h) is

@@ -3,7 +3,7 @@ use Rattle.std.proofs.Common.{◌≡◌, ◌==◌, ◌&&◌, ℕ, ◌-◌, Bool,
 use Rattle.std.specs.Prelude.{Some}
 use Rattle.std.specs.Cmp.{nat_eq_equiv}
 use Rattle.std.proofs.lemmas.Bool.{and_parts, both_ways, eqb-true, false_from_ne_true}
-use Rattle.lsp_base.specs.Base.{without_first}
+use Rattle.lsp_base.specs.Lsps.{without_first}
 use Rattle.lsp_base.specs.Grants.{has_srp, is_unbound_grant}
 use Rattle.lsp_base.specs.declared.tunnel.Part.{Part}
 use Rattle.lsp_base.specs.declared.tunnel.Part.TheVariants.{Reported, Granted}

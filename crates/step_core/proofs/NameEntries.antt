@@ -9,7 +9,7 @@ use Rattle.std.proofs.lemmas.List.Sorted.{All-permutation, IsPermutation-append_
 use Rattle.std.proofs.lemmas.Map.Entries.{length-values_of}
 use Rattle.indexmap.specs.IndexMap.{insert_entry, swap_remove_entry}
 use Rattle.indexmap.proofs.MapLemmas.{Found-position, Missing-position, swap_remove_entry-found, swap_remove_entry-missing}
-use Rattle.lsp_base.specs.Base.{last_in_front, without_first}
+use Rattle.lsp_base.specs.Lsps.{last_in_front, without_first}
 use Rattle.step_core.specs.Names.{AreKeyed, is_of_grant, key_of, same_key}
 use Rattle.step_core.specs.declared.names.AwaitedName.{AwaitedName}
 use Rattle.step_core.specs.declared.names.GrantKey.{GrantKey}

@@ -4,7 +4,7 @@ use Rattle.std.specs.Prelude.{filter, not, Option, Some, None, IfSome, find, ifâ
 use Rattle.std.proofs.lemmas.List.Elements.{filter-append}
 use Rattle.std.proofs.lemmas.List.Sorted.{IsPermutation-refl, IsPermutation-trans}
 use Rattle.std.proofs.lemmas.Bool.Decides.{nat_tests}
-use Rattle.lsp_base.specs.Base.{without_first}
+use Rattle.lsp_base.specs.Lsps.{without_first}
 use Rattle.lsp_base.proofs.Swapped.{without_first-others}
 use Rattle.lsp_base.specs.declared.path.Path.{Path}
 use Rattle.commit_core.specs.declared.ticket.Ticket.{Ticket}

@@ -6,7 +6,7 @@ use Rattle.std.proofs.lemmas.List.Elements.{filter-append}
 use Rattle.std.proofs.lemmas.List.Sorted.{IsPermutation-refl, IsPermutation-trans}
 use Rattle.std.proofs.lemmas.Bool.Decides.{nat_tests}
 use Rattle.lsp_base.specs.Same.{same_path}
-use Rattle.lsp_base.specs.Base.{Lsps, AreDistinct, without_path, without, is_record_of, lsp_at, put, taken_away, set_record, set_records, changed, made_stale, with_stale}
+use Rattle.lsp_base.specs.Lsps.{Lsps, AreDistinct, without_path, without, is_record_of, lsp_at, put, taken_away, set_record, set_records, changed, made_stale, with_stale}
 use Rattle.lsp_base.specs.declared.path.Path.{Path}
 use Rattle.lsp_base.specs.declared.lsp.Lsp.{Lsp}
 use Rattle.lsp_base.specs.declared.effect.Record.{Record}

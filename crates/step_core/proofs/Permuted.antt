@@ -5,7 +5,7 @@ use Rattle.std.specs.List.{AllByRecursion, list_any}
 use Rattle.std.proofs.lemmas.Bool.{and_from, and_parts, both_ways, eq-eqb, eqb-true, false_from_ne_true}
 use Rattle.std.proofs.lemmas.List.Elements.{All-from_recursion, recursion_from_All}
 use Rattle.std.proofs.lemmas.List.Sorted.{All-permutation, IsPermutation-cons, IsPermutation-refl, IsPermutation-sym, IsPermutation-trans}
-use Rattle.lsp_base.specs.Base.{last_in_front, without_first}
+use Rattle.lsp_base.specs.Lsps.{last_in_front, without_first}
 use Rattle.lsp_base.proofs.Swapped.{without_first-permutes}
 use Rattle.step_core.specs.Consistent.{count}
 use Rattle.step_core.proofs.Counts.{one, count-permuted, count_of_none, none_of, without_first-fewer, without_first-one}

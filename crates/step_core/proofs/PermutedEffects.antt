@@ -6,8 +6,8 @@ use Rattle.std.proofs.lemmas.Bool.{and_parts}
 use Rattle.std.proofs.lemmas.List.Sorted.{IsPermutation-cons, IsPermutation-map, IsPermutation-refl, length_permutation}
 use Rattle.pcep_objects.specs.declared.object.Capabilities.{Capabilities}
 use Rattle.pcep_messages.specs.declared.message.StateReport.{StateReport}
-use Rattle.te_base.specs.Base.{Base}
-use Rattle.lsp_base.specs.Base.{AreDistinct, Lsps, dropping, has_none_left, is_path_of, lsp_at, no_effect, taking}
+use Rattle.te_base.specs.Ted.{Ted}
+use Rattle.lsp_base.specs.Lsps.{AreDistinct, Lsps, dropping, has_none_left, is_path_of, lsp_at, no_effect, taking}
 use Rattle.lsp_base.specs.Grants.{has_grant, is_grant_of}
 use Rattle.lsp_base.specs.Pending.{is_created, is_delegated, is_grant_as, is_pending, is_removed_as, is_removing}
 use Rattle.lsp_base.specs.Refusals.{unless, ◌⨟◌}
@@ -111,7 +111,7 @@ nil-permuted [] (y ∷ ys) same = let long = length_permutation [] (y ∷ ys) sa
 nil-permuted (x ∷ xs) [] same = let long = length_permutation (x ∷ xs) [] same in absurd (omega (arith, long))
 nil-permuted (x ∷ xs) (y ∷ ys) same = refl
 
-report_by-same : (granted : Bool) (old : Option Lsp) (xs ys : List Path) → IsPermutation xs ys → (te : Base) (n : ℕ) (r : StateReport) → DoTheSame (report_effect_by granted old xs te n r) (report_effect_by granted old ys te n r)
+report_by-same : (granted : Bool) (old : Option Lsp) (xs ys : List Path) → IsPermutation xs ys → (te : Ted) (n : ℕ) (r : StateReport) → DoTheSame (report_effect_by granted old xs te n r) (report_effect_by granted old ys te n r)
 unfolding report_effect_by
 report_by-same granted old xs ys same te n r =
     let grants = IsPermutation-map (moved_grant n r) _ _ (filter-permuted (is_grant_kept granted n r) xs ys same) in
@@ -122,7 +122,7 @@ report_by-same granted old xs ys same te n r =
       wants = ap (λ (none : Bool). r.delegate && is_down r.operational && is_nil r.ero && none && is_none (old_removing old)) (nil-permuted _ _ grants);
     }
 
-report-same : (a b : Lsps) → AreSameLsps a b → (te : Base) (n : ℕ) (r : StateReport) → DoTheSame (report_effect a te n r) (report_effect b te n r)
+report-same : (a b : Lsps) → AreSameLsps a b → (te : Ted) (n : ℕ) (r : StateReport) → DoTheSame (report_effect a te n r) (report_effect b te n r)
 report-same a b same te n r =
     let granted = has_grant a.paths n r.plsp in
     let old = lsp_at a.records n r.plsp in
@@ -153,7 +153,7 @@ removal-same : (a b : Lsps) → AreSameLsps a b → (n : ℕ) (r : StateReport) 
 removal-same a b same n r =
     subst (λ (g : Bool). DoTheSame (removal_effect a n r) (removal_effect_by g b n r)) (sym (any-permuted (is_grant_of n r.plsp) a.paths b.paths same.paths)) (removal_by-same (has_grant a.paths n r.plsp) a b same n r)
 
-reported-same : (a b : Lsps) → AreSameLsps a b → (te : Base) (n : ℕ) (r : StateReport) → DoTheSame (reported_effect a te n r) (reported_effect b te n r)
+reported-same : (a b : Lsps) → AreSameLsps a b → (te : Ted) (n : ℕ) (r : StateReport) → DoTheSame (reported_effect a te n r) (reported_effect b te n r)
 unfolding reported_effect
 reported-same a b same te n r = by r.remove
   where
@@ -178,7 +178,7 @@ allowed-same a b same e f alike = subst (λ (many : Bool). ComeToTheSame (allowe
     by true = refl
     by false = alike
 
-pub result-same : (a b : Lsps) → AreSameLsps a b → (te : Base) (n : ℕ) (r : StateReport) → ComeToTheSame (report_result a te n r) (report_result b te n r)
+pub result-same : (a b : Lsps) → AreSameLsps a b → (te : Ted) (n : ℕ) (r : StateReport) → ComeToTheSame (report_result a te n r) (report_result b te n r)
 unfolding report_result
 result-same a b same te n r = by (is_reserved r.plsp)
   where

@@ -4,7 +4,7 @@ use Rattle.std.specs.Prelude.{Option, Some, None, option_map, if◌then◌else�
 use Rattle.std.specs.List.{list_any}
 use Rattle.std.proofs.lemmas.Bool.{and_from, and_parts, and_right, eqb-true}
 use Rattle.std.proofs.lemmas.List.Sorted.{IsPermutation-sym, length_permutation}
-use Rattle.lsp_base.specs.Base.{AreDistinct, HasAll, is_record_of, lsp_at, put, set_record, set_records, taken_away, without, without_first}
+use Rattle.lsp_base.specs.Lsps.{AreDistinct, HasAll, is_record_of, lsp_at, put, set_record, set_records, taken_away, without, without_first}
 use Rattle.lsp_base.specs.Grants.{is_unbound_grant}
 use Rattle.lsp_base.specs.Same.{same_path}
 use Rattle.lsp_base.specs.declared.effect.Record.{Record}

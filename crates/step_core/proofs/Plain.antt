@@ -4,8 +4,8 @@ use Rattle.std.specs.Prelude.{Option, Some, None, Ok, Err, is_some, if◌then◌
 use Rattle.std.proofs.lemmas.Bool.{and_parts}
 use Rattle.pcep_objects.specs.declared.object.Capabilities.{Capabilities}
 use Rattle.pcep_messages.specs.declared.message.StateReport.{StateReport}
-use Rattle.te_base.specs.Base.{Base}
-use Rattle.lsp_base.specs.Base.{Lsps, HasAll, ended_records, dropping, lsp_at, no_effect, set_records, taking}
+use Rattle.te_base.specs.Ted.{Ted}
+use Rattle.lsp_base.specs.Lsps.{Lsps, HasAll, ended_records, dropping, lsp_at, no_effect, set_records, taking}
 use Rattle.lsp_base.specs.Grants.{has_grant, has_srp, is_unbound_grant}
 use Rattle.lsp_base.specs.Pending.{is_grant_as, is_removed_as}
 use Rattle.lsp_base.specs.declared.lsp.Lsp.{Lsp}
@@ -109,11 +109,11 @@ and_false true = refl
 and_false false = refl
 
 -- the reported path is no grant
-not_a_grant : (te : Base) (m srp n : ℕ) (r : StateReport) → is_grant_as m srp (reported_path te n r) ≡ false
+not_a_grant : (te : Ted) (m srp n : ℕ) (r : StateReport) → is_grant_as m srp (reported_path te n r) ≡ false
 unfolding reported_path
 not_a_grant te m srp n r = and_false (n == m)
 
-not_unbound : (te : Base) (m srp n : ℕ) (r : StateReport) → is_unbound_grant m (Some srp) (reported_path te n r) ≡ false
+not_unbound : (te : Ted) (m srp n : ℕ) (r : StateReport) → is_unbound_grant m (Some srp) (reported_path te n r) ≡ false
 unfolding reported_path
 not_unbound te m srp n r = and_false (n == m && r.plsp == 0)
 
@@ -131,7 +131,7 @@ sets_numbered plsp lsp is = let e = ap one is in omega (arith, e)
 kept_goes : (granted : Bool) (n : ℕ) (r : StateReport) (x : Path) → is_grant_kept granted n r x ≡ true → goes_by_report granted n r x ≡ true
 kept_goes granted n r x is = or_right (is_replaced n r x) (is_grant_met granted n r x) (and_parts (is_grant_met granted n r x) (not (is_grant_settled r x)) is).0
 
-report_by-plain : (granted : Bool) (base : Lsps) (te : Base) (n : ℕ) (r : StateReport) → (r.plsp == 0) ≡ false → IsPlain base n (report_effect_by granted (lsp_at base.records n r.plsp) base.paths te n r)
+report_by-plain : (granted : Bool) (base : Lsps) (te : Ted) (n : ℕ) (r : StateReport) → (r.plsp == 0) ≡ false → IsPlain base n (report_effect_by granted (lsp_at base.records n r.plsp) base.paths te n r)
 unfolding report_effect_by reported_lsp
 report_by-plain granted base te n r bound = record {
   has = has_filter (goes_by_report granted n r) base.paths;
@@ -201,7 +201,7 @@ either-of : (base : Lsps) (n : ℕ) (removes : Bool) (removal report : Effect) �
 either-of base n true removal report a b = a
 either-of base n false removal report a b = b
 
-reported-plain : (base : Lsps) (te : Base) (n : ℕ) (r : StateReport) → (r.plsp == 0) ≡ false → IsPlain base n (reported_effect base te n r)
+reported-plain : (base : Lsps) (te : Ted) (n : ℕ) (r : StateReport) → (r.plsp == 0) ≡ false → IsPlain base n (reported_effect base te n r)
 unfolding reported_effect
 reported-plain base te n r bound = either-of base n r.remove _ _ (removal_by-plain (has_grant base.paths n r.plsp) base n r bound) (report_by-plain (has_grant base.paths n r.plsp) base te n r bound)
 
@@ -214,7 +214,7 @@ result-plain base n e given true last plain is = absurd (cc (is))
 result-plain base n e given false true plain is = absurd (cc (is))
 result-plain base n e given false false plain is = allowed-plain base n e given (is_too_many base given) (plain refl) is
 
-pub report-plain : (base : Lsps) (te : Base) (n : ℕ) (r : StateReport) (e : Effect) → report_result base te n r ≡ Ok e → IsPlain base n e
+pub report-plain : (base : Lsps) (te : Ted) (n : ℕ) (r : StateReport) (e : Effect) → report_result base te n r ≡ Ok e → IsPlain base n e
 unfolding report_result
 report-plain base te n r e is = result-plain base n e (reported_effect base te n r) (r.plsp == 0) (r.plsp == 0xFFFFF) (λ bound. reported-plain base te n r bound) is
 

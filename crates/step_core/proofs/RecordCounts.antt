@@ -2,7 +2,7 @@
 use Rattle.std.proofs.Common.{◌≡◌, ◌≤◌, ◌==◌, ◌&&◌, ℕ, ◌+◌, Bool, true, false, cond, List, [], ◌∷◌, map, find, option_map, Option, Some, None, refl, sym, ap, ◌∙◌, arith}
 use Rattle.std.specs.Prelude.{IfSome, is_some}
 use Rattle.std.proofs.lemmas.Bool.{and_from, and_parts, both_ways, eq-eqb, eqb-true, false_from_ne_true}
-use Rattle.lsp_base.specs.Base.{is_record_of, lsp_at, put, set_record, set_records, taking, without_first}
+use Rattle.lsp_base.specs.Lsps.{is_record_of, lsp_at, put, set_record, set_records, taking, without_first}
 use Rattle.lsp_base.specs.Grants.{is_number}
 use Rattle.lsp_base.specs.Pending.{is_removed_as}
 use Rattle.lsp_base.specs.declared.lsp.Lsp.{Lsp}

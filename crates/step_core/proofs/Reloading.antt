@@ -4,7 +4,7 @@ use Rattle.std.proofs.Math.IntN.{+ℤ_assoc, +ℤ_comm, -ℤ-+ℤ_cancel}
 use Rattle.std.proofs.lemmas.Bool.Decides.{nat_tests}
 use Rattle.std.specs.Prelude.{ℤ, nat_lt, ◌≢◌, pos, neg_ℤ, ◌+ℤ◌, ◌-ℤ◌, Option, option_map, unwrap_or}
 use Rattle.te_base.specs.declared.network.Link.{Link}
-use Rattle.te_base.specs.Base.{Base}
+use Rattle.te_base.specs.Ted.{Ted}
 use Rattle.te_base.specs.Values.{Ends, Values, IsSameNetwork, ends_in, set_all_values, set_values, with_all_values, with_values}
 use Rattle.te_base.proofs.Values.{own_values, set-other}
 use Rattle.lsp_base.specs.Refusals.{unless}
@@ -40,15 +40,15 @@ same_links (l ∷ ls) (k ∷ ks) (v ∷ vs) same long =
     ap (λ x. x ∷ set_all_values ls vs) first ∙ ap (λ xs. with_values k v ∷ xs) (same_links ls ks vs rest (omega (arith, long)))
 
 -- the values of all links leave nothing else of the network than what stays
-pub same_over : (a b : Base) (vs : List Values) → IsSameNetwork a b → length vs ≡ length a.links → with_all_values a vs ≡ with_all_values b vs
+pub same_over : (a b : Ted) (vs : List Values) → IsSameNetwork a b → length vs ≡ length a.links → with_all_values a vs ≡ with_all_values b vs
 same_over a b vs same long = rw (same.nodes, same.owners, same_links a.links b.links vs same.ends long) refl
 
-pub state_over-same : (a b : Base) (base : known.Base) → IsSameNetwork a b → length base.values ≡ length a.links → state_over a base ≡ state_over b base
-state_over-same a b base same long = ap (λ (te : Base). record (state_over a base) { te = te }) (same_over a b base.values same long)
+pub state_over-same : (a b : Ted) (base : known.Base) → IsSameNetwork a b → length base.values ≡ length a.links → state_over a base ≡ state_over b base
+state_over-same a b base same long = ap (λ (te : Ted). record (state_over a base) { te = te }) (same_over a b base.values same long)
 
 -- what is known of a state is all of it
 pub known_again : (s : State) (base : known.Base) → base ≡ known_in s → state_over s.te base ≡ s
-known_again s base is = ap (state_over s.te) is ∙ ap (λ (te : Base). record s { te = te }) (own_values s.te)
+known_again s base is = ap (state_over s.te) is ∙ ap (λ (te : Ted). record s { te = te }) (own_values s.te)
 
 -- ---- what is unreserved after a reload of one link
 

@@ -1,7 +1,7 @@
 -- What the answer of the rule says of a return's tests.
 use Rattle.std.proofs.Common.{◌≡◌, ◌∙◌, ℕ, refl, sym, subst, ap}
 use Rattle.std.specs.Prelude.{Option, Some, None, Ok, Err}
-use Rattle.lsp_base.specs.Base.{Lsps, HasAll, lsp_at}
+use Rattle.lsp_base.specs.Lsps.{Lsps, HasAll, lsp_at}
 use Rattle.lsp_base.specs.Refusals.{answered_unless}
 use Rattle.lsp_base.specs.declared.effect.Effect.{Effect}
 use Rattle.lsp_base.specs.declared.why.Why.{Why}

@@ -2,8 +2,8 @@
 use Rattle.std.proofs.Common.{◌≡◌, ℕ, Bool, true, false, List, [], ◌∷◌, refl}
 use Rattle.std.specs.Prelude.{Option, Some, None}
 use Rattle.pcep_messages.specs.declared.message.Message.{Message}
-use Rattle.te_base.specs.Base.{Base}
-use Rattle.lsp_base.specs.Base.{Lsps, no_lsps, changed}
+use Rattle.te_base.specs.Ted.{Ted}
+use Rattle.lsp_base.specs.Lsps.{Lsps, no_lsps, changed}
 use Rattle.lsp_base.specs.declared.effect.Record.{Record}
 use Rattle.lsp_base.specs.declared.lsp.Constraints.{Constraints}
 use Rattle.lsp_base.specs.declared.lsp.Lsp.{Lsp}
@@ -40,77 +40,77 @@ grant plsp srp = record { peer = 1; plsp = plsp; part = Granted srp; tunnel = Un
 abbrev known : List Path → List Record → Lsps
 known paths records = record { paths = paths; records = records }
 
-abbrev at : Base → Lsps → List Peer → State
+abbrev at : Ted → Lsps → List Peer → State
 at te base peers = record { te = te; base = base; names = []; peers = peers; tickets = []; changes = 4; last_session = 1; last_ticket = 0 }
 
 -- ---- a return: each refusal in its order
 
-no_peer : (te : Base) → (step (at te no_lsps []) (event.Return 1 5)).reply ≡ Refused UnknownPeer
+no_peer : (te : Ted) → (step (at te no_lsps []) (event.Return 1 5)).reply ≡ Refused UnknownPeer
 unfolding step
 no_peer te = refl
 
-peer_down : (te : Base) → (step (at te no_lsps (peer false true false ∷ [])) (event.Return 1 5)).reply ≡ Refused PeerDown
+peer_down : (te : Ted) → (step (at te no_lsps (peer false true false ∷ [])) (event.Return 1 5)).reply ≡ Refused PeerDown
 unfolding step
 peer_down te = refl
 
-peer_syncing : (te : Base) → (step (at te no_lsps (peer true true false ∷ [])) (event.Return 1 5)).reply ≡ Refused Syncing
+peer_syncing : (te : Ted) → (step (at te no_lsps (peer true true false ∷ [])) (event.Return 1 5)).reply ≡ Refused Syncing
 unfolding step
 peer_syncing te = refl
 
-no_updates : (te : Base) → (step (at te no_lsps (peer true false false ∷ [])) (event.Return 1 5)).reply ≡ Refused NoUpdate
+no_updates : (te : Ted) → (step (at te no_lsps (peer true false false ∷ [])) (event.Return 1 5)).reply ≡ Refused NoUpdate
 unfolding step
 no_updates te = refl
 
-no_lsp : (te : Base) → (step (at te no_lsps (ready ∷ [])) (event.Return 1 5)).reply ≡ Refused UnknownLsp
+no_lsp : (te : Ted) → (step (at te no_lsps (ready ∷ [])) (event.Return 1 5)).reply ≡ Refused UnknownLsp
 unfolding step
 no_lsp te = refl
 
-not_delegated : (te : Base) (c : Constraints) → (step (at te (known (grant 5 7 ∷ []) (lsp_5 (lsp c false None) ∷ [])) (ready ∷ [])) (event.Return 1 5)).reply ≡ Refused NotDelegated
+not_delegated : (te : Ted) (c : Constraints) → (step (at te (known (grant 5 7 ∷ []) (lsp_5 (lsp c false None) ∷ [])) (ready ∷ [])) (event.Return 1 5)).reply ≡ Refused NotDelegated
 unfolding step
 not_delegated te c = refl
 
-granted : (te : Base) (c : Constraints) → (step (at te (known (grant 5 7 ∷ []) (lsp_5 (lsp c true None) ∷ [])) (ready ∷ [])) (event.Return 1 5)).reply ≡ Refused Pending
+granted : (te : Ted) (c : Constraints) → (step (at te (known (grant 5 7 ∷ []) (lsp_5 (lsp c true None) ∷ [])) (ready ∷ [])) (event.Return 1 5)).reply ≡ Refused Pending
 unfolding step
 granted te c = refl
 
-removing : (te : Base) (c : Constraints) → (step (at te (known [] (lsp_5 (lsp c true (Some 7)) ∷ [])) (ready ∷ [])) (event.Return 1 5)).reply ≡ Refused Pending
+removing : (te : Ted) (c : Constraints) → (step (at te (known [] (lsp_5 (lsp c true (Some 7)) ∷ [])) (ready ∷ [])) (event.Return 1 5)).reply ≡ Refused Pending
 unfolding step
 removing te c = refl
 
 -- another LSP's grant has the peer's next number
-number_in_use : (te : Base) (c : Constraints) → (step (at te (known (grant 6 7 ∷ []) (lsp_5 (lsp c true None) ∷ [])) (ready ∷ [])) (event.Return 1 5)).reply ≡ Refused SrpInUse
+number_in_use : (te : Ted) (c : Constraints) → (step (at te (known (grant 6 7 ∷ []) (lsp_5 (lsp c true None) ∷ [])) (ready ∷ [])) (event.Return 1 5)).reply ≡ Refused SrpInUse
 unfolding step
 number_in_use te c = refl
 
 -- the delegation ends, the number is taken, and the message waits
-returned : (te : Base) (c : Constraints) → step (at te (known [] (lsp_5 (lsp c true None) ∷ [])) (ready ∷ [])) (event.Return 1 5)
+returned : (te : Ted) (c : Constraints) → step (at te (known [] (lsp_5 (lsp c true None) ∷ [])) (ready ∷ [])) (event.Return 1 5)
     ≡ record { state = at te (known [] (lsp_5 (lsp c false None) ∷ [])) (record ready { last_srp = 7; outgoing = return_message 7 5 ∷ [] } ∷ []); reply = Done }
 unfolding step changed
 returned te c = refl
 
 -- after the greatest number comes 1
-wrapped : (te : Base) (c : Constraints) → (step (at te (known [] (lsp_5 (lsp c true None) ∷ [])) (record ready { last_srp = 0xFFFFFFFE } ∷ [])) (event.Return 1 5)).state
+wrapped : (te : Ted) (c : Constraints) → (step (at te (known [] (lsp_5 (lsp c true None) ∷ [])) (record ready { last_srp = 0xFFFFFFFE } ∷ [])) (event.Return 1 5)).state
     ≡ at te (known [] (lsp_5 (lsp c false None) ∷ [])) (record ready { last_srp = 1; outgoing = return_message 1 5 ∷ [] } ∷ [])
 unfolding step changed
 wrapped te c = refl
 
 -- ---- what waits: handed out in order, or gone with the session
 
-drained : (te : Base) (a b : Message) → step (at te no_lsps (record ready { outgoing = a ∷ b ∷ [] } ∷ [])) (event.Drain 1) ≡ record { state = at te no_lsps (ready ∷ []); reply = Out (a ∷ b ∷ []) }
+drained : (te : Ted) (a b : Message) → step (at te no_lsps (record ready { outgoing = a ∷ b ∷ [] } ∷ [])) (event.Drain 1) ≡ record { state = at te no_lsps (ready ∷ []); reply = Out (a ∷ b ∷ []) }
 unfolding step
 drained te a b = refl
 
-gone : (te : Base) (a : Message) → ((step (at te no_lsps (record ready { outgoing = a ∷ [] } ∷ [])) (event.Down 1)).state).peers ≡ peer false false true ∷ []
+gone : (te : Ted) (a : Message) → ((step (at te no_lsps (record ready { outgoing = a ∷ [] } ∷ [])) (event.Down 1)).state).peers ≡ peer false false true ∷ []
 unfolding step
 gone te a = refl
 
 -- ---- a refusal: the grant of the number goes, another peer's doesn't, and a number that nothing has changes nothing
 
-refused : (te : Base) → step (at te (known (grant 0 7 ∷ record (grant 0 7) { peer = 2 } ∷ []) []) (ready ∷ [])) (event.Refused 1 7)
+refused : (te : Ted) → step (at te (known (grant 0 7 ∷ record (grant 0 7) { peer = 2 } ∷ []) []) (ready ∷ [])) (event.Refused 1 7)
     ≡ record { state = record (at te (known (record (grant 0 7) { peer = 2 } ∷ []) []) (ready ∷ [])) { changes = 5 }; reply = Done }
 unfolding step changed refused_effect
 refused te = refl
 
-not_a_number : (te : Base) → step (at te (known (grant 0 7 ∷ []) []) (ready ∷ [])) (event.Refused 1 8) ≡ record { state = at te (known (grant 0 7 ∷ []) []) (ready ∷ []); reply = Done }
+not_a_number : (te : Ted) → step (at te (known (grant 0 7 ∷ []) []) (ready ∷ [])) (event.Refused 1 8) ≡ record { state = at te (known (grant 0 7 ∷ []) []) (ready ∷ []); reply = Done }
 unfolding step changed refused_effect
 not_a_number te = refl

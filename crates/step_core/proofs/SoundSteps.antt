@@ -3,7 +3,7 @@ use Rattle.std.proofs.Common.{◌≡◌, ◌∙◌, ◌==◌, ℕ, ◌++◌, Boo
 use Rattle.std.specs.Prelude.{Option, Some, None, Result, Ok, Err, OnOk, IfOk, unwrap_or, pos, nat_lt, ◌≤ℤ◌, if◌then◌else◌}
 use Rattle.std.specs.declared.alloc.AllocError.{AllocError}
 use Rattle.pcep_messages.specs.declared.message.StateReport.{StateReport}
-use Rattle.lsp_base.specs.Base.{Lsps, changed}
+use Rattle.lsp_base.specs.Lsps.{Lsps, changed}
 use Rattle.lsp_base.specs.Refusals.{unless, ◌⨟◌}
 use Rattle.lsp_base.specs.Shares.{unreserved}
 use Rattle.lsp_base.specs.declared.effect.Effect.{Effect}
@@ -11,7 +11,7 @@ use Rattle.lsp_base.specs.declared.lsp.Constraints.{Constraints}
 use Rattle.lsp_base.specs.declared.path.Path.{Path}
 use Rattle.lsp_base.specs.declared.why.Why.{Why}
 use Rattle.lsp_base.specs.declared.why.Why.TheVariants.{NotTaken}
-use Rattle.te_base.specs.Base.{Base}
+use Rattle.te_base.specs.Ted.{Ted}
 use Rattle.commit_core.proofs.Soundness.{no_grant_goes_below}
 use Rattle.commit_core.specs.Verdicts.{is_gone, verdict}
 use Rattle.commit_core.specs.declared.verdict.PeerView.{PeerView}
@@ -54,7 +54,7 @@ nothing_granted false true low h = cc
 nothing_granted false false low h = not_tried low h
 
 -- without an offer nothing is granted
-no_offer : (t : Ticket) (lsps : Lsps) (te : Base) (v : PeerView) → verdict t None lsps te v ≡ verdicts.Grant → ⊥
+no_offer : (t : Ticket) (lsps : Lsps) (te : Ted) (v : PeerView) → verdict t None lsps te v ≡ verdicts.Grant → ⊥
 unfolding verdict
 no_offer t lsps te v h = nothing_granted (is_gone lsps t v) (v.changes == t.seen) (nat_lt t.tries 4) h
 

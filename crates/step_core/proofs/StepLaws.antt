@@ -6,7 +6,7 @@ use Rattle.std.specs.declared.alloc.AllocError.{AllocError}
 use Rattle.pcep_objects.specs.declared.object.Capabilities.{Capabilities}
 use Rattle.te_base.specs.Values.{IsSameNetwork}
 use Rattle.te_base.proofs.Values.{same-refl}
-use Rattle.lsp_base.specs.Base.{Lsps, AreDistinct, changed, lsp_at}
+use Rattle.lsp_base.specs.Lsps.{Lsps, AreDistinct, changed, lsp_at}
 use Rattle.lsp_base.specs.Refusals.{◌⨟◌}
 use Rattle.lsp_base.specs.declared.effect.Effect.{Effect}
 use Rattle.lsp_base.specs.declared.why.Why.{Why}

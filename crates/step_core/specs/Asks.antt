@@ -2,9 +2,9 @@
 -- a request (RFC 5440 section 6.4).
 use Rattle.std.specs.Prelude.{ℕ, ◌+◌, Bool, false, ◌==◌, ◌||◌, not, nat_lt, List, [], ◌∷◌, ◌++◌, length, option_map, Option, Some, None, if◌then◌else◌}
 use Rattle.std.specs.List.{list_any}
-use Rattle.te_base.specs.Base.{Base}
+use Rattle.te_base.specs.Ted.{Ted}
 use Rattle.te_snapshot.specs.Admissible.{node_of}
-use Rattle.lsp_base.specs.Base.{lsp_at}
+use Rattle.lsp_base.specs.Lsps.{lsp_at}
 use Rattle.lsp_base.specs.Refusals.{unless, ◌⨟◌}
 use Rattle.lsp_base.specs.declared.lsp.Constraints.{Constraints}
 use Rattle.lsp_base.specs.declared.effect.Record.{Record}
@@ -45,11 +45,11 @@ missing_ends None (Some to) = Some Source
 missing_ends (Some from) None = Some Destination
 missing_ends (Some from) (Some to) = if from == to then Some Destination else None
 
-abbrev pub missing_ends_of : Base → Constraints → Option Ends
+abbrev pub missing_ends_of : Ted → Constraints → Option Ends
 missing_ends_of te c = missing_ends (node_of te.owners c.source) (node_of te.owners c.destination)
 
 -- nodes own both ends of the path, and they are two
-abbrev pub must_have_ends : Base → Constraints → Option Why
+abbrev pub must_have_ends : Ted → Constraints → Option Why
 must_have_ends te c = option_map UnknownNode (missing_ends_of te c)
 
 -- 1,024 tickets stand at most

@@ -1,5 +1,5 @@
 -- What was known at one moment over a network, in plain lists.
-use Rattle.te_base.specs.Base as network
+use Rattle.te_base.specs.Ted as network
 use Rattle.te_base.specs.Values.{values_in, with_all_values}
 use Rattle.step_core.specs.declared.base.Base.{Base}
 use Rattle.step_core.specs.States.{State}
@@ -19,7 +19,7 @@ known_in s = record {
 }
 
 -- the state over a network of these nodes and links in which this is known
-abbrev pub state_over : network.Base → Base → State
+abbrev pub state_over : network.Ted → Base → State
 state_over te b = record {
   te = with_all_values te b.values;
   base = record { paths = b.paths; records = b.records };

@@ -1,6 +1,6 @@
 -- What holds of every state that events lead to.
 use Rattle.std.specs.Prelude.{ℕ, ◌≡◌, ◌≤◌, ◌<◌, ◌+◌, ◌==◌, Bool, false, List, [], ◌∷◌, Some, if◌then◌else◌, nat_lt}
-use Rattle.lsp_base.specs.Base.{Lsps, AreDistinct, is_path_of, is_record_of}
+use Rattle.lsp_base.specs.Lsps.{Lsps, AreDistinct, is_path_of, is_record_of}
 use Rattle.lsp_base.specs.Grants.{is_grant_of, is_unbound_grant}
 use Rattle.lsp_base.specs.Pending.{is_grant_as, is_removed_as}
 use Rattle.initiate_rules.specs.Numbers.{is_srp_used}

@@ -1,13 +1,13 @@
 -- What the PCE searches for and grants: a ticket is taken, its search is made outside, and the offer is committed.
 use Rattle.std.specs.Prelude.{ℕ, false, List, [], ◌∷◌, ◌++◌, length, option_map, unwrap_or, Option, Some, None}
-use Rattle.te_base.specs.Base.{Base}
+use Rattle.te_base.specs.Ted.{Ted}
 use Rattle.te_base.specs.declared.network.Link.{Link}
 use Rattle.te_snapshot.specs.Admissible.{cost_of}
 use Rattle.te_snapshot.specs.Left.{state_beside}
 use Rattle.te_snapshot.specs.Network.{NetworkState, network_of}
 use Rattle.te_snapshot.specs.Own.{own_shares}
 use Rattle.te_snapshot.specs.declared.own.OwnShare.{OwnShare}
-use Rattle.lsp_base.specs.Base.{Lsps, effect_of}
+use Rattle.lsp_base.specs.Lsps.{Lsps, effect_of}
 use Rattle.lsp_base.specs.Refusals.{unless}
 use Rattle.lsp_base.specs.declared.effect.Effect.{Effect}
 use Rattle.lsp_base.specs.declared.lsp.Constraints.{Constraints}
@@ -35,7 +35,7 @@ use Rattle.ticket_table.specs.Tickets.{first_waiting, ticket_at, searched_for, t
 -- ---- a ticket is taken
 
 -- the network with what is left on its links
-abbrev pub snapshot_of : Base → Lsps → NetworkState
+abbrev pub snapshot_of : Ted → Lsps → NetworkState
 snapshot_of te lsps = state_beside (network_of te) lsps.paths
 
 -- what the tunnel reserves, if there is one
@@ -44,7 +44,7 @@ held_by paths links None = []
 held_by paths links (Some tunnel) = own_shares paths tunnel links
 
 -- what the tunnel of the ticket's LSP reserves already
-abbrev pub own_of : Base → Lsps → Ticket → List OwnShare
+abbrev pub own_of : Ted → Lsps → Ticket → List OwnShare
 own_of te lsps t = held_by lsps.paths (length te.links) (own_tunnel lsps.records t.peer t.purpose)
 
 abbrev pub job_of : State → Ticket → Job

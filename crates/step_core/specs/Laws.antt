@@ -1,6 +1,6 @@
 -- What holds of every step.
 use Rattle.std.specs.Prelude.{ℕ, ◌≡◌, ◌≢◌, ◌+◌, ◌≤◌, pos, ◌+ℤ◌, ◌-ℤ◌, Bool, true, ◌==◌, not, filter, Option, Some, None, option_map, IsPermutation}
-use Rattle.lsp_base.specs.Base.{lsp_at}
+use Rattle.lsp_base.specs.Lsps.{lsp_at}
 use Rattle.lsp_base.specs.Shares.{reservable, unreserved}
 use Rattle.step_core.specs.declared.event.Event.{Event}
 use Rattle.step_core.specs.declared.event.Event.TheVariants.{Up, Report, Marker, Down, Expire, Drain, Refused, Return, Delete, Ask, Take, Commit, Reload}

@@ -2,8 +2,8 @@
 use Rattle.std.specs.Prelude.{ℕ, ◌+◌, Bool, true, false, ◌==◌, ◌&&◌, not, List, [], ◌∷◌, ◌++◌, find, unwrap_or, Option, Some, is_some, if◌then◌else◌}
 use Rattle.pcep_objects.specs.declared.object.Capabilities.{Capabilities}
 use Rattle.pcep_messages.specs.declared.message.Message.{Message}
-use Rattle.te_base.specs.Base.{Base}
-use Rattle.lsp_base.specs.Base.{Lsps, no_lsps, changed, without_first}
+use Rattle.te_base.specs.Ted.{Ted}
+use Rattle.lsp_base.specs.Lsps.{Lsps, no_lsps, changed, without_first}
 use Rattle.lsp_base.specs.Grants.{is_unbound_grant}
 use Rattle.lsp_base.specs.Same.{same_links}
 use Rattle.lsp_base.specs.declared.path.Path.{Path}
@@ -15,7 +15,7 @@ use Rattle.step_core.specs.declared.names.AwaitedName.{AwaitedName}
 use Rattle.step_core.specs.declared.peer.Peer.{Peer}
 
 pub record State : Type 0 where
-  pub te : Base
+  pub te : Ted
   pub base : Lsps
   -- the names of granted initiations that no report named yet
   pub names : List AwaitedName
@@ -29,7 +29,7 @@ pub record State : Type 0 where
   pub last_ticket : ℕ
 
 -- nothing was reported yet
-abbrev pub empty : Base → State
+abbrev pub empty : Ted → State
 empty te = record { te = te; base = no_lsps; names = []; peers = []; tickets = []; changes = 0; last_session = 0; last_ticket = 0 }
 
 -- ---- peers

@@ -2,7 +2,7 @@
 use Rattle.std.specs.Prelude.{ℕ, ◌+◌, Bool, false, ◌&&◌, ◌||◌, not, List, [], length, filter, Option, Some, None, Result, Ok, Err, nat_lt}
 use Rattle.pcep_objects.specs.declared.object.Capabilities.{Capabilities}
 use Rattle.pcep_messages.specs.declared.message.StateReport.{StateReport}
-use Rattle.lsp_base.specs.Base.{with_stale, lsp_at, effect_of, no_effect}
+use Rattle.lsp_base.specs.Lsps.{with_stale, lsp_at, effect_of, no_effect}
 use Rattle.lsp_base.specs.Refusals.{unless, ◌⨟◌}
 use Rattle.lsp_base.specs.declared.effect.Effect.{Effect}
 use Rattle.lsp_base.specs.declared.lsp.Lsp.{Lsp}

@@ -1,7 +1,7 @@
 //! The names of granted initiations, found by their grants.
 ghost use Rattle.std.specs.Prelude.{◌≡◌, ◌<◌, ◌++◌, ◌∷◌, [], false, OnOk};
 ghost use Rattle.std.specs.List.{list_any};
-ghost use Rattle.lsp_base.specs.Base.{without_first};
+ghost use Rattle.lsp_base.specs.Lsps.{without_first};
 ghost use Rattle.step_core.specs.Names.{is_of_grant};
 ghost use Rattle.step_core.specs.States.{is_awaited_as, is_grant_of_name, names_without};
 

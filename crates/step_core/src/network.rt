@@ -1,7 +1,7 @@
 //! A network with the LSPs over it, and the book of what their paths reserve.
 ghost use Rattle.std.specs.Prelude.{◌≡◌, ◌↔◌, ◌<◌, ◌≤◌, ◌+◌, ◌^◌, ◌++◌, ◌∷◌, [], Some, None, false, List, length, OnOk, OnErr, IsNone, IfOk, IfErr, IfSome, option_copied};
 ghost use Rattle.std.specs.List.{list_any};
-ghost use Rattle.lsp_base.specs.Base.{HasAll, no_lsps, changed, with_stale, without};
+ghost use Rattle.lsp_base.specs.Lsps.{HasAll, no_lsps, changed, with_stale, without};
 ghost use Rattle.lsp_base.specs.Rooms.{IsWithinLimit, HasRoom};
 ghost use Rattle.lsp_base.specs.Shares.{unreserved};
 ghost use Rattle.lsp_base.specs.declared.path.Path.{Path};

@@ -1,7 +1,7 @@
 -- The life of a peer's session, computed by the definitions.
 use Rattle.std.proofs.Common.{◌≡◌, ℕ, [], ◌∷◌, refl, true, false}
 use Rattle.std.specs.Prelude.{Some, None}
-use Rattle.lsp_base.specs.Base.{Lsps, changed, with_stale, dropping}
+use Rattle.lsp_base.specs.Lsps.{Lsps, changed, with_stale, dropping}
 use Rattle.lsp_base.specs.declared.tunnel.Tunnel.TheVariants.{Signalled, Asked}
 use Rattle.lsp_base.specs.declared.tunnel.Part.TheVariants.{Reported, Granted}
 use Rattle.lsp_base.specs.declared.path.Path.{Path}

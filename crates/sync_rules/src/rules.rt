@@ -1,5 +1,5 @@
 ghost use Rattle.std.specs.Prelude.{◌≡◌, ◌==◌, [], not, false, map, filter, IfOk, IsPermutation};
-ghost use Rattle.lsp_base.specs.Base.{changed, effect_of};
+ghost use Rattle.lsp_base.specs.Lsps.{changed, effect_of};
 ghost use Rattle.lsp_base.specs.Rooms.{IsWithinLimit};
 ghost use Rattle.sync_rules.specs.Peers.{is_stale_of, is_of_peer, left_alone, marker_effect, up_effect, down_effect, expire_effect};
 
@@ -65,7 +65,7 @@ pub fn on_expire(alloc: Global, base: &LspBase, peer: u32) -> Result<Effect, All
 }
 
 /// The effect that keeps all paths and sets these records.
-#[tactic(auto, unfolding(lsp_base::specs::Base::changed))]
+#[tactic(auto, unfolding(lsp_base::specs::Lsps::changed))]
 fn keeping_paths(alloc: Global, base: &LspBase, peer: u32, records: Vec<RecordChange>) -> Effect
     ensures effect { result ≡ effect_of [] [] records.items false }
     ensures stay { (changed base.now.content peer result).paths ≡ base.now.content.paths }

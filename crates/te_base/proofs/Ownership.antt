@@ -11,7 +11,7 @@ use Rattle.te_base.specs.declared.network.Node.{Node}
 use Rattle.te_base.specs.declared.network.Link.{Link}
 use Rattle.te_base.specs.declared.network.Owner.{Owner}
 use Rattle.te_base.specs.Faults.{some_or}
-use Rattle.te_base.specs.Base.{Base, empty_base}
+use Rattle.te_base.specs.Ted.{Ted, empty_ted}
 use Rattle.te_base.specs.Owners.{owner_of, with_owner, owned, is_id_of, is_local_of, is_remote_of, owns, is_node, AreOwners}
 use Rattle.te_base.specs.Fields.{node_text, link_text, tables_at}
 use Rattle.te_base.specs.Ranges.{node_value, link_addresses, link_values}
@@ -68,8 +68,8 @@ owner_of-append (o ∷ os) address node x =
     [ true ↦ refl | false ↦ owner_of-append os address node x ]
 
 -- what a list of owners says is what another one says, and that a node owns an address
-TellsMore : List Owner → ℕ → ℕ → List Owner → Type 0
-TellsMore owners address node more = (x m : ℕ) → is_node (owner_of more x) m ≡ (is_node (owner_of owners x) m || (node == m && address == x))
+AddsOwner : List Owner → ℕ → ℕ → List Owner → Type 0
+AddsOwner owners address node more = (x m : ℕ) → is_node (owner_of more x) m ≡ (is_node (owner_of owners x) m || (node == m && address == x))
 
 new_cases : (owners : List Owner) (address node x m : ℕ) (o : Option ℕ) (t : Bool) → owner_of owners address ≡ None → owner_of owners x ≡ o → (address == x) ≡ t
     → is_node (option_or o (if t then Some node else None)) m ≡ (is_node o m || (node == m && t))
@@ -87,17 +87,17 @@ kept_cases owners address node x m true e h =
     rw found (twice (node == m))
 kept_cases owners address node x m false e h = absorbed (is_node (owner_of owners x) m) (node == m)
 
-with_owner_tells : (owners : List Owner) (address node : ℕ) (o : Option ℕ) → owner_of owners address ≡ o → IfOk (with_owner owners address node o) (TellsMore owners address node)
-unfolding TellsMore one_more
-with_owner_tells owners address node None e = λ x m.
+with_owner_adds : (owners : List Owner) (address node : ℕ) (o : Option ℕ) → owner_of owners address ≡ o → IfOk (with_owner owners address node o) (AddsOwner owners address node)
+unfolding AddsOwner one_more
+with_owner_adds owners address node None e = λ x m.
     ap (λ o. is_node o m) (owner_of-append owners address node x) ∙ new_cases owners address node x m (owner_of owners x) (address == x) e refl refl
-with_owner_tells owners address node (Some other) e =
-    when (other == node) owners AddressTwice (TellsMore owners address node) (λ is x m.
+with_owner_adds owners address node (Some other) e =
+    when (other == node) owners AddressTwice (AddsOwner owners address node) (λ is x m.
     let same : other ≡ node = same_number other node is in
     kept_cases owners address node x m (address == x) (rw (← same) e) refl)
 
-owned_tells : (owners : List Owner) (address node : ℕ) → IfOk (owned owners address node) (TellsMore owners address node)
-owned_tells owners address node = with_owner_tells owners address node (owner_of owners address) refl
+owned_adds : (owners : List Owner) (address node : ℕ) → IfOk (owned owners address node) (AddsOwner owners address node)
+owned_adds owners address node = with_owner_adds owners address node (owner_of owners address) refl
 
 -- ---- one more node or link
 
@@ -114,53 +114,53 @@ is_id_of-append nodes node m x =
     ∙ list_any-append p (enumerate_from 0 nodes) ((0 + length nodes, node) ∷ [])
     ∙ ap (λ k. is_id_of nodes m x || ((k == m && node.id == x) || false)) (zero-add (length nodes))
 
-Owned : Base → Type 0
+Owned : Ted → Type 0
 Owned base = AreOwners base.nodes base.links base.owners
 
-with_node_owned : (base : Base) (t : Members) → Owned base → IfOk (with_node base t) Owned
-unfolding with_node Owned TellsMore
+with_node_owned : (base : Ted) (t : Members) → Owned base → IfOk (with_node base t) Owned
+unfolding with_node Owned AddsOwner
 with_node_owned base t are =
     after (node_text t) _ Owned (λ fields.
     after (node_value fields) _ Owned (λ node.
-    bind (if is_some (node_named base.nodes node.name) then Err NameTwice else owned base.owners node.id (length base.nodes)) _ (TellsMore base.owners node.id (length base.nodes)) Owned
-    (behind (is_some (node_named base.nodes node.name)) (owned base.owners node.id (length base.nodes)) NameTwice (TellsMore base.owners node.id (length base.nodes)) (owned_tells base.owners node.id (length base.nodes)))
-    (λ owners tells x m.
-    tells x m
+    bind (if is_some (node_named base.nodes node.name) then Err NameTwice else owned base.owners node.id (length base.nodes)) _ (AddsOwner base.owners node.id (length base.nodes)) Owned
+    (behind (is_some (node_named base.nodes node.name)) (owned base.owners node.id (length base.nodes)) NameTwice (AddsOwner base.owners node.id (length base.nodes)) (owned_adds base.owners node.id (length base.nodes)))
+    (λ owners adds x m.
+    adds x m
     ∙ ap (λ b. b || (length base.nodes == m && node.id == x)) (are x m)
     ∙ first_more (is_id_of base.nodes m x) (is_local_of base.links m x) (is_remote_of base.links m x) (length base.nodes == m && node.id == x)
     ∙ ap (λ b. (b || is_local_of base.links m x) || is_remote_of base.links m x) (sym (is_id_of-append base.nodes node m x)))))
 
-with_link_owned : (base : Base) (t : Members) → Owned base → IfOk (with_link base t) Owned
-unfolding with_link Owned TellsMore
+with_link_owned : (base : Ted) (t : Members) → Owned base → IfOk (with_link base t) Owned
+unfolding with_link Owned AddsOwner
 with_link_owned base t are =
     after (link_text t) _ Owned (λ fields.
     after (link_addresses fields) _ Owned (λ addresses.
     after (link_values fields) _ Owned (λ values.
     after (ends_of base fields) _ Owned (λ ends.
-    bind (owned base.owners addresses.0 ends.0) _ (TellsMore base.owners addresses.0 ends.0) Owned (owned_tells base.owners addresses.0 ends.0) (λ near near_tells.
-    bind (owned near addresses.1 ends.1) _ (TellsMore near addresses.1 ends.1) Owned (owned_tells near addresses.1 ends.1) (λ owners tells x m.
+    bind (owned base.owners addresses.0 ends.0) _ (AddsOwner base.owners addresses.0 ends.0) Owned (owned_adds base.owners addresses.0 ends.0) (λ near near_adds.
+    bind (owned near addresses.1 ends.1) _ (AddsOwner near addresses.1 ends.1) Owned (owned_adds near addresses.1 ends.1) (λ owners adds x m.
     let read : Link = link_of ends addresses values in
     let leaves : Link → Bool = λ l. l.from == m && l.local == x in
     let reaches : Link → Bool = λ l. l.to == m && l.remote == x in
     let id : Bool = is_id_of base.nodes m x in
-    tells x m
-    ∙ ap (λ b. b || (ends.1 == m && addresses.1 == x)) (near_tells x m)
+    adds x m
+    ∙ ap (λ b. b || (ends.1 == m && addresses.1 == x)) (near_adds x m)
     ∙ ap (λ b. (b || (ends.0 == m && addresses.0 == x)) || (ends.1 == m && addresses.1 == x)) (are x m)
     ∙ others_more id (list_any leaves base.links) (list_any reaches base.links) (ends.0 == m && addresses.0 == x) (ends.1 == m && addresses.1 == x)
     ∙ ap (λ b. (id || b) || (list_any reaches base.links || ((ends.1 == m && addresses.1 == x) || false))) (sym (list_any-append leaves base.links (read ∷ [])))
     ∙ ap (λ b. (id || list_any leaves (base.links ++ read ∷ [])) || b) (sym (list_any-append reaches base.links (read ∷ [])))))))))
 
-with_nodes_owned : (ts : List Members) (base : Base) → Owned base → IfOk (with_nodes ts base) Owned
+with_nodes_owned : (ts : List Members) (base : Ted) → Owned base → IfOk (with_nodes ts base) Owned
 with_nodes_owned [] base are = are
 with_nodes_owned (t ∷ ts) base are = bind (with_node base t) _ Owned Owned (with_node_owned base t are) (λ next are'. with_nodes_owned ts next are')
 
-with_links_owned : (ts : List Members) (base : Base) → Owned base → IfOk (with_links ts base) Owned
+with_links_owned : (ts : List Members) (base : Ted) → Owned base → IfOk (with_links ts base) Owned
 with_links_owned [] base are = are
 with_links_owned (t ∷ ts) base are = bind (with_link base t) _ Owned Owned (with_link_owned base t are) (λ next are'. with_links_owned ts next are')
 
 -- ---- the whole text
 
-nothing_owned : Owned empty_base
+nothing_owned : Owned empty_ted
 unfolding Owned
 nothing_owned = λ x m. refl
 
@@ -170,10 +170,10 @@ tree_owned t =
     after (tables_at (codes "node") t) _ Owned (λ nodes.
     after (tables_at (codes "link") t) _ Owned (λ links.
     after (few_enough (length nodes) (length links)) _ Owned (λ _.
-    bind (with_nodes nodes empty_base) _ Owned Owned (with_nodes_owned nodes empty_base nothing_owned) (λ base are.
+    bind (with_nodes nodes empty_ted) _ Owned Owned (with_nodes_owned nodes empty_ted nothing_owned) (λ base are.
     with_links_owned links base are))))
 
-pub base_of-owned : (text : List ℕ) (base : Base) → base_of text ≡ Ok base → AreOwners base.nodes base.links base.owners
+pub base_of-owned : (text : List ℕ) (base : Ted) → base_of text ≡ Ok base → AreOwners base.nodes base.links base.owners
 unfolding Owned
 base_of-owned text base is = IfOk-at_ok Owned is (after (some_or NotToml (parse_document text)) base_of_tree Owned tree_owned)
 

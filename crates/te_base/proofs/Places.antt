@@ -7,7 +7,7 @@ use Rattle.te_base.specs.declared.fault.TeFault.TheVariants.{NotToml, MissingFie
 use Rattle.te_base.specs.declared.fault.FaultPlace.{FaultPlace}
 use Rattle.te_base.specs.declared.fault.FaultPlace.TheVariants.{InText, InNode, InLink}
 use Rattle.te_base.specs.declared.fault.PlacedFault.{PlacedFault}
-use Rattle.te_base.specs.Base.{Base, empty_base}
+use Rattle.te_base.specs.Ted.{Ted, empty_ted}
 use Rattle.te_base.specs.Faults.{◌>>=◌, some_or, Fails}
 use Rattle.te_base.specs.Fields.{tables_at}
 use Rattle.te_base.specs.LinkText.{with_node, with_link, with_nodes, with_links, few_enough, base_of_tables, base_of_tree, base_of}
@@ -21,18 +21,18 @@ after : {A B : Type 0} (r : Result A PlacedFault) (f : A → Result B PlacedFaul
 after (Ok x) f g each = each x
 after (Err e) f g each = refl
 
-same_nodes : (number : ℕ) (tables : List Members) (base : Base) → unplaced (placed_nodes number tables base) ≡ with_nodes tables base
+same_nodes : (number : ℕ) (tables : List Members) (base : Ted) → unplaced (placed_nodes number tables base) ≡ with_nodes tables base
 same_nodes number [] base = refl
 same_nodes number (t ∷ more) base = step (InNode number) (with_node base t) (placed_nodes (number + 1) more) (with_nodes more) (same_nodes (number + 1) more)
 
-same_links : (number : ℕ) (tables : List Members) (base : Base) → unplaced (placed_links number tables base) ≡ with_links tables base
+same_links : (number : ℕ) (tables : List Members) (base : Ted) → unplaced (placed_links number tables base) ≡ with_links tables base
 same_links number [] base = refl
 same_links number (t ∷ more) base = step (InLink number) (with_link base t) (placed_links (number + 1) more) (with_links more) (same_links (number + 1) more)
 
-same_tables : (nodes links : List Members) → unplaced (placed_tables nodes links empty_base) ≡ base_of_tables nodes links
+same_tables : (nodes links : List Members) → unplaced (placed_tables nodes links empty_ted) ≡ base_of_tables nodes links
 same_tables nodes links =
-    after (placed_nodes 0 nodes empty_base) (placed_links 0 links) (with_links links) (same_links 0 links)
-    ∙ ap (λ (r : Result Base TeFault). r >>= with_links links) (same_nodes 0 nodes empty_base)
+    after (placed_nodes 0 nodes empty_ted) (placed_links 0 links) (with_links links) (same_links 0 links)
+    ∙ ap (λ (r : Result Ted TeFault). r >>= with_links links) (same_nodes 0 nodes empty_ted)
 
 same_tree : (t : Members) → unplaced (placed_tree t) ≡ base_of_tree t
 unfolding placed_tree base_of_tree
@@ -45,11 +45,11 @@ same_tree t =
 same_base : (text : List ℕ) → unplaced (placed_base text) ≡ base_of text
 same_base text = step InText (some_or NotToml (parse_document text)) placed_tree base_of_tree same_tree
 
-pub same_ok : (text : List ℕ) (base : Base) → placed_base text ≡ Ok base → base_of text ≡ Ok base
-same_ok text base is = sym (same_base text) ∙ ap (λ (r : Result Base PlacedFault). unplaced r) is
+pub same_ok : (text : List ℕ) (base : Ted) → placed_base text ≡ Ok base → base_of text ≡ Ok base
+same_ok text base is = sym (same_base text) ∙ ap (λ (r : Result Ted PlacedFault). unplaced r) is
 
 same_err : (text : List ℕ) (e : PlacedFault) → placed_base text ≡ Err e → base_of text ≡ Err e.fault
-same_err text e is = sym (same_base text) ∙ ap (λ (r : Result Base PlacedFault). unplaced r) is
+same_err text e is = sym (same_base text) ∙ ap (λ (r : Result Ted PlacedFault). unplaced r) is
 
 -- what is said with a place is said without it
 pub same_fails : (text : List ℕ) (fault : TeFault) (place : FaultPlace) → FailsAt fault (record { fault = fault; place = place }) (placed_base text) → Fails fault (base_of text)

@@ -8,7 +8,7 @@ use Rattle.te_base.specs.declared.fault.TeFault.TheVariants.{AddressTwice, NameT
 use Rattle.te_base.specs.declared.network.Node.{Node}
 use Rattle.te_base.specs.declared.network.Link.{Link}
 use Rattle.te_base.specs.declared.network.Owner.{Owner}
-use Rattle.te_base.specs.Base.{Base}
+use Rattle.te_base.specs.Ted.{Ted}
 use Rattle.te_base.specs.Owners.{owns}
 use Rattle.te_base.specs.Fields.{node_text, link_text}
 use Rattle.te_base.specs.Ranges.{node_value, link_addresses, link_values}
@@ -27,7 +27,7 @@ abbrev owner : (address node : ℕ) → Owner
 owner address node = record { address = address; node = node }
 
 -- A and B, B and D, A and C, C and D
-abbrev diamond : Base
+abbrev diamond : Ted
 diamond = record {
   nodes = node (codes "A") 0x0a000001 ∷ node (codes "B") 0x0a000002 ∷ node (codes "C") 0x0a000003 ∷ node (codes "D") 0x0a000004 ∷ [];
   links = link 0 1 0x0a010001 0x0a010002 10 ∷ link 1 3 0x0a020001 0x0a020002 10 ∷ link 0 2 0x0a030001 0x0a030002 20 ∷ link 2 3 0x0a040001 0x0a040002 20 ∷ [];
@@ -75,7 +75,7 @@ unfolding toml_on_literals address_of octet_of cut node_text node_value with_nod
 taken = refl
 
 -- two routers and a link from one to the other
-abbrev pair : ℕ → Base
+abbrev pair : ℕ → Ted
 pair reservable = record {
   nodes = node (codes "A") 0x0a000001 ∷ node (codes "B") 0x0a000002 ∷ [];
   links = record { from = 0; to = 1; local = 0x0a010001; remote = 0x0a010002; igp = 10; te = 10; colour = 0; reservable = reservable } ∷ [];

@@ -16,7 +16,7 @@ use Rattle.te_base.specs.Faults.{some_or}
 use Rattle.te_base.proofs.Steps.{bind, after, when, unless, behind, some_or_is}
 use Rattle.te_base.proofs.Found.{position_within}
 use Rattle.te_base.proofs.Ownership.{base_of-owned}
-use Rattle.te_base.specs.Base.{Base, empty_base, IsLinkAmong, IsSound}
+use Rattle.te_base.specs.Ted.{Ted, empty_ted, IsLinkAmong, IsSound}
 use Rattle.te_base.specs.Owners.{owner_of, with_owner, owned}
 use Rattle.te_base.specs.Fields.{LinkText, node_text, link_text, tables_at}
 use Rattle.te_base.specs.Ranges.{natural, node_value, link_addresses, link_values}
@@ -61,7 +61,7 @@ pub record AreEnds (nodes : ℕ) (ends : ℕ × ℕ) : Type 0 where
   to : ends.1 < nodes
   apart : ends.0 ≢ ends.1
 
-ends_within : (base : Base) (t : LinkText) → IfOk (ends_of base t) (AreEnds (length base.nodes))
+ends_within : (base : Ted) (t : LinkText) → IfOk (ends_of base t) (AreEnds (length base.nodes))
 unfolding ends_of
 ends_within base t =
     let Within : ℕ → Type 0 = λ n. n < length base.nodes in
@@ -81,13 +81,13 @@ with_owner_within nodes owners address node (Some other) all lt = when (other ==
 -- ---- one table after the other
 
 -- A base of this many nodes and links, whose links and owners are of these nodes.
-pub record Joined (nodes links : ℕ) (base : Base) : Type 0 where
+pub record Joined (nodes links : ℕ) (base : Ted) : Type 0 where
   nodes_are : length base.nodes ≡ nodes
   links_are : length base.links ≡ links
   joined : All (IsLinkAmong nodes) base.links
   owned : AreNodes nodes base.owners
 
-renamed : (n m k h : ℕ) (base : Base) → n ≡ m → k ≡ h → Joined n k base → Joined m h base
+renamed : (n m k h : ℕ) (base : Ted) → n ≡ m → k ≡ h → Joined n k base → Joined m h base
 renamed n m k h base e f j =
     let one : Joined m k base = (let P : ℕ → Type 0 = λ a. Joined a k base in subst P e j) in
     let P : ℕ → Type 0 = λ a. Joined m a base in subst P f one
@@ -104,7 +104,7 @@ link_of_more n l is = record {
   reservable_small = is.reservable_small;
 }
 
-with_node_joined : (base : Base) (t : Members) (n k : ℕ) → Joined n k base → IfOk (with_node base t) (Joined (n + 1) k)
+with_node_joined : (base : Ted) (t : Members) (n k : ℕ) → Joined n k base → IfOk (with_node base t) (Joined (n + 1) k)
 unfolding with_node AreNodes
 with_node_joined base t n k j =
     let number : length base.nodes < n + 1 = omega arith in
@@ -121,7 +121,7 @@ with_node_joined base t n k j =
       owned = owners_in;
     })))
 
-with_link_joined : (base : Base) (t : Members) (n k : ℕ) → Joined n k base → IfOk (with_link base t) (Joined n (k + 1))
+with_link_joined : (base : Ted) (t : Members) (n k : ℕ) → Joined n k base → IfOk (with_link base t) (Joined n (k + 1))
 unfolding with_link AreNodes
 with_link_joined base t n k j =
     after (link_text t) _ (Joined n (k + 1)) (λ fields.
@@ -141,12 +141,12 @@ with_link_joined base t n k j =
       owned = owners_in;
     }))))))
 
-with_nodes_joined : (ts : List Members) (base : Base) (n m k : ℕ) → n + length ts ≡ m → Joined n k base → IfOk (with_nodes ts base) (Joined m k)
+with_nodes_joined : (ts : List Members) (base : Ted) (n m k : ℕ) → n + length ts ≡ m → Joined n k base → IfOk (with_nodes ts base) (Joined m k)
 with_nodes_joined [] base n m k e j = renamed n m k k base (omega arith) refl j
 with_nodes_joined (t ∷ ts) base n m k e j =
     bind (with_node base t) _ (Joined (n + 1) k) (Joined m k) (with_node_joined base t n k j) (λ next j'. with_nodes_joined ts next (n + 1) m k (omega arith) j')
 
-with_links_joined : (ts : List Members) (base : Base) (n k h : ℕ) → k + length ts ≡ h → Joined n k base → IfOk (with_links ts base) (Joined n h)
+with_links_joined : (ts : List Members) (base : Ted) (n k h : ℕ) → k + length ts ≡ h → Joined n k base → IfOk (with_links ts base) (Joined n h)
 with_links_joined [] base n k h e j = renamed n n k h base refl (omega arith) j
 with_links_joined (t ∷ ts) base n k h e j =
     bind (with_link base t) _ (Joined n (k + 1)) (Joined n h) (with_link_joined base t n k j) (λ next j'. with_links_joined ts next n (k + 1) h (omega arith) j')
@@ -159,17 +159,17 @@ few_test nodes links = grind (arith, nat_tests, common_steps)
 few : (nodes links : ℕ) → IfOk (few_enough nodes links) (λ _. (nodes ≤ 1024) × (links ≤ 4096))
 few nodes links = when (nat_le nodes 1024 && nat_le links 4096) tt TooMany (λ _. (nodes ≤ 1024) × (links ≤ 4096)) (few_test nodes links)
 
-nothing_joined : Joined 0 0 empty_base
+nothing_joined : Joined 0 0 empty_ted
 unfolding AreNodes
 nothing_joined = record { nodes_are = refl; links_are = refl; joined = All-nil (IsLinkAmong 0); owned = All-nil (λ o. o.node < 0) }
 
-pub record IsBounded (base : Base) : Type 0 where
+pub record IsBounded (base : Ted) : Type 0 where
   few_nodes : length base.nodes ≤ 1024
   few_links : length base.links ≤ 4096
   links : All (IsLinkAmong (length base.nodes)) base.links
   owners : All (λ o. o.node < length base.nodes) base.owners
 
-joined_bounded : (n k : ℕ) (base : Base) → n ≤ 1024 → k ≤ 4096 → Joined n k base → IsBounded base
+joined_bounded : (n k : ℕ) (base : Ted) → n ≤ 1024 → k ≤ 4096 → Joined n k base → IsBounded base
 unfolding AreNodes
 joined_bounded n k base few_nodes few_links j = record {
   few_nodes = omega arith;
@@ -184,12 +184,12 @@ tree_bounded t =
     after (tables_at (codes "node") t) _ IsBounded (λ nodes.
     after (tables_at (codes "link") t) _ IsBounded (λ links.
     bind (few_enough (length nodes) (length links)) _ (λ _. (length nodes ≤ 1024) × (length links ≤ 4096)) IsBounded (few (length nodes) (length links)) (λ _ limits.
-    bind (with_nodes nodes empty_base) _ (Joined (length nodes) 0) IsBounded (with_nodes_joined nodes empty_base 0 (length nodes) 0 (omega arith) nothing_joined) (λ base j.
+    bind (with_nodes nodes empty_ted) _ (Joined (length nodes) 0) IsBounded (with_nodes_joined nodes empty_ted 0 (length nodes) 0 (omega arith) nothing_joined) (λ base j.
     IfOk-weaker (with_links links base) (Joined (length nodes) (length links)) IsBounded (λ b j'. joined_bounded (length nodes) (length links) b limits.0 limits.1 j')
     (with_links_joined links base (length nodes) 0 (length links) (omega arith) j)))))
 
 -- Each base that a link text says is sound.
-pub base_of-sound : (text : List ℕ) (base : Base) → base_of text ≡ Ok base → IsSound base
+pub base_of-sound : (text : List ℕ) (base : Ted) → base_of text ≡ Ok base → IsSound base
 base_of-sound text base is =
     let b : IsBounded base = IfOk-at_ok IsBounded is (after (some_or NotToml (parse_document text)) base_of_tree IsBounded tree_bounded) in
     record { few_nodes = b.few_nodes; few_links = b.few_links; links = b.links; owners = b.owners; owned = base_of-owned text base is }

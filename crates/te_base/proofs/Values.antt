@@ -4,19 +4,19 @@ use Rattle.std.proofs.lemmas.List.{length-map}
 use Rattle.std.proofs.lemmas.List.Elements.{All-cons, All-head, All-tail, All-weaker}
 use Rattle.te_base.specs.declared.network.Node.{Node}
 use Rattle.te_base.specs.declared.network.Link.{Link}
-use Rattle.te_base.specs.Base.{Base, IsLinkAmong, IsSound}
+use Rattle.te_base.specs.Ted.{Ted, IsLinkAmong, IsSound}
 use Rattle.te_base.specs.Owners.{is_local_of, is_remote_of, owns}
 use Rattle.te_base.specs.Values.{Values, AreInRange, Ends, with_links_of, values_of, with_values, ends_in, set_values, set_all_values, with_link_values, values_in, with_all_values, IsSameNetwork}
 
 -- ---- one network, but for values
 
-pub same-refl : (a : Base) → IsSameNetwork a a
+pub same-refl : (a : Ted) → IsSameNetwork a a
 same-refl a = record { nodes = refl; owners = refl; ends = refl }
 
-pub same-sym : (a b : Base) → IsSameNetwork a b → IsSameNetwork b a
+pub same-sym : (a b : Ted) → IsSameNetwork a b → IsSameNetwork b a
 same-sym a b h = record { nodes = sym h.nodes; owners = sym h.owners; ends = sym h.ends }
 
-pub same-trans : (a b c : Base) → IsSameNetwork a b → IsSameNetwork b c → IsSameNetwork a c
+pub same-trans : (a b c : Ted) → IsSameNetwork a b → IsSameNetwork b c → IsSameNetwork a c
 same-trans a b c h k = record { nodes = h.nodes ∙ k.nodes; owners = h.owners ∙ k.owners; ends = h.ends ∙ k.ends }
 
 -- ---- one link with other values
@@ -26,7 +26,7 @@ set-ends [] n v = refl
 set-ends (l ∷ ls) zero v = refl
 set-ends (l ∷ ls) (suc n) v = ap (λ es. ends_in l ∷ es) (set-ends ls n v)
 
-pub same-set : (b : Base) (n : ℕ) (v : Values) → IsSameNetwork b (with_link_values b n v)
+pub same-set : (b : Ted) (n : ℕ) (v : Values) → IsSameNetwork b (with_link_values b n v)
 same-set b n v = record { nodes = refl; owners = refl; ends = set-ends b.links n v }
 
 pub length-set_values : (links : List Link) (n : ℕ) (v : Values) → length (set_values links n v) ≡ length links
@@ -87,7 +87,7 @@ owns-stays : (nodes : List Node) (links : List Link) (n : ℕ) (v : Values) (nod
 owns-stays nodes links n v node address = rw (local-stays links n v node address, remote-stays links n v node address) refl
 
 -- a sound base stays sound
-pub set-sound : (b : Base) (n : ℕ) (v : Values) → AreInRange v → IsSound b → IsSound (with_link_values b n v)
+pub set-sound : (b : Ted) (n : ℕ) (v : Values) → AreInRange v → IsSound b → IsSound (with_link_values b n v)
 set-sound b n v ranges is = record {
   few_nodes = is.few_nodes;
   few_links = rw (length-set_values b.links n v) is.few_links;
@@ -98,13 +98,13 @@ set-sound b n v ranges is = record {
 
 -- ---- the values of all links
 
-pub length-values_in : (b : Base) → length (values_in b) ≡ length b.links
+pub length-values_in : (b : Ted) → length (values_in b) ≡ length b.links
 length-values_in b = length-map b.links values_of
 
 ends-length : (ls ks : List Link) → map ends_in ls ≡ map ends_in ks → length ls ≡ length ks
 ends-length ls ks same = sym (length-map ls ends_in) ∙ ap length same ∙ length-map ks ends_in
 
-pub same-length : (a b : Base) → IsSameNetwork a b → length a.links ≡ length b.links
+pub same-length : (a b : Ted) → IsSameNetwork a b → length a.links ≡ length b.links
 same-length a b h = ends-length a.links b.links h.ends
 
 set_all-ends : (links : List Link) (vs : List Values) → map ends_in links ≡ map ends_in (set_all_values links vs)
@@ -112,7 +112,7 @@ set_all-ends [] vs = refl
 set_all-ends (l ∷ ls) [] = refl
 set_all-ends (l ∷ ls) (v ∷ vs) = ap (λ es. ends_in l ∷ es) (set_all-ends ls vs)
 
-pub same-set_all : (b : Base) (vs : List Values) → IsSameNetwork b (with_all_values b vs)
+pub same-set_all : (b : Ted) (vs : List Values) → IsSameNetwork b (with_all_values b vs)
 same-set_all b vs = record { nodes = refl; owners = refl; ends = set_all-ends b.links vs }
 
 -- a link is its ends and its values
@@ -135,11 +135,11 @@ set_all-values (l ∷ ls) [] same = absurd cc
 set_all-values (l ∷ ls) (k ∷ ks) same = ap (λ x. x ∷ set_all_values ls (map values_of ks)) (with-joined l k (heads l k ls ks same)) ∙ ap (λ xs. k ∷ xs) (set_all-values ls ks (tails l k ls ks same))
 
 -- the values of one of two bases of a network make it of the other
-pub other_values : (a b : Base) → IsSameNetwork a b → with_all_values a (values_in b) ≡ b
+pub other_values : (a b : Ted) → IsSameNetwork a b → with_all_values a (values_in b) ≡ b
 other_values a b h =
     rw (h.nodes, h.owners, set_all-values a.links b.links h.ends) refl
 
-pub own_values : (b : Base) → with_all_values b (values_in b) ≡ b
+pub own_values : (b : Ted) → with_all_values b (values_in b) ≡ b
 own_values b = other_values b b (same-refl b)
 
 all-values : (ls : List Link) (vs : List Values) → length vs ≡ length ls → map values_of (set_all_values ls vs) ≡ vs
@@ -149,7 +149,7 @@ all-values (l ∷ ls) [] e = absurd (omega arith)
 all-values (l ∷ ls) (v ∷ vs) e = ap (λ xs. v ∷ xs) (all-values ls vs (omega arith))
 
 -- as many values as links are given back
-pub values_in_all : (b : Base) (vs : List Values) → length vs ≡ length b.links → values_in (with_all_values b vs) ≡ vs
+pub values_in_all : (b : Ted) (vs : List Values) → length vs ≡ length b.links → values_in (with_all_values b vs) ≡ vs
 values_in_all b vs e = all-values b.links vs e
 
 all-over : (ls : List Link) (n : ℕ) (v : Values) (vs : List Values) → length vs ≡ length ls → set_all_values (set_values ls n v) vs ≡ set_all_values ls vs
@@ -159,7 +159,7 @@ all-over (l ∷ ls) zero v (w ∷ ws) e = refl
 all-over (l ∷ ls) (suc n) v (w ∷ ws) e = ap (λ xs. with_values l w ∷ xs) (all-over ls n v ws (omega arith))
 
 -- values of all links leave nothing of what a link had
-pub all_over_set : (b : Base) (n : ℕ) (v : Values) (vs : List Values) → length vs ≡ length b.links → with_all_values (with_link_values b n v) vs ≡ with_all_values b vs
+pub all_over_set : (b : Ted) (n : ℕ) (v : Values) (vs : List Values) → length vs ≡ length b.links → with_all_values (with_link_values b n v) vs ≡ with_all_values b vs
 all_over_set b n v vs e = ap (λ ls. with_links_of b ls) (all-over b.links n v vs e)
 
 link-ranges : (nodes : ℕ) (l : Link) → IsLinkAmong nodes l → AreInRange (values_of l)

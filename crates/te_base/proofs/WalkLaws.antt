@@ -8,9 +8,9 @@ use Rattle.std.specs.Option.{option_or}
 use Rattle.pcep_objects.specs.declared.object.Hop.{Hop}
 use Rattle.pcep_objects.specs.declared.object.Hop.TheVariants.{Host, Other}
 use Rattle.te_base.specs.declared.network.Link.{Link}
-use Rattle.te_base.specs.Base.{Base}
+use Rattle.te_base.specs.Ted.{Ted}
 use Rattle.te_base.specs.Owners.{owner_of}
-use Rattle.te_base.specs.Walk.{Place, joins, chosen_link, with_link_once, moved, hopped, walk_from, walk}
+use Rattle.te_base.specs.Walk.{Position, joins, chosen_link, with_link_once, moved, hopped, walk_from, walk}
 use Rattle.te_base.proofs.Found.{equal_numbers, position_within, either}
 
 -- links below a number, and none of them twice
@@ -44,36 +44,36 @@ once_more : (n : ℕ) (links : List ℕ) (o : Option ℕ) → IfSome o (λ l. l 
 once_more n links None lt are = are
 once_more n links (Some link) lt are = pushed n links link (list_any (λ l. l == link) links) refl lt are
 
-Fine : Base → Place → Type 0
+Fine : Ted → Position → Type 0
 Fine base p = AreSome (length base.links) p.links
 
-moved_fine : (base : Base) (p : Place) (address : ℕ) (o : Option ℕ) → Fine base p → Fine base (moved base p address o)
+moved_fine : (base : Ted) (p : Position) (address : ℕ) (o : Option ℕ) → Fine base p → Fine base (moved base p address o)
 unfolding Fine
 moved_fine base p address None fine = fine
 moved_fine base p address (Some node) fine =
-    let next : Place = record { node = node; remembered = None; links = with_link_once p.links (chosen_link base.links p.node node address p.remembered) } in
-    let stay : Place = record { node = p.node; remembered = Some address; links = p.links } in
+    let next : Position = record { node = node; remembered = None; links = with_link_once p.links (chosen_link base.links p.node node address p.remembered) } in
+    let stay : Position = record { node = p.node; remembered = Some address; links = p.links } in
     elim (node == p.node) as (λ t. AreSome (length base.links) (if t then stay else next).links)
     [ true ↦ fine | false ↦ once_more (length base.links) p.links (chosen_link base.links p.node node address p.remembered) (chosen_within base.links p.node node address p.remembered) fine ]
 
-hopped_fine : (base : Base) (p : Place) (hop : Hop) → Fine base p → Fine base (hopped base p hop)
+hopped_fine : (base : Ted) (p : Position) (hop : Hop) → Fine base p → Fine base (hopped base p hop)
 hopped_fine base p (Host address loose) fine = moved_fine base p address (owner_of base.owners address) fine
 hopped_fine base p (Other kind bytes) fine = fine
 
-all_hops_fine : (base : Base) (p : Place) (hops : List Hop) → Fine base p → Fine base (fold (hopped base) p hops)
+all_hops_fine : (base : Ted) (p : Position) (hops : List Hop) → Fine base p → Fine base (fold (hopped base) p hops)
 all_hops_fine base p [] fine = fine
 all_hops_fine base p (hop ∷ hops) fine = all_hops_fine base (hopped base p hop) hops (hopped_fine base p hop fine)
 
 none : (n : ℕ) → AreSome n []
 none n = record { below = All-nil (λ l. l < n); once = λ i j d lt within. absurd (omega arith) }
 
-from_fine : (base : Base) (o : Option ℕ) (hops : List Hop) (end : ℕ) → AreSome (length base.links) (walk_from base o hops end)
+from_fine : (base : Ted) (o : Option ℕ) (hops : List Hop) (end : ℕ) → AreSome (length base.links) (walk_from base o hops end)
 unfolding Fine
 from_fine base None hops end = none (length base.links)
 from_fine base (Some node) hops end =
-    let p : Place = record { node = node; remembered = None; links = [] } in
-    let q : Place = fold (hopped base) p hops in
+    let p : Position = record { node = node; remembered = None; links = [] } in
+    let q : Position = fold (hopped base) p hops in
     moved_fine base q end (owner_of base.owners end) (all_hops_fine base p hops (none (length base.links)))
 
-pub walk_some : (base : Base) (start : ℕ) (hops : List Hop) (end : ℕ) → AreSome (length base.links) (walk base start hops end)
+pub walk_some : (base : Ted) (start : ℕ) (hops : List Hop) (end : ℕ) → AreSome (length base.links) (walk base start hops end)
 walk_some base start hops end = from_fine base (owner_of base.owners start) hops end

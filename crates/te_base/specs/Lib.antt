@@ -1,5 +1,5 @@
 pub mod Faults
-pub mod Base
+pub mod Ted
 pub mod Owners
 pub mod Values
 pub mod Fields

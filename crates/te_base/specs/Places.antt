@@ -7,7 +7,7 @@ use Rattle.te_base.specs.declared.fault.TeFault.TheVariants.{NotToml, OutOfMemor
 use Rattle.te_base.specs.declared.fault.FaultPlace.{FaultPlace}
 use Rattle.te_base.specs.declared.fault.FaultPlace.TheVariants.{InText, InNode, InLink}
 use Rattle.te_base.specs.declared.fault.PlacedFault.{PlacedFault}
-use Rattle.te_base.specs.Base.{Base, empty_base}
+use Rattle.te_base.specs.Ted.{Ted, empty_ted}
 use Rattle.te_base.specs.Faults.{some_or}
 use Rattle.te_base.specs.Fields.{tables_at}
 use Rattle.te_base.specs.LinkText.{with_node, with_link, few_enough}
@@ -23,27 +23,27 @@ next (Ok x) f = f x
 next (Err e) f = Err e
 
 -- the nodes' tables, of which the first has this number
-abbrev pub placed_nodes : ℕ → List Members → Base → Result Base PlacedFault
+abbrev pub placed_nodes : ℕ → List Members → Ted → Result Ted PlacedFault
 placed_nodes number [] base = Ok base
 placed_nodes number (t ∷ more) base = next (placed (InNode number) (with_node base t)) (placed_nodes (number + 1) more)
 
-abbrev pub placed_links : ℕ → List Members → Base → Result Base PlacedFault
+abbrev pub placed_links : ℕ → List Members → Ted → Result Ted PlacedFault
 placed_links number [] base = Ok base
 placed_links number (t ∷ more) base = next (placed (InLink number) (with_link base t)) (placed_links (number + 1) more)
 
 -- all nodes, and then all links
-abbrev pub placed_tables : List Members → List Members → Base → Result Base PlacedFault
+abbrev pub placed_tables : List Members → List Members → Ted → Result Ted PlacedFault
 placed_tables nodes links base = next (placed_nodes 0 nodes base) (placed_links 0 links)
 
-unfoldable pub placed_tree : Members → Result Base PlacedFault
+unfoldable pub placed_tree : Members → Result Ted PlacedFault
 placed_tree t =
     next (placed InText (tables_at (codes "node") t)) (λ nodes.
     next (placed InText (tables_at (codes "link") t)) (λ links.
     next (placed InText (few_enough (length nodes) (length links))) (λ few.
-    placed_tables nodes links empty_base)))
+    placed_tables nodes links empty_ted)))
 
 -- what the text says, or its first fault with its place
-abbrev pub placed_base : List ℕ → Result Base PlacedFault
+abbrev pub placed_base : List ℕ → Result Ted PlacedFault
 placed_base text = next (placed InText (some_or NotToml (parse_document text))) placed_tree
 
 -- without the place

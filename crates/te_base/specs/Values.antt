@@ -1,7 +1,7 @@
 -- The values of a link that may change while its network stands: its metrics, its colours and how much may be reserved.
 use Rattle.std.specs.Prelude.{ℕ, zero, suc, ◌≡◌, ◌<◌, ◌^◌, ◌&&◌, Bool, nat_le, List, [], ◌∷◌, Option, Some, None, if◌then◌else◌, map}
 use Rattle.te_base.specs.declared.network.Link.{Link}
-use Rattle.te_base.specs.Base.{Base}
+use Rattle.te_base.specs.Ted.{Ted}
 
 pub record Values : Type 0 where
   pub igp : ℕ
@@ -62,20 +62,20 @@ set_all_values (l ∷ ls) (v ∷ vs) = with_values l v ∷ set_all_values ls vs
 
 -- ---- of a network
 
-abbrev pub with_links_of : Base → List Link → Base
+abbrev pub with_links_of : Ted → List Link → Ted
 with_links_of b links = record { nodes = b.nodes; links = links; owners = b.owners }
 
-abbrev pub with_link_values : Base → ℕ → Values → Base
+abbrev pub with_link_values : Ted → ℕ → Values → Ted
 with_link_values b n v = with_links_of b (set_values b.links n v)
 
-abbrev pub values_in : Base → List Values
+abbrev pub values_in : Ted → List Values
 values_in b = map values_of b.links
 
-abbrev pub with_all_values : Base → List Values → Base
+abbrev pub with_all_values : Ted → List Values → Ted
 with_all_values b vs = with_links_of b (set_all_values b.links vs)
 
 -- both are one network, but for the values of its links
-pub record IsSameNetwork (a b : Base) : Type 0 where
+pub record IsSameNetwork (a b : Ted) : Type 0 where
   pub nodes : a.nodes ≡ b.nodes
   pub owners : a.owners ≡ b.owners
   pub ends : map ends_in a.links ≡ map ends_in b.links

@@ -9,11 +9,11 @@ use Rattle.pcep_objects.specs.declared.object.Hop.{Hop}
 use Rattle.pcep_objects.specs.declared.object.Hop.TheVariants.{Host, Other}
 use Rattle.te_base.specs.declared.network.Link.{Link}
 use Rattle.te_base.specs.declared.walk.Walker.{Walker}
-use Rattle.te_base.specs.Base.{Base}
+use Rattle.te_base.specs.Ted.{Ted}
 use Rattle.te_base.specs.Owners.{owner_of}
 
 -- the current node, the remembered address, and the links so far
-pub record Place : Type 0 where
+pub record Position : Type 0 where
   pub node : ℕ
   pub remembered : Option ℕ
   pub links : List ℕ
@@ -41,29 +41,29 @@ with_link_once links (Some link) = if list_any (λ l. l == link) links then link
 
 -- An address that no node owns does nothing. One of the current node is remembered in place of an
 -- earlier one. One of another node leads there, where nothing is remembered.
-abbrev pub moved : Base → Place → ℕ → Option ℕ → Place
+abbrev pub moved : Ted → Position → ℕ → Option ℕ → Position
 moved base p address None = p
 moved base p address (Some node) =
     if node == p.node then record { node = p.node; remembered = Some address; links = p.links }
     else record { node = node; remembered = None; links = with_link_once p.links (chosen_link base.links p.node node address p.remembered) }
 
-abbrev pub stepped : Base → Place → ℕ → Place
+abbrev pub stepped : Ted → Position → ℕ → Position
 stepped base p address = moved base p address (owner_of base.owners address)
 
 -- a hop of another kind does nothing
-abbrev pub hopped : Base → Place → Hop → Place
+abbrev pub hopped : Ted → Position → Hop → Position
 hopped base p (Host address loose) = stepped base p address
 hopped base p (Other kind bytes) = p
 
 -- the end is walked last
-abbrev pub walk_from : Base → Option ℕ → List Hop → ℕ → List ℕ
+abbrev pub walk_from : Ted → Option ℕ → List Hop → ℕ → List ℕ
 walk_from base None hops end = []
 walk_from base (Some node) hops end = (stepped base (fold (hopped base) (record { node = node; remembered = None; links = [] }) hops) end).links
 
 -- a start that no node owns uses no link
-abbrev pub walk : Base → ℕ → List Hop → ℕ → List ℕ
+abbrev pub walk : Ted → ℕ → List Hop → ℕ → List ℕ
 walk base start hops end = walk_from base (owner_of base.owners start) hops end
 
 -- where the code's walker is
-abbrev pub place_of : Walker → Place
+abbrev pub place_of : Walker → Position
 place_of w = record { node = w.node; remembered = w.remembered; links = w.links.items }

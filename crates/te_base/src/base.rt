@@ -1,6 +1,6 @@
 //! The TED as its link text says it, and look-ups in it.
 ghost use Rattle.std.specs.Prelude.{◌≡◌, ◌≢◌, ◌<◌, ◌≤◌, ◌↔◌, ℕ, IsTrue, IfOk, IfSome, IsSome, All, AllPairs, map, option_map, slice_get, length, if◌then◌else◌};
-ghost use Rattle.te_base.specs.Base.{IsLinkAmong, empty_base};
+ghost use Rattle.te_base.specs.Ted.{IsLinkAmong, empty_ted};
 ghost use Rattle.te_base.specs.Faults.{Gives};
 ghost use Rattle.te_base.specs.Fields.{tables_at};
 ghost use Rattle.te_base.specs.LinkText.{base_of};
@@ -30,7 +30,7 @@ use std::alloc::{AllocError, Global};
 use std::marker::Model;
 use toml::Table;
 
-/// The TED: the nodes, links and owners of a link text; the values of links may change. A contract sees it as a `Base` of lists, which is sound.
+/// The TED: the nodes, links and owners of a link text; the values of links may change. A contract sees it as a `Ted` of lists, which is sound.
 #[derive(Debug)]
 pub struct TeBase {
     parts: Parts,
@@ -45,10 +45,10 @@ impl Drop for TeBase {
 }
 
 impl Model for TeBase {
-    ghost use Rattle.te_base.specs.Base.{Base, IsSound};
+    ghost use Rattle.te_base.specs.Ted.{Ted, IsSound};
     ghost use Rattle.te_base.specs.Views.{base_in};
 
-    ghost Value = { Base };
+    ghost Value = { Ted };
 
     ghost view = { λ b. base_in b.parts };
 
@@ -57,7 +57,7 @@ impl Model for TeBase {
 
 /// Reads the nodes and links of these tables.
 fn parts_of(alloc: Global, nodes: &[&Table], links: &[&Table]) -> Result<Parts, PlacedFault>
-    ensures { GivesAt base_in result (placed_tables (map (λ t. table_view t.now) nodes.now) (map (λ t. table_view t.now) links.now) empty_base) }
+    ensures { GivesAt base_in result (placed_tables (map (λ t. table_view t.now) nodes.now) (map (λ t. table_view t.now) links.now) empty_ted) }
 {
     let mut parts = Parts {
         nodes: NodeTable::new(alloc),

@@ -8,7 +8,7 @@
 //! comes twice; they are what a path on that route reserves.
 //!
 //! The definitions stand in `specs/`: `LinkText` is the text's meaning with its faults in order, over `Fields`, `Ranges`
-//! and `Owners`, `Places` says where the first fault stands; `Base` has the lists and `IsSound`, `Values` the values of links and what stays beside them, `Reload`
+//! and `Owners`, `Places` says where the first fault stands; `Ted` has the lists and `IsSound`, `Values` the values of links and what stays beside them, `Reload`
 //! the text read again, `Walk` the walk, and `Faults` the words in which a clause says "this value, or this fault
 //! first". Names and addresses are looked up in an `IndexMap`, the links that leave a node in a
 //! `KeyedList`.

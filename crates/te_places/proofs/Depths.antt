@@ -6,14 +6,14 @@ use Rattle.json.specs.Tree.{json_tokens, depth, items_depth}
 use Rattle.json.proofs.Printed.Trees.{value-json_tokens}
 use Rattle.json.specs.Json as json
 use Rattle.toml.specs.Data.{Items, no_items, item, Members}
-use Rattle.te_places.specs.Places.{Place, nodes_in, place_of, places_document, places_in, places_json, places_or_none, with_place}
+use Rattle.te_places.specs.Places.{NodePlace, nodes_in, place_of, places_document, places_in, places_json, places_or_none, with_place}
 
 pub document-of_tokens : (text : List ℕ) (j : Json) → tokens text ≡ json_tokens j → depth j ≤ max_depth → document text ≡ Some j
 document-of_tokens text j is shallow =
     ap (option_and_then (λ p. if_last p.0 p.1))
     (ap (value max_depth) (is ∙ sym (append-nil (json_tokens j))) ∙ value-json_tokens j max_depth [] shallow)
 
-with_shallow : (place : Option Place) (others : json.Items) → items_depth others ≤ 1 → items_depth (with_place place others) ≤ 1
+with_shallow : (place : Option NodePlace) (others : json.Items) → items_depth others ≤ 1 → items_depth (with_place place others) ≤ 1
 with_shallow None others shallow = shallow
 with_shallow (Some place) others shallow = omega (arith, shallow)
 

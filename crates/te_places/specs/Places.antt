@@ -5,7 +5,7 @@ use Rattle.json.specs.Json as json
 use Rattle.json.specs.Json.{Json}
 use Rattle.toml.specs.Data.{Data, Items, no_items, item, Members, as_array, as_integer, as_str, as_table, get_member}
 
-pub record Place : Type 0 where
+pub record NodePlace : Type 0 where
   pub name : List ℕ
   pub x : ℤ
   pub y : ℤ
@@ -17,20 +17,20 @@ abbrev pub number_at : List ℕ → Members → Option ℤ
 number_at key table = option_and_then as_integer (get_member key table)
 
 -- a node's name with two whole numbers, where its table has all three
-abbrev pub place_at : Option (List ℕ) → Option ℤ → Option ℤ → Option Place
+abbrev pub place_at : Option (List ℕ) → Option ℤ → Option ℤ → Option NodePlace
 place_at (Some name) (Some x) (Some y) = Some (record { name = name; x = x; y = y })
 place_at _ _ _ = None
 
-abbrev pub place_in : Members → Option Place
+abbrev pub place_in : Members → Option NodePlace
 place_in table = place_at (text_at (codes "name") table) (number_at (codes "x") table) (number_at (codes "y") table)
 
-abbrev pub place_of : Data → Option Place
+abbrev pub place_of : Data → Option NodePlace
 place_of node = option_and_then place_in (as_table node)
 
 abbrev pub nodes_in : Members → Option Items
 nodes_in document = option_and_then as_array (get_member (codes "node") document)
 
-abbrev pub place_json : Place → Json
+abbrev pub place_json : NodePlace → Json
 place_json place = json.object
     (json.member (codes "name") (json.string place.name)
     (json.member (codes "x") (json.number (signed_decimal place.x))
@@ -38,7 +38,7 @@ place_json place = json.object
     json.no_members)))
 
 -- one more item in front, where there is one
-abbrev pub with_place : Option Place → json.Items → json.Items
+abbrev pub with_place : Option NodePlace → json.Items → json.Items
 with_place None others = others
 with_place (Some place) others = json.item (place_json place) others
 

@@ -10,7 +10,7 @@ use toml::{Table, Value};
 
 /// A node's place.
 #[derive(Clone, Copy)]
-pub(crate) struct Place<'a> {
+pub(crate) struct NodePlace<'a> {
     pub name: &'a str,
     pub x: i64,
     pub y: i64,
@@ -40,17 +40,17 @@ fn number(table: &Table, key: &str) -> Option<i64>
     }
 }
 
-fn place_in_table(table: &Table) -> Option<Place<'_>>
+fn place_in_table(table: &Table) -> Option<NodePlace<'_>>
     ensures { option_map place_seen result ≡ place_in (table_view table.now) }
 {
     match (text(table, "name"), number(table, "x"), number(table, "y")) {
-        (Some(name), Some(x), Some(y)) => Some(Place { name, x, y }),
+        (Some(name), Some(x), Some(y)) => Some(NodePlace { name, x, y }),
         _ => None,
     }
 }
 
 /// The place of a node, where its table has one.
-pub(crate) fn place_of(node: &Value) -> Option<Place<'_>>
+pub(crate) fn place_of(node: &Value) -> Option<NodePlace<'_>>
     ensures { option_map place_seen result ≡ place_of (view node.now) }
 {
     match node.as_table() {

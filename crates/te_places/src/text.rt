@@ -9,7 +9,7 @@ ghost use Rattle.toml.specs.View.{array_view, table_view, view};
 ghost use Rattle.te_places.specs.Places.{place_json, place_of, places_document, places_in, places_json, with_place};
 ghost use Rattle.te_places.specs.Views.{place_seen};
 
-use crate::fields::{Place, nodes, place_of};
+use crate::fields::{NodePlace, nodes, place_of};
 use json::Writer;
 use std::alloc::{AllocError, Global};
 use toml::value::Array;
@@ -31,7 +31,7 @@ fn put_number(writer: &mut Writer, key: &str, number: i64) -> Result<(), AllocEr
     writer.i64(number)
 }
 
-fn put_members(writer: &mut Writer, place: &Place<'_>) -> Result<(), AllocError>
+fn put_members(writer: &mut Writer, place: &NodePlace<'_>) -> Result<(), AllocError>
     ensures before { writer.new.before ≡ writer.old.before }
     ensures written { OnOk result (writer.new.tokens ≡ writer.old.tokens ++ (Token.key (codes "name") ∷ Token.string place.now.name.now ∷ Token.key (codes "x") ∷ Token.number (signed_decimal place.now.x) ∷ Token.key (codes "y") ∷ Token.number (signed_decimal place.now.y) ∷ [])) }
 {
@@ -40,7 +40,7 @@ fn put_members(writer: &mut Writer, place: &Place<'_>) -> Result<(), AllocError>
     put_number(writer, "y", place.y)
 }
 
-fn put_place(writer: &mut Writer, place: &Place<'_>) -> Result<(), AllocError>
+fn put_place(writer: &mut Writer, place: &NodePlace<'_>) -> Result<(), AllocError>
     ensures before { writer.new.before ≡ writer.old.before }
     ensures written { OnOk result (writer.new.tokens ≡ writer.old.tokens ++ json_tokens (place_json (place_seen place.now))) }
 {

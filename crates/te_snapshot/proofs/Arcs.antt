@@ -4,7 +4,7 @@ use Rattle.std.proofs.lemmas.List.Elements.{All-nil, All-cons, All-head, All-tai
 use Rattle.std.proofs.lemmas.Bool.Decides.{nat_tests}
 use Rattle.std.proofs.lemmas.Option.{same_Some, slice_get-map}
 use Rattle.te_base.specs.declared.network.Link.{Link}
-use Rattle.te_base.specs.Base.{IsLinkAmong}
+use Rattle.te_base.specs.Ted.{IsLinkAmong}
 use Rattle.te_snapshot.specs.declared.outgoing.Outgoing.{Outgoing}
 use Rattle.te_snapshot.specs.Leaving.{arc_of, entering, leaving, leaving_from, turned, IsArcAmong}
 

@@ -2,7 +2,7 @@
 use Rattle.std.specs.Prelude.{ℕ, ℤ, ◌≡◌, ◌<◌, ◌≤◌, List, length, map, All}
 use Rattle.te_base.specs.declared.network.Link.{Link}
 use Rattle.te_base.specs.declared.network.Owner.{Owner}
-use Rattle.te_base.specs.Base.{Base, IsLinkAmong}
+use Rattle.te_base.specs.Ted.{Ted, IsLinkAmong}
 use Rattle.te_base.specs.Values.{ends_in}
 
 -- nodes and links by their numbers, from 0, and who owns which address
@@ -11,7 +11,7 @@ pub record Network : Type 0 where
   pub links : List Link
   pub owners : List Owner
 
-abbrev pub network_of : Base → Network
+abbrev pub network_of : Ted → Network
 network_of base = record { nodes = length base.nodes; links = base.links; owners = base.owners }
 
 -- the network with these links

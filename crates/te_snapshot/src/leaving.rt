@@ -1,6 +1,6 @@
 //! The links that leave each node, and those that enter it.
 ghost use Rattle.std.specs.Prelude.{◌≡◌, ◌<◌, ◌≤◌, ◌++◌, ◌==◌, ℕ, [], ◌∷◌, IfOk, OnOk, All, length, map, if◌then◌else◌};
-ghost use Rattle.te_base.specs.Base.{IsLinkAmong};
+ghost use Rattle.te_base.specs.Ted.{IsLinkAmong};
 ghost use Rattle.te_snapshot.specs.Leaving.{arc_of, entering, leaving, listed, turned};
 ghost use Rattle.te_snapshot.specs.Spans.{list_of};
 

@@ -1,7 +1,7 @@
 //! A network and how much its links can still carry.
 ghost use Rattle.std.specs.Prelude.{◌≡◌, ◌<◌, ◌≤◌, ℤ, IfOk, IfSome, All, length, slice_get, option_map};
 ghost use Rattle.std.specs.Arc.{arc_value};
-ghost use Rattle.te_base.specs.Base.{IsLinkAmong};
+ghost use Rattle.te_base.specs.Ted.{IsLinkAmong};
 ghost use Rattle.te_base.specs.Owners.{owner_of};
 ghost use Rattle.te_snapshot.specs.Network.{state_of};
 ghost use Rattle.te_snapshot.specs.Room.{left};

@@ -1,6 +1,6 @@
 //! The network that snapshots share.
 ghost use Rattle.std.specs.Prelude.{◌≡◌, ◌<◌, ◌≤◌, IfOk, IfSome, All, length, slice_get};
-ghost use Rattle.te_base.specs.Base.{IsLinkAmong};
+ghost use Rattle.te_base.specs.Ted.{IsLinkAmong};
 ghost use Rattle.te_snapshot.specs.Admissible.{node_of};
 ghost use Rattle.te_snapshot.specs.Leaving.{entering, leaving, IsArcAmong};
 ghost use Rattle.te_snapshot.specs.Network.{network_of, with_links, AreLinksOf};

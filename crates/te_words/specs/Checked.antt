@@ -1,14 +1,14 @@
 -- What a check of a link text says of it.
 use Rattle.std.specs.Prelude.{ℕ, ◌≡◌, codes, List, [], ◌++◌, Option, Some, None, Result, Err, IsOk}
 use Rattle.std.specs.Fmt.{decimal}
-use Rattle.te_base.specs.Base.{Base}
+use Rattle.te_base.specs.Ted.{Ted}
 use Rattle.te_base.specs.Faults.{fault_number}
 use Rattle.te_base.specs.declared.fault.FaultPlace.{FaultPlace}
 use Rattle.te_base.specs.declared.fault.FaultPlace.TheVariants.{InText, InNode, InLink}
 use Rattle.te_base.specs.declared.fault.PlacedFault.{PlacedFault}
 
 -- None: the text has no fault. A fault is the first one of the text, at its place.
-abbrev pub IsFound : Option PlacedFault → Result Base PlacedFault → Type 0
+abbrev pub IsFound : Option PlacedFault → Result Ted PlacedFault → Type 0
 IsFound None read = IsOk read
 IsFound (Some found) read = read ≡ Err found
 

@@ -1,3 +1,3 @@
 pub mod TicketLists
 pub mod TicketOrders
-mod Boxes
+mod TicketEntries

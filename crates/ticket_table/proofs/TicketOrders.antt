@@ -14,7 +14,7 @@ use Rattle.commit_core.specs.declared.ticket.Ticket.{Ticket}
 abbrev is_given : ℕ → Ticket → Bool
 is_given last t = nat_le t.id last
 
-le_of : (a b : ℕ) → nat_le a b ≡ true → a ≤ b
+pub le_of : (a b : ℕ) → nat_le a b ≡ true → a ≤ b
 le_of a b is = grind (arith, nat_tests)
 
 of_le : (a b : ℕ) → a ≤ b → nat_le a b ≡ true

@@ -1,6 +1,7 @@
 -- Paths that are asked for: tickets, in the order in which they were asked for, so in rising order of their numbers.
 use Rattle.std.specs.Prelude.{ℕ, ◌≡◌, ◌+◌, ◌≤◌, Bool, true, false, ◌==◌, ◌&&◌, not, nat_lt, nat_le, List, [], ◌∷◌, find, Option, if◌then◌else◌}
-use Rattle.std.specs.List.{list_any, list_all}
+use Rattle.std.specs.List.{AllByRecursion, list_any, list_all}
+use Rattle.std.specs.Map.{values_of}
 use Rattle.lsp_base.specs.Same.{same_links}
 use Rattle.commit_core.specs.declared.ticket.Purpose.{Purpose}
 use Rattle.commit_core.specs.declared.ticket.Purpose.TheVariants as purposes
@@ -104,3 +105,14 @@ pub record AreInOrder (last : ℕ) (tickets : List Ticket) : Type 0 where
 pub record TicketTable : Type 0 where
   pub tickets : List Ticket
   pub last : ℕ
+
+-- ---- the table: a map of the tickets by their numbers
+
+-- each ticket stands under its own number
+abbrev pub AreNumbered : List (ℕ × Ticket) → Type 0
+AreNumbered entries = AllByRecursion (λ e. e.0 ≡ e.1.id) entries
+
+-- what a table keeps: its tickets stand under their numbers, and in order
+pub record IsKept (last : ℕ) (entries : List (ℕ × Ticket)) : Type 0 where
+  pub numbered : AreNumbered entries
+  pub order : AreInOrder last (values_of entries)

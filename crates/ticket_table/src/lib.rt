@@ -6,7 +6,8 @@
 //! and none was taken more than four times. `push` and `copies` alone take memory, and where it is refused nothing has
 //! changed.
 //!
-//! A ticket stands in a box, so one that ends is dropped there and then, and pointers close the gap.
+//! A ticket stands in the map by its number, in the order in which they were asked for. One that ends is taken out by
+//! `shift_remove`: it is dropped there and then, and those behind it move up.
 //!
 //! ```text
 //! tickets.push(ticket)?;

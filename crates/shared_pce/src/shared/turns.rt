@@ -3,12 +3,15 @@ ghost use Rattle.std.specs.Prelude.{◌≡◌, true, IfOk, OnErr};
 ghost use Rattle.step_core.specs.States.{has_waiting};
 ghost use Rattle.history_core.specs.Histories.{Content, Replays, is_full};
 ghost use Rattle.history_seats.specs.Receipts.{SeatContent};
+ghost use Rattle.shared_pce.specs.Lefts.{IsLookedAt};
 ghost use Rattle.shared_pce.specs.Turns.{Takes, TakesNext, MayTake, Received, Commits, Works};
 
 use super::Shared;
+use crate::stepped::step_seen;
 use crate::work::{Gate, Worked};
 use history_core::{Event, Fault, Job, Reply, SharedEvent};
 use history_seats::{Held, Seat};
+use pcep_word::Priority;
 use place_tokens::Room;
 use sequence::PlainData;
 use std::sync::ledger::Ledger;
@@ -53,26 +56,28 @@ impl<S: Ledger, G: Ledger, B: Room> Shared<S, G, B> {
         }
     }
 
-    /// Commits what a search found, and takes the next ticket, where one waits, before the lock is free.
+    /// Commits what a search found for an LSP of this setup priority, and takes the next ticket, where one waits, before the
+    /// lock is free.
     fn commit_and_take<R: Wait>(
         &self,
         rt: &R,
         seat: &mut Seat<S, G, B>,
         commit: SharedEvent,
+        setup: Priority,
         take: &SharedEvent,
     ) -> Result<(Reply, Option<Job>), Fault>
-        requires { take.now ≡ Event.Take }
+        requires take { take.now ≡ Event.Take }
+        requires setup { IsLookedAt commit setup }
         ensures received { IfOk result (λ r. (mid : SeatContent) × Received seat.old commit mid r.0 × TakesNext mid seat.new r.1) }
         ensures unchanged_on_fault { OnErr result (seat.new ≡ seat.old) }
         ensures full { result ≡ Err Fault.HistoryFull → (d : Content) × Replays d × (is_full d ≡ true) }
     {
         seat.reserve(2)?;
         let mut held = self.held.lock(rt);
-        let (reply, unkept) = held.step_and_fold(seat, commit)?;
+        let stepped = step_seen(self.alloc, &mut held, seat, commit, setup)?;
         let next = take_next(&mut held, seat, take);
         drop(held);
-        drop(unkept);
-        Ok((reply, next))
+        Ok((self.note_step(rt, stepped), next))
     }
 
     /// Searches for the job's path, commits what was found, and takes the next ticket. No lock is held during the search.
@@ -93,7 +98,8 @@ impl<S: Ledger, G: Ledger, B: Room> Shared<S, G, B> {
             offer,
         };
         let commit = SharedEvent::new(self.alloc, event)?;
-        self.commit_and_take(rt, seat, commit, &take)
+        let setup = job.ticket.constraints.priorities.setup();
+        self.commit_and_take(rt, seat, commit, setup, &take)
     }
 
     /// One turn of a worker: the job in the seat's hand, or else a ticket that waits, is searched for and

@@ -1,7 +1,7 @@
 //! Tickets that are taken to be searched for, and what becomes of the offers.
 ghost use Rattle.std.specs.Prelude.{◌≡◌, ◌<◌, ◌≤◌, ◌+◌, ◌^◌, [], true, false, length, unwrap_or, option_map, Some, IfOk, IfSome, OnOk, OnErr};
 ghost use Rattle.std.specs.List.{list_any};
-ghost use Rattle.lsp_base.specs.Base.{changed};
+ghost use Rattle.lsp_base.specs.Lsps.{changed};
 ghost use Rattle.commit_core.specs.declared.verdict.Verdict.TheVariants as verdicts;
 ghost use Rattle.step_core.specs.Consistent.{AreFree, IsConsistent};
 ghost use Rattle.step_core.specs.Grants.{take_step, commit_step, judged, verdict_on, view_of, path_of, granted, granting, answered, in_vain, message_of, name_of_grant, with_name};

@@ -1,6 +1,6 @@
 //! Reports, and the effects of all events on LSPs.
 ghost use Rattle.std.specs.Prelude.{◌≡◌, ◌<◌, ◌^◌, ◌+◌, ◌&&◌, not, IfOk, OnOk, OnErr, if◌then◌else◌};
-ghost use Rattle.lsp_base.specs.Base.{HasAll};
+ghost use Rattle.lsp_base.specs.Lsps.{HasAll};
 ghost use Rattle.lsp_base.specs.Rooms.{IsWithinLimit};
 ghost use Rattle.step_core.specs.States.{moves_paths};
 ghost use Rattle.step_core.specs.Networks.{carried_out};

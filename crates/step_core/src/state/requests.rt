@@ -1,6 +1,6 @@
 //! What the PCE asks a peer for, and what the peer refuses.
 ghost use Rattle.std.specs.Prelude.{◌≡◌, ◌<◌, ◌^◌, ◌+◌, true, not, IfOk, OnOk, OnErr, if◌then◌else◌};
-ghost use Rattle.lsp_base.specs.Base.{HasAll, lsp_at};
+ghost use Rattle.lsp_base.specs.Lsps.{HasAll, lsp_at};
 ghost use Rattle.lsp_base.specs.Rooms.{IsWithinLimit};
 ghost use Rattle.lsp_base.specs.Refusals.{unless, ◌⨟◌};
 ghost use Rattle.lsp_base.specs.declared.why.Why.TheVariants.{PeerDown, Syncing, NoUpdate, NoInitiate};

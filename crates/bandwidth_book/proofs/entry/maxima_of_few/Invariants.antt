@@ -1,5 +1,5 @@
 use Rattle.std.proofs.Common.{◌≡◌, ◌<◌, ℕ, slice_index, max, drop}
-use Rattle.bandwidth_book.specs.Held.{most}
+use Rattle.bandwidth_book.specs.Reservation.{most}
 use Rattle.bandwidth_book.proofs.entry.maxima_of_few.Given as goal
 
 abbrev pub invariant-loop-one : goal.invariant-loop-one

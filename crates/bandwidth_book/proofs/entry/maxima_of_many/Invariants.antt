@@ -1,5 +1,5 @@
 use Rattle.std.proofs.Common.{◌≡◌, ◌<◌, ℕ, slice_index, length}
-use Rattle.bandwidth_book.specs.Held.{most, most_below}
+use Rattle.bandwidth_book.specs.Reservation.{most, most_below}
 use Rattle.bandwidth_book.proofs.entry.maxima_of_many.Given as goal
 
 abbrev pub invariant-loop-priority : goal.invariant-loop-priority

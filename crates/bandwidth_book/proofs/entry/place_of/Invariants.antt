@@ -1,5 +1,5 @@
 use Rattle.std.proofs.Common.{◌≤◌, ◌-◌, length}
-use Rattle.bandwidth_book.specs.Held.{place_in}
+use Rattle.bandwidth_book.specs.Reservation.{place_in}
 use Rattle.bandwidth_book.proofs.entry.place_of.Given as goal
 
 abbrev pub invariant-loop-low : goal.invariant-loop-low

@@ -1,6 +1,6 @@
 use Rattle.std.proofs.Common.{◌≡◌, ◌≤◌, ◌+◌, ◌==◌, ℕ, Bool, true, false, true≢false, [], ◌∷◌, Option, Some, None, length, get_or, slice_index, refl, sym, ap, arith, if◌then◌else◌}
 use Rattle.bandwidth_book.specs.Entries.{IsMoved, entry_on, held_in, promised_in}
-use Rattle.bandwidth_book.specs.Held.{most, promised_after}
+use Rattle.bandwidth_book.specs.Reservation.{most, promised_after}
 use Rattle.bandwidth_book.specs.Holdings.{Holdings}
 use Rattle.bandwidth_book.proofs.LinkLists.{entry_lent, remove_entry_lent, rising_lent, rising_removed, set_entry_lent}
 use Rattle.bandwidth_book.proofs.Moved.{goes, stays, unmoved, unmoved_room}

@@ -1,5 +1,5 @@
 use Rattle.std.proofs.Common.{◌≡◌, ◌≤◌, ◌+◌, false, slice_index, max, sym, ap, ◌∙◌, arith, rules}
-use Rattle.bandwidth_book.specs.Held.{changes_held, most}
+use Rattle.bandwidth_book.specs.Reservation.{changes_held, most}
 use Rattle.bandwidth_book.proofs.Moved.{held_stays, most_moved}
 use Rattle.bandwidth_book.proofs.link_entries.move_in.Goals as goal
 

@@ -1,6 +1,6 @@
 use Rattle.std.proofs.Common.{◌≡◌, ◌≤◌, ◌==◌, ℕ, Bool, true, false, [], ◌∷◌, Option, Some, None, insert, length, ap, ◌∙◌, arith, if◌then◌else◌}
 use Rattle.bandwidth_book.specs.Holdings.{Holdings}
-use Rattle.bandwidth_book.specs.Held.{moved_one, promised_after}
+use Rattle.bandwidth_book.specs.Reservation.{moved_one, promised_after}
 use Rattle.bandwidth_book.specs.Entries.{IsMoved, entry_on, place_on, promised_in}
 use Rattle.bandwidth_book.proofs.LinkLists.{insert_entry_of}
 use Rattle.bandwidth_book.proofs.Moved.{comes, unmoved, unmoved_room}

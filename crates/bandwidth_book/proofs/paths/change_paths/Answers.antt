@@ -1,6 +1,6 @@
 use Rattle.std.proofs.Common.{ap, ◌∙◌, arith}
 use Rattle.bandwidth_book.specs.Paths.{held_by}
-use Rattle.bandwidth_book.specs.Held.{with_all}
+use Rattle.bandwidth_book.specs.Reservation.{with_all}
 use Rattle.bandwidth_book.specs.Ledgers.{held_at}
 use Rattle.bandwidth_book.proofs.Moved.{moved_add, moved_drop}
 use Rattle.bandwidth_book.proofs.Stands.{held_after}

@@ -1,11 +1,11 @@
 use Rattle.std.proofs.Common.{◌≡◌, ◌≤◌, [], length, drop, ◌∙◌, arith, inl, inr}
 use Rattle.std.proofs.lemmas.Bool.{cases_Bool}
 use Rattle.bandwidth_book.specs.Entries.{IsMoved}
-use Rattle.bandwidth_book.specs.Held.{held_of, promised_after, takes_memory}
+use Rattle.bandwidth_book.specs.Reservation.{held_of, promised_after, takes_memory}
 use Rattle.bandwidth_book.specs.Ledgers.{entry_at, promised_on}
 use Rattle.bandwidth_book.specs.Tunnels.{held_by_path}
 use Rattle.bandwidth_book.proofs.Moved.{after_next, room_next, unmoved}
-use Rattle.bandwidth_book.proofs.Pending.{next_long, path_moved, path_refused}
+use Rattle.bandwidth_book.proofs.Promises.{next_long, path_moved, path_refused}
 use Rattle.bandwidth_book.proofs.Written.{no_more}
 use Rattle.bandwidth_book.proofs.paths.move_paths.Goals as goal
 

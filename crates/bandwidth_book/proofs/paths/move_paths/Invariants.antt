@@ -1,7 +1,7 @@
 use Rattle.std.proofs.Common.{◌≡◌, ◌<◌, ◌≤◌, ℕ, Option, length, drop}
 use Rattle.lsp_base.specs.declared.tunnel.Tunnel.{Tunnel}
 use Rattle.bandwidth_book.specs.Entries.{IsMoved}
-use Rattle.bandwidth_book.specs.Held.{promised_after, room_for}
+use Rattle.bandwidth_book.specs.Reservation.{promised_after, room_for}
 use Rattle.bandwidth_book.specs.Holdings.{Holdings}
 use Rattle.bandwidth_book.specs.Ledgers.{count, entry_at, held_at, promised_on}
 use Rattle.bandwidth_book.specs.Paths.{held_by}

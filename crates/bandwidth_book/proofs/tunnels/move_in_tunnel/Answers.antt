@@ -6,7 +6,7 @@ use Rattle.indexmap.specs.IndexMap.{Updates, set_value_at, values, with_value_at
 use Rattle.indexmap.proofs.CallerLemmas.{keys-with_value_at}
 use Rattle.lsp_base.specs.declared.tunnel.Tunnel.{Tunnel}
 use Rattle.bandwidth_book.specs.Entries.{IsMoved, entry_on, held_in, promised_in}
-use Rattle.bandwidth_book.specs.Held.{promised_after, room_for, takes_memory}
+use Rattle.bandwidth_book.specs.Reservation.{promised_after, room_for, takes_memory}
 use Rattle.bandwidth_book.specs.Tunnels.{AreSums, entries_in, held_by_links, most_on, sum_at, tunnel_eq}
 use Rattle.bandwidth_book.specs.declared.link_entries.LinkEntry.{LinkEntry}
 use Rattle.bandwidth_book.proofs.Moved.{missing, unmoved, unmoved_room}

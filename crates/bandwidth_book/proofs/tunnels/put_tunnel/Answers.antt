@@ -1,9 +1,9 @@
 use Rattle.std.proofs.Common.{◌≡◌, ◌≤◌, ◌+◌, ◌<◌, ℕ, true, List, [], Some, None, length, refl, sym, ap, ◌∙◌, arith, rules, if◌then◌else◌}
 use Rattle.bandwidth_book.specs.Entries.{IsMoved, entry_on, held_in, kept, promised_in}
-use Rattle.bandwidth_book.specs.Held.{Held, most, promised_after, takes_memory}
+use Rattle.bandwidth_book.specs.Reservation.{Reservation, most, promised_after, takes_memory}
 use Rattle.bandwidth_book.specs.Paths.{tunnel_eq}
 use Rattle.bandwidth_book.specs.Tunnels.{entries_in, held_by_links, most_on}
-use Rattle.bandwidth_book.specs.declared.held.Motion.{Motion}
+use Rattle.bandwidth_book.specs.declared.reservation.Motion.{Motion}
 use Rattle.bandwidth_book.specs.declared.link_entries.LinkEntry.{LinkEntry}
 use Rattle.bandwidth_book.proofs.Moved.{promised, unmoved, unmoved_room}
 use Rattle.bandwidth_book.proofs.Same.{tunnel_laws}
@@ -12,12 +12,12 @@ use Rattle.bandwidth_book.proofs.Written.{by_key, no_length, unwritten, written}
 use Rattle.bandwidth_book.proofs.tunnels.put_tunnel.Goals as goal
 
 -- what is promised alone holds nothing
-nothing : (m : Motion) (hs : List Held) (l p : ℕ) (before new : List LinkEntry) → takes_memory m ≡ true → before ≡ [] → IsMoved m hs (entry_on l before) (entry_on l new) → most (kept l new) p ≡ 0
+nothing : (m : Motion) (hs : List Reservation) (l p : ℕ) (before new : List LinkEntry) → takes_memory m ≡ true → before ≡ [] → IsMoved m hs (entry_on l before) (entry_on l new) → most (kept l new) p ≡ 0
 nothing m hs l p before new t first moved =
     ap (λ us. most us p) (moved.kept ∙ promised m t (kept l before) hs ∙ ap (kept l) first)
 
 -- and leaves the sums
-same : (m : Motion) (hs : List Held) (l p a b : ℕ) (before new : List LinkEntry) → takes_memory m ≡ true → before ≡ [] → IsMoved m hs (entry_on l before) (entry_on l new)
+same : (m : Motion) (hs : List Reservation) (l p a b : ℕ) (before new : List LinkEntry) → takes_memory m ≡ true → before ≡ [] → IsMoved m hs (entry_on l before) (entry_on l new)
     → a + most (kept l before) p ≡ b + most (kept l new) p → a ≡ b
 same m hs l p a b before new t first moved sums =
     let after = nothing m hs l p before new t first moved in

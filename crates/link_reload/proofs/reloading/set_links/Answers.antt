@@ -1,5 +1,5 @@
 use Rattle.std.proofs.Common.{◌∙◌, ℕ, length, ap, subst, sym, ◌<◌}
-use Rattle.te_base.specs.Base.{Base}
+use Rattle.te_base.specs.Ted.{Ted}
 use Rattle.te_base.proofs.Values.{length-set_values}
 use Rattle.link_reload.proofs.Entries.{network_set, this_and_next}
 use Rattle.link_reload.proofs.reloading.set_links.Goals as goal
@@ -18,6 +18,6 @@ loop-entry-preserved c =
       values = network_set old c.set_values.new.te c.args.te.now c.args.entries.now c.loop-entry.entry-index x c.loop-entry-test.true c.entry-item.is set c.loop-entry.invariant.values;
       network = c.set_values.ensures.network;
       stands = λ paths stood. c.set_values.ensures.stands paths (c.loop-entry.invariant.stands paths stood);
-      count = ap (λ (te : Base). length te.links) set ∙ length-set_values old.links x.link x.values ∙ c.loop-entry.invariant.count;
+      count = ap (λ (te : Ted). length te.links) set ∙ length-set_values old.links x.link x.values ∙ c.loop-entry.invariant.count;
       there = (this_and_next (length c.args.te.now.links) c.args.entries.now c.loop-entry.entry-index x c.loop-entry-test.true c.entry-item.is c.loop-entry.invariant.there).1;
     }

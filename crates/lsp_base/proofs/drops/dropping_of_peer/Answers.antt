@@ -1,6 +1,6 @@
 use Rattle.std.proofs.Common.{◌≡◌, subst, sym, ap, ◌∙◌, ◌≤◌, ◌+◌, length, arith, false, not, ◌++◌, filter, IsPermutation}
 use Rattle.std.proofs.lemmas.List.{append-nil}
-use Rattle.lsp_base.specs.Base.{effect_of, changed}
+use Rattle.lsp_base.specs.Lsps.{effect_of, changed}
 use Rattle.lsp_base.specs.Rooms.{IsWithinLimit}
 use Rattle.lsp_base.proofs.Removal.{IsWithinLimit-effect, paths-changed}
 use Rattle.lsp_base.proofs.drops.dropping_of_peer.Goals as goal

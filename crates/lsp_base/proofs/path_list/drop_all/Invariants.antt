@@ -1,5 +1,5 @@
 use Rattle.std.proofs.Common.{◌≡◌, ◌≤◌, drop, length}
-use Rattle.lsp_base.specs.Base.{without}
+use Rattle.lsp_base.specs.Lsps.{without}
 use Rattle.lsp_base.proofs.path_list.drop_all.Given as goal
 
 abbrev pub invariant-loop-path : goal.invariant-loop-path

@@ -1,6 +1,6 @@
 use Rattle.std.proofs.Common.{ℕ, All, List, subst, arith}
 use Rattle.te_base.specs.declared.network.Link.{Link}
-use Rattle.te_base.specs.Base.{IsLinkAmong}
+use Rattle.te_base.specs.Ted.{IsLinkAmong}
 use Rattle.path_finder.specs.Limits.{limit_of}
 use Rattle.path_finder.specs.Walks.{HasMetrics, IsLeastWalk, NoneWithin}
 use Rattle.path_finder.proofs.Certificates.{has_metrics}

@@ -1,5 +1,5 @@
 use Rattle.std.proofs.Common.{rules, ◌≡◌, All, map, subst, sym}
-use Rattle.te_base.specs.Base.{IsLinkAmong}
+use Rattle.te_base.specs.Ted.{IsLinkAmong}
 use Rattle.te_snapshot.specs.Leaving.{turned}
 use Rattle.te_snapshot.proofs.Arcs.{all_turned_among}
 use Rattle.te_snapshot.proofs.leaving.entering.Goals as goal

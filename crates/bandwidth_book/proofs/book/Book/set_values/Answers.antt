@@ -1,6 +1,6 @@
 use Rattle.std.proofs.Common.{◌≡◌, true≢false, List, [], length, sym, ap, arith, ◌∙◌}
 use Rattle.std.proofs.lemmas.List.{with_items_is}
-use Rattle.te_base.specs.Base.{Base}
+use Rattle.te_base.specs.Ted.{Ted}
 use Rattle.te_base.specs.Values.{set_values}
 use Rattle.te_base.specs.declared.network.Link.{Link}
 use Rattle.te_base.proofs.Values.{length-set_values, same-set, set-among}
@@ -18,7 +18,7 @@ invariant_of-self c =
     let items = with_items_is c.args.self.now.links c.set_values.new.links (ap (λ (ls : List Link). length ls) is ∙ length-set_values (links_of c.args.self.now) c.args.link c.args.values ∙ sym c.args.self.now.links.ok.0) in
     let links = links_of c.args.self.now in
     let nodes = c.args.self.now.last.network.nodes in
-    let base : Base = record { nodes = []; links = links; owners = [] } in
+    let base : Ted = record { nodes = []; links = links; owners = [] } in
     let among = set-among nodes links c.args.link c.args.values c.set_values.ensures.ranges c.args.self.now.same.among in
     record {
       same = rw (items, is) (record { ends = sym (same-set base c.args.link c.args.values).ends ∙ c.args.self.now.same.ends; among = among });

@@ -1,7 +1,7 @@
 use Rattle.std.proofs.Common.{◌≡◌, ◌==◌, [], length, get_or, drop, ◌∙◌, arith, inl, inr}
 use Rattle.std.proofs.lemmas.Bool.{cases_Bool}
 use Rattle.bandwidth_book.specs.Entries.{kept}
-use Rattle.bandwidth_book.specs.Held.{takes_memory}
+use Rattle.bandwidth_book.specs.Reservation.{takes_memory}
 use Rattle.bandwidth_book.proofs.LinkLists.{last_moved, next_length, next_moved, small_moved}
 use Rattle.bandwidth_book.proofs.Moved.{after_next, room_next, unmoved}
 use Rattle.bandwidth_book.proofs.Written.{no_more}

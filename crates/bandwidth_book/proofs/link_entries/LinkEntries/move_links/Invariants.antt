@@ -1,5 +1,5 @@
 use Rattle.std.proofs.Common.{◌≡◌, ◌<◌, ◌≤◌, ◌+◌, ◌^◌, ℕ, Option, length, drop}
-use Rattle.bandwidth_book.specs.Held.{most, promised_after, room_for}
+use Rattle.bandwidth_book.specs.Reservation.{most, promised_after, room_for}
 use Rattle.bandwidth_book.specs.Holdings.{Holdings}
 use Rattle.bandwidth_book.specs.Entries.{IsMoved, entry_on, kept, promised_to}
 use Rattle.bandwidth_book.specs.Tunnels.{held_by_links, sum_at}

@@ -1,6 +1,6 @@
 use Rattle.std.proofs.Common.{◌<◌, length, ap, arith}
 use Rattle.bandwidth_book.specs.Entries.{kept}
-use Rattle.bandwidth_book.specs.Held.{most}
+use Rattle.bandwidth_book.specs.Reservation.{most}
 use Rattle.bandwidth_book.proofs.LinkLists.{kept_elsewhere, moved_row, sum_here}
 use Rattle.bandwidth_book.proofs.link_entries.LinkEntries.move_on.Goals as goal
 

@@ -1,5 +1,5 @@
 use Rattle.std.proofs.Common.{◌≡◌, ◌≤◌, ◌++◌, List, length, sym, subst, ap}
-use Rattle.lsp_base.specs.Base.{AreDistinct, without}
+use Rattle.lsp_base.specs.Lsps.{AreDistinct, without}
 use Rattle.lsp_base.specs.Rooms.{Rooms}
 use Rattle.lsp_base.specs.declared.path.Path.{Path}
 use Rattle.lsp_base.proofs.Distinct.{set_records_distinct}

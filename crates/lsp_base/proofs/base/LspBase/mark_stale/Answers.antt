@@ -1,6 +1,6 @@
 use Rattle.std.proofs.Common.{◌≤◌, length, ◌∙◌, ap, arith}
 use Rattle.std.proofs.lemmas.List.{length-map}
-use Rattle.lsp_base.specs.Base.{made_stale}
+use Rattle.lsp_base.specs.Lsps.{made_stale}
 use Rattle.lsp_base.proofs.base.LspBase.mark_stale.Goals as goal
 
 pub invariant_of-self : goal.invariant_of-self

@@ -1,6 +1,6 @@
 use Rattle.std.proofs.Common.{option_copied, option_map, ap, sym, ◌∙◌}
 use Rattle.lsp_base.specs.declared.effect.Record.{Record}
-use Rattle.lsp_base.specs.Base.{lsp_at}
+use Rattle.lsp_base.specs.Lsps.{lsp_at}
 use Rattle.lsp_base.proofs.RecordEntries.{found}
 use Rattle.lsp_base.proofs.record_table.RecordTable.lsp.Goals as goal
 

@@ -1,6 +1,6 @@
 use Rattle.std.proofs.Common.{◌<◌, ◌≤◌, ◌++◌, ◌∷◌, [], length, set, ap, sym, subst, ◌∙◌, arith}
 use Rattle.std.specs.Map.{values_of}
-use Rattle.lsp_base.specs.Base.{put}
+use Rattle.lsp_base.specs.Lsps.{put}
 use Rattle.lsp_base.specs.Tables.{AreKeyed, RecordRoom}
 use Rattle.lsp_base.specs.declared.effect.Record.{Record}
 use Rattle.lsp_base.proofs.RecordEntries.{buckets_pushed, buckets_set, keyed_placed, placed}

@@ -1,6 +1,6 @@
 use Rattle.std.proofs.Common.{◌≡◌, ◌+◌, ◌≤◌, length}
 use Rattle.std.specs.Vec.Iter.{into_iter_items, into_iter_len}
-use Rattle.lsp_base.specs.Base.{set_records}
+use Rattle.lsp_base.specs.Lsps.{set_records}
 use Rattle.lsp_base.proofs.record_table.RecordTable.set_all.Given as goal
 
 abbrev pub invariant-loop-change : goal.invariant-loop-change

@@ -1,6 +1,6 @@
 use Rattle.std.proofs.Common.{◌≡◌, ◌-◌, List, length, take, set, get_or, ap, sym, subst, ◌∙◌, rules}
 use Rattle.std.specs.Map.{values_of}
-use Rattle.lsp_base.specs.Base.{taken_away}
+use Rattle.lsp_base.specs.Lsps.{taken_away}
 use Rattle.lsp_base.specs.Tables.{AreKeyed, RecordRoom}
 use Rattle.lsp_base.specs.declared.effect.Record.{Record}
 use Rattle.lsp_base.proofs.RecordEntries.{buckets_taken, keyed_taken, missing_stays, taken}

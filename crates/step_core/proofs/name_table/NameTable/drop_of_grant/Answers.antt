@@ -1,6 +1,6 @@
 use Rattle.std.proofs.Common.{◌∙◌, ap, sym, subst}
 use Rattle.std.specs.Map.{values_of}
-use Rattle.lsp_base.specs.Base.{without_first}
+use Rattle.lsp_base.specs.Lsps.{without_first}
 use Rattle.step_core.specs.Names.{AreKeyed, NameRoom, is_of_grant}
 use Rattle.step_core.proofs.NameEntries.{keyed_taken, taken}
 use Rattle.step_core.proofs.name_table.NameTable.drop_of_grant.Goals as goal

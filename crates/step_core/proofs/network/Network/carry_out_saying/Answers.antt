@@ -1,5 +1,5 @@
 use Rattle.std.proofs.Common.{sym, subst}
-use Rattle.lsp_base.specs.Base.{HasAll}
+use Rattle.lsp_base.specs.Lsps.{HasAll}
 use Rattle.step_core.specs.Networks.{Network, IsBooked}
 use Rattle.step_core.proofs.Booked.{IsBooked-reserved, IsBooked-changed}
 use Rattle.step_core.proofs.network.Network.carry_out_saying.Goals as goal

@@ -1,5 +1,5 @@
 use Rattle.std.proofs.Common.{sym, subst}
-use Rattle.lsp_base.specs.Base.{HasAll}
+use Rattle.lsp_base.specs.Lsps.{HasAll}
 use Rattle.lsp_base.specs.declared.effect.Effect.{Effect}
 use Rattle.step_core.specs.Networks.{IsBooked}
 use Rattle.step_core.proofs.Booked.{IsBooked-reserved, IsBooked-changed}

@@ -1,5 +1,5 @@
 use Rattle.std.proofs.Common.{rules, ◌≡◌, All, subst, sym}
-use Rattle.te_base.specs.Base.{IsLinkAmong}
+use Rattle.te_base.specs.Ted.{IsLinkAmong}
 use Rattle.te_snapshot.specs.Leaving.{leaving, IsArcAmong}
 use Rattle.te_snapshot.specs.Network.{Network}
 use Rattle.te_snapshot.proofs.Arcs.{leaving_among}

@@ -5,13 +5,13 @@ use Rattle.te_base.specs.declared.network.Link.{Link}
 use Rattle.te_base.specs.declared.network.Owner.{Owner}
 use Rattle.te_base.specs.Owners.{AreOwners}
 
-pub record Base : Type 0 where
+pub record Ted : Type 0 where
   pub nodes : List Node
   pub links : List Link
   pub owners : List Owner
 
-abbrev pub empty_base : Base
-empty_base = record { nodes = []; links = []; owners = [] }
+abbrev pub empty_ted : Ted
+empty_ted = record { nodes = []; links = []; owners = [] }
 
 -- a link from one of n nodes to another, each of its numbers in its range
 pub record IsLinkAmong (n : ℕ) (link : Link) : Type 0 where
@@ -25,7 +25,7 @@ pub record IsLinkAmong (n : ℕ) (link : Link) : Type 0 where
   pub reservable_small : link.reservable < 2 ^ 48
 
 -- what holds of each base
-pub record IsSound (base : Base) : Type 0 where
+pub record IsSound (base : Ted) : Type 0 where
   pub few_nodes : length base.nodes ≤ 1024
   pub few_links : length base.links ≤ 4096
   pub links : All (IsLinkAmong (length base.nodes)) base.links

@@ -1,6 +1,6 @@
 //! What one path holds on a link.
 ghost use Rattle.std.specs.Prelude.{◌≡◌, ◌<◌, ◌^◌};
-ghost use Rattle.bandwidth_book.specs.Held.{changes_held, held_of, is_before, same_held, takes_memory};
+ghost use Rattle.bandwidth_book.specs.Reservation.{changes_held, held_of, is_before, same_held, takes_memory};
 
 use lsp_base::Path;
 use std::marker::Model;
@@ -43,14 +43,14 @@ impl Motion {
 /// A path's holding priority, from 0 to 7, and its bandwidth in bytes per second, below 2^48, as one number: the
 /// numbers' order is by priority, then by bandwidth. A contract sees the two.
 #[derive(Clone, Copy, Debug)]
-pub struct Held {
+pub struct Reservation {
     number: u64,
 }
 
-impl Model for Held {
+impl Model for Reservation {
     ghost use Rattle.std.specs.Prelude.{◌+◌, ◌*◌, ◌/◌, ◌%◌, ◌<◌, ◌^◌};
     ghost use Rattle.std.proofs.lemmas.Nat.{div-add-mod'};
-    ghost use Rattle.bandwidth_book.specs.Held.{Held as Holding};
+    ghost use Rattle.bandwidth_book.specs.Reservation.{Reservation as Holding};
 
     ghost Value = { Holding };
 
@@ -63,20 +63,20 @@ impl Model for Held {
     ghost inverse_ok = { λ h _. λ j. record { number = div-add-mod' h.number (2 ^ 48) j } };
 }
 
-impl Default for Held {
-    fn default() -> Held {
-        Held { number: 0 }
+impl Default for Reservation {
+    fn default() -> Reservation {
+        Reservation { number: 0 }
     }
 }
 
-impl Held {
+impl Reservation {
     /// Joins a holding priority and a bandwidth.
     #[tactic(auto, using(crate::proofs::Packed::hold_of, crate::proofs::Packed::bandwidth_of))]
-    pub fn new(hold: u8, bandwidth: u64) -> Held
+    pub fn new(hold: u8, bandwidth: u64) -> Reservation
         requires { bandwidth < 2 ^ 48 }
         ensures { result ≡ record { hold = hold; bandwidth = bandwidth } }
     {
-        Held {
+        Reservation {
             number: u64::from(hold) * (1 << 48) + bandwidth,
         }
     }
@@ -97,17 +97,17 @@ impl Held {
 }
 
 /// Returns what the path holds on each of its links.
-pub fn held_of(path: &Path) -> Held
+pub fn held_of(path: &Path) -> Reservation
     ensures held { result ≡ held_of path.now }
     ensures hold { result.hold < 8 }
     ensures small { result.bandwidth < 2 ^ 48 }
 {
-    Held::new(path.hold.number(), path.bandwidth.value())
+    Reservation::new(path.hold.number(), path.bandwidth.value())
 }
 
 /// Tests whether both are of one holding priority and bandwidth.
 #[tactic(auto, using(crate::proofs::Packed::same_is))]
-pub fn is_same_held(a: &Held, b: &Held) -> bool
+pub fn is_same_held(a: &Reservation, b: &Reservation) -> bool
     ensures { result ≡ same_held a.now b.now }
 {
     a.number == b.number
@@ -115,7 +115,7 @@ pub fn is_same_held(a: &Held, b: &Held) -> bool
 
 /// Tests the order in a list: by holding priority, then by bandwidth.
 #[tactic(auto, using(crate::proofs::Packed::before_is))]
-pub fn is_before(a: &Held, b: &Held) -> bool
+pub fn is_before(a: &Reservation, b: &Reservation) -> bool
     ensures { result ≡ is_before a.now b.now }
 {
     a.number < b.number

@@ -5,10 +5,10 @@ use Rattle.std.proofs.lemmas.Bool.Decides.{nat_tests}
 use Rattle.lsp_base.specs.declared.path.Path.{Path}
 use Rattle.lsp_base.specs.declared.tunnel.Tunnel.{Tunnel}
 use Rattle.bandwidth_book.specs.Entries.{IsMoved}
-use Rattle.bandwidth_book.specs.Held.{held_of, promised_after, takes_memory}
+use Rattle.bandwidth_book.specs.Reservation.{held_of, promised_after, takes_memory}
 use Rattle.bandwidth_book.specs.Holdings.{Holdings}
-use Rattle.bandwidth_book.specs.declared.held.Motion.{Motion}
-use Rattle.bandwidth_book.specs.declared.held.Motion.TheVariants.{Withdraw}
+use Rattle.bandwidth_book.specs.declared.reservation.Motion.{Motion}
+use Rattle.bandwidth_book.specs.declared.reservation.Motion.TheVariants.{Withdraw}
 use Rattle.bandwidth_book.specs.Paths.{held_by}
 use Rattle.bandwidth_book.specs.Tunnels.{held_by_path}
 use Rattle.bandwidth_book.proofs.Moved.{moved_both, moved_part}

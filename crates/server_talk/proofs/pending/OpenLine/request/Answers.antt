@@ -2,7 +2,7 @@ use Rattle.std.proofs.Common.{ℕ, List, ◌∙◌, subst}
 use Rattle.server_talk.specs.Listening.{Asks}
 use Rattle.server_talk.specs.Requests.{request_of}
 use Rattle.server_talk.proofs.Requesting.{too_long, all_kept, long_is_bad, given_what_is_asked}
-use Rattle.server_talk.proofs.pending.Pending.request.Goals as goal
+use Rattle.server_talk.proofs.pending.OpenLine.request.Goals as goal
 
 pub returns-then-self : goal.returns-then-self
 returns-then-self c = λ line kept. long_is_bad line (too_long c.args.self.now.is_long c.args.self.now.bytes.items line c.if-self.true kept.kept)

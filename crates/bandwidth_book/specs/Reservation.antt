@@ -2,68 +2,68 @@
 use Rattle.std.specs.Prelude.{⊤, ◌≡◌, ◌<◌, ℕ, zero, suc, ◌+◌, ◌-◌, ◌&&◌, ◌||◌, ◌==◌, nat_le, nat_lt, max, Bool, true, false, List, [], ◌∷◌, if◌then◌else◌, slice_index}
 use Rattle.std.specs.List.{AllByRecursion}
 use Rattle.lsp_base.specs.declared.path.Path.{Path}
-use Rattle.bandwidth_book.specs.declared.held.Motion.{Motion}
-use Rattle.bandwidth_book.specs.declared.held.Motion.TheVariants.{Promise, Add, Drop, Withdraw}
+use Rattle.bandwidth_book.specs.declared.reservation.Motion.{Motion}
+use Rattle.bandwidth_book.specs.declared.reservation.Motion.TheVariants.{Promise, Add, Drop, Withdraw}
 
 -- a holding priority, and a bandwidth in bytes per second
-pub record Held : Type 0 where
+pub record Reservation : Type 0 where
   pub hold : ℕ
   pub bandwidth : ℕ
 
-abbrev pub held_of : Path → Held
+abbrev pub held_of : Path → Reservation
 held_of x = record { hold = x.hold; bandwidth = x.bandwidth }
 
-abbrev pub same_held : Held → Held → Bool
+abbrev pub same_held : Reservation → Reservation → Bool
 same_held a b = a.hold == b.hold && a.bandwidth == b.bandwidth
 
 -- the greatest bandwidth that is held at the priority or a better one, or 0
-abbrev pub most : List Held → ℕ → ℕ
+abbrev pub most : List Reservation → ℕ → ℕ
 most [] priority = 0
 most (h ∷ hs) priority = max (if nat_le h.hold priority then h.bandwidth else 0) (most hs priority)
 
 -- how many are of this holding priority and bandwidth
-abbrev pub times : Held → List Held → ℕ
+abbrev pub times : Reservation → List Reservation → ℕ
 times h [] = 0
 times h (x ∷ xs) = (if same_held h x then 1 else 0) + times h xs
 
 -- by holding priority, then by bandwidth
-abbrev pub is_before : Held → Held → Bool
+abbrev pub is_before : Reservation → Reservation → Bool
 is_before a b = nat_lt a.hold b.hold || (a.hold == b.hold && nat_lt a.bandwidth b.bandwidth)
 
 -- where it belongs in the order
-abbrev pub place_in : Held → List Held → ℕ
+abbrev pub place_in : Reservation → List Reservation → ℕ
 place_in h [] = 0
 place_in h (x ∷ xs) = if is_before x h then suc (place_in h xs) else 0
 
 -- with one more, in its order
-abbrev pub with_one : Held → List Held → List Held
+abbrev pub with_one : Reservation → List Reservation → List Reservation
 with_one h [] = h ∷ []
 with_one h (x ∷ xs) = if is_before x h then x ∷ with_one h xs else h ∷ x ∷ xs
 
 -- with one more for each of them, in turn
-abbrev pub with_all : List Held → List Held → List Held
+abbrev pub with_all : List Reservation → List Reservation → List Reservation
 with_all hs [] = hs
 with_all hs (x ∷ xs) = with_all (with_one x hs) xs
 
 -- without the first that is the same
-abbrev pub without_one : Held → List Held → List Held
+abbrev pub without_one : Reservation → List Reservation → List Reservation
 without_one h [] = []
 without_one h (x ∷ xs) = if same_held h x then xs else x ∷ without_one h xs
 
 -- without the first that is the same as each of them, in turn
-abbrev pub without_all : List Held → List Held → List Held
+abbrev pub without_all : List Reservation → List Reservation → List Reservation
 without_all hs [] = hs
 without_all hs (x ∷ xs) = without_all (without_one x hs) xs
 
 -- what is held after one motion: a promise, and one that is taken back, leave it
-abbrev pub moved_one : Motion → Held → List Held → List Held
+abbrev pub moved_one : Motion → Reservation → List Reservation → List Reservation
 moved_one Promise h hs = hs
 moved_one Add h hs = with_one h hs
 moved_one Drop h hs = without_one h hs
 moved_one Withdraw h hs = hs
 
 -- after one for each of them, in turn
-abbrev pub moved_all : Motion → List Held → List Held → List Held
+abbrev pub moved_all : Motion → List Reservation → List Reservation → List Reservation
 moved_all motion hs [] = hs
 moved_all motion hs (x ∷ xs) = moved_all motion (moved_one motion x hs) xs
 
@@ -97,23 +97,23 @@ takes_memory Drop = false
 takes_memory Withdraw = false
 
 -- at each priority, the greatest bandwidth
-abbrev pub AreMaxima : List ℕ → List Held → Type 0
+abbrev pub AreMaxima : List ℕ → List Reservation → Type 0
 AreMaxima maxima hs = (p : ℕ) → p < 8 → slice_index maxima p ≡ most hs p
 
 -- none stands before an earlier one
-abbrev pub AreInOrder : List Held → Type 0
+abbrev pub AreInOrder : List Reservation → Type 0
 AreInOrder [] = ⊤
 AreInOrder (x ∷ xs) = AllByRecursion (λ y. is_before y x ≡ false) xs × AreInOrder xs
 
 -- the greatest bandwidth that is held at a better priority, or 0
-abbrev pub most_below : List Held → ℕ → ℕ
+abbrev pub most_below : List Reservation → ℕ → ℕ
 most_below [] p = 0
 most_below (h ∷ hs) p = max (if nat_lt h.hold p then h.bandwidth else 0) (most_below hs p)
 
 -- it stands after all that is held at the priority or a better one
-abbrev pub after_all : ℕ → Held
+abbrev pub after_all : ℕ → Reservation
 after_all p = record { hold = p + 1; bandwidth = 0 }
 
 -- what one counts at its own priority
-abbrev pub last_counts : Held → ℕ → ℕ
+abbrev pub last_counts : Reservation → ℕ → ℕ
 last_counts h p = if h.hold == p then h.bandwidth else 0

@@ -1,0 +1,65 @@
+-- What a step left of the links of the path that it brought.
+use Rattle.std.specs.Prelude.{ℕ, ℤ, ◌≡◌, ◌++◌, nat_lt, Bool, true, false, List, [], length, drop, Some, Contains, if◌then◌else◌}
+use Rattle.lsp_base.specs.Shares.{unreserved}
+use Rattle.te_base.specs.Ted.{Ted}
+use Rattle.delegate_rules.specs.Reports.{links_of}
+use Rattle.server_counts.specs.declared.lefts.LeftRow.{LeftRow}
+use Rattle.step_core.specs.declared.event.Event.{Event}
+use Rattle.step_core.specs.declared.event.Event.TheVariants.{Report, Commit}
+use Rattle.step_core.specs.declared.event.Reply.{Reply}
+use Rattle.step_core.specs.declared.event.Reply.TheVariants.{Booked, Granted}
+use Rattle.step_core.specs.States.{State}
+use Rattle.step_core.specs.Steps.{step}
+use Rattle.history_core.specs.Histories.{Content, Replays, steps_of}
+
+-- the links of the path that an event brings: those of a report's route (RFC 3209), or those that a commit offers
+abbrev pub links_in : Ted → Event → List ℕ
+links_in te (Report peer r) = links_of te r
+links_in te (Commit ticket (Some links)) = links
+links_in te e = []
+
+-- the path was booked or granted
+abbrev pub brings : Reply → Bool
+brings (Booked wants) = true
+brings (Granted srp) = true
+brings r = false
+
+-- a report is looked at by its setup priority; a commit has only the number of its ticket
+abbrev pub IsLookedAt : Event → ℕ → Type 0
+IsLookedAt (Report peer r) priority = priority ≡ (r.priorities).setup
+IsLookedAt e priority = Unit {0}
+
+-- what is left of a link at a priority
+abbrev pub left_at : State → ℕ → ℕ → ℤ
+left_at s link priority = unreserved s.te.links s.base.paths link priority
+
+-- The next step of a database that replays was of an event that brought a path over the link, and this was left of the
+-- link before that step and after it.
+pub record WasLeft (row : LeftRow) : Type 0 where
+  pub d : Content
+  pub e : Event
+  pub replays : Replays d
+  pub place : row.step ≡ steps_of d
+  pub brought : brings (step d.state e).reply ≡ true
+  pub link : Contains (links_in d.state.te e) row.link
+  pub priority : IsLookedAt e row.priority
+  pub before : row.before ≡ left_at d.state row.link row.priority
+  pub after : row.after ≡ left_at (step d.state e).state row.link row.priority
+
+-- ---- rows as they are made
+
+-- the row of a link before the step
+abbrev pub row_before : Content → ℕ → ℕ → LeftRow
+row_before d priority link = let left = left_at d.state link priority in record { step = steps_of d; link = link; priority = priority; before = left; after = left }
+
+-- and after it
+abbrev pub row_after : State → LeftRow → LeftRow
+row_after s row = record row { after = left_at s row.link row.priority }
+
+-- it is of a link of the event
+abbrev pub IsBefore : Content → Event → ℕ → LeftRow → Type 0
+IsBefore d e priority row = (row ≡ row_before d priority row.link) × Contains (links_in d.state.te e) row.link
+
+-- rows behind others; of 65,536 the older half is dropped
+abbrev pub with_rows : List LeftRow → List LeftRow → List LeftRow
+with_rows rows old = (if nat_lt (length old) 65536 then old else drop 32768 old) ++ rows

@@ -1,0 +1,173 @@
+//! What a step leaves of the links of the path that it brings: numbers of one hold of the lock, before the step and after it.
+ghost use Rattle.std.specs.Prelude.{ℕ, ◌≡◌, true, [], All, map, IfOk, IfSome};
+ghost use Rattle.delegate_rules.specs.Reports.{identifiers_of, links_of};
+ghost use Rattle.history_core.specs.Histories.{Content, Replays};
+ghost use Rattle.step_core.specs.Steps.{step};
+ghost use Rattle.shared_pce.specs.Lefts.{brings, links_in, row_after, row_before, IsBefore, IsLookedAt, WasLeft};
+
+use history_core::{Database, Event, Reply};
+use pcep_messages::StateReport;
+use pcep_objects::{Identifiers, Operational};
+use pcep_word::{Ipv4, Priority};
+use sequence::PlainData;
+use server_counts::LeftRow;
+use std::alloc::{AllocError, Global};
+use te_base::{LinkNumber, TeBase};
+
+/// The greatest number of links of a path that are looked at.
+const LINK_LIMIT: usize = 64;
+
+/// Reads the identifiers of a report: all zero where it has none.
+fn identifiers(report: &StateReport) -> Identifiers
+    ensures { result ≡ identifiers_of report.now }
+{
+    match report.identifiers {
+        Some(identifiers) => identifiers,
+        None => Identifiers {
+            sender: Ipv4(0),
+            lsp: 0,
+            tunnel: 0,
+            extended: 0,
+            endpoint: Ipv4(0),
+        },
+    }
+}
+
+/// Lists the links of the path that a report describes.
+fn report_links(
+    alloc: Global,
+    te: &TeBase,
+    report: &StateReport,
+) -> Result<Vec<LinkNumber>, AllocError>
+    ensures { IfOk result (λ links. links.items ≡ links_of te.now report.now) }
+{
+    if report.operational == Operational::Down {
+        return Ok(Vec::new(alloc));
+    }
+    let i = identifiers(report);
+    let hops = match &report.rro {
+        Some(hops) => hops.as_slice(),
+        None => report.ero.as_slice(),
+    };
+    te.walk(alloc, i.sender, hops, i.endpoint)
+}
+
+/// Lists the links of the path that an event brings.
+fn links_in(alloc: Global, te: &TeBase, event: &Event) -> Result<Vec<LinkNumber>, AllocError>
+    ensures { IfOk result (λ links. links.items ≡ links_in te.now event.now) }
+{
+    match event {
+        Event::Report { report, .. } => report_links(alloc, te, report),
+        Event::Commit {
+            offer: Some(links),
+            ..
+        } => links.as_slice().to_vec(alloc),
+        _ => Ok(Vec::new(alloc)),
+    }
+}
+
+/// Reads what is left of a link. `None` where there is no such link.
+fn row_before(database: &Database, link: LinkNumber, priority: Priority) -> Option<LeftRow>
+    ensures { IfSome result (λ row. row ≡ row_before database.now priority link) }
+{
+    let left = database.unreserved(link, priority)?;
+    Some(LeftRow {
+        step: database.steps(),
+        link,
+        priority,
+        before: left,
+        after: left,
+    })
+}
+
+/// Reads what is left of each link. `None` where one isn't there, there are too many, or memory is refused.
+fn rows_before(
+    alloc: Global,
+    database: &Database,
+    links: &[LinkNumber],
+    priority: Priority,
+) -> Option<Vec<LeftRow>>
+    ensures { IfSome result (λ rows. rows.items ≡ map (row_before database.now priority) links.now) }
+{
+    if links.len() > LINK_LIMIT {
+        return None;
+    }
+    let mut rows = Vec::with_capacity(alloc, links.len()).ok()?;
+    for link in links {
+        rows.push(row_before(database, *link, priority)?).ok()?;
+    }
+    Some(rows)
+}
+
+/// Reads what is left of each link of an event, where it can be read.
+fn rows_of_event(
+    alloc: Global,
+    database: &Database,
+    event: &Event,
+    priority: Priority,
+) -> Option<Vec<LeftRow>>
+    ensures { IfSome result (λ rows. rows.items ≡ map (row_before database.now priority) (links_in database.now.state.te event.now)) }
+{
+    let links = links_in(alloc, database.te_base(), event).ok()?;
+    rows_before(alloc, database, &links, priority)
+}
+
+/// Reads what is left of each link of an event, or nothing.
+pub(crate) fn see_before(
+    alloc: Global,
+    database: &Database,
+    event: &Event,
+    priority: Priority,
+) -> Vec<LeftRow>
+    ensures { All (IsBefore database.now event.now priority) result.items }
+{
+    match rows_of_event(alloc, database, event, priority) {
+        Some(rows) => rows,
+        None => Vec::new(alloc),
+    }
+}
+
+/// Reads what is left of a row's link after the step. `None` where there is no such link.
+fn row_after(database: &Database, row: &LeftRow) -> Option<LeftRow>
+    ensures { IfSome result (λ after. after ≡ row_after database.now.state row.now) }
+{
+    let after = database.unreserved(row.link, row.priority)?;
+    Some(LeftRow { after, ..*row })
+}
+
+/// Reads what is left of each row's link after the step. `None` where one isn't there, or memory is refused.
+fn rows_after(alloc: Global, database: &Database, before: &[LeftRow]) -> Option<Vec<LeftRow>>
+    ensures { IfSome result (λ rows. rows.items ≡ map (row_after database.now.state) before.now) }
+{
+    let mut rows = Vec::with_capacity(alloc, before.len()).ok()?;
+    for row in before {
+        rows.push(row_after(database, row)?).ok()?;
+    }
+    Some(rows)
+}
+
+/// Tests whether a path was booked or granted.
+fn brings(reply: &Reply) -> bool
+    ensures { result ≡ brings reply.now }
+{
+    matches!(reply, Reply::Booked { .. } | Reply::Granted(_))
+}
+
+/// Reads what is left of each row's link after a step that brought a path, or nothing.
+pub(crate) fn see_after(
+    alloc: Global,
+    database: &Database,
+    reply: &Reply,
+    before: &[LeftRow],
+) -> Vec<LeftRow>
+    ensures { (d : Content) (e : Event) (priority : ℕ) → Replays d → IsLookedAt e priority → All (IsBefore d e priority) before.now
+        → reply.now ≡ (step d.state e).reply → database.now.state ≡ (step d.state e).state → All WasLeft result.items }
+{
+    if !brings(reply) {
+        return Vec::new(alloc);
+    }
+    match rows_after(alloc, database, before) {
+        Some(rows) => rows,
+        None => Vec::new(alloc),
+    }
+}

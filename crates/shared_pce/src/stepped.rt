@@ -1,0 +1,74 @@
+//! One step under the lock, and what it leaves.
+ghost use Rattle.std.specs.Prelude.{ℕ, ◌≡◌, true, All, IfOk, OnErr};
+ghost use Rattle.history_core.specs.Histories.{Content, Replays, is_full};
+ghost use Rattle.shared_pce.specs.Lefts.{IsBefore, IsLookedAt, WasLeft};
+ghost use Rattle.shared_pce.specs.Turns.{Received};
+
+use crate::left::{see_after, see_before};
+use history_core::{Event, Fault, Reply, SharedEvent};
+use history_seats::{Held, Receipt, Seat};
+use pcep_word::Priority;
+use place_tokens::Room;
+use server_counts::LeftRow;
+use std::alloc::Global;
+use std::sync::ledger::Ledger;
+
+/// What a step came to.
+#[derive(Drop)]
+pub(crate) struct Stepped {
+    pub reply: Reply,
+    /// The receipts that the seat keeps no longer, to be dropped once the lock is free.
+    pub unkept: Vec<Receipt>,
+    /// What was left of the links of the path that the step brought, where it was read.
+    pub rows: Vec<LeftRow>,
+}
+
+/// Reads by which priority an event's links are looked at: a report's by its setup priority.
+pub(crate) fn priority_of(event: &Event) -> Priority
+    ensures { IsLookedAt event.now result }
+{
+    match event {
+        Event::Report { report, .. } => report.priorities.setup(),
+        _ => Priority::capped(7),
+    }
+}
+
+/// Takes a step, and reads what it left of these links.
+fn step_beside<S: Ledger, G: Ledger, B: Room>(
+    alloc: Global,
+    held: &mut Held<S, G, B>,
+    seat: &mut Seat<S, G, B>,
+    event: SharedEvent,
+    before: &[LeftRow],
+) -> Result<Stepped, Fault>
+    ensures received { IfOk result (λ s. Received seat.old event seat.new s.reply) }
+    ensures left { IfOk result (λ s. (priority : ℕ) → IsLookedAt event priority → All (IsBefore held.old event priority) before.now → All WasLeft s.rows.items) }
+    ensures unchanged_on_fault { OnErr result (seat.new ≡ seat.old) }
+    ensures full { result ≡ Err Fault.HistoryFull → (d : Content) × Replays d × (is_full d ≡ true) }
+{
+    let (reply, unkept) = held.step_and_fold(seat, event)?;
+    let rows = see_after(alloc, held.database(), &reply, before);
+    Ok(Stepped {
+        reply,
+        unkept,
+        rows,
+    })
+}
+
+/// Takes a step, and reads what was left of the links of the event's path before it and after it, at a priority.
+pub(crate) fn step_seen<S: Ledger, G: Ledger, B: Room>(
+    alloc: Global,
+    held: &mut Held<S, G, B>,
+    seat: &mut Seat<S, G, B>,
+    event: SharedEvent,
+    priority: Priority,
+) -> Result<Stepped, Fault>
+    requires { IsLookedAt event priority }
+    ensures received { IfOk result (λ s. Received seat.old event seat.new s.reply) }
+    ensures left { IfOk result (λ s. All WasLeft s.rows.items) }
+    ensures unchanged_on_fault { OnErr result (seat.new ≡ seat.old) }
+    ensures full { result ≡ Err Fault.HistoryFull → (d : Content) × Replays d × (is_full d ≡ true) }
+{
+    let before = see_before(alloc, held.database(), event.event(), priority);
+    step_beside(alloc, held, seat, event, &before)
+}
