@@ -29,5 +29,6 @@ mod rules;
 
 pub use fault::RuleFault;
 pub use refusals::on_refused;
+pub use reported::report_links;
 pub use returns::on_return;
 pub use rules::on_report;

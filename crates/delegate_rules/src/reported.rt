@@ -18,7 +18,9 @@ use sequence::{PlainData, Sequence};
 use std::alloc::{AllocError, Global};
 use te_base::{LinkNumber, TeBase};
 
-fn report_links(
+/// Lists the links of the path that a report describes: none where it is down, else the walk of its RRO, or of its ERO where
+/// it has none, from the sender to the endpoint of its identifiers (RFC 8231 section 6.1, RFC 3209 section 4.4).
+pub fn report_links(
     alloc: Global,
     te: &TeBase,
     report: &StateReport,

@@ -1,14 +1,12 @@
 //! What a step leaves of the links of the path that it brings: numbers of one hold of the lock, before the step and after it.
 ghost use Rattle.std.specs.Prelude.{ℕ, ◌≡◌, true, [], All, map, IfOk, IfSome};
-ghost use Rattle.delegate_rules.specs.Reports.{identifiers_of, links_of};
 ghost use Rattle.history_core.specs.Histories.{Content, Replays};
 ghost use Rattle.step_core.specs.Steps.{step};
 ghost use Rattle.shared_pce.specs.Lefts.{brings, links_in, row_after, row_before, IsBefore, IsLookedAt, WasLeft};
 
+use delegate_rules::report_links;
 use history_core::{Database, Event, Reply};
-use pcep_messages::StateReport;
-use pcep_objects::{Identifiers, Operational};
-use pcep_word::{Ipv4, Priority};
+use pcep_word::Priority;
 use sequence::PlainData;
 use server_counts::LeftRow;
 use std::alloc::{AllocError, Global};
@@ -16,41 +14,6 @@ use te_base::{LinkNumber, TeBase};
 
 /// The greatest number of links of a path that are looked at.
 const LINK_LIMIT: usize = 64;
-
-/// Reads the identifiers of a report: all zero where it has none.
-fn identifiers(report: &StateReport) -> Identifiers
-    ensures { result ≡ identifiers_of report.now }
-{
-    match report.identifiers {
-        Some(identifiers) => identifiers,
-        None => Identifiers {
-            sender: Ipv4(0),
-            lsp: 0,
-            tunnel: 0,
-            extended: 0,
-            endpoint: Ipv4(0),
-        },
-    }
-}
-
-/// Lists the links of the path that a report describes.
-fn report_links(
-    alloc: Global,
-    te: &TeBase,
-    report: &StateReport,
-) -> Result<Vec<LinkNumber>, AllocError>
-    ensures { IfOk result (λ links. links.items ≡ links_of te.now report.now) }
-{
-    if report.operational == Operational::Down {
-        return Ok(Vec::new(alloc));
-    }
-    let i = identifiers(report);
-    let hops = match &report.rro {
-        Some(hops) => hops.as_slice(),
-        None => report.ero.as_slice(),
-    };
-    te.walk(alloc, i.sender, hops, i.endpoint)
-}
 
 /// Lists the links of the path that an event brings.
 fn links_in(alloc: Global, te: &TeBase, event: &Event) -> Result<Vec<LinkNumber>, AllocError>
