@@ -6,8 +6,9 @@
 //! and none was taken more than four times. `push` and `copies` alone take memory, and where it is refused nothing has
 //! changed.
 //!
-//! A ticket stands in the map by its number, in the order in which they were asked for. One that ends is taken out by
-//! `shift_remove`: it is dropped there and then, and those behind it move up.
+//! A ticket stands in the map by its number, in the order in which they were asked for, and in memory of its own: an
+//! entry is a number and a pointer. One that ends is taken out by `shift_remove`: it is dropped there and then, and of
+//! those behind it the entries alone move up.
 //!
 //! ```text
 //! tickets.push(ticket)?;
@@ -19,6 +20,7 @@
 //! ```
 #![tactic(auto)]
 
+mod standing;
 mod table;
 
 pub use table::{TICKET_LIMIT, TicketTable};

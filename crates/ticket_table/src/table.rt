@@ -2,6 +2,7 @@
 ghost use Rattle.std.specs.Prelude.{◌≡◌, ◌<◌, ◌≤◌, ◌+◌, ◌++◌, ◌∷◌, [], All, true, length, OnOk, OnErr, IfOk, IfSome, option_copied};
 ghost use Rattle.ticket_table.specs.Tickets.{AreRising, first_waiting, ticket_at, is_update_of, is_update_asked, is_initiation_of, is_name_asked, take_first, put_back, without_ticket, has_tries_left, is_waiting};
 
+use crate::standing::StandingTicket;
 use commit_core::{Purpose, Ticket};
 use indexmap::IndexMap;
 use lsp_base::is_same_name;
@@ -17,7 +18,7 @@ pub const TICKET_LIMIT: usize = 1024;
 /// four times, and one that waits fewer times.
 #[derive(Drop)]
 pub struct TicketTable {
-    map: IndexMap<u64, Ticket>,
+    map: IndexMap<u64, StandingTicket>,
     last: u64,
 }
 
@@ -51,17 +52,23 @@ fn is_initiation_of(name: &[u8], purpose: &Purpose) -> bool
 }
 
 /// Whether one of the tickets is to update the LSP.
-fn is_any_update(tickets: &[Ticket], peer: u32, plsp: Plsp) -> bool
+fn is_any_update(tickets: &[StandingTicket], peer: u32, plsp: Plsp) -> bool
     ensures { result ≡ is_update_asked tickets.now peer plsp }
 {
-    tickets.iter().any(|ticket| ticket.peer == peer && is_update_of(plsp, &ticket.purpose))
+    tickets.iter().any(|standing| {
+        let ticket = standing.ticket();
+        ticket.peer == peer && is_update_of(plsp, &ticket.purpose)
+    })
 }
 
 /// Whether one of the tickets is to set an LSP of this name up.
-fn is_any_initiation(tickets: &[Ticket], peer: u32, name: &[u8]) -> bool
+fn is_any_initiation(tickets: &[StandingTicket], peer: u32, name: &[u8]) -> bool
     ensures { result ≡ is_name_asked tickets.now peer name.now }
 {
-    tickets.iter().any(|ticket| ticket.peer == peer && is_initiation_of(name, &ticket.purpose))
+    tickets.iter().any(|standing| {
+        let ticket = standing.ticket();
+        ticket.peer == peer && is_initiation_of(name, &ticket.purpose)
+    })
 }
 
 impl TicketTable {
@@ -88,8 +95,8 @@ impl TicketTable {
         ensures rising { AreRising self.now.tickets }
     {
         let mut copies = Vec::with_capacity(alloc, self.map.len())?;
-        for ticket in self.map.values() {
-            copies.push(ticket.copy()?)?;
+        for standing in self.map.values() {
+            copies.push(standing.ticket().copy()?)?;
         }
         Ok(copies)
     }
@@ -109,7 +116,8 @@ impl TicketTable {
         ensures unchanged { OnErr result (self.new ≡ self.old) }
     {
         let id = ticket.id;
-        self.map.insert(id, ticket)?;
+        let standing = StandingTicket::new(*self.map.allocator(), ticket)?;
+        self.map.insert(id, standing)?;
         self.last = id;
         Ok(())
     }
@@ -118,7 +126,10 @@ impl TicketTable {
     pub fn find(&self, id: u64) -> Option<&Ticket>
         ensures { option_copied result ≡ ticket_at self.now.tickets id }
     {
-        self.map.get(&id)
+        match self.map.get(&id) {
+            Some(standing) => Some(standing.ticket()),
+            None => None,
+        }
     }
 
     /// The waiting ticket of the least number. It was taken fewer than four times.
@@ -127,9 +138,9 @@ impl TicketTable {
         ensures tries { IfSome result (λ t. t.now.tries < 4) }
         ensures least { IfSome result (λ t. All (λ u. is_waiting u ≡ true → t.now.id ≤ u.id) self.now.tickets) }
     {
-        for ticket in self.map.values() {
-            if !ticket.taken {
-                return Some(ticket);
+        for standing in self.map.values() {
+            if !standing.ticket().taken {
+                return Some(standing.ticket());
             }
         }
         None
@@ -143,10 +154,8 @@ impl TicketTable {
             return;
         };
         let (id, tries) = (waiting.id, waiting.tries + 1);
-        if let Some(ticket) = self.map.get_mut(&id) {
-            ticket.taken = true;
-            ticket.tries = tries;
-            ticket.seen = changes;
+        if let Some(standing) = self.map.get_mut(&id) {
+            standing.begin_search(tries, changes);
         }
     }
 
@@ -155,8 +164,8 @@ impl TicketTable {
         requires { IfSome (ticket_at self.old.tickets id) (λ t. t.tries < 4) }
         ensures { self.new ≡ record self.old { tickets = put_back self.old.tickets id } }
     {
-        if let Some(ticket) = self.map.get_mut(&id) {
-            ticket.taken = false;
+        if let Some(standing) = self.map.get_mut(&id) {
+            standing.wait_again();
         }
     }
 

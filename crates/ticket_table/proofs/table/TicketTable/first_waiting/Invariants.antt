@@ -3,5 +3,5 @@ use Rattle.ticket_table.specs.Tickets.{first_waiting}
 use Rattle.ticket_table.proofs.table.TicketTable.first_waiting.Given as goal
 
 -- the first that waits is among the tickets that are still to be looked at
-abbrev pub invariant-loop-ticket : goal.invariant-loop-ticket
-invariant-loop-ticket l = first_waiting l.ticket-iterator ≡ first_waiting l.fn.self.tickets
+abbrev pub invariant-loop-standing : goal.invariant-loop-standing
+invariant-loop-standing l = first_waiting l.standing-iterator ≡ first_waiting l.fn.self.tickets

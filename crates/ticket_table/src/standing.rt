@@ -1,0 +1,56 @@
+//! A ticket in memory of its own.
+ghost use Rattle.std.specs.Prelude.{◌≡◌, true, IfOk};
+ghost use Rattle.ticket_table.specs.Tickets.{waiting_again};
+
+use commit_core::Ticket;
+use std::alloc::{AllocError, Global};
+use std::marker::Model;
+
+/// A ticket that stands in the table, in memory of its own: the table moves its pointer alone. A contract sees the ticket.
+#[derive(Drop)]
+pub struct StandingTicket {
+    ticket: Box<Ticket>,
+}
+
+impl Model for StandingTicket {
+    ghost use Rattle.commit_core.specs.declared.ticket.Ticket.{Ticket};
+
+    ghost Value = { Ticket };
+
+    ghost view = { λ s. s.ticket.value };
+}
+
+impl StandingTicket {
+    /// Moves the ticket into memory of its own.
+    pub fn new(alloc: Global, ticket: Ticket) -> Result<StandingTicket, AllocError>
+        ensures { IfOk result (λ standing. standing ≡ ticket) }
+    {
+        Ok(StandingTicket {
+            ticket: Box::new(alloc, ticket)?,
+        })
+    }
+
+    /// The ticket.
+    pub fn ticket(&self) -> &Ticket
+        ensures { result.now ≡ self.now }
+    {
+        &self.ticket
+    }
+
+    /// Begins a search for the ticket; it was taken `tries` times with this one, and paths came or went, or links were
+    /// reloaded, `changes` times so far.
+    pub fn begin_search(&mut self, tries: u32, changes: u64)
+        ensures { self.new ≡ record self.old { taken = true; tries = tries; seen = changes } }
+    {
+        self.ticket.taken = true;
+        self.ticket.tries = tries;
+        self.ticket.seen = changes;
+    }
+
+    /// Lets the ticket wait again.
+    pub fn wait_again(&mut self)
+        ensures { self.new ≡ waiting_again self.old }
+    {
+        self.ticket.taken = false;
+    }
+}
