@@ -77,6 +77,25 @@ fn note_unheard<R: Wait + Clock, S: Ledger, G: Ledger, B: Room>(
     });
 }
 
+/// The slot for a connection of the peer that came, with one fewer still to be accepted. None where the peer isn't heard, or
+/// may have no place.
+fn slot_of_comer<R: Wait + Clock, S: Ledger, G: Ledger, B: Room>(
+    context: &Context<'_, R, S, G, B>,
+    peer: u32,
+    left: &mut Sessions,
+) -> Option<usize> {
+    if !context.is_known(peer) {
+        return None;
+    }
+    *left = one_fewer(*left);
+    context.count(Counted::Accepted);
+    let slot = slot_for(context, peer);
+    if slot.is_none() {
+        note_unheard(context, peer);
+    }
+    slot
+}
+
 /// Accepts connections, each into a thread of its own, until as many came as were ordered or the run is to end;
 /// then waits for their ends. Where a thread can't be started, that connection alone ends at once. A broken listener
 /// ends the run; what is short may come back.
@@ -96,15 +115,8 @@ pub(crate) fn accept_all<
             match listen(listener) {
                 Knock::Came(stream, address) => {
                     let peer = peer_of(address);
-                    if !context.is_known(peer) {
+                    let Some(slot) = slot_of_comer(context, peer, &mut left) else {
                         drop(stream);
-                        continue;
-                    }
-                    left = one_fewer(left);
-                    context.count(Counted::Accepted);
-                    let Some(slot) = slot_for(context, peer) else {
-                        drop(stream);
-                        note_unheard(context, peer);
                         continue;
                     };
                     if scope

@@ -70,7 +70,14 @@ fn receive<R: Wait + Clock, S: Ledger, G: Ledger, B: Room>(
         keepalive: 0,
         dead: 0,
     });
-    let mut heard = Heard::new(context.rt, context.counters, socket, &timers);
+    let mut heard = Heard::new(
+        context.rt,
+        context.counters,
+        socket,
+        context.wakers,
+        slot,
+        &timers,
+    );
     let mut said = Said::new(context.rt, context.counters, stream);
     let mut store = Noted {
         notes: Notes {

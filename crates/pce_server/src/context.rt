@@ -17,6 +17,7 @@ use pce_seen::{Ask, Seen};
 use pcep_word::Ipv4;
 use place_tokens::Room;
 use server_counts::{Counted, Counters, Mark, Marks, Presence, Presences, Timed, Waits};
+use server_rules::Settling;
 use server_talk::Watch;
 use shared_pce::{Look, Shared};
 use std::alloc::{AllocError, Global};
@@ -68,6 +69,37 @@ impl<'a, R: Wait + Clock> Watch for Moments<'a, R> {
 
     fn ring(&self, peer: u32) {
         self.wakers.ring(self.rt, peer);
+    }
+}
+
+/// What happens in a run beside the steps of its database.
+#[derive(Drop)]
+pub(crate) struct RunState {
+    pub run: Run,
+    pub peers: Peers,
+    pub wakers: Wakers,
+    pub grants: GrantGate,
+    pub strangers: AtomicU64,
+    pub counters: Mutex<Counters>,
+    pub waits: Mutex<Waits>,
+    pub presences: Mutex<Presences>,
+    pub marks: Mutex<Marks>,
+}
+
+impl RunState {
+    /// Nothing has happened.
+    pub fn new(alloc: Global, wakers: Wakers, settling: Settling) -> RunState {
+        RunState {
+            run: Run::new(),
+            peers: Peers::new(alloc),
+            wakers,
+            grants: GrantGate::new(settling),
+            strangers: AtomicU64::new(0),
+            counters: Mutex::new(Counters::new()),
+            waits: Mutex::new(Waits::new()),
+            presences: Mutex::new(Presences::new(alloc)),
+            marks: Mutex::new(Marks::new(alloc)),
+        }
     }
 }
 
@@ -154,15 +186,6 @@ impl<'a, R: Clock, S: Ledger, G: Ledger, B: Room> Context<'a, R, S, G, B> {
         }
     }
 
-    fn note_wait(&self, wait: Option<u64>)
-    where
-        R: Wait,
-    {
-        if let Some(us) = wait {
-            self.counters.lock(self.rt).observe(Timed::Wait, us);
-        }
-    }
-
     /// Notes that a path was asked for at a moment, in microseconds, where that was the last of these calls.
     pub fn note_ask(&self, calls: &[Call], asked_us: u64)
     where
@@ -173,17 +196,18 @@ impl<'a, R: Clock, S: Ledger, G: Ledger, B: Room> Context<'a, R, S, G, B> {
         };
         if let Reply::Asked(ticket) = &call.reply {
             let wait = self.waits.lock(self.rt).asked(*ticket, asked_us);
-            self.note_wait(wait);
+            if let Some(us) = wait {
+                self.counters.lock(self.rt).observe(Timed::Wait, us);
+            }
         }
     }
 
-    /// Notes that a ticket was settled.
-    pub fn note_verdict(&self, ticket: u64, now_us: u64)
+    /// Notes that a ticket was settled, and gives how long it waited, in microseconds, where its ask was noted.
+    pub fn note_verdict(&self, ticket: u64, now_us: u64) -> Option<u64>
     where
         R: Wait,
     {
-        let wait = self.waits.lock(self.rt).settled(ticket, now_us);
-        self.note_wait(wait);
+        self.waits.lock(self.rt).settled(ticket, now_us)
     }
 
     /// Notes and counts that the connection of a seat's slot ended.

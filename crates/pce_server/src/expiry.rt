@@ -78,9 +78,8 @@ impl Peers {
         let Some(due) = expiry.due(watch.now_ms(), keep_ms) else {
             return Ok(Settled::Nothing);
         };
-        match shared.submit(rt, seat, event_of(due)) {
-            Ok(reply) => {
-                count_step(&mut counters.lock(rt), kind_of_due(due), &reply);
+        match submit_due(rt, shared, seat, counters, due) {
+            Ok(()) => {
                 note_settled(&mut expiry, due, watch.now_ms());
                 Ok(Settled::One(due))
             }
@@ -132,6 +131,19 @@ fn note_settled(expiry: &mut Expiry, due: Due, now_ms: u64)
         Owing::Down => expiry.submitted(due.peer, now_ms),
         Owing::Expire => expiry.forgotten(due.peer),
     }
+}
+
+/// Submits what is due of a peer, and counts the step.
+fn submit_due<R: Wait, S: Ledger, G: Ledger, B: Room>(
+    rt: &R,
+    shared: &Shared<S, G, B>,
+    seat: &mut Seat<S, G, B>,
+    counters: &Mutex<Counters>,
+    due: Due,
+) -> Result<(), Fault> {
+    let reply = shared.submit(rt, seat, event_of(due))?;
+    count_step(&mut counters.lock(rt), kind_of_due(due), &reply);
+    Ok(())
 }
 
 /// What kind of event is submitted of a peer.

@@ -1,4 +1,5 @@
 //! A peer's socket whose first and last bytes are kept for the log: its timers, and how its session ended.
+use crate::wakers::Wakers;
 use server_counts::{Counters, MessageStream, Way};
 use server_talk::{Patient, PolledSocket};
 use std::cell::Cell;
@@ -75,6 +76,9 @@ impl<'a, R: Wait> MessageCount<'a, R> {
 pub(crate) struct Heard<'a, R> {
     messages: MessageCount<'a, R>,
     socket: PolledSocket<'a>,
+    /// These end a wait of the socket, whose connection has this slot there.
+    wakers: &'a Wakers,
+    slot: usize,
     head: [u8; KEPT],
     count: usize,
     tail: Tail,
@@ -87,6 +91,8 @@ impl<'a, R: Wait> Heard<'a, R> {
         rt: &'a R,
         counters: &'a Mutex<Counters>,
         socket: PolledSocket<'a>,
+        wakers: &'a Wakers,
+        slot: usize,
         timers: &'a Cell<PeerTimers>,
     ) -> Heard<'a, R> {
         Heard {
@@ -97,6 +103,8 @@ impl<'a, R: Wait> Heard<'a, R> {
                 stream: MessageStream::new(),
             },
             socket,
+            wakers,
+            slot,
             head: [0; KEPT],
             count: 0,
             tail: Tail { bytes: [0; KEPT] },
@@ -132,7 +140,9 @@ impl<'a, R: Wait> Heard<'a, R> {
 
 impl<'a, R: Wait> Read for Heard<'a, R> {
     fn read(&mut self, buf: &mut [u8]) -> io::Result<usize> {
-        let count = self.socket.read(buf)?;
+        let read = self.socket.read(buf);
+        self.wakers.rearm(self.slot);
+        let count = read?;
         self.note(&buf[..count]);
         Ok(count)
     }

@@ -3,16 +3,14 @@ ghost use Rattle.std.specs.Prelude.{◌≡◌, ◌≤◌};
 ghost use Rattle.pce_server.specs.Ranges.{AreOrders};
 
 use crate::acceptor::accept_all;
-use crate::context::Context;
+use crate::context::{Context, RunState};
 use crate::control::{Operators, control_seats, hear_controls};
-use crate::expiry::Peers;
-use crate::grant_gate::GrantGate;
 use crate::log_lines::{LogLine, is_debug_wanted};
 use crate::log_queue::LogQueue;
 use crate::log_writer::{ErrorOutput, write_log};
 use crate::network::{LinkEnds, ends_of};
 use crate::operator::{end_with, hear_operator};
-use crate::run::{Run, RunFault};
+use crate::run::RunFault;
 use crate::seat_pool::SeatPool;
 use crate::starting::{few_descriptors, listening_line, live_of};
 use crate::viewers::{ViewerListener, show_views};
@@ -21,18 +19,16 @@ use crate::workers::{keep_time, work};
 use history_core::Database;
 use log::{Log, warn};
 use place_tokens::{Room, Unopened};
-use server_counts::{Counters, Marks, Presences, Waits};
 use server_rules::Settling;
 use server_talk::{Patient, Plan, bound_accepts};
 use shared_pce::{Audit, Fault, Seat, Shared};
-use std::alloc::Global;
+use std::alloc::{AllocError, Global};
 use std::io::Write;
 use std::marker::Brand;
 use std::net::{Net, TcpListener, TcpStream};
 use std::os::unix::net::UnixListener;
-use std::sync::atomic::AtomicU64;
+use std::sync::Wait;
 use std::sync::ledger::{Blank, Ledger};
-use std::sync::{Mutex, Wait};
 use std::thread;
 use std::thread::Threads;
 use std::time::{Clock, Instant};
@@ -226,42 +222,73 @@ where
     if bound_accepts(listeners.routers).is_err() {
         return Err(RunFault::Device);
     }
-    let run = Run::new();
-    let peers = Peers::new(alloc);
     let live = live_of(orders.sessions) as usize;
-    let wakers = Wakers::new(alloc, live)?;
+    let seats = 2 * live;
+    let wakers = Wakers::new(alloc, live, seats)?;
     let settling = Settling::new(alloc, routers.settle_for, orders.settle_seconds * 1000)?;
-    let grants = GrantGate::new(settling);
-    let strangers = AtomicU64::new(0);
-    let counters = Mutex::new(Counters::new());
-    let waits = Mutex::new(Waits::new());
-    let presences = Mutex::new(Presences::new(alloc));
-    let marks = Mutex::new(Marks::new(alloc));
+    let state = RunState::new(alloc, wakers, settling);
     let context = Context {
         rt,
         alloc,
         shared,
         pool,
-        peers: &peers,
-        run: &run,
-        wakers: &wakers,
+        peers: &state.peers,
+        run: &state.run,
+        wakers: &state.wakers,
         log,
-        grants: &grants,
+        grants: &state.grants,
         known: routers.known,
-        counters: &counters,
-        waits: &waits,
-        presences: &presences,
-        marks: &marks,
-        strangers: &strangers,
+        counters: &state.counters,
+        waits: &state.waits,
+        presences: &state.presences,
+        marks: &state.marks,
+        strangers: &state.strangers,
         ends,
         start: Instant::now(rt).ok(),
         keep_ms: orders.keep_seconds * 1000,
-        seats: 2 * live,
+        seats,
     };
-    let output = ErrorOutput::new(rt, alloc)?;
-    let lines = log.room(alloc)?;
+    run_logged(&context, listeners, orders, reader, writer, plan)?;
+    if state.peers.owes_a_down(rt) {
+        state.run.cut(rt, RunFault::Store(Fault::OutOfMemory));
+    }
+    match state.run.fault(rt) {
+        Some(fault) => Err(fault),
+        None => Ok(()),
+    }
+}
+
+/// Runs all threads, where there is memory for what the log waits in.
+fn run_logged<
+    S: Ledger + Send + Sync,
+    G: Ledger + Send + Sync,
+    B: Room + Send + Sync,
+    R,
+    I: Patient,
+    O: Write,
+    P: Plan + Sync,
+>(
+    context: &Context<'_, R, S, G, B>,
+    listeners: &Listeners<'_>,
+    orders: Orders,
+    reader: &mut I,
+    writer: &mut O,
+    plan: &P,
+) -> Result<(), AllocError>
+where
+    R: Wait
+        + Threads
+        + Clock
+        + Net<Listener = TcpListener, Stream = TcpStream>
+        + AllocGlobal
+        + Log
+        + Sync,
+    requires orders { AreOrders orders }
+{
+    let output = ErrorOutput::new(context.rt, context.alloc)?;
+    let lines = context.log.room(context.alloc)?;
     run_threads(
-        &context,
+        context,
         output,
         lines,
         listeners.routers,
@@ -272,13 +299,7 @@ where
         writer,
         plan,
     );
-    if peers.owes_a_down(rt) {
-        run.cut(rt, RunFault::Store(Fault::OutOfMemory));
-    }
-    match run.into_fault() {
-        Some(fault) => Err(fault),
-        None => Ok(()),
-    }
+    Ok(())
 }
 
 /// Starts the threads, hears the operator, and joins them in order: the acceptor first, for workers are needed as

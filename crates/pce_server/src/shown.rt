@@ -9,7 +9,7 @@ use pce_seen::Ask;
 use pce_view::{Form, Surroundings, answer_text};
 use place_tokens::Room;
 use script_lines::ViewLine;
-use server_counts::{LeftRow, Mark};
+use server_counts::{LeftRow, Mark, Presence};
 use server_talk::{Plan, Show, Watch};
 use std::alloc::{AllocError, Global};
 use std::sync::Wait;
@@ -104,6 +104,28 @@ fn lefts_for<R: Wait + Clock, S: Ledger, G: Ledger, B: Room>(
     }
 }
 
+/// What the server noted beside the steps.
+#[derive(Drop)]
+struct ServerNotes {
+    presences: Vec<(u32, Presence)>,
+    marks: Vec<Mark>,
+    lefts: Vec<LeftRow>,
+}
+
+/// What the server noted that a question wants to know.
+fn notes_for<R: Wait + Clock, S: Ledger, G: Ledger, B: Room>(
+    context: &Context<'_, R, S, G, B>,
+    ask: &Ask,
+) -> Result<ServerNotes, AllocError>
+    ensures { IfOk result (λ notes. All WasLeft notes.lefts.items) }
+{
+    Ok(ServerNotes {
+        presences: context.all_presences()?,
+        marks: marks_for(context, ask)?,
+        lefts: lefts_for(context, ask)?,
+    })
+}
+
 impl<'a, 'c, 'p, R: Wait + Clock, S: Ledger, G: Ledger, B: Room, P: Plan> Show
     for ServedNetwork<'a, 'c, 'p, R, P, S, G, B> {
     ghost use Rattle.std.specs.Prelude.{All};
@@ -114,15 +136,13 @@ impl<'a, 'c, 'p, R: Wait + Clock, S: Ledger, G: Ledger, B: Room, P: Plan> Show
     ghost shows = { λ _ line text. (around : Surroundings) × All WasLeft around.lefts.now × IsShown (form_of line.is_json) around line.ask text };
 
     fn show(&self, _alloc: Global, line: &ViewLine) -> Result<Vec<u8>, AllocError> {
-        let presences = self.context.all_presences()?;
-        let marks = marks_for(self.context, &line.ask)?;
-        let lefts = lefts_for(self.context, &line.ask)?;
+        let notes = notes_for(self.context, &line.ask)?;
         let around = Surroundings {
             version: VERSION,
             uptime_ms: self.context.moments().now_ms(),
-            presences: &presences,
-            marks: &marks,
-            lefts: &lefts,
+            presences: &notes.presences,
+            marks: &notes.marks,
+            lefts: &notes.lefts,
         };
         show_pages(self.context, form_of(line.is_json), &around, line.ask)
     }

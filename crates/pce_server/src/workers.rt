@@ -7,7 +7,7 @@ use crate::log_lines::LogLine;
 use crate::run::RunFault;
 use pce_seen::EventKind;
 use place_tokens::Room;
-use server_counts::{Counted, ReplyKind, Timed};
+use server_counts::{Counted, Counters, ReplyKind, Timed};
 use server_rules::Owing;
 use server_talk::Watch;
 use shared_pce::{Fault, Gate, Reply, Seat, Worked};
@@ -136,36 +136,86 @@ impl<'a, R: Clock> Gate for SearchTimer<'a, R> {
     }
 }
 
-/// Counts and times a worker's turn, whose search began at this moment, in microseconds.
-fn note_worked<R: Wait + Clock, S: Ledger, G: Ledger, B: Room>(
+/// How long a turn's search took, and how long its ticket waited where that was settled, in microseconds.
+#[derive(Clone, Copy)]
+struct TurnTimes {
+    search_us: u64,
+    wait_us: Option<u64>,
+}
+
+/// Times a worker's turn, whose search began at this moment, in microseconds.
+fn times_of<R: Wait + Clock, S: Ledger, G: Ledger, B: Room>(
     context: &Context<'_, R, S, G, B>,
     worked: &Worked,
-    had_job: bool,
     since_us: u64,
-) {
-    count_worked(&mut context.counters.lock(context.rt), worked, had_job);
+) -> Option<TurnTimes> {
     let Worked::Done { job, reply } = worked else {
-        return;
+        return None;
     };
     let now_us = context.moments().now_us();
-    let took_us = now_us.saturating_sub(since_us);
-    context
-        .counters
-        .lock(context.rt)
-        .observe(Timed::Search, took_us);
-    if !matches!(reply, Reply::Again) {
-        context.note_verdict(job.ticket.id, now_us);
+    Some(TurnTimes {
+        search_us: now_us.saturating_sub(since_us),
+        wait_us: match reply {
+            Reply::Again => None,
+            _ => context.note_verdict(job.ticket.id, now_us),
+        },
+    })
+}
+
+fn count_times(counters: &mut Counters, times: TurnTimes) {
+    counters.observe(Timed::Search, times.search_us);
+    if let Some(us) = times.wait_us {
+        counters.observe(Timed::Wait, us);
     }
 }
 
-/// Counts the step by which a turn took the ticket whose job is in the seat's hand.
-fn count_taken<R: Wait + Clock, S: Ledger, G: Ledger, B: Room>(
+/// Counts the step by which a turn took the ticket whose job is in its seat's hand, where one is.
+fn count_taken(counters: &mut Counters, has_job: bool) {
+    if has_job {
+        counters.add(Counted::Step(EventKind::Take, ReplyKind::Job));
+    }
+}
+
+/// Counts a worker's turn and its times, which began with a job in its hand or without, and ended so.
+fn count_turn(
+    counters: &mut Counters,
+    worked: &Worked,
+    times: Option<TurnTimes>,
+    had_job: bool,
+    has_job: bool,
+) {
+    count_worked(counters, worked, had_job);
+    if let Some(times) = times {
+        count_times(counters, times);
+    }
+    count_taken(counters, has_job);
+}
+
+/// Wakes the connection for which a turn worked, and counts the turn.
+fn note_worked<R: Wait + Clock, S: Ledger, G: Ledger, B: Room>(
+    context: &Context<'_, R, S, G, B>,
+    worked: &Worked,
+    since_us: u64,
+    had_job: bool,
+    has_job: bool,
+) {
+    ring_for(context, worked);
+    let times = times_of(context, worked, since_us);
+    let mut counters = context.counters.lock(context.rt);
+    count_turn(&mut counters, worked, times, had_job, has_job);
+}
+
+/// Works at the job in the seat's hand, or at the ticket that waits, and notes what came of it.
+fn work_once<R: Wait + Clock, S: Ledger, G: Ledger, B: Room>(
     context: &Context<'_, R, S, G, B>,
     seat: &mut Seat<S, G, B>,
-) {
-    if seat.hand().is_some() {
-        context.count(Counted::Step(EventKind::Take, ReplyKind::Job));
-    }
+    had_job: bool,
+) -> Result<(), Fault> {
+    let mut timer = SearchTimer::new(context);
+    let worked = context.shared.work_one(context.rt, seat, &mut timer)?;
+    let has_job = seat.hand().is_some();
+    note_worked(context, &worked, timer.since_us, had_job, has_job);
+    Ok(())
 }
 
 /// A turn of a worker: works at the job in the seat's hand, or sleeps until a ticket waits, and works at that. Where none
@@ -185,18 +235,11 @@ fn worker_turn<R: Wait + Clock, S: Ledger, G: Ledger, B: Room>(
         rest(context, seat);
         return None;
     }
-    let mut timer = SearchTimer::new(context);
-    let fault = match context.shared.work_one(rt, seat, &mut timer) {
-        Ok(worked) => {
-            ring_for(context, &worked);
-            note_worked(context, &worked, had_job, timer.since_us);
-            count_taken(context, seat);
-            return None;
-        }
-        Err(fault) => fault,
+    let Err(fault) = work_once(context, seat, had_job) else {
+        return None;
     };
     if !had_job {
-        count_taken(context, seat);
+        count_taken(&mut context.counters.lock(rt), seat.hand().is_some());
     }
     if fault == Fault::HistoryFull {
         let _is_rolled = make_room(context, seat);
