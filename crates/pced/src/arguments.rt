@@ -202,7 +202,9 @@ fn endless_arg<'a>(alloc: Global) -> Result<Arg<'a>, AllocError> {
     Arg::new(alloc, "endless")
         .long("endless")
         .action(ArgAction::SetTrue)
-        .help("Connections are accepted without count, until standard input ends")
+        .help(
+            "Connections are accepted without count, until standard input ends; with --control until a line asks for the end",
+        )
         .conflicts_with("sessions")
 }
 
