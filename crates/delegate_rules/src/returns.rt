@@ -33,7 +33,7 @@ fn given_back(alloc: Global, plsp: Plsp, lsp: &Lsp) -> Result<Vec<RecordChange>,
     record_of(alloc, plsp, lsp)
 }
 
-/// The PCE gives an LSP back to its peer (RFC 8231 section 5.7.4): the record's delegation ends, and nothing
+/// The PCE gives an LSP back to its peer (RFC 8231 section 5.7.3): the record's delegation ends, and nothing
 /// else changes. It is refused in this order: `Why::UnknownLsp` where nothing is known of the LSP,
 /// `Why::NotDelegated` where it isn't delegated, `Why::Pending` where a grant or a removal of it is awaited.
 #[tactic(auto, unfolding(crate::specs::Returns::return_result))]

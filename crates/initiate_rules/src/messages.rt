@@ -62,7 +62,7 @@ pub fn update_message(
     }))
 }
 
-/// The PCUpd that gives an LSP back (RFC 8231 section 5.7.4): flag D clear, and no route. Allocates nothing.
+/// The PCUpd that gives an LSP back (RFC 8231 section 5.7.3): flag D clear, and no route. Allocates nothing.
 #[tactic(auto, unfolding(crate::specs::Messages::return_message))]
 pub fn return_message(alloc: Global, srp: u32, plsp: Plsp) -> Message
     ensures { result ≡ return_message srp plsp }

@@ -13,7 +13,7 @@ pub struct KnownPeer {
     pub may_update: bool,
     /// It takes initiations (RFC 8281 section 4.1).
     pub may_create: bool,
-    /// So many messages wait to be sent to it.
+    /// How many messages wait to be sent to it.
     pub waiting_messages: u64,
 }
 

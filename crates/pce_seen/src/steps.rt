@@ -38,7 +38,7 @@ pub enum Outcome {
     Gone,
     /// The SRP-ID of the removal.
     Removing(u32),
-    /// So many messages were handed out to be sent.
+    /// How many messages were handed out to be sent.
     Out { messages: u64 },
     Refused(Why),
 }

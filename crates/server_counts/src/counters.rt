@@ -5,7 +5,7 @@ ghost use Rattle.server_counts.specs.Counts.{added, count_of, nothing_counted, t
 use crate::histogram::Histogram;
 use crate::kinds::{Counted, place};
 
-/// So many numbers there are.
+/// How many numbers there are.
 const NUMBERS: usize = 1281;
 
 /// How often each thing happened, and how long what took.

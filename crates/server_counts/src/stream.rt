@@ -30,7 +30,7 @@ pub enum MessageStream {
     High { kind: u8 },
     /// The second byte of its length is next.
     Low { kind: u8, high: u8 },
-    /// So many bytes of its body are to come. Of a PCErr, the last that came.
+    /// How many bytes of its body are to come. Of a PCErr, the last that came.
     Body { kind: u8, left: usize, last: u8 },
 }
 

@@ -89,7 +89,7 @@ after_refused s n srp = affected s n (refused_effect s.base n srp)
 abbrev pub refused_step : State → ℕ → ℕ → Outcome
 refused_step s n srp = decided s (must_be_up s.peers n) (done (after_refused s n srp))
 
--- ---- an LSP is given back to its peer (RFC 8231 section 5.7.4)
+-- ---- an LSP is given back to its peer (RFC 8231 section 5.7.3)
 
 abbrev pub after_return : State → ℕ → ℕ → State
 after_return s n plsp = asking s n (given_back plsp (lsp_at s.base.records n plsp)) (return_message (next_number s n) plsp)

@@ -56,7 +56,7 @@ pub enum Event {
         peer: u32,
         srp: u32,
     },
-    /// The LSP is to be given back to the peer (RFC 8231 section 5.7.4).
+    /// The LSP is to be given back to the peer (RFC 8231 section 5.7.3).
     Return {
         peer: u32,
         plsp: Plsp,

@@ -12,7 +12,7 @@ use std::sync::Wait;
 #[derive(Clone, Copy)]
 struct Case {
     last: Beat,
-    /// So many writes succeed.
+    /// How many writes succeed.
     writes: u64,
     /// What the store answers the first `faults` of these events by.
     failing: Failing,

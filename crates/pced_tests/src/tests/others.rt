@@ -17,7 +17,7 @@ use std::time::Clock;
 struct Router {
     peer: u32,
     last: Beat,
-    /// So many writes succeed.
+    /// How many writes succeed.
     writes: u64,
     ended: Ended,
 }
