@@ -94,7 +94,7 @@ class Router:
 
 
 class Server:
-    """PROGRAM serve on a network with so many workers, and with other words; LOG takes what it says on standard error."""
+    """`PROGRAM serve` on a network with this number of workers, and with other words; LOG takes its standard error."""
 
     def __init__(self, program, te=f"{ROOT}/examples/diamond.toml", workers=2, log=subprocess.DEVNULL, more=()):
         words = [program, "serve", "--te", te, "--listen", f"127.0.0.1:{PORT}"]
@@ -131,7 +131,7 @@ class Server:
 
 
 def at_once(count, prepare, act):
-    """What act(prepare(n)) returns in each of so many processes, which begin together, and how long all took."""
+    """Runs act(prepare(n)) in `count` processes that begin together. Gives what each returned, and how long all took."""
     ready, go, queue = fork.Barrier(count + 1), fork.Event(), fork.SimpleQueue()
 
     def one(number):

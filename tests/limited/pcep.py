@@ -66,7 +66,7 @@ GREETING = "2001001401100010201e7800001000040000000520020004"
 
 
 def request(number, ends, links=None, bandwidth=1):
-    """A path request, of so many links at most."""
+    """A path request, of at most `links` links."""
     item = thing(2, f"00000000{number:08x}", "12") + thing(4, node_word(ends[0]) + node_word(ends[1]), "12")
     item += thing(5, float_word(bandwidth))
     return item if links is None else item + thing(6, f"00000103{float_word(links)}")

@@ -6,7 +6,7 @@ from .scripts import HOPS, LINKS, NODES, Script, chain, limit
 
 
 def walked(length):
-    """A report over a chain of so many links."""
+    """A report over a chain of `length` links."""
     script = Script(chain(length))
     links, ends = list(range(length)), (0, length)
     script.does(f"report 1 {reports([report(1, links, ends, bandwidth=1000)])}", "booked")
@@ -25,7 +25,7 @@ def _():
 
 
 def granted(length):
-    """An initiation over a chain of so many links."""
+    """An initiation over a chain of `length` links."""
     script = Script(chain(length))
     links, ends = list(range(length)), (0, length)
     text = ",".join(map(str, links))
@@ -61,7 +61,7 @@ def _():
 
 
 def shared(parts, length, links):
-    """An update that fits only beside its own tunnel, which is held on many links by paths of so many links."""
+    """An update that fits only beside its own tunnel, which is held on many links by paths of `length` links."""
     script = Script(chain(links))
     script.comes_up(1)
     for n in range(parts):
@@ -96,7 +96,7 @@ def widest():
 
 
 def least(links, ends, hops):
-    """The least cost of a path of so many links at most (Bellman and Ford)."""
+    """The least cost of a path of at most `hops` links (Bellman and Ford)."""
     cost = {ends[0]: 0}
     for _ in range(hops):
         after = dict(cost)
@@ -120,7 +120,7 @@ SEARCHES = ((60, 64), (63, 64), (150, 64), (255, 64), (256, 64), (257, 64), (60,
 
 
 def misses(links, search, answer):
-    """What is wrong with the answer to a search from node 0 to a node by so many links."""
+    """What is wrong with the answer to a search from node 0 to a node by at most some number of links."""
     node, hops = search
     numbers = None if answer == "none" else [int(word) for word in answer.split(",")]
     wanted = least(links, (0, node), hops)
@@ -177,7 +177,7 @@ def _():
 
 
 def counted(nodes, links, fault):
-    """So many tables, which are counted before they are looked at."""
+    """A number of empty tables, which are counted before they are looked at."""
     script = Script("".join(f"{key} = [{'{},' * count}]\n" for key, count in (("node", nodes), ("link", links)) if count) + "---\n")
     script.fault, script.status = f"te fault {fault}\n", 2
     return script

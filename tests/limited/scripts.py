@@ -72,7 +72,7 @@ def pair():
 
 
 def chain(length):
-    """So many links, one behind the other."""
+    """`length` links, one behind the other."""
     return network(length + 1, [(n, n + 1, 10) for n in range(length)])
 
 
@@ -94,7 +94,7 @@ def longest_report():
 
 
 def knows(script, peer, count):
-    """The peer has reported so many LSPs, and no more."""
+    """The peer has reported `count` LSPs, and no more."""
     if count:
         script.does(f"update {peer} {count}", "refused 5")
     script.does(f"update {peer} {count + 1}", "refused 4")
@@ -107,7 +107,7 @@ def batches(count, of):
 
 
 def filled(script, peer=1, count=PATHS, flags=0x18):
-    """The peer reports so many LSPs over the two links of a chain, in 50 tunnels. Gives what is held."""
+    """The peer reports `count` LSPs over the two links of a chain, in 50 tunnels. Gives what is held."""
     for text in batches(count, lambda n: report(n, [0, 1], (0, 2), tunnel=n % 50, flags=flags)):
         script.does(f"msg {peer} {text}")
     return {0: 50, 1: 50}

@@ -75,7 +75,7 @@ class Life:
     def begin(self, peer):
         self.add(self.pick(["up", "up", "open"]), peer)
         if peer in self.script.clients and self.script.clients[peer].session.state == UP and self.random.random() < 0.7:
-            self.tell(peer, m.message(m.M_PCRPT, END_OF_SYNCHRONIZATION))
+            self.send(peer, m.message(m.M_PCRPT, END_OF_SYNCHRONIZATION))
 
     def hex_of(self, data):
         text = data.hex()
@@ -86,7 +86,7 @@ class Life:
             text = text[:place] + " " + text[place:]
         return text
 
-    def tell(self, peer, data):
+    def send(self, peer, data):
         self.left -= 1
         self.add("msg", peer, self.hex_of(data))
 
@@ -112,11 +112,11 @@ class Life:
             for place in sorted(self.random.randrange(len(data) + 1) for _ in range(self.pick([1, 1, 2, 3])))[::-1]:
                 head, data = data[:place], data[place:]
                 if peer in self.script.clients and self.bad_line is None:
-                    self.tell(peer, head)
+                    self.send(peer, head)
                 if self.random.random() < 0.2:
                     self.tick()
         if peer in self.script.clients and self.bad_line is None:
-            self.tell(peer, data)
+            self.send(peer, data)
 
     def moments(self):
         """The moments at which a timer of a session is due."""

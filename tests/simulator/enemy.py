@@ -62,7 +62,7 @@ class Foes(Routers):
 
 
 class Enemy(Events):
-    """Draws lines until the history has so many steps more."""
+    """Draws lines until the history has `steps` steps more."""
 
     def __init__(self, draw, steps, siege=None, reloads=False):
         self.draw, self.steps, self.reloads = draw, steps, reloads

@@ -44,7 +44,7 @@ def tickets_out_of_order(state, paths):
 
 
 def more_than_may_be(state, paths):
-    """There are at most so many peers, tickets and paths."""
+    """There are no more peers, tickets or paths than there may be."""
     amounts = ((state.peers, MOST_PEERS), (state.tickets, MOST_TICKETS), (paths, MOST_PATHS))
     return {len(items) for items, most in amounts if len(items) > most}
 

@@ -158,7 +158,7 @@ class Session:
 
 
 def constraints_of(request):
-    """What a request asks of the path. The bound on the metric to minimise tells which paths may be taken."""
+    """What a request asks of the path. The bound on the metric to minimise decides which paths may be taken."""
     ends = request.source, request.destination
     asked = Constraints(*ends, request.bandwidth, request.setup, request.hold, request.colours)
     asked.minimise, asked.bound, asked.hop_bound = request.minimise, request.bounds.get(request.minimise), request.bounds.get(HOPS)

@@ -118,13 +118,13 @@ class State(Reports, Tickets):
         for key in [key for key in self.records if key[0] == peer and key[1] not in left]:
             del self.records[key]
 
-    def tell(self, peer, message):
+    def queue(self, peer, message):
         self.peers[peer].outgoing += (message,)
 
     def ask_for(self, peer, message):
         """The message takes the peer's next number."""
         self.peers[peer].last_srp = self.next_number(peer)
-        self.tell(peer, message)
+        self.queue(peer, message)
 
     # ---- events
 

@@ -60,7 +60,7 @@ def is_simple(network, way, start, end):
 
 
 def keeps_bounds(network, asked, way):
-    """The bounds that tell which paths may be taken: on hops, and on the metric to minimise."""
+    """The bounds that decide which paths may be taken: on hops, and on the metric to minimise."""
     if not 1 <= len(way) <= MOST_LINKS or asked.hop_bound is not None and len(way) > asked.hop_bound:
         return False
     return asked.bound is None or network.cost(way, asked.minimise) <= asked.bound

@@ -77,9 +77,9 @@ class Tickets:
             return self.grant(ticket, offer)
         if verdict == "answered":
             cost = self.network.cost(offer, ticket.asked.minimise)
-            self.tell(ticket.peer, wire.answer(ticket.of, self.far_ends(offer), ticket.asked.minimise, cost))
+            self.queue(ticket.peer, wire.answer(ticket.of, self.far_ends(offer), ticket.asked.minimise, cost))
         elif verdict != "gone" and ticket.purpose == "answer":
-            self.tell(ticket.peer, wire.no_path(ticket.of))
+            self.queue(ticket.peer, wire.no_path(ticket.of))
         return [verdict]
 
     def judge(self, ticket, offer):

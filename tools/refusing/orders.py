@@ -19,8 +19,8 @@ class Refusals:
         self.environment = {"LD_PRELOAD": library, "REFUSED_BY": path}
 
     def order(self, left, all_of_them=False, least=0):
-        """So many allocations pass, and then one is refused, or all are; a negative number: all pass. Of fewer bytes than
-        `least` each passes."""
+        """`left` allocations pass, and then one is refused, or all are; a negative number: all pass. One of fewer bytes
+        than `least` always passes."""
         self.lift()
         struct.pack_into("=qqq", self.orders, 8, all_of_them, 0, least)
         struct.pack_into("=q", self.orders, 0, left)

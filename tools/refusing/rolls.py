@@ -6,7 +6,7 @@ from reader import messages as m
 from .served import REMOVAL, Gone, Served, wants
 
 LINKS, NODES = 4096, 65
-# (of all lists that a full server makes, the values of the links in the base of a roll alone have so many bytes)
+# (of all lists that a full server makes, the values of the links in the base of a roll alone have this number of bytes)
 LEAST = 20 * LINKS
 EACH, BEFORE, BEHIND = 2000, 480, 60
 SECONDS, MOST = 2, 200
