@@ -1,0 +1,34 @@
+#!/usr/bin/env python3
+# Two routers beside `pced serve --te examples/diamond.toml`: 127.0.1.1 reports an LSP by B and delegates another that has no
+# route yet, 127.0.1.2 has none. They stay up and do nothing that they are asked. Look at what `pced tell` shows (docs/FORMAT.md,
+# "Lines that show"); at Enter a third LSP is delegated, by C. `pced decode` says the messages in words.
+import socket
+import sys
+import time
+
+HOST, _, PORT = (sys.argv[1:] or ["127.0.0.1:4189"])[0].rpartition(":")
+# (Keepalive and DeadTimer 0: the routers may be silent)
+OPEN, KEEPALIVE = "20010014 01100010 20000000 00100004 00000005", "20020004"
+SYNCHRONIZED = "200a0024 2010001c 00000000 00120010 00000000 00000000 00000000 00000000 07100004"
+LSP_1 = """200a0050 2010001c 00001018 00120010 0a000001 00010001 0a000001 0a000004
+    07100014 01080a01 00022000 01080a02 00022000 09100014 00000000 00000000 00000000 07000000 05100008 48f42400"""
+LSP_7 = """200a0040 2010001c 00007009 00120010 0a000001 00010007 0a000001 0a000004
+    07100004 09100014 00000000 00000000 00000000 07000000 05100008 48742400"""
+LSP_8 = """200a0050 2010001c 00008019 00120010 0a000001 00010008 0a000001 0a000004
+    07100014 01080a03 00022000 01080a04 00022000 09100014 00000000 00000000 00000000 07000000 05100008 48435000"""
+
+
+def connected(address, *pieces):
+    """A router that sends these pieces, one after the other."""
+    router = socket.create_connection((HOST, int(PORT)), source_address=(address, 0))
+    for piece in pieces:
+        router.sendall(bytes.fromhex(piece))
+        time.sleep(0.2)
+    return router
+
+
+first = connected("127.0.1.1", OPEN, KEEPALIVE + SYNCHRONIZED, LSP_1 + LSP_7)
+second = connected("127.0.1.2", OPEN, KEEPALIVE, SYNCHRONIZED)
+input("Enter: 127.0.1.1 delegates a third LSP ")
+first.sendall(bytes.fromhex(LSP_8))
+input("Enter: both go ")
