@@ -4,6 +4,7 @@ pub mod Fields
 pub mod Moves
 pub mod Views
 pub mod Answers
+pub mod Runs
 pub mod Pieces
 pub mod CountedWords
 pub mod Metrics

@@ -10,6 +10,7 @@ use crate::book::book_text;
 use crate::closing::null_text;
 use crate::columns::add_aligned;
 use crate::link::{line_text, link_text};
+use crate::link_tables::{add_book, add_link_line};
 use crate::lsp_tables::{add_link_use, add_one_lsp, add_origins, add_page};
 use crate::lsps::{lsp_text, page_text};
 use crate::move_tables::{add_better, add_without};
@@ -18,9 +19,7 @@ use crate::path::path_text;
 use crate::peers::peers_text;
 use crate::status::status_text;
 use crate::steps::steps_text;
-use crate::tables::{
-    add_answer, add_book, add_link_line, add_peers, add_status, add_steps, add_tickets,
-};
+use crate::tables::{add_answer, add_peers, add_status, add_steps, add_tickets};
 use crate::tickets::tickets_text;
 use crate::without::without_text;
 use crate::words::links_in;
@@ -250,7 +249,7 @@ fn add_one_link(
     found: &Option<LinkUse>,
 ) -> Result<(), AllocError> {
     match *ask {
-        Ask::LinkLine { link } => add_link_line(text, link, found),
+        Ask::LinkLine { link } => add_link_line(alloc, text, link, found),
         _ => add_link_use(alloc, text, number_of_link(ask), found),
     }
 }
@@ -265,7 +264,7 @@ fn add_rows(
 ) -> Result<(), AllocError> {
     match seen {
         Seen::Counts(counts) => add_status(text, around.version, around.uptime_ms, counts),
-        Seen::Book(book) => add_book(text, book),
+        Seen::Book(book) => add_book(alloc, text, book),
         Seen::Peers(peers) => add_peers(text, around.uptime_ms, around.presences, peers),
         Seen::Tickets(tickets) => add_tickets(text, tickets),
         Seen::Lsps(page) => add_page(text, place_of(ask), page),

@@ -9,7 +9,8 @@
 //! - `moves`: paths that LSPs could have elsewhere (`specs/Moves.antt`)
 //! - `status`, `book`, `peers`, `tickets`, `lsps`, `link`, `steps`, `origins`, `path`, `better`, `without`: one kind of answer
 //!   each, as JSON
-//! - `columns`, `tables`, `lsp_tables`, `move_tables`: the same for people
+//! - `runs`: equal numbers in a row
+//! - `columns`, `tables`, `link_tables`, `lsp_tables`, `move_tables`: the same for people
 //! - `answer`: what is said to a question
 //! - `pieces`, `families`, `counted_words`: lines of metrics
 //! - `link_metrics`, `step_metrics`, `session_metrics`, `time_metrics`, `metrics`: what was seen and counted, as metrics
@@ -34,6 +35,7 @@ mod fields;
 mod left;
 mod link;
 mod link_metrics;
+mod link_tables;
 mod lsp_tables;
 mod lsps;
 mod metrics;
@@ -44,6 +46,7 @@ mod origins;
 mod path;
 mod peers;
 mod pieces;
+mod runs;
 mod session_metrics;
 mod status;
 mod step_metrics;

@@ -1,5 +1,5 @@
 //! Tables for people.
-use crate::columns::{add_duration, add_name, add_percent, add_rate};
+use crate::columns::{add_duration, add_name, add_rate};
 use crate::counted_words::end_word;
 use crate::fields::name_at;
 use crate::moments::{Moments, moments_of};
@@ -9,12 +9,12 @@ use crate::words::{
 };
 use commit_core::{Purpose, Ticket};
 use path_looks::{FullLink, LinkRoom, PathAnswer};
-use pce_seen::{Book, Counts, KnownPeer, KnownStep, LastSteps, LinkUse, LspOwner, SeenPeers};
+use pce_seen::{Counts, KnownPeer, KnownStep, LastSteps, LspOwner, SeenPeers};
 use pcep_word::{Ipv4, Priorities, Priority};
 use server_counts::{Presence, presence_in};
 use std::alloc::AllocError;
 use std::fmt::Write;
-use te_base::{Link, LinkNumber, Node};
+use te_base::{LinkNumber, Node};
 use te_snapshot::Snapshot;
 
 /// Adds the counts, a line each.
@@ -112,73 +112,6 @@ pub(crate) fn add_peers(
     )?;
     for peer in &seen.peers {
         add_peer(text, now_ms, presences, &seen.lsps, peer)?;
-    }
-    Ok(())
-}
-
-fn add_link(
-    text: &mut String,
-    from: &str,
-    to: &str,
-    number: u64,
-    link: &Link,
-    left: &[i64; 8],
-) -> Result<(), AllocError> {
-    let local = link.local;
-    let remote = link.remote;
-    let igp = link.igp;
-    let te = link.te;
-    write!(
-        text,
-        "{number}\t{from}\t{to}\t{local}\t{remote}\t{igp}\t{te}\t"
-    )?;
-    add_rate(text, link.reservable.min(1 << 48) as i64)?;
-    text.push('\t')?;
-    add_rate(text, left[0])?;
-    text.push('\t')?;
-    add_rate(text, left[7])?;
-    text.push('\t')?;
-    add_percent(text, link.reservable, left[7])?;
-    text.push('\n')
-}
-
-const LINK_HEAD: &str =
-    "LINK\tFROM\tTO\tLOCAL\tREMOTE\tIGP\tTE\tRESERVABLE\tLEFT AT 0\tLEFT AT 7\tRESERVED\n";
-
-/// Adds the line of one link, if it is there.
-pub(crate) fn add_link_line(
-    text: &mut String,
-    number: u64,
-    seen: &Option<LinkUse>,
-) -> Result<(), AllocError> {
-    text.push_str(LINK_HEAD)?;
-    match seen {
-        Some(seen) => add_link(
-            text,
-            seen.from.name.as_str(),
-            seen.to.name.as_str(),
-            number,
-            &seen.link,
-            &seen.left,
-        ),
-        None => Ok(()),
-    }
-}
-
-/// Adds a line for each link.
-pub(crate) fn add_book(text: &mut String, book: &Book) -> Result<(), AllocError> {
-    text.push_str(LINK_HEAD)?;
-    let count = book.links.len().min(book.left.len());
-    for number in 0..count {
-        let link = &book.links[number];
-        add_link(
-            text,
-            name_at(&book.nodes, link.from),
-            name_at(&book.nodes, link.to),
-            number as u64,
-            link,
-            &book.left[number],
-        )?;
     }
     Ok(())
 }
