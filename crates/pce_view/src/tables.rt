@@ -184,9 +184,9 @@ fn add_step(text: &mut String, place: u64, step: &KnownStep) -> Result<(), Alloc
         }
         None => text.push_str("-\t")?,
     }
-    write!(text, "{outcome} ")?;
+    text.push_str(outcome)?;
     if let Some(number) = outcome_number(step.outcome) {
-        write!(text, "{number}")?;
+        write!(text, " {number}")?;
     }
     text.push('\n')
 }
