@@ -1,10 +1,13 @@
 -- The members of an object.
-use Rattle.std.specs.Prelude.{ℕ, ℤ, List, [], ◌∷◌, slice_get, Option, Some, None, is_some, if◌then◌else◌}
+use Rattle.std.specs.Prelude.{ℕ, ℤ, Bool, not, ◌==◌, ◌||◌, List, [], ◌∷◌, length, slice_get, Option, Some, None, is_some, if◌then◌else◌}
+use Rattle.std.specs.List.{list_all}
 use Rattle.std.specs.Str.{is_utf8}
 use Rattle.hex.specs.Hex.{encode_lower}
 use Rattle.json.specs.Json.{Json, null, boolean, string, array, Items, no_items, item, Members, no_members, member}
 use Rattle.pcep_word.specs.Address.{text_of}
 use Rattle.te_base.specs.declared.network.Node.{Node}
+use Rattle.lsp_base.specs.Same.{is_reported}
+use Rattle.lsp_base.specs.declared.path.Path.{Path}
 use Rattle.lsp_base.specs.declared.tunnel.Part.{Part}
 use Rattle.lsp_base.specs.declared.tunnel.Part.TheVariants.{Reported, Granted}
 use Rattle.pce_view.specs.declared.fields.Field.{Field}
@@ -50,6 +53,15 @@ lsp_id (Granted srp) = None
 abbrev pub srp_id : Part → Option ℕ
 srp_id (Reported id) = None
 srp_id (Granted srp) = Some srp
+
+-- the path was granted, and is in no report yet
+abbrev pub is_granted : Part → Bool
+is_granted part = not (is_reported part)
+
+-- None of the reported paths is on a link: the router reports the LSP DOWN (RFC 8231 section 7.3), or without a route that is
+-- known.
+abbrev pub is_down : List Path → Bool
+is_down paths = list_all (λ x. is_granted x.part || length x.links == 0) paths
 
 abbrev pub name_or_null : Option (List ℕ) → Json
 name_or_null None = null
@@ -99,6 +111,8 @@ field_json (field.Setup priorities) = whole priorities.setup
 field_json (field.Hold priorities) = whole priorities.hold
 field_json (field.LspId part) = whole_or_null (lsp_id part)
 field_json (field.SrpId part) = whole_or_null (srp_id part)
+field_json (field.IsGranted part) = boolean (is_granted part)
+field_json (field.IsDown paths) = boolean (is_down paths.now)
 field_json (field.IsThere number) = boolean (is_some number)
 field_json (field.Node name) = string name.now
 field_json (field.NodeAt nodes number) = string (name_at nodes.now number)

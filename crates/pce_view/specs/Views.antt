@@ -32,7 +32,7 @@ use Rattle.server_counts.specs.declared.presences.Presence.{Presence}
 use Rattle.pce_view.specs.declared.age.Age.{Age}
 use Rattle.pce_view.specs.declared.moments.Moments.{Moments}
 use Rattle.pce_view.specs.declared.moves.BetterLsp.{BetterLsp}
-use Rattle.pce_view.specs.Fields.{address, address_or_null, amounts, end_json, left_or_null, lsp_id, name_at, name_or_null, obstacle_json, srp_id, text_or_null, whole_or_null, wholes, word_or_null}
+use Rattle.pce_view.specs.Fields.{address, address_or_null, amounts, end_json, is_down, is_granted, left_or_null, lsp_id, name_at, name_or_null, obstacle_json, srp_id, text_or_null, whole_or_null, wholes, word_or_null}
 use Rattle.pce_view.specs.Json.{whole, signed}
 use Rattle.pce_view.specs.Words.{cost_in, cost_of_path, event_word, is_found, link_in, links_in, links_of_path, obstacle_of, origin_step, origin_ticket, origin_word, outcome_number, outcome_word, purpose_name, purpose_plsp, purpose_request, purpose_word}
 
@@ -148,11 +148,12 @@ unfoldable pub path_json : Path → Json
 path_json x = object
     (member (codes "lsp_id") (whole_or_null (lsp_id x.part))
     (member (codes "srp_id") (whole_or_null (srp_id x.part))
+    (member (codes "is_granted") (boolean (is_granted x.part))
     (member (codes "is_fresh") (boolean x.fresh)
     (member (codes "hold_priority") (whole x.hold)
     (member (codes "bandwidth_bytes_per_second") (whole x.bandwidth)
     (member (codes "links") (array (wholes x.links))
-    no_members))))))
+    no_members)))))))
 
 abbrev pub path_items : List Path → Items
 path_items [] = no_items
@@ -167,13 +168,14 @@ lsp_json l = object
     (member (codes "is_delegated") (boolean ((l.known).lsp).delegated)
     (member (codes "is_created") (boolean ((l.known).lsp).created)
     (member (codes "is_removing") (boolean (is_some ((l.known).lsp).removing))
+    (member (codes "is_down") (boolean (is_down l.paths))
     (member (codes "setup_priority") (whole ((((l.known).lsp).constraints).priorities).setup)
     (member (codes "hold_priority") (whole ((((l.known).lsp).constraints).priorities).hold)
     (member (codes "bandwidth_bytes_per_second") (whole (((l.known).lsp).constraints).bandwidth)
     (member (codes "source") (address_or_null (((l.known).lsp).constraints).source)
     (member (codes "destination") (address_or_null (((l.known).lsp).constraints).destination)
     (member (codes "paths") (array (path_items l.paths))
-    no_members)))))))))))))
+    no_members))))))))))))))
 
 abbrev pub lsp_items : List KnownLsp → Items
 lsp_items [] = no_items

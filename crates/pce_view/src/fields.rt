@@ -5,7 +5,7 @@ ghost use Rattle.json.specs.Tree.{json_tokens, members_tokens};
 ghost use Rattle.json.specs.Json.{Json, Members, array, member, no_members, object, string};
 ghost use Rattle.json.specs.Token.{end_object};
 ghost use Rattle.pce_view.specs.Words.{origin_word, purpose_name};
-ghost use Rattle.pce_view.specs.Fields.{address, address_or_null, amounts, end_json, field_json, left_or_null, lsp_id, members_json, members_then, name_at, name_or_null, obstacle_json, srp_id, text_or_null, whole_or_null, wholes, word_or_null};
+ghost use Rattle.pce_view.specs.Fields.{address, address_or_null, amounts, end_json, field_json, is_down, is_granted, left_or_null, lsp_id, members_json, members_then, name_at, name_or_null, obstacle_json, srp_id, text_or_null, whole_or_null, wholes, word_or_null};
 
 use crate::counted_words::end_word;
 use crate::words::{
@@ -15,7 +15,7 @@ use crate::words::{
 };
 use commit_core::Purpose;
 use json::Writer;
-use lsp_base::Part;
+use lsp_base::{Part, Path};
 use path_looks::{Found, LinkRoom, Obstacle, PathAnswer};
 use pce_seen::{EventKind, Origin, Outcome};
 use pcep_objects::Plsp;
@@ -49,6 +49,9 @@ pub(crate) enum Field<'a> {
     LspId(Part),
     /// The SRP-ID of a granted path.
     SrpId(Part),
+    IsGranted(Part),
+    /// Whether the LSP of these paths is down.
+    IsDown(&'a Sequence<Path>),
     /// Whether a number is there.
     IsThere(Option<u32>),
     /// The name of a node.
@@ -191,6 +194,23 @@ pub(crate) fn srp_id(part: Part) -> Option<u64>
     }
 }
 
+/// Tests whether a path was granted, and is in no report yet.
+pub(crate) fn is_granted(part: Part) -> bool
+    ensures { result ≡ is_granted part }
+{
+    match part {
+        Part::Reported(_) => false,
+        Part::Granted(_) => true,
+    }
+}
+
+/// Tests whether none of the reported paths of an LSP is on a link.
+pub(crate) fn is_down(paths: &[Path]) -> bool
+    ensures { result ≡ is_down paths.now }
+{
+    paths.iter().all(|path| is_granted(path.part) || path.links.as_slice().is_empty())
+}
+
 /// The name of a node; empty where there is no such node.
 pub(crate) fn name_at(nodes: &[Node], number: usize) -> &str
     ensures { result.now ≡ name_at nodes.now number }
@@ -274,6 +294,8 @@ fn put_value(alloc: Global, writer: &mut Writer, value: &Field<'_>) -> Result<()
         Field::Hold(priorities) => writer.u64(priorities.hold().number() as u64),
         Field::LspId(part) => put_whole_or(writer, lsp_id(*part)),
         Field::SrpId(part) => put_whole_or(writer, srp_id(*part)),
+        Field::IsGranted(part) => writer.boolean(is_granted(*part)),
+        Field::IsDown(paths) => writer.boolean(is_down(paths.as_slice())),
         Field::IsThere(number) => writer.boolean(number.is_some()),
         Field::Node(name) => writer.string(name.as_str()),
         Field::NodeAt(nodes, number) => writer.string(name_at(nodes, *number)),

@@ -1,7 +1,7 @@
 //! Tables for people: LSPs, by what their paths came, and a link with the tunnels on it.
 use crate::age::age_of;
 use crate::columns::{add_links, add_name, add_percent, add_rate};
-use crate::fields::{lsp_id, srp_id};
+use crate::fields::{is_down, lsp_id, srp_id};
 use crate::left::left_by;
 use crate::tables::{add_ago, add_end, add_priorities};
 use crate::words::{origin_step, origin_ticket, origin_word};
@@ -12,17 +12,32 @@ use server_counts::{LeftRow, Mark};
 use std::alloc::{AllocError, Global};
 use std::fmt::Write;
 
-fn add_flag(text: &mut String, is: bool, word: &str) -> Result<(), AllocError> {
-    if is { text.push_str(word) } else { Ok(()) }
+/// Adds the words that hold, with a space between two.
+fn add_words(text: &mut String, words: &[(bool, &str)]) -> Result<(), AllocError> {
+    let mut gap = "";
+    for (holds, word) in words {
+        if *holds {
+            text.push_str(gap)?;
+            text.push_str(word)?;
+            gap = " ";
+        }
+    }
+    Ok(())
 }
 
 /// Adds what state an LSP is in.
 fn add_state(text: &mut String, lsp: &Lsp, paths: &[Path]) -> Result<(), AllocError> {
-    add_flag(text, lsp.delegated, "delegated ")?;
-    add_flag(text, lsp.created, "created ")?;
-    add_flag(text, lsp.removing.is_some(), "removing ")?;
-    add_flag(text, paths.iter().any(|path| !path.fresh), "stale ")?;
-    add_flag(text, paths.is_empty(), "down")
+    let is_stale = paths.iter().any(|path| !path.fresh);
+    add_words(
+        text,
+        &[
+            (lsp.delegated, "delegated"),
+            (lsp.created, "created"),
+            (lsp.removing.is_some(), "removing"),
+            (is_stale, "stale"),
+            (is_down(paths), "down"),
+        ],
+    )
 }
 
 /// Adds which of an LSP's paths a path is: `lsp N` of a reported one, `srp N` of a granted one.

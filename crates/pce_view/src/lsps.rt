@@ -29,6 +29,10 @@ fn put_path(alloc: Global, writer: &mut Writer, path: &Path) -> Result<(), Alloc
                 value: Field::SrpId(path.part),
             },
             Member {
+                name: "is_granted",
+                value: Field::IsGranted(path.part),
+            },
+            Member {
                 name: "is_fresh",
                 value: Field::Flag(path.fresh),
             },
@@ -94,6 +98,10 @@ fn put_lsp(alloc: Global, writer: &mut Writer, seen: &KnownLsp) -> Result<(), Al
             Member {
                 name: "is_removing",
                 value: Field::IsThere(seen.known.lsp.removing),
+            },
+            Member {
+                name: "is_down",
+                value: Field::IsDown(&seen.paths),
             },
             Member {
                 name: "setup_priority",
