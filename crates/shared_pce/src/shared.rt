@@ -9,6 +9,7 @@ ghost use Rattle.history_seats.specs.Audits.{IsAudited, Fails};
 ghost use Rattle.shared_pce.specs.Lefts.{WasLeft};
 ghost use Rattle.shared_pce.specs.Turns.{Received, RollsIf};
 
+use crate::acquire::acquire;
 use crate::audit::{Audit, AuditRefused};
 use crate::bell::Bell;
 use crate::left_table::LeftTable;
@@ -109,7 +110,7 @@ impl<S: Ledger, G: Ledger, B: Room> Shared<S, G, B> {
     {
         seat.reserve(1)?;
         let priority = priority_of(event.event());
-        let mut held = self.held.lock(rt);
+        let mut held = acquire(rt, &self.held);
         let stepped = step_seen(self.alloc, &mut held, seat, event, priority)?;
         drop(held);
         if matches!(stepped.reply, Reply::Asked(_) | Reply::Again) {
@@ -129,7 +130,7 @@ impl<S: Ledger, G: Ledger, B: Room> Shared<S, G, B> {
             rows,
         } = stepped;
         if !rows.is_empty() {
-            let _noted = self.lefts.lock(rt).note(&rows);
+            let _noted = acquire(rt, &self.lefts).note(&rows);
         }
         drop(rows);
         drop(unkept);
@@ -141,28 +142,28 @@ impl<S: Ledger, G: Ledger, B: Room> Shared<S, G, B> {
     pub fn lefts<R: Wait>(&self, rt: &R) -> Result<Vec<LeftRow>, AllocError>
         ensures { IfOk result (λ rows. All WasLeft rows.items) }
     {
-        self.lefts.lock(rt).copies(self.alloc)
+        acquire(rt, &self.lefts).copies(self.alloc)
     }
 
     /// Whether a ticket waits to be searched for.
     pub fn waiting<R: Wait>(&self, rt: &R) -> bool
         ensures { (d : Content) × Replays d × (result ≡ has_waiting d.state) }
     {
-        self.held.lock(rt).database().waiting()
+        acquire(rt, &self.held).database().waiting()
     }
 
     /// Whether messages wait to be sent to the peer.
     pub fn queued<R: Wait>(&self, rt: &R, peer: u32) -> bool
         ensures { (d : Content) × Replays d × (result ≡ is_queued d.state peer) }
     {
-        self.held.lock(rt).database().queued(peer)
+        acquire(rt, &self.held).database().queued(peer)
     }
 
     /// How many steps are kept, of those that were taken.
     pub fn kept<R: Wait>(&self, rt: &R) -> u64
         ensures { (d : Content) × Replays d × (result ≡ length d.history) }
     {
-        self.held.lock(rt).database().history().len() as u64
+        acquire(rt, &self.held).database().history().len() as u64
     }
 
     /// What is left of every link at each of the eight priorities, in bytes per second, by the number of the link:
@@ -179,7 +180,7 @@ impl<S: Ledger, G: Ledger, B: Room> Shared<S, G, B> {
         ensures { IfOk result (λ table. (d : Content) × Replays d × (table.0.items ≡ values_in d.state.te)
             × (table.1.items ≡ all_left d.state.te.links d.state.base.paths)) }
     {
-        let held = self.held.lock(rt);
+        let held = acquire(rt, &self.held);
         // for the proof alone: the history replays
         let _replays = held.database().history();
         links_of(self.alloc, held.database())
@@ -189,7 +190,7 @@ impl<S: Ledger, G: Ledger, B: Room> Shared<S, G, B> {
     pub fn lsp_count<R: Wait>(&self, rt: &R, peer: u32) -> usize
         ensures { (d : Content) × Replays d × (result ≡ length (filter (λ r. r.peer == peer) d.state.base.records)) }
     {
-        let held = self.held.lock(rt);
+        let held = acquire(rt, &self.held);
         // for the proof alone: the history replays
         let _replays = held.database().history();
         lsp_count(held.database(), peer)
@@ -200,7 +201,7 @@ impl<S: Ledger, G: Ledger, B: Room> Shared<S, G, B> {
     pub fn look<R: Wait, L: Look>(&self, rt: &R, look: &L) -> Result<L::Seen, AllocError>
         ensures { IfOk result (λ seen. (d : Content) × Replays d × L.sees look.now d seen) }
     {
-        let held = self.held.lock(rt);
+        let held = acquire(rt, &self.held);
         // for the proof alone: the history replays
         let _replays = held.database().history();
         look.see(self.alloc, held.database())
@@ -212,7 +213,7 @@ impl<S: Ledger, G: Ledger, B: Room> Shared<S, G, B> {
     pub fn roll<R: Wait>(&self, rt: &R, seat: &Seat<S, G, B>) -> Result<u64, AllocError>
         ensures { IfOk result (λ steps. (d : Content) × Replays d × (steps ≡ d.rolled) × (d.history ≡ [])) }
     {
-        let mut held = self.held.lock(rt);
+        let mut held = acquire(rt, &self.held);
         let unkept = held.take_rolled(seat)?;
         let steps = held.database().rolled();
         drop(held);
@@ -231,7 +232,7 @@ impl<S: Ledger, G: Ledger, B: Room> Shared<S, G, B> {
     ) -> Result<Option<u64>, AllocError>
         ensures { IfOk result (λ rolled. (d : Content) × Replays d × RollsIf (not (nat_lt (length d.history) at_least)) d rolled) }
     {
-        let mut held = self.held.lock(rt);
+        let mut held = acquire(rt, &self.held);
         if (held.database().history().len() as u64) < at_least {
             return Ok(None);
         }
@@ -250,7 +251,7 @@ impl<S: Ledger, G: Ledger, B: Room> Shared<S, G, B> {
     ) -> Result<Option<u64>, AllocError>
         ensures { IfOk result (λ rolled. (d : Content) × Replays d × RollsIf (is_full d) d rolled) }
     {
-        let mut held = self.held.lock(rt);
+        let mut held = acquire(rt, &self.held);
         // for the proof alone: the history replays
         let _replays = held.database().history();
         if !held.database().is_full() {
@@ -267,7 +268,7 @@ impl<S: Ledger, G: Ledger, B: Room> Shared<S, G, B> {
     pub fn fold<R: Wait>(&self, rt: &R, seat: &mut Seat<S, G, B>)
         ensures { (d : Content) × Replays d × (seat.new ≡ tidy d.rolled seat.old) }
     {
-        let held = self.held.lock(rt);
+        let held = acquire(rt, &self.held);
         // for the proof alone: the history replays
         let _replays = held.database().history();
         let unkept = held.fold(seat);
@@ -277,7 +278,7 @@ impl<S: Ledger, G: Ledger, B: Room> Shared<S, G, B> {
 
     /// Wakes the workers, since the end has come.
     pub fn finish<R: Wait>(&self, rt: &R) {
-        let held = self.held.lock(rt);
+        let held = acquire(rt, &self.held);
         self.bell.ring_out();
         drop(held);
     }

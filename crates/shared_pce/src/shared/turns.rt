@@ -7,6 +7,7 @@ ghost use Rattle.shared_pce.specs.Lefts.{IsLookedAt};
 ghost use Rattle.shared_pce.specs.Turns.{Takes, TakesNext, MayTake, Received, Commits, Works};
 
 use super::Shared;
+use crate::acquire::acquire;
 use crate::stepped::step_seen;
 use crate::work::{Gate, Worked};
 use history_core::{Event, Fault, Job, Reply, SharedEvent};
@@ -73,7 +74,7 @@ impl<S: Ledger, G: Ledger, B: Room> Shared<S, G, B> {
         ensures full { result ≡ Err Fault.HistoryFull → (d : Content) × Replays d × (is_full d ≡ true) }
     {
         seat.reserve(2)?;
-        let mut held = self.held.lock(rt);
+        let mut held = acquire(rt, &self.held);
         let stepped = step_seen(self.alloc, &mut held, seat, commit, setup)?;
         let next = take_next(&mut held, seat, take);
         drop(held);
@@ -142,7 +143,7 @@ impl<S: Ledger, G: Ledger, B: Room> Shared<S, G, B> {
         ensures { (d : Content) × Replays d × (result ≡ has_waiting d.state) }
     {
         let bell = &self.bell;
-        let held = self.held.lock(rt);
+        let held = acquire(rt, &self.held);
         let (held, _timeout) = bell.work.wait_timeout_while(rt, held, most, |held| {
             !held.database().waiting() && !bell.is_over()
         });
