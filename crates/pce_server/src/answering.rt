@@ -56,7 +56,11 @@ pub(crate) fn answer_operator<
         context,
         store: Seated::new(context.rt, context.alloc, context.shared, seat),
     };
-    let network = ServedNetwork { context, plan };
+    let outlook = context.outlook();
+    let network = ServedNetwork {
+        outlook: &outlook,
+        plan,
+    };
     let mut output = OperatorOutput {
         writer,
         run: context.run,

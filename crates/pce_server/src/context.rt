@@ -1,27 +1,22 @@
 //! What each thread of a run is lent.
-ghost use Rattle.std.specs.Prelude.{IfOk};
-ghost use Rattle.history_core.specs.Histories.{Content, Replays};
-
 use crate::counting::{count_calls, end_reason};
 use crate::expiry::Peers;
 use crate::grant_gate::GrantGate;
 use crate::log_lines::{LogLine, Reason};
 use crate::log_queue::LogQueue;
 use crate::network::LinkEnds;
+use crate::outlook::Outlook;
 use crate::run::{Run, RunFault};
 use crate::seat_pool::SeatPool;
-use crate::timed_look::TimedLook;
 use crate::wakers::Wakers;
 use engine_core::{Call, Reply};
-use pce_seen::{Ask, Seen};
 use pcep_word::Ipv4;
 use place_tokens::Room;
-use server_counts::{Counted, Counters, Mark, Marks, Presence, Presences, Timed, Waits};
+use server_counts::{Counted, Counters, Marks, Presences, Timed, Waits};
 use server_rules::Settling;
 use server_talk::Watch;
-use shared_pce::{Look, Shared};
-use std::alloc::{AllocError, Global};
-use std::cell::Cell;
+use shared_pce::{Shared, acquire};
+use std::alloc::Global;
 use std::sync::atomic::{AtomicU64, Ordering};
 use std::sync::ledger::Ledger;
 use std::sync::{Mutex, Wait};
@@ -149,6 +144,19 @@ impl<'a, R: Clock, S: Ledger, G: Ledger, B: Room> Context<'a, R, S, G, B> {
         }
     }
 
+    /// What those who are shown the run see of it.
+    pub fn outlook(&self) -> Outlook<'a, R, S, G, B> {
+        Outlook {
+            rt: self.rt,
+            alloc: self.alloc,
+            shared: self.shared,
+            moments: self.moments(),
+            counters: self.counters,
+            presences: self.presences,
+            marks: self.marks,
+        }
+    }
+
     /// Those of the connection whose seat has this slot.
     pub fn moments_at(&self, slot: usize) -> Moments<'a, R> {
         Moments {
@@ -173,7 +181,7 @@ impl<'a, R: Clock, S: Ledger, G: Ledger, B: Room> Context<'a, R, S, G, B> {
     where
         R: Wait,
     {
-        self.counters.lock(self.rt).add(what);
+        acquire(self.rt, self.counters).add(what);
     }
 
     /// Counts each call.
@@ -182,7 +190,7 @@ impl<'a, R: Clock, S: Ledger, G: Ledger, B: Room> Context<'a, R, S, G, B> {
         R: Wait,
     {
         if !calls.is_empty() {
-            count_calls(&mut self.counters.lock(self.rt), calls);
+            count_calls(&mut acquire(self.rt, self.counters), calls);
         }
     }
 
@@ -195,9 +203,9 @@ impl<'a, R: Clock, S: Ledger, G: Ledger, B: Room> Context<'a, R, S, G, B> {
             return;
         };
         if let Reply::Asked(ticket) = &call.reply {
-            let wait = self.waits.lock(self.rt).asked(*ticket, asked_us);
+            let wait = acquire(self.rt, self.waits).asked(*ticket, asked_us);
             if let Some(us) = wait {
-                self.counters.lock(self.rt).observe(Timed::Wait, us);
+                acquire(self.rt, self.counters).observe(Timed::Wait, us);
             }
         }
     }
@@ -207,7 +215,7 @@ impl<'a, R: Clock, S: Ledger, G: Ledger, B: Room> Context<'a, R, S, G, B> {
     where
         R: Wait,
     {
-        self.waits.lock(self.rt).settled(ticket, now_us)
+        acquire(self.rt, self.waits).settled(ticket, now_us)
     }
 
     /// Notes and counts that the connection of a seat's slot ended.
@@ -219,51 +227,6 @@ impl<'a, R: Clock, S: Ledger, G: Ledger, B: Room> Context<'a, R, S, G, B> {
         self.count(Counted::Ended(end));
         let now_ms = self.moments().now_ms();
         self.presences.lock(self.rt).ended(peer, slot, now_ms, end);
-    }
-
-    /// Looks at the database, and times for how long that held its lock.
-    pub fn look<L: Look>(&self, look: &L) -> Result<L::Seen, AllocError>
-    where
-        R: Wait,
-        ensures { IfOk result (λ seen. (d : Content) × Replays d × L.sees look.now d seen) }
-    {
-        let timed = TimedLook {
-            moments: self.moments(),
-            look,
-            held_us: Cell::new(0),
-        };
-        let seen = self.shared.look(self.rt, &timed);
-        let held_us = timed.held_us.get();
-        self.counters.lock(self.rt).observe(Timed::Look, held_us);
-        seen
-    }
-
-    /// Since when each peer is up or down.
-    pub fn all_presences(&self) -> Result<Vec<(u32, Presence)>, AllocError>
-    where
-        R: Wait,
-    {
-        self.presences.lock(self.rt).copies(self.alloc)
-    }
-
-    /// Notes how many steps there are at this moment. Where memory is refused nothing is noted.
-    pub fn mark_steps(&self)
-    where
-        R: Wait,
-    {
-        let now_ms = self.moments().now_ms();
-        if let Ok(Seen::Counts(counts)) = self.shared.look(self.rt, &Ask::Status) {
-            let _noted = self.marks.lock(self.rt).note(counts.steps, now_ms);
-        }
-    }
-
-    /// How many steps there were at which moments, this one too.
-    pub fn all_marks(&self) -> Result<Vec<Mark>, AllocError>
-    where
-        R: Wait,
-    {
-        self.mark_steps();
-        self.marks.lock(self.rt).copies(self.alloc)
     }
 
     /// Whether a router of this address is heard. Another is counted.

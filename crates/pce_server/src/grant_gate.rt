@@ -1,5 +1,6 @@
 //! Whether paths may be granted yet.
 use server_rules::Settling;
+use shared_pce::acquire;
 use std::sync::atomic::{AtomicBool, Ordering};
 use std::sync::{Mutex, Wait};
 
@@ -31,14 +32,14 @@ impl GrantGate {
 
     /// The router has reported all of its LSPs, or its session has ended.
     pub fn note<R: Wait>(&self, rt: &R, address: u32, is_in_sync: bool) {
-        self.settling.lock(rt).note(address, is_in_sync);
+        acquire(rt, &self.settling).note(address, is_in_sync);
     }
 
     pub fn look<R: Wait>(&self, rt: &R, now_ms: u64) -> GrantGateLook {
         if self.is_open.load(Ordering::SeqCst) {
             return GrantGateLook::Open;
         }
-        if !self.settling.lock(rt).has_settled(now_ms) {
+        if !acquire(rt, &self.settling).has_settled(now_ms) {
             return GrantGateLook::Closed;
         }
         if self.is_open.swap(true, Ordering::SeqCst) {

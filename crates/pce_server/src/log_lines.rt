@@ -10,7 +10,7 @@ use std::fmt;
 const TARGET: &str = "pce_server";
 
 /// The number of kinds of lines.
-pub(crate) const KINDS: usize = 18;
+pub(crate) const KINDS: usize = 19;
 
 /// Why a connection ended.
 #[derive(Clone, Copy, PartialEq, Eq, Debug)]
@@ -122,6 +122,11 @@ pub(crate) enum LogLine {
     FewDescriptors {
         limit: u64,
     },
+    /// The run has ended, and the audit of all seats passed: how many steps and grants their shares sum to.
+    Audited {
+        steps: u64,
+        grants: u64,
+    },
     /// How many lines of this kind were withheld.
     Withheld {
         kind: usize,
@@ -153,6 +158,7 @@ fn subject(kind: usize) -> &'static str {
         14 => "control socket",
         15 => "few descriptors",
         16 => "viewers",
+        17 => "audited",
         _ => "log",
     }
 }
@@ -178,7 +184,8 @@ impl LogLine {
             LogLine::ControlGone => 14,
             LogLine::FewDescriptors { .. } => 15,
             LogLine::ViewersGone => 16,
-            LogLine::Withheld { .. } | LogLine::Lost { .. } => 17,
+            LogLine::Audited { .. } => 17,
+            LogLine::Withheld { .. } | LogLine::Lost { .. } => 18,
         }
     }
 
@@ -191,7 +198,8 @@ impl LogLine {
             | LogLine::Ended { .. }
             | LogLine::Forgotten { .. }
             | LogLine::Rolled { .. }
-            | LogLine::Settled => Level::Info,
+            | LogLine::Settled
+            | LogLine::Audited { .. } => Level::Info,
             LogLine::AcceptFailed
             | LogLine::MemoryRefused
             | LogLine::WorkerFault(_)
@@ -319,6 +327,9 @@ impl fmt::Display for LogLine {
                 )
             }
             LogLine::FewDescriptors { limit } => write!(f, "few descriptors {limit}"),
+            LogLine::Audited { steps, grants } => {
+                write!(f, "audited steps={steps} grants={grants}")
+            }
             LogLine::Withheld { kind, lines } => {
                 let subject = subject(kind);
                 write!(f, "withheld {lines} lines: {subject}")

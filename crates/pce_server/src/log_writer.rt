@@ -107,3 +107,13 @@ pub(crate) fn write_log<R: Wait + Clock + Log, S: Ledger, G: Ledger, B: Room>(
         lines.clear();
     }
 }
+
+/// Writes the last line of the log, which is over, unless standard error takes none for a while.
+pub(crate) fn write_last<R: Net + Log>(rt: &R, alloc: Global, line: LogLine) {
+    let Ok(mut output) = ErrorOutput::new(rt, alloc) else {
+        return;
+    };
+    if output.is_ready(Duration::from_millis(READY_WAIT_MS)) {
+        write_line(rt, line);
+    }
+}

@@ -1,5 +1,5 @@
 //! The network of a run: its link text, what its links have, and the ends of each.
-use crate::context::Context;
+use crate::outlook::Outlook;
 use place_tokens::Room;
 use sequence::Sequence;
 use server_talk::{Network, Plan, PlanFault};
@@ -13,7 +13,7 @@ use te_base::{LinkValues, TeBase};
 /// A link text, and the database whose links have its values.
 #[derive(Drop)]
 pub(crate) struct ServedNetwork<'a, 'c, 'p, R: Clock, P: Plan, S: Ledger, G: Ledger, B: Room> {
-    pub context: &'a Context<'c, R, S, G, B>,
+    pub outlook: &'a Outlook<'c, R, S, G, B>,
     pub plan: &'p P,
 }
 
@@ -36,7 +36,7 @@ impl<'a, 'c, 'p, R: Wait + Clock, P: Plan, S: Ledger, G: Ledger, B: Room> Networ
     ghost has_links = { λ _ values left. (d : Content) × Replays d × (values ≡ values_in d.state.te) × (left ≡ all_left d.state.te.links d.state.base.paths) };
 
     fn links(&self) -> Result<(Vec<LinkValues>, Vec<[i64; 8]>), AllocError> {
-        self.context.shared.links(self.context.rt)
+        self.outlook.shared.links(self.outlook.rt)
     }
 }
 

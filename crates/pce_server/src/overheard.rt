@@ -2,6 +2,7 @@
 use crate::wakers::Wakers;
 use server_counts::{Counters, MessageStream, Way};
 use server_talk::{Patient, PolledSocket};
+use shared_pce::acquire;
 use std::cell::Cell;
 use std::io;
 use std::io::{Read, Write};
@@ -65,7 +66,7 @@ struct MessageCount<'a, R> {
 impl<'a, R: Wait> MessageCount<'a, R> {
     fn hear(&mut self, piece: &[u8]) {
         if !piece.is_empty() {
-            let mut counters = self.counters.lock(self.rt);
+            let mut counters = acquire(self.rt, self.counters);
             self.stream.hear(self.way, piece, &mut counters);
         }
     }

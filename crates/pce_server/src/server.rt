@@ -7,7 +7,7 @@ use crate::context::{Context, RunState};
 use crate::control::{Operators, control_seats, hear_controls};
 use crate::log_lines::{LogLine, is_debug_wanted};
 use crate::log_queue::LogQueue;
-use crate::log_writer::{ErrorOutput, write_log};
+use crate::log_writer::{ErrorOutput, write_last, write_log};
 use crate::network::{LinkEnds, ends_of};
 use crate::operator::{end_with, hear_operator};
 use crate::run::RunFault;
@@ -172,16 +172,22 @@ where
     serve_all(
         rt, alloc, &shared, &pool, &log, &ends, listeners, orders, routers, reader, writer, plan,
     )?;
-    close(shared, pool.into_seats(alloc)?)
+    close(rt, alloc, shared, pool.into_seats(alloc)?)
 }
 
-/// Closes the database with all seats.
-fn close<S: Ledger, G: Ledger, B: Room>(
+/// Closes the database with all seats, and logs what its audit says.
+fn close<R: Net + Log, S: Ledger, G: Ledger, B: Room>(
+    rt: &R,
+    alloc: Global,
     shared: Shared<S, G, B>,
     seats: Vec<Seat<S, G, B>>,
 ) -> Result<Audit, RunFault> {
     match shared.close(seats) {
-        Ok(audit) => Ok(audit),
+        Ok(audit) => {
+            let (steps, grants) = (audit.steps, audit.grants);
+            write_last(rt, alloc, LogLine::Audited { steps, grants });
+            Ok(audit)
+        }
         Err(refused) => Err(RunFault::Audit(refused.fault)),
     }
 }

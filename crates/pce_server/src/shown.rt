@@ -3,8 +3,8 @@ ghost use Rattle.std.specs.Prelude.{◌≡◌, ◌++◌, All, IfOk, OnOk};
 ghost use Rattle.shared_pce.specs.Lefts.{WasLeft};
 ghost use Rattle.pce_server.specs.Shows.{form_of, line_end, AddsPage, IsShown};
 
-use crate::context::Context;
 use crate::network::ServedNetwork;
+use crate::outlook::Outlook;
 use pce_seen::Ask;
 use pce_view::{Form, Surroundings, answer_text};
 use place_tokens::Room;
@@ -46,7 +46,7 @@ fn add_text(form: Form, page: Vec<u8>, text: &mut Vec<u8>) -> Result<(), AllocEr
 
 /// Adds what one look shows, and gives what the next one asks for.
 fn add_page<R: Wait + Clock, S: Ledger, G: Ledger, B: Room>(
-    context: &Context<'_, R, S, G, B>,
+    outlook: &Outlook<'_, R, S, G, B>,
     form: Form,
     around: &Surroundings<'_>,
     ask: &Ask,
@@ -54,25 +54,25 @@ fn add_page<R: Wait + Clock, S: Ledger, G: Ledger, B: Room>(
 ) -> Result<Option<Ask>, AllocError>
     ensures { IfOk result (λ next. AddsPage form around.now ask.now next text.old.items text.new.items) }
 {
-    let seen = context.look(ask)?;
-    let page = answer_text(context.alloc, form, around, ask, &seen)?;
+    let seen = outlook.look(ask)?;
+    let page = answer_text(outlook.alloc, form, around, ask, &seen)?;
     add_text(form, page, text)?;
     Ok(ask.next(&seen))
 }
 
 /// What is shown from this ask on, up to the last page.
 fn show_pages<R: Wait + Clock, S: Ledger, G: Ledger, B: Room>(
-    context: &Context<'_, R, S, G, B>,
+    outlook: &Outlook<'_, R, S, G, B>,
     form: Form,
     around: &Surroundings<'_>,
     first: Ask,
 ) -> Result<Vec<u8>, AllocError>
     ensures { IfOk result (λ text. IsShown form around.now first text.items) }
 {
-    let mut text = Vec::new(context.alloc);
+    let mut text = Vec::new(outlook.alloc);
     let mut ask = first;
     for _page in 0..u64::MAX {
-        match add_page(context, form, around, &ask, &mut text)? {
+        match add_page(outlook, form, around, &ask, &mut text)? {
             Some(next) => ask = next,
             None => return Ok(text),
         }
@@ -82,25 +82,25 @@ fn show_pages<R: Wait + Clock, S: Ledger, G: Ledger, B: Room>(
 
 /// How many steps there were at which moments, for a question that wants to know.
 fn marks_for<R: Wait + Clock, S: Ledger, G: Ledger, B: Room>(
-    context: &Context<'_, R, S, G, B>,
+    outlook: &Outlook<'_, R, S, G, B>,
     ask: &Ask,
 ) -> Result<Vec<Mark>, AllocError> {
     match ask {
-        Ask::Why { .. } => context.all_marks(),
-        _ => Ok(Vec::new(context.alloc)),
+        Ask::Why { .. } => outlook.all_marks(),
+        _ => Ok(Vec::new(outlook.alloc)),
     }
 }
 
 /// What the last steps that brought paths left of their links, for a question that wants to know.
 fn lefts_for<R: Wait + Clock, S: Ledger, G: Ledger, B: Room>(
-    context: &Context<'_, R, S, G, B>,
+    outlook: &Outlook<'_, R, S, G, B>,
     ask: &Ask,
 ) -> Result<Vec<LeftRow>, AllocError>
     ensures { IfOk result (λ rows. All WasLeft rows.items) }
 {
     match ask {
-        Ask::Why { .. } => context.shared.lefts(context.rt),
-        _ => Ok(Vec::new(context.alloc)),
+        Ask::Why { .. } => outlook.shared.lefts(outlook.rt),
+        _ => Ok(Vec::new(outlook.alloc)),
     }
 }
 
@@ -114,15 +114,15 @@ struct ServerNotes {
 
 /// What the server noted that a question wants to know.
 fn notes_for<R: Wait + Clock, S: Ledger, G: Ledger, B: Room>(
-    context: &Context<'_, R, S, G, B>,
+    outlook: &Outlook<'_, R, S, G, B>,
     ask: &Ask,
 ) -> Result<ServerNotes, AllocError>
     ensures { IfOk result (λ notes. All WasLeft notes.lefts.items) }
 {
     Ok(ServerNotes {
-        presences: context.all_presences()?,
-        marks: marks_for(context, ask)?,
-        lefts: lefts_for(context, ask)?,
+        presences: outlook.all_presences()?,
+        marks: marks_for(outlook, ask)?,
+        lefts: lefts_for(outlook, ask)?,
     })
 }
 
@@ -136,14 +136,14 @@ impl<'a, 'c, 'p, R: Wait + Clock, S: Ledger, G: Ledger, B: Room, P: Plan> Show
     ghost shows = { λ _ line text. (around : Surroundings) × All WasLeft around.lefts.now × IsShown (form_of line.is_json) around line.ask text };
 
     fn show(&self, _alloc: Global, line: &ViewLine) -> Result<Vec<u8>, AllocError> {
-        let notes = notes_for(self.context, &line.ask)?;
+        let notes = notes_for(self.outlook, &line.ask)?;
         let around = Surroundings {
             version: VERSION,
-            uptime_ms: self.context.moments().now_ms(),
+            uptime_ms: self.outlook.moments.now_ms(),
             presences: &notes.presences,
             marks: &notes.marks,
             lefts: &notes.lefts,
         };
-        show_pages(self.context, form_of(line.is_json), &around, line.ask)
+        show_pages(self.outlook, form_of(line.is_json), &around, line.ask)
     }
 }

@@ -8,13 +8,13 @@ use std::time::Clock;
 
 /// A look that notes for how long it holds the lock, in microseconds.
 #[derive(Drop)]
-pub(crate) struct TimedLook<'a, R: Clock, L: Look> {
-    pub moments: Moments<'a, R>,
+pub(crate) struct TimedLook<'a, 'm, R: Clock, L: Look> {
+    pub moments: &'a Moments<'m, R>,
     pub look: &'a L,
     pub held_us: Cell<u64>,
 }
 
-impl<'a, R: Clock, L: Look> Look for TimedLook<'a, R, L> {
+impl<'a, 'm, R: Clock, L: Look> Look for TimedLook<'a, 'm, R, L> {
     type Seen = L::Seen;
 
     ghost sees = { λ timed d seen. L.sees timed.look.now d seen };

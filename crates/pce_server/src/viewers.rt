@@ -5,6 +5,7 @@ ghost use Rattle.pce_server.specs.Shows.{IsDocument, IsMetrics};
 use crate::context::Context;
 use crate::log_lines::LogLine;
 use crate::memory::resident_bytes;
+use crate::outlook::Outlook;
 use crate::shown::VERSION;
 use database_looks::NumbersLook;
 use http_views::{PAGE, ViewService, ViewSource, serve_views};
@@ -34,35 +35,35 @@ pub struct ViewerListener<'a> {
 
 /// The document of JSON of what one look sees.
 fn document_text<R: Wait + Clock, S: Ledger, G: Ledger, B: Room>(
-    context: &Context<'_, R, S, G, B>,
+    outlook: &Outlook<'_, R, S, G, B>,
     around: &Surroundings<'_>,
     ask: &Ask,
 ) -> Result<Vec<u8>, AllocError>
     ensures { IfOk result (λ text. IsDocument ask.now text.items) }
 {
-    let seen = context.look(ask)?;
-    let text = answer_text(context.alloc, Form::Json, around, ask, &seen)?;
+    let seen = outlook.look(ask)?;
+    let text = answer_text(outlook.alloc, Form::Json, around, ask, &seen)?;
     Ok(text)
 }
 
 /// The metrics of what one look sees and of what was counted.
 fn numbers_text<R: Wait + Clock, S: Ledger, G: Ledger, B: Room>(
-    context: &Context<'_, R, S, G, B>,
+    outlook: &Outlook<'_, R, S, G, B>,
     around: &Surroundings<'_>,
     counters: &Counters,
     memory: Option<u64>,
 ) -> Result<Vec<u8>, AllocError>
     ensures { IfOk result (λ text. IsMetrics text.items) }
 {
-    let seen = context.look(&NumbersLook)?;
-    let text = metrics_text(context.alloc, around, &seen.0, &seen.1, counters, memory)?;
+    let seen = outlook.look(&NumbersLook)?;
+    let text = metrics_text(outlook.alloc, around, &seen.0, &seen.1, counters, memory)?;
     Ok(text)
 }
 
 /// What viewers see: each document is of one look.
 #[derive(Drop)]
 pub(crate) struct Views<'a, 'c, R: Clock, S: Ledger, G: Ledger, B: Room> {
-    pub context: &'a Context<'c, R, S, G, B>,
+    pub outlook: &'a Outlook<'c, R, S, G, B>,
     pub files: &'a HostRuntime,
 }
 
@@ -75,39 +76,39 @@ impl<'a, 'c, R: Wait + Clock, S: Ledger, G: Ledger, B: Room> ViewSource
     ghost is_metrics = { λ _ text. IsMetrics text };
 
     fn document(&self, ask: &Ask) -> Result<Vec<u8>, AllocError> {
-        let presences = self.context.all_presences()?;
+        let presences = self.outlook.all_presences()?;
         let around = Surroundings {
             version: VERSION,
-            uptime_ms: self.context.moments().now_ms(),
+            uptime_ms: self.outlook.moments.now_ms(),
             presences: &presences,
             marks: &[],
             lefts: &[],
         };
-        document_text(self.context, &around, ask)
+        document_text(self.outlook, &around, ask)
     }
 
     fn metrics(&self) -> Result<Vec<u8>, AllocError> {
         let around = Surroundings {
             version: VERSION,
-            uptime_ms: self.context.moments().now_ms(),
+            uptime_ms: self.outlook.moments.now_ms(),
             presences: &[],
             marks: &[],
             lefts: &[],
         };
-        let counters = *self.context.counters.lock(self.context.rt);
+        let counters = *self.outlook.counters.lock(self.outlook.rt);
         let memory = resident_bytes(self.files);
-        numbers_text(self.context, &around, &counters, memory)
+        numbers_text(self.outlook, &around, &counters, memory)
     }
 }
 
 impl<'a, 'c, R: Wait + Clock, S: Ledger, G: Ledger, B: Room> http_views::Watch
     for Views<'a, 'c, R, S, G, B> {
     fn now_ms(&self) -> u64 {
-        self.context.moments().now_ms()
+        self.outlook.moments.now_ms()
     }
 
     fn is_over(&self) -> bool {
-        self.context.shared.is_over()
+        self.outlook.shared.is_over()
     }
 }
 
@@ -118,8 +119,9 @@ pub(crate) fn show_views<
     G: Ledger,
     B: Room,
 >(context: &Context<'_, R, S, G, B>, at: &ViewerListener<'_>) {
+    let outlook = context.outlook();
     let views = Views {
-        context,
+        outlook: &outlook,
         files: at.files,
     };
     let mut service = ViewService {

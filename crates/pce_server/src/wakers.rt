@@ -1,6 +1,7 @@
 //! Who has a place, and what wakes the connection that has it when there is something to say to its peer.
 use mio::Waker;
 use server_rules::{Entrance, Taken, admit};
+use shared_pce::acquire;
 use std::alloc::{AllocError, Global};
 use std::sync::atomic::{AtomicBool, Ordering};
 use std::sync::{Mutex, Wait};
@@ -156,22 +157,22 @@ impl Wakers {
 
     /// Whether a new connection of the address may have a place. Another is ended for it where that is needed.
     pub fn admit<R: Wait>(&self, rt: &R, address: u32) -> bool {
-        self.table.lock(rt).admit(address, &self.woken)
+        acquire(rt, &self.table).admit(address, &self.woken)
     }
 
     /// The connection of the address that has this slot takes a place.
     pub fn enter<R: Wait>(&self, rt: &R, slot: usize, address: u32) -> Result<(), AllocError> {
-        self.table.lock(rt).enter(slot, address)
+        acquire(rt, &self.table).enter(slot, address)
     }
 
     /// The connection that has this slot is gone.
     pub fn leave<R: Wait>(&self, rt: &R, slot: usize) {
-        self.table.lock(rt).leave(slot);
+        acquire(rt, &self.table).leave(slot);
     }
 
     /// Sets what wakes the connection that has this slot.
     pub fn set<R: Wait>(&self, rt: &R, slot: usize, waker: Waker) {
-        let mut table = self.table.lock(rt);
+        let mut table = acquire(rt, &self.table);
         let at = table.position(slot).unwrap_or(usize::MAX);
         if let Some(entry) = table.entries.get_mut(at) {
             self.rearm(slot);
@@ -190,23 +191,23 @@ impl Wakers {
     /// Says whether the session of the connection that has this slot is up: then the connection isn't ended for
     /// another. False where it was ended.
     pub fn mark<R: Wait>(&self, rt: &R, slot: usize, is_up: bool) -> bool {
-        self.table.lock(rt).mark(slot, is_up)
+        acquire(rt, &self.table).mark(slot, is_up)
     }
 
     /// Whether the connection that has this slot was ended for another.
     pub fn is_ended<R: Wait>(&self, rt: &R, slot: usize) -> bool {
-        self.table.lock(rt).position(slot).is_none()
+        acquire(rt, &self.table).position(slot).is_none()
     }
 
     /// Whether the connection that has this slot may wait for its peer to close. It gives its place up for that, and
     /// half as many as there are places may do so at once.
     pub fn may_part<R: Wait>(&self, rt: &R, slot: usize) -> bool {
-        self.table.lock(rt).may_part(slot, &self.woken)
+        acquire(rt, &self.table).may_part(slot, &self.woken)
     }
 
     /// Wakes the connections of a peer.
     pub fn ring<R: Wait>(&self, rt: &R, peer: u32) {
-        let table = self.table.lock(rt);
+        let table = acquire(rt, &self.table);
         for (taken, entry) in table.taken.iter().zip(table.entries.iter()) {
             if taken.address == peer {
                 entry.wake(&self.woken);
@@ -216,7 +217,7 @@ impl Wakers {
 
     /// Wakes all connections.
     pub fn ring_all<R: Wait>(&self, rt: &R) {
-        let table = self.table.lock(rt);
+        let table = acquire(rt, &self.table);
         for entry in table.entries.iter() {
             entry.wake(&self.woken);
         }

@@ -10,7 +10,7 @@ use place_tokens::Room;
 use server_counts::{Counted, Counters, ReplyKind, Timed};
 use server_rules::Owing;
 use server_talk::Watch;
-use shared_pce::{Fault, Gate, Reply, Seat, Worked};
+use shared_pce::{Fault, Gate, Reply, Seat, Worked, acquire};
 use std::alloc::AllocError;
 use std::sync::Wait;
 use std::sync::ledger::Ledger;
@@ -201,7 +201,7 @@ fn note_worked<R: Wait + Clock, S: Ledger, G: Ledger, B: Room>(
 ) {
     ring_for(context, worked);
     let times = times_of(context, worked, since_us);
-    let mut counters = context.counters.lock(context.rt);
+    let mut counters = acquire(context.rt, context.counters);
     count_turn(&mut counters, worked, times, had_job, has_job);
 }
 
@@ -239,7 +239,7 @@ fn worker_turn<R: Wait + Clock, S: Ledger, G: Ledger, B: Room>(
         return None;
     };
     if !had_job {
-        count_taken(&mut context.counters.lock(rt), seat.hand().is_some());
+        count_taken(&mut acquire(rt, context.counters), seat.hand().is_some());
     }
     if fault == Fault::HistoryFull {
         let _is_rolled = make_room(context, seat);
@@ -348,7 +348,7 @@ fn mark_steps<R: Wait + Clock, S: Ledger, G: Ledger, B: Room>(
     if now_ms < due_ms {
         return due_ms;
     }
-    context.mark_steps();
+    context.outlook().mark_steps();
     now_ms.saturating_add(MARK_EVERY_MS)
 }
 
