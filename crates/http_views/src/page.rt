@@ -351,7 +351,7 @@ function nameOf(lsp) {
 }
 
 function stateOf(lsp) {
-  return [lsp.is_delegated && "delegated", lsp.is_created && "created", lsp.is_removing && "removing"].filter(Boolean).join(", ");
+  return [lsp.is_delegated && "delegated", lsp.is_created && "created", lsp.is_removing && "removing", lsp.is_down && "down"].filter(Boolean).join(", ");
 }
 
 function pathName(path) {
