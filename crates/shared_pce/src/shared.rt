@@ -9,10 +9,10 @@ ghost use Rattle.history_seats.specs.Audits.{IsAudited, Fails};
 ghost use Rattle.shared_pce.specs.Lefts.{WasLeft};
 ghost use Rattle.shared_pce.specs.Turns.{Received, RollsIf};
 
-use crate::acquire::acquire;
 use crate::audit::{Audit, AuditRefused};
 use crate::bell::Bell;
 use crate::left_table::LeftTable;
+use crate::locks::acquire;
 use crate::looks::{links_of, lsp_count};
 use crate::stepped::{Stepped, priority_of, step_seen};
 use database_looks::{LeftLook, Look};

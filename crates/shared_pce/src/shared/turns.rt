@@ -7,7 +7,7 @@ ghost use Rattle.shared_pce.specs.Lefts.{IsLookedAt};
 ghost use Rattle.shared_pce.specs.Turns.{Takes, TakesNext, MayTake, Received, Commits, Works};
 
 use super::Shared;
-use crate::acquire::acquire;
+use crate::locks::acquire;
 use crate::stepped::step_seen;
 use crate::work::{Gate, Worked};
 use history_core::{Event, Fault, Job, Reply, SharedEvent};
