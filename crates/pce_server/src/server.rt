@@ -17,7 +17,7 @@ use crate::viewers::{ViewerListener, show_views};
 use crate::wakers::Wakers;
 use crate::workers::{keep_time, work};
 use history_core::Database;
-use log::{Log, warn};
+use log::Log;
 use place_tokens::{Room, Unopened};
 use server_rules::Settling;
 use server_talk::{Patient, Plan, bound_accepts};

@@ -62,13 +62,13 @@ fn numbers_text<R: Wait + Clock, S: Ledger, G: Ledger, B: Room>(
 
 /// What viewers see: each document is of one look.
 #[derive(Drop)]
-pub(crate) struct Views<'a, 'c, R: Clock, S: Ledger, G: Ledger, B: Room> {
+pub(crate) struct Views<'a, 'c, 'f, R: Clock, S: Ledger, G: Ledger, B: Room> {
     pub outlook: &'a Outlook<'c, R, S, G, B>,
-    pub files: &'a HostRuntime,
+    pub files: &'f HostRuntime,
 }
 
-impl<'a, 'c, R: Wait + Clock, S: Ledger, G: Ledger, B: Room> ViewSource
-    for Views<'a, 'c, R, S, G, B> {
+impl<'a, 'c, 'f, R: Wait + Clock, S: Ledger, G: Ledger, B: Room> ViewSource
+    for Views<'a, 'c, 'f, R, S, G, B> {
     ghost use Rattle.pce_server.specs.Shows.{IsDocument, IsMetrics};
 
     ghost is_document = { λ _ ask text. IsDocument ask text };
@@ -101,8 +101,8 @@ impl<'a, 'c, R: Wait + Clock, S: Ledger, G: Ledger, B: Room> ViewSource
     }
 }
 
-impl<'a, 'c, R: Wait + Clock, S: Ledger, G: Ledger, B: Room> http_views::Watch
-    for Views<'a, 'c, R, S, G, B> {
+impl<'a, 'c, 'f, R: Wait + Clock, S: Ledger, G: Ledger, B: Room> http_views::Watch
+    for Views<'a, 'c, 'f, R, S, G, B> {
     fn now_ms(&self) -> u64 {
         self.outlook.moments.now_ms()
     }
