@@ -133,7 +133,7 @@ impl Book {
         self.last = snapshot.copy()?;
         self.is_kept = true;
         self.is_current = true;
-        self.marks = Marks::none();
+        self.marks.clear();
         Ok(snapshot)
     }
 }

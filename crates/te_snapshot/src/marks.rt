@@ -13,16 +13,6 @@ pub struct Marks {
 }
 
 impl Marks {
-    /// No row of 4,096 links.
-    pub fn none() -> Marks
-        ensures { (l : ℕ) → l < 4096 → is_marked result l ≡ false }
-    {
-        Marks {
-            pages: [false; 64],
-            rows: [[false; 64]; 64],
-        }
-    }
-
     /// Each row.
     pub fn all() -> Marks
         ensures { (l : ℕ) → is_marked result l ≡ true }
@@ -38,10 +28,21 @@ impl Marks {
         ensures marked { is_marked self.new link ≡ true }
         ensures kept { (l : ℕ) → is_marked self.old l ≡ true → is_marked self.new l ≡ true }
     {
-        if link / 64 < 64 {
-            self.pages[link / 64] = true;
-            self.rows[link / 64][link % 64] = true;
+        let page = link / 64;
+        if page < 64 {
+            if !self.pages[page] {
+                self.pages[page] = true;
+                self.rows[page] = [false; 64];
+            }
+            self.rows[page][link % 64] = true;
         }
+    }
+
+    /// Marks no row of 4,096 links any more.
+    pub fn clear(&mut self)
+        ensures { (l : ℕ) → l < 4096 → is_marked self.new l ≡ false }
+    {
+        self.pages = [false; 64];
     }
 
     /// Whether the page at this place is marked.
