@@ -7,8 +7,8 @@
 //! changed.
 //!
 //! A ticket stands in the map by its number, in the order in which they were asked for, and in memory of its own: an
-//! entry is a number and a pointer. One that ends is taken out by `shift_remove`: it is dropped there and then, and of
-//! those behind it the entries alone move up.
+//! entry is a number, a peer and a pointer. One that ends is taken out by `shift_remove`: it is dropped there and then, and
+//! of those behind it the entries alone move up.
 //!
 //! ```text
 //! tickets.push(ticket)?;

@@ -6,18 +6,24 @@ use commit_core::Ticket;
 use std::alloc::{AllocError, Global};
 use std::marker::Model;
 
-/// A ticket that stands in the table, in memory of its own: the table moves its pointer alone. A contract sees the ticket.
+/// A ticket that stands in the table, in memory of its own: the table moves its pointer and its peer alone. A contract sees
+/// the ticket.
 #[derive(Drop)]
 pub struct StandingTicket {
+    /// The ticket's, so that the tickets of other peers can be passed over unread.
+    peer: u32,
     ticket: Box<Ticket>,
 }
 
 impl Model for StandingTicket {
+    ghost use Rattle.std.specs.Prelude.{◌≡◌};
     ghost use Rattle.commit_core.specs.declared.ticket.Ticket.{Ticket};
 
     ghost Value = { Ticket };
 
     ghost view = { λ s. s.ticket.value };
+
+    ghost invariant = { λ s. s.peer ≡ s.ticket.value.peer };
 }
 
 impl StandingTicket {
@@ -25,9 +31,18 @@ impl StandingTicket {
     pub fn new(alloc: Global, ticket: Ticket) -> Result<StandingTicket, AllocError>
         ensures { IfOk result (λ standing. standing ≡ ticket) }
     {
+        let peer = ticket.peer;
         Ok(StandingTicket {
+            peer,
             ticket: Box::new(alloc, ticket)?,
         })
+    }
+
+    /// The peer that it is for.
+    pub fn peer(&self) -> u32
+        ensures { result ≡ self.now.peer }
+    {
+        self.peer
     }
 
     /// The ticket.

@@ -55,20 +55,16 @@ fn is_initiation_of(name: &[u8], purpose: &Purpose) -> bool
 fn is_any_update(tickets: &[StandingTicket], peer: u32, plsp: Plsp) -> bool
     ensures { result ≡ is_update_asked tickets.now peer plsp }
 {
-    tickets.iter().any(|standing| {
-        let ticket = standing.ticket();
-        ticket.peer == peer && is_update_of(plsp, &ticket.purpose)
-    })
+    tickets.iter().any(|standing| standing.peer() == peer
+        && is_update_of(plsp, &standing.ticket().purpose))
 }
 
 /// Whether one of the tickets is to set an LSP of this name up.
 fn is_any_initiation(tickets: &[StandingTicket], peer: u32, name: &[u8]) -> bool
     ensures { result ≡ is_name_asked tickets.now peer name.now }
 {
-    tickets.iter().any(|standing| {
-        let ticket = standing.ticket();
-        ticket.peer == peer && is_initiation_of(name, &ticket.purpose)
-    })
+    tickets.iter().any(|standing| standing.peer() == peer
+        && is_initiation_of(name, &standing.ticket().purpose))
 }
 
 impl TicketTable {
