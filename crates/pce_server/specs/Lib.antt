@@ -4,3 +4,4 @@ pub mod Expiries
 pub mod Texts
 pub mod Shows
 pub mod Counting
+pub mod Rings

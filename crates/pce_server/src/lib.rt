@@ -19,7 +19,7 @@
 //!
 //! The modules, lowest first: `seat_pool` (where seats rest), `network`, `expiry` (what happens to peers, and when they
 //! are forgotten), `noted` and `reload_notes` (stores that note it), `wakers` (what wakes a connection, and how many an address has), `run`
-//! (whether the run is to end, and why), `outlook` (what those who are shown a run see of it), `context` (what each thread is lent), `workers` (workers and keeper),
+//! (whether the run is to end, and why), `outlook` (what those who are shown a run see of it), `context` (what each thread is lent), `unrung` (whose connections a worker has yet to wake), `workers` (workers and keeper),
 //! `connection` (a connection's thread), `acceptor`, `shown` (what an operator is shown), `answering` (an operator's lines), `control` (operators who
 //! connect), `operator` (the one at standard input), `viewers` (viewers by HTTP), `server`.
 #![tactic(auto)]
@@ -49,6 +49,7 @@ mod server;
 mod shown;
 mod starting;
 mod timed_look;
+mod unrung;
 mod viewers;
 mod wakers;
 mod workers;

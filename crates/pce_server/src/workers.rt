@@ -1,10 +1,14 @@
 //! The workers, who search for paths, and the keeper of time.
+ghost use Rattle.std.specs.Prelude.{◌≡◌, ◌<◌, ◌++◌, [], true, false, length};
+ghost use Rattle.pce_server.specs.Rings.{peer_of_turn};
+
 use crate::context::{Context, Moments};
 use crate::counting::count_worked;
 use crate::expiry::Settled;
 use crate::grant_gate::GrantGateLook;
 use crate::log_lines::LogLine;
 use crate::run::RunFault;
+use crate::unrung::Unrung;
 use pce_seen::EventKind;
 use place_tokens::Room;
 use server_counts::{Counted, Counters, ReplyKind, Timed};
@@ -87,13 +91,36 @@ fn rest<R: Wait + Clock, S: Ledger, G: Ledger, B: Room>(
     }
 }
 
-/// Has the connection of the router for which a path was sought look for what it has to say.
+/// Has the connections of these routers look for what they have to say.
+fn ring<R: Wait + Clock, S: Ledger, G: Ledger, B: Room>(
+    context: &Context<'_, R, S, G, B>,
+    unrung: &mut Unrung,
+)
+    ensures { unrung.new ≡ [] }
+{
+    for peer in unrung.peers() {
+        context.wakers.ring(context.rt, *peer);
+    }
+    *unrung = Unrung::none();
+}
+
+/// Has the connection of the router for which a path was sought look for what it has to say: at once where no ticket is in
+/// the worker's hand, else after some turns, so that a connection finds several messages when it is woken.
 fn ring_for<R: Wait + Clock, S: Ledger, G: Ledger, B: Room>(
     context: &Context<'_, R, S, G, B>,
+    unrung: &mut Unrung,
     worked: &Worked,
-) {
+    has_job: bool,
+)
+    ensures rung { has_job ≡ false → unrung.new ≡ [] }
+    ensures few { length unrung.new < 16 }
+    ensures noted { has_job ≡ true → length unrung.old < 15 → unrung.new ≡ unrung.old ++ peer_of_turn worked.now }
+{
     if let Worked::Done { job, .. } = worked {
-        context.wakers.ring(context.rt, job.ticket.peer);
+        unrung.note(job.ticket.peer);
+    }
+    if !has_job || unrung.is_full() {
+        ring(context, unrung);
     }
 }
 
@@ -191,15 +218,16 @@ fn count_turn(
     count_taken(counters, has_job);
 }
 
-/// Wakes the connection for which a turn worked, and counts the turn.
+/// Wakes connections, and counts a worker's turn.
 fn note_worked<R: Wait + Clock, S: Ledger, G: Ledger, B: Room>(
     context: &Context<'_, R, S, G, B>,
+    unrung: &mut Unrung,
     worked: &Worked,
     since_us: u64,
     had_job: bool,
     has_job: bool,
 ) {
-    ring_for(context, worked);
+    ring_for(context, unrung, worked, has_job);
     let times = times_of(context, worked, since_us);
     let mut counters = acquire(context.rt, context.counters);
     count_turn(&mut counters, worked, times, had_job, has_job);
@@ -209,12 +237,13 @@ fn note_worked<R: Wait + Clock, S: Ledger, G: Ledger, B: Room>(
 fn work_once<R: Wait + Clock, S: Ledger, G: Ledger, B: Room>(
     context: &Context<'_, R, S, G, B>,
     seat: &mut Seat<S, G, B>,
+    unrung: &mut Unrung,
     had_job: bool,
 ) -> Result<(), Fault> {
     let mut timer = SearchTimer::new(context);
     let worked = context.shared.work_one(context.rt, seat, &mut timer)?;
     let has_job = seat.hand().is_some();
-    note_worked(context, &worked, timer.since_us, had_job, has_job);
+    note_worked(context, unrung, &worked, timer.since_us, had_job, has_job);
     Ok(())
 }
 
@@ -223,6 +252,7 @@ fn work_once<R: Wait + Clock, S: Ledger, G: Ledger, B: Room>(
 fn worker_turn<R: Wait + Clock, S: Ledger, G: Ledger, B: Room>(
     context: &Context<'_, R, S, G, B>,
     seat: &mut Seat<S, G, B>,
+    unrung: &mut Unrung,
 ) -> Option<Fault> {
     let rt = context.rt;
     let most = Duration::from_millis(WORK_WAIT_MS);
@@ -235,9 +265,10 @@ fn worker_turn<R: Wait + Clock, S: Ledger, G: Ledger, B: Room>(
         rest(context, seat);
         return None;
     }
-    let Err(fault) = work_once(context, seat, had_job) else {
+    let Err(fault) = work_once(context, seat, unrung, had_job) else {
         return None;
     };
+    ring(context, unrung);
     if !had_job {
         count_taken(&mut acquire(rt, context.counters), seat.hand().is_some());
     }
@@ -250,16 +281,17 @@ fn worker_turn<R: Wait + Clock, S: Ledger, G: Ledger, B: Room>(
 }
 
 /// Works until the end. The fourth fault in a row ends the run.
-fn work_on<R: Wait + Clock, S: Ledger, G: Ledger, B: Room>(
+fn work_until_the_end<R: Wait + Clock, S: Ledger, G: Ledger, B: Room>(
     context: &Context<'_, R, S, G, B>,
     seat: &mut Seat<S, G, B>,
+    unrung: &mut Unrung,
 ) {
     let mut faults = 0u32;
     for _ in context.rt.forever() {
         if context.shared.is_over() {
             return;
         }
-        let Some(fault) = worker_turn(context, seat) else {
+        let Some(fault) = worker_turn(context, seat, unrung) else {
             faults = 0;
             continue;
         };
@@ -269,6 +301,16 @@ fn work_on<R: Wait + Clock, S: Ledger, G: Ledger, B: Room>(
             return;
         }
     }
+}
+
+/// Works until the end, and wakes the connections that are still to be woken.
+fn work_on<R: Wait + Clock, S: Ledger, G: Ledger, B: Room>(
+    context: &Context<'_, R, S, G, B>,
+    seat: &mut Seat<S, G, B>,
+) {
+    let mut unrung = Unrung::none();
+    work_until_the_end(context, seat, &mut unrung);
+    ring(context, &mut unrung);
 }
 
 /// A worker's thread.
