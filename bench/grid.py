@@ -1,4 +1,4 @@
-"""A grid of 32 x 32 nodes whose ends meet, with 4,096 links, for `bench/storm`, `bench/http` and `tools/page`."""
+"""A grid of 32 x 32 nodes whose ends meet, with 4,096 links, for `bench/storm`, `bench/http`, `bench/loop` and `tools/page`."""
 
 SIDE = 32
 RESERVABLE = 1000000000

@@ -1,4 +1,4 @@
-"""Routers, and a running server, for `bench/serve`, `bench/soak`, `bench/storm` and `bench/http`."""
+"""Routers, and a running server, for `bench/serve`, `bench/replies`, `bench/soak`, `bench/storm`, `bench/http` and `bench/loop`."""
 import multiprocessing
 import os
 import socket
@@ -7,7 +7,7 @@ import subprocess
 import time
 
 ROOT = os.path.dirname(os.path.dirname(os.path.realpath(__file__)))
-PORT = 41890
+PORT, ECHO_PORT = 41890, 41891
 fork = multiprocessing.get_context("fork")
 
 
@@ -154,3 +154,57 @@ def at_once(count, prepare, act):
 
 def of(times, share):
     return sorted(times)[min(len(times) - 1, int(len(times) * share))]
+
+
+def up_and_in_sync(number):
+    router = Router(number)
+    router.come_up()
+    router.synchronize()
+    router.ask(1)
+    return router
+
+
+def waits(exchange, count, pause):
+    """The times of `count` exchanges, in milliseconds, with a pause before each."""
+    times = []
+    for number in range(count):
+        time.sleep(pause)
+        start = time.perf_counter_ns()
+        exchange(number + 2)
+        times.append((time.perf_counter_ns() - start) / 1e6)
+    return times
+
+
+def echo():
+    listener = socket.create_server(("127.0.0.1", ECHO_PORT))
+    stream, _ = listener.accept()
+    stream.setsockopt(socket.IPPROTO_TCP, socket.TCP_NODELAY, 1)
+    while data := stream.recv(4096):
+        stream.sendall(data)
+
+
+def echoes(count):
+    """The times of as many echoes of a path request's bytes by a plain program, in milliseconds."""
+    process = fork.Process(target=echo, daemon=True)
+    process.start()
+    time.sleep(0.3)
+    router = Router(0, ECHO_PORT)
+    size = len(request(1))
+
+    def exchange(number):
+        router.send(request(number))
+        router.take(size)
+
+    times = waits(exchange, count, 0.002)
+    router.socket.close()
+    process.join()
+    return times
+
+
+def replies(program, sessions, count):
+    """The times from a path request to its reply, in milliseconds: `count` of one session, or an eighth of that in each of several."""
+    server = Server(program)
+    each, pause = (count, 0.002) if sessions == 1 else (count // 8, 0.02)
+    taken, _ = at_once(sessions, up_and_in_sync, lambda router: waits(router.ask, each, pause))
+    server.end()
+    return [one for times in taken for one in times]

@@ -1,6 +1,6 @@
 #!/usr/bin/env python3
 # A small router (a PCC) at A of the diamond: it reports an LSP of 750,000 bytes per second by B, and does what it is asked. Run it
-# beside `pced serve` (README.md), and look at its line for each message that it sends or hears, after `pced tell /tmp/pced` with
+# while `pced serve` runs (README.md), and look at its line for each message that it sends or hears, after `pced tell control` with
 # `update 127.0.1.1 1`, with `initiate 127.0.1.1 t1 10.0.0.1 10.0.0.4 500000 7 0`, and with `delete 127.0.1.1 2`.
 import argparse
 import itertools
@@ -81,16 +81,23 @@ class Path(NamedTuple):
     lsp_id: int = 1
 
 
+def path_by_b():
+    """An LSP of 750,000 bytes per second from A by B to D."""
+    hops = b"".join(bytes([1, 8, 10, link, 0, 2, 32, 0]) for link in (1, 2))
+    bodies = {ERO: hops, LSPA: bytes([0] * 12 + [7, 0, 0, 0]), BANDWIDTH: struct.pack(">f", 750_000)}
+    return Path(1, b"a-to-d", bytes([10, 0, 0, 1, 10, 0, 0, 4]), bodies)
+
+
 class Router:
-    def __init__(self, address, server):
-        hops = b"".join(bytes([1, 8, 10, link, 0, 2, 32, 0]) for link in (1, 2))
-        bodies = {ERO: hops, LSPA: bytes([0] * 12 + [7, 0, 0, 0]), BANDWIDTH: struct.pack(">f", 750_000)}
-        self.paths = {1: Path(1, b"a-to-d", bytes([10, 0, 0, 1, 10, 0, 0, 4]), bodies)}
-        self.free_plsp_ids = itertools.count(2)
+    """A router with these paths, numbered from 1. `say` is told of each message that it sends or hears."""
+
+    def __init__(self, address, server, paths=(), say=say):
+        self.paths, self.say = {path.plsp_id: path for path in paths}, say
+        self.free_plsp_ids = itertools.count(1 + len(paths))
         self.socket = socket.create_connection(server, source_address=(address, 0))
 
     def send(self, kind, body=b""):
-        say("sends", kind, body)
+        self.say("sends", kind, body)
         self.socket.sendall(struct.pack(">BBH", 0x20, kind, 4 + len(body)) + body)
         self.sent = time.monotonic()
 
@@ -111,7 +118,7 @@ class Router:
         if len(head) < 4:
             raise SystemExit("the server has closed")
         body = self.socket.recv(int.from_bytes(head[2:], "big") - 4, socket.MSG_WAITALL)
-        say("hears", head[1], body)
+        self.say("hears", head[1], body)
         return head[1], body
 
     def obey(self, asked, is_initiation):
@@ -145,7 +152,8 @@ class Router:
                 self.send(KEEPALIVE)
             elif kind == KEEPALIVE and not is_up:
                 # all that stands, and the end of that (RFC 8231 section 5.6)
-                self.report(self.paths[1], UP | SYNC)
+                for path in self.paths.values():
+                    self.report(path, UP | SYNC)
                 self.send(PCRPT, pack_object(LSP, bytes(4) + pack_tlv(IDENTIFIERS, bytes(16))) + pack_object(ERO, b""))
                 is_up = True
             elif kind in (PCUPD, PCINITIATE):
@@ -156,9 +164,16 @@ if __name__ == "__main__":
     words = argparse.ArgumentParser(description="A small router at A of examples/diamond.toml.")
     words.add_argument("--from", dest="address", metavar="ADDRESS", default="127.0.1.1", help="the router's address")
     words.add_argument("--to", metavar="ADDR:PORT", default="127.0.0.1:4189", help="where the server listens")
+    words.add_argument("--bare", action="store_true", help="begin without an LSP")
     chosen = words.parse_args()
     host, _, port = chosen.to.rpartition(":")
+    if not port.isdecimal():
+        raise SystemExit(f"--to takes ADDR:PORT, and not {chosen.to}")
     try:
-        Router(chosen.address, (host, int(port))).run()
-    except (OSError, ValueError, KeyboardInterrupt) as fault:
-        raise SystemExit(str(fault))
+        Router(chosen.address, (host, int(port)), [] if chosen.bare else [path_by_b()]).run()
+    except ConnectionRefusedError:
+        raise SystemExit(f"no server listens at {chosen.to}: start `pced serve --listen {chosen.to} ..` first")
+    except OSError as fault:
+        raise SystemExit(f"cannot speak from {chosen.address} with a server at {chosen.to}: {fault.strerror}")
+    except KeyboardInterrupt:
+        raise SystemExit("interrupted")

@@ -5,12 +5,15 @@
 set -euo pipefail
 program=${1:-./pced}
 folder=$(mktemp -d)
-trap 'rm -rf "$folder"' EXIT
+server=
+# (however it ends, the server does too)
+trap '[ -z "$server" ] || kill "$server" 2> /dev/null || true; rm -rf "$folder"' EXIT
 socket=$folder/control
 
 "$program" serve --te examples/abilene.toml --listen 127.0.0.1:0 --endless --control "$socket" --log warn < /dev/null &
+server=$!
 until [ -S "$socket" ]; do
-    kill -0 $! 2> /dev/null || exit 1
+    kill -0 "$server" 2> /dev/null || exit 1
     sleep 0.1
 done
 "$program" tell "$socket" 'path 10.0.0.1 10.0.0.11 125000000 7 7'

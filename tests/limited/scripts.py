@@ -3,7 +3,7 @@ import subprocess
 
 from .pcep import GREETING, MARKER, MOST, network, report, reports, thing
 
-SECONDS = 300
+SECONDS = 600
 
 PATHS, PEERS, TICKETS, NODES, LINKS, HOPS, STEPS = 16_384, 64, 1_024, 1_024, 4_096, 64, 1_048_576
 LONGEST = 65_532  # the longest message: its length is a multiple of four that 16 bits can say

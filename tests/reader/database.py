@@ -352,7 +352,7 @@ def route_thing(network, links):
     return m.thing(o.ERO, b"".join(struct.pack(">BBIBB", 1, 8, network.links[link].remote, 32, 0) for link in links))
 
 
-def attributes(asked):
-    return m.thing(o.LSPA, struct.pack(">III4B", *asked.colours, asked.setup, asked.hold, 0, 0)) + m.thing(
+def attributes(asked, is_protected):
+    return m.thing(o.LSPA, struct.pack(">III4B", *asked.colours, asked.setup, asked.hold, is_protected, 0)) + m.thing(
         o.BANDWIDTH, struct.pack(">I", word_of(asked.bandwidth))
     )

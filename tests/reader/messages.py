@@ -34,6 +34,7 @@ class Constraints:
     setup: int = 7
     hold: int = 7
     colours: tuple = (0, 0, 0)
+    is_protected: bool = False
     minimise: int = 2
     bounds: dict = field(default_factory=dict)
 
@@ -42,6 +43,7 @@ class Constraints:
         if lspa is not None:
             self.colours, self.setup = lspa[:3], min(lspa[3], 7)
             self.hold = min(self.setup, min(lspa[4], 7))
+            self.is_protected = bool(lspa[5] & 1)
 
 
 @dataclass(slots=True)

@@ -92,7 +92,7 @@ def says(kind, data):
     if kind in (ERO, RRO):
         return hops_of(data, kind == ERO)
     if kind == LSPA:
-        return struct.unpack_from(">IIIBB", data)
+        return struct.unpack_from(">IIIBBB", data)
     if kind == LSP:
         return struct.unpack_from(">I", data)[0]
     return None

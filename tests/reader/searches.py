@@ -127,14 +127,15 @@ class Searches(Database):
         peer, asked, (purpose, whom) = ticket.peer, ticket.constraints, ticket.purpose
         if purpose == "update":
             tunnel, plsp, name = self.own_tunnel(ticket), whom, None
-            kind, first = m.M_PCUPD, lsp_thing(plsp, 0x9)
+            kind, first, is_protected = m.M_PCUPD, lsp_thing(plsp, 0x9), asked.is_protected
         else:
             tunnel, plsp, name = ("asked", peer, srp), 0, whom
             padded = whom + bytes(-len(whom) % 4)
             kind, first = m.M_PCINITIATE, lsp_thing(0, 0x9, struct.pack(">HH", o.SYMBOLIC_NAME, len(whom)) + padded)
             first += m.thing(o.END_POINTS, struct.pack(">II", asked.source, asked.destination), flags=2)
+            is_protected = False
         self.peers[peer].last_srp = srp
-        self.peers[peer].queue.append(m.message(kind, srp_thing(srp), first, route_thing(self.network, links), attributes(asked)))
+        self.peers[peer].queue.append(m.message(kind, srp_thing(srp), first, route_thing(self.network, links), attributes(asked, is_protected)))
         self.replace([], [Path(peer, plsp, (GRANTED, srp), tunnel, asked.hold, asked.bandwidth, links, True, name)])
         return f"granted {srp}"
 

@@ -48,7 +48,7 @@ class Reports:
         ends = report.identifiers[0], report.identifiers[4]
         if zero:
             ends = (old.asked.source, old.asked.destination) if old else (None, None)
-        asked = Constraints(*ends, report.bandwidth, report.setup, report.hold, report.colours)
+        asked = Constraints(*ends, report.bandwidth, report.setup, report.hold, report.colours, report.is_protected)
         name = report.name if report.name is not None else old.name if old else b""
         return Record(name, report.delegated, report.created, asked, tunnel, old.removing if old else None)
 

@@ -97,7 +97,7 @@ class Routers:
         colours = [self.draw.randrange(8) if self.chance(0.06) else 0 for _ in range(3)]
         setup = self.draw.randint(0, 7) if self.chance(0.97) else 200
         hold = self.draw.randint(0, min(setup, 7)) if self.chance(0.8) else self.draw.randint(0, 9)
-        return wire.obj(9, 1, struct.pack(">IIIBBBB", *colours, setup, hold, 0, 0))
+        return wire.obj(9, 1, struct.pack(">IIIBBBB", *colours, setup, hold, self.chance(0.2), 0))
 
     # ---- reports
 

@@ -4,7 +4,7 @@ import subprocess
 
 from .laws import Broken
 
-SECONDS = 120
+SECONDS = 600
 
 
 def play(scenario):
@@ -71,4 +71,4 @@ class Tally:
             self.folder.mkdir(parents=True, exist_ok=True)
             left = self.folder / f"{kind}-{seed}.txt"
             left.write_text(text)
-            print(f"seed {seed}: {amount} {kind}, {program}, script in {left}\n{fault}", flush=True)
+            print(f"FAIL  seed {seed}: {amount} {kind}, {program}, script in {left}\n{fault}", flush=True)

@@ -104,7 +104,8 @@ def answers(left, asked, tunnel):
 class Constraints:
     """What is asked of a path."""
 
-    def __init__(self, source, destination, bandwidth, setup, hold, colours=(0, 0, 0)):
+    def __init__(self, source, destination, bandwidth, setup, hold, colours=(0, 0, 0), is_protected=False):
         self.source, self.destination, self.bandwidth = source, destination, bandwidth
         self.setup, self.hold, self.colours = setup, min(setup, hold), colours
+        self.is_protected = is_protected
         self.minimise, self.bound, self.hop_bound, self.other_bounds = TE, None, None, {}

@@ -57,6 +57,7 @@ class Report:
     setup: int = 7
     hold: int = 7
     colours: tuple = (0, 0, 0)
+    is_protected: bool = False
 
     delegated = property(lambda self: bool(self.flags & 1))
     syncing = property(lambda self: bool(self.flags & 2))
@@ -80,6 +81,7 @@ class Request:
     setup: int = 7
     hold: int = 7
     colours: tuple = (0, 0, 0)
+    is_protected: bool = False
     minimise: int = 2
     # the least bound on each metric that is bounded
     bounds: dict = field(default_factory=dict)
@@ -134,8 +136,8 @@ def hops_in(body, kinds=0x7F):
 
 def put_attributes(item, body):
     """What an LSPA says. The holding priority in force is never worse than the setup priority."""
-    exclude, any_of, all_of, setup, hold = struct.unpack_from(">IIIBB", body)
-    item.colours = exclude, any_of, all_of
+    exclude, any_of, all_of, setup, hold, flags = struct.unpack_from(">IIIBBB", body)
+    item.colours, item.is_protected = (exclude, any_of, all_of), bool(flags & 1)
     item.setup, item.hold = min(setup, 7), min(setup, hold, 7)
 
 
@@ -318,8 +320,8 @@ def lsp(plsp, flags, tlvs=b""):
     return obj(32, 1, struct.pack(">I", plsp << 12 | flags) + tlvs)
 
 
-def attributes(asked):
-    return obj(9, 1, struct.pack(">IIIBBBB", *asked.colours, asked.setup, asked.hold, 0, 0))
+def attributes(asked, is_protected):
+    return obj(9, 1, struct.pack(">IIIBBBB", *asked.colours, asked.setup, asked.hold, is_protected, 0))
 
 
 def bandwidth(value):
@@ -344,7 +346,7 @@ def error(kind, value, about=(NOTHING, 0)):
 
 
 def update(number, plsp, addresses, asked):
-    return message(UPDATE, srp(number), lsp(plsp, 9), route(addresses), attributes(asked), bandwidth(asked.bandwidth))
+    return message(UPDATE, srp(number), lsp(plsp, 9), route(addresses), attributes(asked, asked.is_protected), bandwidth(asked.bandwidth))
 
 
 def give_back(number, plsp):
@@ -354,7 +356,7 @@ def give_back(number, plsp):
 def initiate(number, name, addresses, asked):
     ends = obj(4, 1, struct.pack(">II", asked.source, asked.destination), must=True)
     head = srp(number), lsp(0, 9, tlv(17, name)), ends
-    return message(INITIATE, *head, route(addresses), attributes(asked), bandwidth(asked.bandwidth))
+    return message(INITIATE, *head, route(addresses), attributes(asked, False), bandwidth(asked.bandwidth))
 
 
 def delete(number, plsp):

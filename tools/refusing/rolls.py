@@ -9,7 +9,9 @@ LINKS, NODES = 4096, 65
 # (of all lists that a full server makes, the values of the links in the base of a roll alone have this number of bytes)
 LEAST = 20 * LINKS
 EACH, BEFORE, BEHIND = 2000, 480, 60
-SECONDS, MOST = 2, 200
+# in a turn the keeper of time meets three refusals: it rolls a history that is due for it, the step of the Down that it owes rolls
+# first, and so does whoever meets a full history. It pauses for ten milliseconds between two turns; a tenth more for the last ones
+PERIOD, EACH_TURN, SECONDS, MORE = 0.01, 3, 2, 1.1
 
 
 def network_text():
@@ -28,7 +30,8 @@ def refuse_rolls(program, refusals):
     network = f"{refusals.room}/wide.toml"
     with open(network, "w") as file:
         file.write(network_text())
-    served = Served(program, network, refusals)
+    # the history is full by its steps, and not by their bytes
+    served = Served(program, network, refusals, words=("--history", "65536"))
     try:
         served.come()
         many = m.message(m.M_PCRPT, REMOVAL[4:] * 100) * (EACH // 100)
@@ -43,11 +46,11 @@ def refuse_rolls(program, refusals):
             raise ValueError("the session goes on though the history is full")
         except Gone:
             pass
-        before = refusals.met()
+        begun, before = time.monotonic(), refusals.met()
         time.sleep(SECONDS)
-        tried = refusals.met() - before
-        if not 0 < tried <= MOST:
-            raise ValueError(f"{tried} tries in {SECONDS} s")
+        tried, took = refusals.met() - before, time.monotonic() - begun
+        if not 0 < tried <= MORE * EACH_TURN * took / PERIOD:
+            raise ValueError(f"{tried} tries in {took:.1f} s")
         refusals.lift()
         served.come()
         wants(served.end(), (0, ""))

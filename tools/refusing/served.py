@@ -5,6 +5,7 @@ import struct
 import subprocess
 import time
 
+from ports import free_port
 from reader import messages as m
 from reader.numbers import word_of
 
@@ -41,13 +42,13 @@ class Gone(Exception):
 
 
 class Served:
-    def __init__(self, program, network, refusals, place=-1):
+    def __init__(self, program, network, refusals, place=-1, words=()):
         self.refusals, self.network, self.router, self.number = refusals, network, None, 0
         refusals.order(place)
-        with socket.create_server(("127.0.0.1", 0)) as free:
-            self.port = free.getsockname()[1]
+        self.port = free_port()
+        # (no path is asked for but by the calls that are tried)
         self.process = subprocess.Popen(
-            [program, "serve", "--te", network, "--listen", f"127.0.0.1:{self.port}", "--endless", "--workers", "1"],
+            [program, "serve", "--te", network, "--listen", f"127.0.0.1:{self.port}", "--endless", "--workers", "1", "--retry", "0", *words],
             stdin=subprocess.PIPE, stdout=subprocess.PIPE, stderr=subprocess.PIPE, bufsize=0, env=refusals.environment,
         )
 
@@ -357,6 +358,51 @@ def refuse_each_of_the_calls(program, network, refusals):
         served.process.wait()
 
 
+def grant_that_ends(served, place):
+    """LSP 5 is delegated and down, and an update of it is granted that its router doesn't answer: how many refusals there were until the
+    grant's time was over, and two turns more. It is gone soon after that."""
+    served.send(report(0x09))
+    served.is_answered()
+    wants(served.tell("update 127.0.0.1 5")[0].split()[0], "asked")
+    served.hear_of(m.M_PCUPD)
+    wants(served.book(), HELD)
+    served.refusals.order(place)
+    time.sleep(2.2)
+    met = served.refusals.met()
+    until = time.monotonic() + SECONDS
+    while served.book() != FREE and time.monotonic() < until:
+        time.sleep(0.1)
+    wants(served.book(), FREE)
+    return met
+
+
+def refuse_each_of_upkeep(program, network, refusals):
+    """Grants end that no router answers, though memory is refused to the look, to the table or to the step: each by a later turn."""
+    served, ended = Served(program, network, refusals, words=("--answer", "1")), 0
+    try:
+        served.come()
+        for place in range(MOST):
+            try:
+                met = grant_that_ends(served, place)
+            except Gone:
+                # (a Keepalive found no memory)
+                refusals.lift()
+                served.come()
+                ended, met = ended + 1, 1
+            if met == 0:
+                break
+        served.process.stdin.close()
+        said = served.process.stderr.read().decode().splitlines()
+        wants(served.process.wait(timeout=SECONDS), 0)
+        told = sum("memory refused" in line for line in said)
+        wants(sum("no answer 127.0.0.1" in line for line in said) >= place + 1 - ended, True)
+        wants(0 < told <= place or place == 0, True)
+        return f"{place} refusals, {told} of them logged, {ended} ended the session"
+    finally:
+        served.process.kill()
+        served.process.wait()
+
+
 def result_of(case, *given):
     """Tries a server under refusals, and prints how it went."""
     try:
@@ -368,5 +414,5 @@ def result_of(case, *given):
 
 
 def results_of(program, network, refusals):
-    cases = refuse_each_of_a_start, refuse_each_of_the_calls, refuse_each_of_an_end
+    cases = refuse_each_of_a_start, refuse_each_of_the_calls, refuse_each_of_upkeep, refuse_each_of_an_end
     return [result_of(case, program, network, refusals) for case in cases]

@@ -9,7 +9,7 @@ pub times_append : (h : Reservation) (a b : List Reservation) → times h (a ++ 
 times_append h [] b = grind arith
 times_append h (x ∷ a) b = let ih = times_append h a b in omega (arith, ih)
 
-same_self : (h : Reservation) → same_held h h ≡ true
+pub same_self : (h : Reservation) → same_held h h ≡ true
 same_self h = grind (arith, nat_tests)
 
 same_hold : (a b : Reservation) → same_held a b ≡ true → a.hold ≡ b.hold

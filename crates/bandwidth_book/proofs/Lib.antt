@@ -1,4 +1,5 @@
 pub mod Rising
+pub mod Between
 pub mod LinkLists
 pub mod Sums
 pub mod Packed
@@ -8,9 +9,11 @@ pub mod Order
 pub mod Totals
 pub mod Written
 pub mod Moved
+pub mod Busy
 pub mod Counts
 pub mod Same
 pub mod Stands
+pub mod Dropped
 pub mod Shares
 pub mod Distinct
 pub mod Reserved

@@ -1,5 +1,5 @@
 -- What one change of a list of entries does to the entries by link, and what a path's links take one by one.
-use Rattle.std.proofs.Common.{◌≡◌, ◌<◌, ◌≤◌, ◌+◌, ◌^◌, ℕ, zero, suc, ◌==◌, Bool, true, false, true≢false, List, [], ◌∷◌, ◌++◌, Option, Some, None, length, get_or, slice_get, slice_set, slice_index, insert, remove, drop, refl, sym, ap, subst, ◌∙◌, arith, inl, inr, if◌then◌else◌, add-one, drop-cons, length-append, length-set}
+use Rattle.std.proofs.Common.{◌≡◌, ◌<◌, ◌≤◌, ◌+◌, ◌^◌, ℕ, zero, suc, ◌==◌, Bool, true, false, true≢false, List, [], ◌∷◌, ◌++◌, Option, Some, None, length, get_or, slice_get, slice_set, slice_index, insert, drop, refl, sym, ap, subst, ◌∙◌, arith, inl, inr, if◌then◌else◌, add-one, drop-cons, length-append, length-set}
 use Rattle.std.proofs.lemmas.Bool.{cases_Bool, eqb-true}
 use Rattle.std.specs.List.{refill}
 use Rattle.bandwidth_book.specs.Reservation.{Reservation}
@@ -7,11 +7,11 @@ use Rattle.bandwidth_book.specs.declared.link_entries.LinkEntry.{LinkEntry}
 use Rattle.bandwidth_book.specs.Holdings.{Holdings}
 use Rattle.bandwidth_book.specs.Reservation.{most, moved_all, takes_memory}
 use Rattle.bandwidth_book.specs.declared.reservation.Motion.{Motion}
-use Rattle.bandwidth_book.specs.Entries.{AreRising, IsAt, IsMoved, entry_on, held_in, place_on}
+use Rattle.bandwidth_book.specs.Entries.{AreRising, IsAt, IsShifted, entry_on, held_in, place_on}
 use Rattle.bandwidth_book.specs.Tunnels.{held_by_links, sum_at, sum_in}
-use Rattle.bandwidth_book.proofs.Moved.{most_moved, moved_both, moved_part, unmoved}
+use Rattle.bandwidth_book.proofs.Moved.{most_moved, shifted_both, shifted_part, unshifted}
 use Rattle.bandwidth_book.proofs.Places.{set_related}
-use Rattle.bandwidth_book.proofs.Rising.{entry_insert, entry_remove, entry_set, found_at, none_in_place, number_self, numbers_apart, rising_remove, rising_set}
+use Rattle.bandwidth_book.proofs.Rising.{entry_insert, entry_set, found_at, none_in_place, number_self, numbers_apart, rising_set}
 
 -- ---- one at a place
 
@@ -49,7 +49,7 @@ none_at_place l d xs n e r f = none_in_place l d xs r (λ h. numbers_apart (get_
 pub none_at_end : (l : ℕ) (xs : List LinkEntry) (n : ℕ) → n ≡ place_on l xs → AreRising xs → length xs ≤ n → entry_on l xs ≡ None
 none_at_end l xs n e r h = none_in_place l nothing xs r (λ less. absurd (omega (arith, e, h, less)))
 
--- ---- one is written, put or taken out: what relates the old and the new entry of its link, and each entry to
+-- ---- one is written or put: what relates the old and the new entry of its link, and each entry to
 -- itself, relates the entries of each link
 
 pub set_entry : (R : Bool → Option Holdings → Option Holdings → Type 0) (x : LinkEntry) (e : Holdings) (xs : List LinkEntry) (i : ℕ) → AreRising xs → slice_get xs i ≡ Some x → R true (Some x.entry) (Some e) → ((o : Option Holdings) → R false o o) → (l : ℕ) → R (x.link == l) (entry_on l xs) (entry_on l (slice_set xs i (record { link = x.link; entry = e })))
@@ -108,37 +108,6 @@ insert_entry_of R y xs none there others l =
       | inr other ↦ rw (put, other) (others (entry_on l xs))
     ]
 
-remove_entry : (R : Bool → Option Holdings → Option Holdings → Type 0) (x : LinkEntry) (xs : List LinkEntry) (i : ℕ) → AreRising xs → slice_get xs i ≡ Some x → R true (Some x.entry) None → ((o : Option Holdings) → R false o o) → (l : ℕ) → R (x.link == l) (entry_on l xs) (entry_on l (remove xs i))
-remove_entry R x xs i r at there others l =
-    let out = entry_remove l x xs i r at in
-    elim (cases_Bool (x.link == l)) [
-      | inl here ↦ (
-          let found : entry_on l xs ≡ Some x.entry = subst (λ (k : ℕ). entry_on k xs ≡ Some x.entry) (eqb-true x.link l here) (found_at x xs i r at) in
-          rw (out, here, found) there)
-      | inr other ↦ rw (out, other) (others (entry_on l xs))
-    ]
-
--- what is written there goes with it
-remove_set : (xs : List LinkEntry) (i : ℕ) (y : LinkEntry) → remove (slice_set xs i y) i ≡ remove xs i
-remove_set [] zero y = refl
-remove_set [] (suc i) y = refl
-remove_set (x ∷ xs) zero y = refl
-remove_set (x ∷ xs) (suc i) y = ap (λ (zs : List LinkEntry). x ∷ zs) (remove_set xs i y)
-
--- the same through a slice of the list that was lent, and is put back
-taken_out : (x : LinkEntry) (e : Holdings) (xs lent : List LinkEntry) (i : ℕ) → lent ≡ xs → x ≡ get_or lent i x → remove (refill (length xs) xs (slice_set lent i (record { link = (get_or lent i x).link; entry = e }))) i ≡ remove xs i
-taken_out x e xs lent i same got = ap (λ (ys : List LinkEntry). remove ys i) (put_back x e xs lent i same got) ∙ remove_set xs i (record { link = x.link; entry = e })
-
-pub remove_entry_lent : (R : Bool → Option Holdings → Option Holdings → Type 0) (m : ℕ) (x : LinkEntry) (e : Holdings) (xs lent : List LinkEntry) (i : ℕ) → AreRising xs → IsAt m xs i → lent ≡ xs → x ≡ get_or lent i x → R true (Some (get_or lent i x).entry) None → ((o : Option Holdings) → R false o o) → (l : ℕ) → R (m == l) (entry_on l xs) (entry_on l (remove (refill (length xs) xs (slice_set lent i (record { link = (get_or lent i x).link; entry = e }))) i))
-remove_entry_lent R m x e xs lent i r at same got there others l =
-    let here : x ≡ get_or xs i x = subst (λ (ys : List LinkEntry). x ≡ get_or ys i x) same got in
-    subst (λ (ys : List LinkEntry). R (m == l) (entry_on l xs) (entry_on l ys)) (sym (taken_out x e xs lent i same got))
-    (subst (λ (k : ℕ). R (k == l) (entry_on l xs) (entry_on l (remove xs i))) (link_got m x xs i at here)
-    (remove_entry R x xs i r (is_got m x xs i at here) (subst (λ (y : LinkEntry). R true (Some y.entry) None) (sym got) there) others l))
-
-pub rising_removed : (x : LinkEntry) (e : Holdings) (xs lent : List LinkEntry) (i : ℕ) → AreRising xs → lent ≡ xs → x ≡ get_or lent i x → AreRising (remove (refill (length xs) xs (slice_set lent i (record { link = (get_or lent i x).link; entry = e }))) i)
-rising_removed x e xs lent i r same got = subst AreRising (sym (taken_out x e xs lent i same got)) (rising_remove xs i r)
-
 -- ---- a row of sums is written
 
 pub sum_here : (sums : List (List ℕ)) (l p : ℕ) → l < length sums → sum_at sums l p ≡ slice_index (get_or sums l []) p
@@ -171,19 +140,19 @@ next_length held l xs i h = ap (λ (hs : List Reservation). length hs) (next_hel
 
 -- one link is moved, and then the rest
 pub next_moved : (m : Motion) (held : Reservation) (l : ℕ) (xs : List ℕ) (i : ℕ) (o u v : Option Holdings) → i < length xs
-    → IsMoved m (if get_or xs i 0 == l then held ∷ [] else []) o u → IsMoved m (held_by_links held l (drop (i + 1) xs)) u v → IsMoved m (held_by_links held l (drop i xs)) o v
-next_moved m held l xs i o u v h one rest = subst (λ (hs : List Reservation). IsMoved m hs o v) (sym (next_held held l xs i h)) (moved_both m _ _ o u v one rest)
+    → IsShifted m (if get_or xs i 0 == l then held ∷ [] else []) o u → IsShifted m (held_by_links held l (drop (i + 1) xs)) u v → IsShifted m (held_by_links held l (drop i xs)) o v
+next_moved m held l xs i o u v h one rest = subst (λ (hs : List Reservation). IsShifted m hs o v) (sym (next_held held l xs i h)) (shifted_both m _ _ o u v one rest)
 
 -- one link's promise is refused, and so none is made for the rest
 pub last_moved : (m : Motion) (held : Reservation) (l : ℕ) (xs : List ℕ) (i : ℕ) (o u : Option Holdings) → i < length xs → takes_memory m ≡ true
-    → IsMoved m (if get_or xs i 0 == l then held ∷ [] else []) o u → IsMoved m (held_by_links held l (drop i xs)) o u
-last_moved m held l xs i o u h t one = subst (λ (hs : List Reservation). IsMoved m hs o u) (sym (next_held held l xs i h)) (moved_part m _ (held_by_links held l (drop (i + 1) xs)) o u t one)
+    → IsShifted m (if get_or xs i 0 == l then held ∷ [] else []) o u → IsShifted m (held_by_links held l (drop i xs)) o u
+last_moved m held l xs i o u h t one = subst (λ (hs : List Reservation). IsShifted m hs o u) (sym (next_held held l xs i h)) (shifted_part m _ (held_by_links held l (drop (i + 1) xs)) o u t one)
 
 -- another link's entry stays
-pub elsewhere : (m : Motion) (link l : ℕ) (held : Reservation) (o : Option Holdings) → (link == l) ≡ false → IsMoved m (if link == l then held ∷ [] else []) o o
-elsewhere m link l held o other = rw other (unmoved m o)
+pub elsewhere : (m : Motion) (link l : ℕ) (held : Reservation) (o : Option Holdings) → (link == l) ≡ false → IsShifted m (if link == l then held ∷ [] else []) o o
+elsewhere m link l held o other = rw other (unshifted m o)
 
-pub kept_elsewhere : (m : Motion) (link l : ℕ) (held : Reservation) (o u : Option Holdings) → (link == l) ≡ false → IsMoved m (if link == l then held ∷ [] else []) o u → held_in u ≡ held_in o
+pub kept_elsewhere : (m : Motion) (link l : ℕ) (held : Reservation) (o u : Option Holdings) → (link == l) ≡ false → IsShifted m (if link == l then held ∷ [] else []) o u → held_in u ≡ held_in o
 kept_elsewhere m link l held o u other x = rw other at x.kept
 
 -- one that is added or dropped leaves the greatest below a bound that it is below itself

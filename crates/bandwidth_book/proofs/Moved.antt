@@ -1,6 +1,6 @@
 -- What a walk over links does with one entry.
 use Rattle.std.proofs.Common.{◌≡◌, ◌≤◌, ◌<◌, ◌+◌, ◌^◌, ◌==◌, ◌&&◌, ℕ, zero, suc, nat_le, max, Bool, true, false, true≢false, List, [], ◌∷◌, ◌++◌, Option, Some, None, length, length-append, refl, sym, ap, ◌∙◌, arith, if◌then◌else◌}
-use Rattle.bandwidth_book.specs.Entries.{IsMoved, held_in, promised_in}
+use Rattle.bandwidth_book.specs.Entries.{IsBusy, IsMoved, IsSame, IsShifted, held_in, promised_in}
 use Rattle.lsp_base.specs.declared.tunnel.Tunnel.{Tunnel}
 use Rattle.bandwidth_book.specs.Tunnels.{held_by_path, tunnel_eq}
 use Rattle.bandwidth_book.specs.Reservation.{Reservation, changes_held, most, moved_all, moved_one, promised_after, room_for, takes_memory, with_all, without_all}
@@ -139,18 +139,60 @@ moved_part Withdraw a b o u e x = absurd (true≢false (sym e))
 pub refused : (m : Motion) (hs : List Reservation) (o : Option Holdings) → takes_memory m ≡ true → IsMoved m hs o o
 refused m hs o t = moved_part m [] hs o o t (unmoved m o)
 
--- an entry that stays, one that goes, one that comes, and none
-pub stays : (m : Motion) (h : Reservation) (e new : Holdings) → new.held ≡ moved_one m h e.held → new.promised ≤ promised_after m 1 e.promised → (length new.held ≡ 0 → 0 < new.promised) → IsMoved m (h ∷ []) (Some e) (Some new)
-stays m h e new held below busy = record { kept = held; busy = λ b some none. busy (ap (λ (hs : List Reservation). length hs) none); below = below }
+-- ---- an entry that may be left with nothing
 
-pub goes : (m : Motion) (h : Reservation) (e new : Holdings) → new.held ≡ moved_one m h e.held → length new.held ≡ 0 → IsMoved m (h ∷ []) (Some e) None
-goes m h e new held none = record { kept = sym (no_length new.held (omega (arith, none))) ∙ held; busy = λ b some. absurd (true≢false (sym some)); below = omega arith }
+pub shifted : (m : Motion) (hs : List Reservation) (o u : Option Holdings) → IsMoved m hs o u → IsShifted m hs o u
+shifted m hs o u x = record { kept = x.kept; below = x.below }
 
-pub comes : (m : Motion) (h : Reservation) (e : Holdings) → takes_memory m ≡ true → e.held ≡ moved_one m h [] → e.promised ≡ promised_after m 1 0 → IsMoved m (h ∷ []) None (Some e)
-comes Promise h e t held promised = record { kept = held; busy = λ b some none. omega (arith, promised); below = omega (arith, promised) }
+pub unshifted : (m : Motion) (o : Option Holdings) → IsShifted m [] o o
+unshifted m o = shifted m [] o o (unmoved m o)
+
+pub shifted_both : (m : Motion) (a b : List Reservation) (o u v : Option Holdings) → IsShifted m a o u → IsShifted m b u v → IsShifted m (a ++ b) o v
+shifted_both m a b o u v x y = record {
+  kept = y.kept ∙ ap (λ hs. moved_all m hs b) x.kept ∙ sym (moved_append m (held_in o) a b);
+  below = (let below = y.below in
+      let first = after_least m (length b) _ _ x.below in
+      let both = after_both m (length a) (length b) (promised_in o) in
+      let long = ap (λ n. promised_after m n (promised_in o)) (length-append a b) in
+      omega (arith, below, first, both, long));
+}
+
+-- a promise that is refused on the way is none for the rest
+pub shifted_part : (m : Motion) (a b : List Reservation) (o u : Option Holdings) → takes_memory m ≡ true → IsShifted m a o u → IsShifted m (a ++ b) o u
+shifted_part Promise a b o u e x = record {
+  kept = x.kept ∙ promised Promise refl (held_in o) a ∙ sym (promised Promise refl (held_in o) (a ++ b));
+  below = (let below = x.below in let long = length-append a b in omega (arith, below, long));
+}
+shifted_part Add a b o u e x = absurd (true≢false (sym e))
+shifted_part Drop a b o u e x = absurd (true≢false (sym e))
+shifted_part Withdraw a b o u e x = absurd (true≢false (sym e))
+
+-- a promise that is refused leaves all
+pub not_shifted : (m : Motion) (hs : List Reservation) (o : Option Holdings) → takes_memory m ≡ true → IsShifted m hs o o
+not_shifted m hs o t = shifted m hs o o (refused m hs o t)
+
+-- nor does one that is refused once entries were made for it
+pub same_shifted : (m : Motion) (hs : List Reservation) (o u : Option Holdings) → takes_memory m ≡ true → IsSame o u → IsShifted m hs o u
+same_shifted m hs o u t same =
+    let none = not_shifted m hs o t in
+    record { kept = same.kept ∙ none.kept; below = (let below = none.below in let as_many = same.promised in omega (arith, below, as_many)) }
+
+-- an entry that stays, one that comes, and none
+pub stays : (m : Motion) (h : Reservation) (e new : Holdings) → new.held ≡ moved_one m h e.held → new.promised ≤ promised_after m 1 e.promised → IsShifted m (h ∷ []) (Some e) (Some new)
+stays m h e new held below = record { kept = held; below = below }
+
+pub comes : (m : Motion) (h : Reservation) (e : Holdings) → takes_memory m ≡ true → e.held ≡ moved_one m h [] → e.promised ≡ promised_after m 1 0 → IsShifted m (h ∷ []) None (Some e)
+comes Promise h e t held promised = record { kept = held; below = omega (arith, promised) }
 comes Add h e t held promised = absurd (true≢false (sym t))
 comes Drop h e t held promised = absurd (true≢false (sym t))
 comes Withdraw h e t held promised = absurd (true≢false (sym t))
+
+-- for one that comes room is promised
+pub comes_busy : (m : Motion) (e : Holdings) → takes_memory m ≡ true → e.promised ≡ promised_after m 1 0 → IsBusy (Some e)
+comes_busy Promise e t promised = λ there nothing. omega (arith, promised)
+comes_busy Add e t promised = absurd (true≢false (sym t))
+comes_busy Drop e t promised = absurd (true≢false (sym t))
+comes_busy Withdraw e t promised = absurd (true≢false (sym t))
 
 pub missing : (m : Motion) (hs : List Reservation) → takes_memory m ≡ false → room_for m (length hs) ≤ 0 → IsMoved m hs None None
 missing m hs t room = record { kept = none m hs t room; busy = λ b. b; below = omega arith }
@@ -164,3 +206,6 @@ missing m hs t room = record { kept = none m hs t room; busy = λ b. b; below = 
     none Add hs t room = ap (λ (xs : List Reservation). moved_all Add [] xs) (sym (no_length hs room))
     none Drop hs t room = nothing_dropped hs
     none Withdraw hs t room = sym (withdrawn [] hs)
+
+pub not_there : (m : Motion) (hs : List Reservation) → takes_memory m ≡ false → room_for m (length hs) ≤ 0 → IsShifted m hs None None
+not_there m hs t room = shifted m hs None None (missing m hs t room)

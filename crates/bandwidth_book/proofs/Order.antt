@@ -1,10 +1,10 @@
 -- Lists in the order of holding priority and bandwidth.
-use Rattle.std.proofs.Common.{◌≡◌, ◌≤◌, ◌<◌, ℕ, zero, suc, ◌+◌, true, false, List, [], ◌∷◌, refl, sym, ap, subst, ◌∙◌, arith, inl, inr, length, get_or, insert, remove}
+use Rattle.std.proofs.Common.{◌≡◌, ◌≤◌, ◌<◌, ℕ, zero, suc, ◌+◌, true, false, true≢false, List, [], ◌∷◌, refl, sym, ap, subst, ◌∙◌, arith, inl, inr, length, get_or, insert, remove}
 use Rattle.std.specs.List.{AllByRecursion}
 use Rattle.std.proofs.lemmas.Bool.{cases_Bool}
 use Rattle.std.proofs.lemmas.Bool.Decides.{nat_tests}
 use Rattle.bandwidth_book.specs.Reservation.{Reservation}
-use Rattle.bandwidth_book.specs.Reservation.{AreInOrder, is_before, place_in, same_held, with_one, without_one}
+use Rattle.bandwidth_book.specs.Reservation.{AreInOrder, end_in, is_before, place_in, same_held, with_one, without_one}
 
 -- ---- the order
 
@@ -62,14 +62,73 @@ after_place h d (x ∷ hs) (suc k) n b =
       | inr other ↦ rw other (omega arith)
     ]
 
+-- ---- the end of those that are the same
+
+pub end_within : (h : Reservation) (hs : List Reservation) → end_in h hs ≤ length hs
+end_within h [] = omega arith
+end_within h (x ∷ hs) =
+    elim (cases_Bool (is_before h x)) [
+      | inl after ↦ rw after (omega arith)
+      | inr other ↦ (let ih = end_within h hs in rw other (omega (arith, ih)))
+    ]
+
+-- one that comes after h stands at its end or later
+pub before_end : (h d : Reservation) (hs : List Reservation) (k : ℕ) → k < length hs → is_before h (get_or hs k d) ≡ true → end_in h hs ≤ k
+before_end h d [] k n b = absurd (omega (arith, n))
+before_end h d (x ∷ hs) zero n b = rw b (omega arith)
+before_end h d (x ∷ hs) (suc k) n b =
+    elim (cases_Bool (is_before h x)) [
+      | inl after ↦ rw after (omega arith)
+      | inr other ↦ (let ih = before_end h d hs k (omega (arith, n)) b in rw other (omega (arith, ih)))
+    ]
+
+later_after : (x h d : Reservation) (hs : List Reservation) (k : ℕ) → AllByRecursion (λ y. is_before y x ≡ false) hs → k < length hs → is_before h (get_or hs k d) ≡ false → is_before h x ≡ false
+later_after x h d [] k a n b = absurd (omega (arith, n))
+later_after x h d (y ∷ hs) zero a n b = not_before_trans y h x b a.0
+later_after x h d (y ∷ hs) (suc k) a n b = later_after x h d hs k a.1 (omega (arith, n)) b
+
+-- one that doesn't stands before its end
+pub after_end : (h d : Reservation) (hs : List Reservation) (k : ℕ) → AreInOrder hs → k < length hs → is_before h (get_or hs k d) ≡ false → k < end_in h hs
+after_end h d [] k o n b = absurd (omega (arith, n))
+after_end h d (x ∷ hs) zero o n b = rw b (omega arith)
+after_end h d (x ∷ hs) (suc k) o n b =
+    let first = later_after x h d hs k o.0 (omega (arith, n)) b in
+    let ih = after_end h d hs k o.1 (omega (arith, n)) b in
+    rw first (omega (arith, ih))
+
+-- two of which none is before the other are one
+neither_before : (x y : Reservation) → is_before x y ≡ false → is_before y x ≡ false → x ≡ y
+neither_before x y a b =
+    let hold : x.hold ≡ y.hold = grind (arith, nat_tests) in
+    let bandwidth : x.bandwidth ≡ y.bandwidth = grind (arith, nat_tests) in
+    λ i. record { hold = hold i; bandwidth = bandwidth i }
+
+pub same_is : (h x : Reservation) → same_held h x ≡ true → h ≡ x
+same_is h x s =
+    let hold : h.hold ≡ x.hold = grind (arith, nat_tests) in
+    let bandwidth : h.bandwidth ≡ x.bandwidth = grind (arith, nat_tests) in
+    λ i. record { hold = hold i; bandwidth = bandwidth i }
+
 -- ---- one more
 
-pub insert_in_place : (h : Reservation) (hs : List Reservation) → insert hs (place_in h hs) h ≡ with_one h hs
-insert_in_place h [] = refl
-insert_in_place h (x ∷ hs) =
-    elim (cases_Bool (is_before x h)) [
-      | inl here ↦ rw here (ap (λ t. x ∷ t) (insert_in_place h hs))
-      | inr other ↦ rw other refl
+-- before one that none of them is before
+first_of_all : (h : Reservation) (hs : List Reservation) → AllByRecursion (λ y. is_before y h ≡ false) hs → with_one h hs ≡ h ∷ hs
+first_of_all h [] a = refl
+first_of_all h (x ∷ hs) a = let other = a.0 in rw other refl
+
+-- after those that are the same it stands as before them
+pub insert_at_end : (h : Reservation) (hs : List Reservation) → AreInOrder hs → insert hs (end_in h hs) h ≡ with_one h hs
+insert_at_end h [] o = refl
+insert_at_end h (x ∷ hs) o =
+    elim (cases_Bool (is_before h x)) [
+      | inl after ↦ (let not = not_before_back h x after in rw (after, not) refl)
+      | inr other ↦ elim (cases_Bool (is_before x h)) [
+        | inl here ↦ rw (other, here) (ap (λ t. x ∷ t) (insert_at_end h hs o.1))
+        | inr not ↦ (
+            let same : x ≡ h = neither_before x h not other in
+            let all = subst (λ (y : Reservation). AllByRecursion (λ z. is_before z y ≡ false) hs) same o.0 in
+            rw (other, not) (ap (λ t. x ∷ t) (insert_at_end h hs o.1 ∙ first_of_all h hs all) ∙ ap (λ (y : Reservation). y ∷ h ∷ hs) same ∙ ap (λ (y : Reservation). h ∷ y ∷ hs) (sym same)))
+      ]
     ]
 
 all_with_one : (x h : Reservation) (hs : List Reservation) → AllByRecursion (λ y. is_before y x ≡ false) hs → is_before h x ≡ false → AllByRecursion (λ y. is_before y x ≡ false) (with_one h hs)
@@ -118,34 +177,67 @@ order_without_one h (x ∷ hs) o =
       | inr other ↦ rw other (all_without_one x h hs o.0, order_without_one h hs o.1)
     ]
 
--- the one in its place is the first that is the same
-pub remove_in_place : (h d : Reservation) (hs : List Reservation) → place_in h hs < length hs → same_held h (get_or hs (place_in h hs) d) ≡ true → remove hs (place_in h hs) ≡ without_one h hs
-remove_in_place h d [] n s = absurd (omega (arith, n))
-remove_in_place h d (x ∷ hs) n s =
-    elim (cases_Bool (is_before x h)) [
-      | inl here ↦ (let not = not_same_before x h here in let n2 : suc (place_in h hs) < length (x ∷ hs) = rw here at n in let s2 : same_held h (get_or hs (place_in h hs) d) ≡ true = rw here at s in rw (here, not) (ap (λ t. x ∷ t) (remove_in_place h d hs (omega (arith, n2)) s2)))
-      | inr other ↦ (let s2 : same_held h x ≡ true = rw other at s in rw (other, s2) refl)
-    ]
-
 none_later : (x h : Reservation) (hs : List Reservation) → AllByRecursion (λ y. is_before y x ≡ false) hs → is_before h x ≡ true → without_one h hs ≡ hs
 none_later x h [] a b = refl
 none_later x h (y ∷ hs) a b = let not = not_same_after x y h a.0 b in rw not (ap (λ t. y ∷ t) (none_later x h hs a.1 b))
 
--- where the one in its place is another, or there is none, none is the same
-pub none_in_place : (h d : Reservation) (hs : List Reservation) → AreInOrder hs → (place_in h hs < length hs → same_held h (get_or hs (place_in h hs) d) ≡ false) → without_one h hs ≡ hs
-none_in_place h d [] o f = refl
-none_in_place h d (x ∷ hs) o f =
-    elim (cases_Bool (is_before x h)) [
-      | inl here ↦ (let not = not_same_before x h here in let g : suc (place_in h hs) < length (x ∷ hs) → same_held h (get_or hs (place_in h hs) d) ≡ false = rw here at f in rw not (ap (λ t. x ∷ t) (none_in_place h d hs o.1 (λ n. g (omega (arith, n))))))
-      | inr other ↦ (let g : 0 < length (x ∷ hs) → same_held h x ≡ false = rw other at f in let not = g (omega arith) in rw not (ap (λ t. x ∷ t) (none_later x h hs o.0 (before_other x h other not))))
+same_here : (h x : Reservation) → is_before h x ≡ false → is_before x h ≡ false → same_held h x ≡ true
+same_here h x a b = grind (arith, nat_tests)
+
+not_same_later : (h x : Reservation) → is_before h x ≡ true → same_held h x ≡ false
+not_same_later h x a = grind (arith, nat_tests)
+
+-- behind one that is the same, what stands before the end is the same too
+same_next : (x y h : Reservation) → is_before y x ≡ false → is_before h y ≡ false → same_held h x ≡ true → same_held h y ≡ true
+same_next x y h a b s = same_here h y b (subst (λ (z : Reservation). is_before y z ≡ false) (sym (same_is h x s)) a)
+
+last_is_same : (x h d : Reservation) (hs : List Reservation) → AllByRecursion (λ y. is_before y x ≡ false) hs → AreInOrder hs → same_held h x ≡ true → same_held h (get_or (x ∷ hs) (end_in h hs) d) ≡ true
+last_is_same x h d [] a o s = s
+last_is_same x h d (y ∷ hs) a o s =
+    elim (cases_Bool (is_before h y)) [
+      | inl after ↦ rw after s
+      | inr other ↦ rw other (last_is_same y h d hs o.0 o.1 (same_next x y h a.0 other s))
     ]
 
-pub remove_at_place : (h d : Reservation) (hs : List Reservation) (n : ℕ) → n ≡ place_in h hs → n < length hs → same_held h (get_or hs n d) ≡ true → remove hs n ≡ without_one h hs
-remove_at_place h d hs n e less s =
-    let less2 : place_in h hs < length hs = omega (arith, e, less) in
-    let s2 : same_held h (get_or hs (place_in h hs) d) ≡ true = subst (λ (m : ℕ). same_held h (get_or hs m d) ≡ true) e s in
-    ap (λ m. remove hs m) e ∙ remove_in_place h d hs less2 s2
+-- so it makes no difference which of them goes
+without_next : (x h : Reservation) (hs : List Reservation) → AllByRecursion (λ y. is_before y x ≡ false) hs → same_held h x ≡ true → 0 < end_in h hs → x ∷ without_one h hs ≡ hs
+without_next x h [] a s n = absurd (omega (arith, n))
+without_next x h (y ∷ hs) a s n =
+    elim (cases_Bool (is_before h y)) [
+      | inl after ↦ absurd (let none : 0 < 0 = rw after at n in omega (arith, none))
+      | inr other ↦ (
+          let t = same_next x y h a.0 other s in
+          let same : x ≡ y = sym (same_is h x s) ∙ same_is h y t in
+          rw t (ap (λ (z : Reservation). z ∷ hs) same))
+    ]
 
-pub none_at_place : (h d : Reservation) (hs : List Reservation) (n : ℕ) → n ≡ place_in h hs → AreInOrder hs → (n < length hs → same_held h (get_or hs n d) ≡ false) → hs ≡ without_one h hs
-none_at_place h d hs n e o f =
-    sym (none_in_place h d hs o (λ less. subst (λ (m : ℕ). same_held h (get_or hs m d) ≡ false) e (f (omega (arith, e, less)))))
+-- the one before the end is the last that is the same
+pub remove_before_end : (h d : Reservation) (hs : List Reservation) (n : ℕ) → suc n ≡ end_in h hs → AreInOrder hs → same_held h (get_or hs n d) ≡ true → remove hs n ≡ without_one h hs
+remove_before_end h d [] n e o s = absurd (omega (arith, e))
+remove_before_end h d (x ∷ hs) zero e o s = rw s refl
+remove_before_end h d (x ∷ hs) (suc n) e o s =
+    elim (cases_Bool (is_before h x)) [
+      | inl after ↦ absurd (let none : suc (suc n) ≡ 0 = rw after at e in omega (arith, none))
+      | inr other ↦ (
+          let end : suc (suc n) ≡ suc (end_in h hs) = rw other at e in
+          let next : suc n ≡ end_in h hs = omega (arith, end) in
+          let rest = ap (λ t. x ∷ t) (remove_before_end h d hs n next o.1 s) in
+          elim (cases_Bool (same_held h x)) [
+            | inl same ↦ rw same (rest ∙ without_next x h hs o.0 same (omega (arith, next)))
+            | inr not ↦ rw not rest
+          ])
+    ]
+
+-- where the one before the end is another, or there is none, none is the same
+pub none_before_end : (h d : Reservation) (hs : List Reservation) (n : ℕ) → n ≡ end_in h hs → AreInOrder hs → ((k : ℕ) → n ≡ suc k → same_held h (get_or hs k d) ≡ false) → hs ≡ without_one h hs
+none_before_end h d [] n e o f = refl
+none_before_end h d (x ∷ hs) n e o f =
+    elim (cases_Bool (is_before h x)) [
+      | inl after ↦ rw (not_same_later h x after) (ap (λ t. x ∷ t) (sym (none_later x h hs o.0 after)))
+      | inr other ↦ (
+          let end : n ≡ suc (end_in h hs) = rw other at e in
+          elim (cases_Bool (same_held h x)) [
+            | inl same ↦ absurd (true≢false (sym (last_is_same x h d hs o.0 o.1 same) ∙ f (end_in h hs) end))
+            | inr not ↦ rw not (ap (λ t. x ∷ t) (none_before_end h d hs (end_in h hs) refl o.1 (λ k next. f (suc k) (end ∙ ap suc next))))
+          ])
+    ]

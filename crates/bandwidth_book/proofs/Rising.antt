@@ -1,11 +1,11 @@
 -- Lists of entries whose links rise.
-use Rattle.std.proofs.Common.{◌≡◌, ◌<◌, ◌≤◌, ℕ, zero, suc, ◌==◌, true, false, List, [], ◌∷◌, Some, None, length, get_or, slice_get, slice_set, insert, remove, refl, ap, subst, ◌∙◌, arith, inl, inr, if◌then◌else◌, nat_lt}
+use Rattle.std.proofs.Common.{◌≡◌, ◌<◌, ◌≤◌, ◌+◌, ◌-◌, ℕ, zero, suc, ◌==◌, true, false, List, [], ◌∷◌, Some, None, length, get_or, slice_get, slice_set, insert, filter, Bool, refl, ap, subst, ◌∙◌, arith, inl, inr, if◌then◌else◌, nat_lt}
 use Rattle.std.specs.List.{AllByRecursion}
 use Rattle.std.proofs.lemmas.Bool.{cases_Bool, eqb-true}
 use Rattle.std.proofs.lemmas.Bool.Decides.{nat_tests}
 use Rattle.bandwidth_book.specs.declared.link_entries.LinkEntry.{LinkEntry}
 use Rattle.bandwidth_book.specs.Holdings.{Holdings}
-use Rattle.bandwidth_book.specs.Entries.{AreRising, entry_on, place_on}
+use Rattle.bandwidth_book.specs.Entries.{AreRising, entry_on, if_busy, is_busy, place_on}
 
 pub number_self : (a b : ℕ) → a ≡ b → (a == b) ≡ true
 number_self a b e = grind (arith, nat_tests)
@@ -31,10 +31,10 @@ later x d [] k a n = absurd (omega (arith, n))
 later x d (y ∷ ys) zero a n = a.0
 later x d (y ∷ ys) (suc k) a n = later x d ys k a.1 (omega (arith, n))
 
-lt_true : (m n : ℕ) → m < n → nat_lt m n ≡ true
+pub lt_true : (m n : ℕ) → m < n → nat_lt m n ≡ true
 lt_true m n h = grind (arith, nat_tests)
 
-lt_false : (m n : ℕ) → n ≤ m → nat_lt m n ≡ false
+pub lt_false : (m n : ℕ) → n ≤ m → nat_lt m n ≡ false
 lt_false m n h = grind (arith, nat_tests)
 
 true_lt : (m n : ℕ) → nat_lt m n ≡ true → m < n
@@ -63,13 +63,69 @@ after_place l d (x ∷ xs) (suc k) n b =
       | inr other ↦ rw other (omega arith)
     ]
 
+-- ---- bounds of the place
+
+all_from_zero : (l : ℕ) (xs : List LinkEntry) → AreRising xs → (a : ℕ) → AllByRecursion (λ (y : LinkEntry). a ≤ y.link) xs → place_on l xs ≤ l - a
+all_from_zero l [] r a all = omega arith
+all_from_zero l (x ∷ xs) r a all =
+    elim (cases_Bool (nat_lt x.link l)) [
+      | inl here ↦ (
+          let ih = all_from_zero l xs r.1 (suc x.link) r.0 in
+          let first = all.0 in
+          let less = true_lt x.link l here in
+          rw here (omega (arith, ih, first, less)))
+      | inr other ↦ rw other (omega arith)
+    ]
+
+none_below_zero : (xs : List LinkEntry) → AllByRecursion (λ (y : LinkEntry). 0 ≤ y.link) xs
+none_below_zero [] = tt
+none_below_zero (x ∷ xs) = (omega arith, none_below_zero xs)
+
+-- before it are lower links alone
+pub place_most : (l : ℕ) (xs : List LinkEntry) → AreRising xs → place_on l xs ≤ l
+place_most l xs r = (let most = all_from_zero l xs r 0 (none_below_zero xs) in omega (arith, most))
+
+first_to_last : (d x : LinkEntry) (xs : List LinkEntry) (n : ℕ) → length xs ≡ n → AreRising (x ∷ xs) → x.link + n ≤ (get_or (x ∷ xs) n d).link
+first_to_last d x [] zero e r = omega arith
+first_to_last d x [] (suc n) e r = absurd (omega (arith, e))
+first_to_last d x (y ∷ ys) zero e r = absurd (omega (arith, e))
+first_to_last d x (y ∷ ys) (suc n) e r =
+    let ih = first_to_last d y ys n (omega (arith, e)) r.1 in
+    let next = r.0.0 in
+    omega (arith, ih, next)
+
+-- the last is of no lower link than there are others
+pub last_least : (d : LinkEntry) (xs : List LinkEntry) (n : ℕ) → length xs ≡ suc n → AreRising xs → n ≤ (get_or xs n d).link
+last_least d [] n e r = absurd (omega (arith, e))
+last_least d (x ∷ xs) n e r = let all = first_to_last d x xs n (omega (arith, e)) r in omega (arith, all)
+
+-- before it are all lower links but those that are missing
+pub place_least : (l : ℕ) (d : LinkEntry) (xs : List LinkEntry) (n : ℕ) → length xs ≡ suc n → AreRising xs → place_on l xs < suc n → l + n ≤ place_on l xs + (get_or xs n d).link
+place_least l d [] n e r less = absurd (omega (arith, e))
+place_least l d (x ∷ xs) zero e r less =
+    elim (cases_Bool (nat_lt x.link l)) [
+      | inl here ↦ absurd (let inside : suc (place_on l xs) < suc zero = rw here at less in omega (arith, inside))
+      | inr other ↦ (let above = false_lt x.link l other in rw other (omega (arith, above)))
+    ]
+place_least l d (x ∷ xs) (suc n) e r less =
+    elim (cases_Bool (nat_lt x.link l)) [
+      | inl here ↦ (
+          let inside : suc (place_on l xs) < suc (suc n) = rw here at less in
+          let ih = place_least l d xs n (omega (arith, e)) r.1 (omega (arith, inside)) in
+          rw here (omega (arith, ih)))
+      | inr other ↦ (
+          let all = first_to_last d x xs (suc n) (omega (arith, e)) r in
+          let above = false_lt x.link l other in
+          rw other (omega (arith, all, above)))
+    ]
+
 -- ---- what is found
 
 pub none_above : (l : ℕ) (xs : List LinkEntry) → AllByRecursion (λ (y : LinkEntry). l < y.link) xs → entry_on l xs ≡ None
 none_above l [] a = refl
 none_above l (x ∷ xs) a = let e = above_not x.link l a.0 in rw e (none_above l xs a.1)
 
-all_above : (a x : ℕ) (xs : List LinkEntry) → a < x → AllByRecursion (λ (y : LinkEntry). x < y.link) xs → AllByRecursion (λ (y : LinkEntry). a < y.link) xs
+pub all_above : (a x : ℕ) (xs : List LinkEntry) → a < x → AllByRecursion (λ (y : LinkEntry). x < y.link) xs → AllByRecursion (λ (y : LinkEntry). a < y.link) xs
 all_above a x [] h all = tt
 all_above a x (y ∷ ys) h all = (let less = all.0 in omega (arith, less, h), all_above a x ys h all.1)
 
@@ -195,38 +251,39 @@ rising_insert y (x ∷ xs) r none =
           ])
     ]
 
--- ---- one is taken out
+-- ---- some are taken out
 
-pub entry_remove : (l : ℕ) (y : LinkEntry) (xs : List LinkEntry) (i : ℕ) → AreRising xs → slice_get xs i ≡ Some y → entry_on l (remove xs i) ≡ (if y.link == l then None else entry_on l xs)
-entry_remove l y [] i r h = absurd (cc)
-entry_remove l y (x ∷ xs) zero r h =
-    let same : x ≡ y = cc in
-    elim (cases_Bool (y.link == l)) [
-      | inl here ↦ (
-          let is : x.link ≡ l = ap (λ (w : LinkEntry). w.link) same ∙ eqb-true y.link l here in
-          let all : AllByRecursion (λ (z : LinkEntry). l < z.link) xs = subst (λ (n : ℕ). AllByRecursion (λ (z : LinkEntry). n < z.link) xs) is r.0 in
-          rw here (none_above l xs all))
-      | inr other ↦ (let apart : (x.link == l) ≡ false = ap (λ (w : LinkEntry). w.link == l) same ∙ other in rw (other, apart) refl)
-    ]
-entry_remove l y (x ∷ xs) (suc i) r h =
-    let above = later_get x y xs i r.0 h in
-    let ih = entry_remove l y xs i r.1 h in
-    elim (cases_Bool (x.link == l)) [
-      | inl here ↦ (
-          let is : x.link ≡ l = eqb-true x.link l here in
-          let apart : (y.link == l) ≡ false = numbers_apart y.link l (λ s. absurd (omega (arith, above, is, s))) in
-          rw (here, apart) refl)
-      | inr other ↦ rw other ih
+all_filter : (p : LinkEntry → Bool) (n : ℕ) (xs : List LinkEntry) → AllByRecursion (λ (z : LinkEntry). n < z.link) xs → AllByRecursion (λ (z : LinkEntry). n < z.link) (filter p xs)
+all_filter p n [] a = tt
+all_filter p n (z ∷ zs) a =
+    elim (cases_Bool (p z)) [
+      | inl kept ↦ rw kept (a.0, all_filter p n zs a.1)
+      | inr gone ↦ rw gone (all_filter p n zs a.1)
     ]
 
-all_remove : (x : LinkEntry) (xs : List LinkEntry) (i : ℕ) → AllByRecursion (λ (z : LinkEntry). x.link < z.link) xs → AllByRecursion (λ (z : LinkEntry). x.link < z.link) (remove xs i)
-all_remove x [] zero a = tt
-all_remove x [] (suc i) a = tt
-all_remove x (z ∷ zs) zero a = a.1
-all_remove x (z ∷ zs) (suc i) a = (a.0, all_remove x zs i a.1)
+pub rising_filter : (p : LinkEntry → Bool) (xs : List LinkEntry) → AreRising xs → AreRising (filter p xs)
+rising_filter p [] r = tt
+rising_filter p (x ∷ xs) r =
+    elim (cases_Bool (p x)) [
+      | inl kept ↦ rw kept (all_filter p x.link xs r.0, rising_filter p xs r.1)
+      | inr gone ↦ rw gone (rising_filter p xs r.1)
+    ]
 
-pub rising_remove : (xs : List LinkEntry) (i : ℕ) → AreRising xs → AreRising (remove xs i)
-rising_remove [] zero r = tt
-rising_remove [] (suc i) r = tt
-rising_remove (x ∷ xs) zero r = r.1
-rising_remove (x ∷ xs) (suc i) r = (all_remove x xs i r.0, rising_remove xs i r.1)
+-- of the busy entries
+pub entry_filter : (l : ℕ) (xs : List LinkEntry) → AreRising xs → entry_on l (filter (λ x. is_busy x.entry) xs) ≡ if_busy (entry_on l xs)
+entry_filter l [] r = refl
+entry_filter l (x ∷ xs) r =
+    let ih = entry_filter l xs r.1 in
+    elim (cases_Bool (is_busy x.entry)) [
+      | inl kept ↦ elim (cases_Bool (x.link == l)) [
+        | inl here ↦ rw (kept, here) (rw kept refl)
+        | inr other ↦ rw (kept, other) ih
+      ]
+      | inr gone ↦ elim (cases_Bool (x.link == l)) [
+        | inl here ↦ (
+            let is : x.link ≡ l = eqb-true x.link l here in
+            let none = none_above l xs (subst (λ (n : ℕ). AllByRecursion (λ (z : LinkEntry). n < z.link) xs) is r.0) in
+            rw (gone, here) (rw gone (ih ∙ ap if_busy none)))
+        | inr other ↦ rw (gone, other) ih
+      ]
+    ]

@@ -5,6 +5,7 @@ use Rattle.std.proofs.lemmas.Bool.{cases_Bool}
 use Rattle.std.proofs.lemmas.Bool.Decides.{nat_tests}
 use Rattle.bandwidth_book.specs.Reservation.{Reservation}
 use Rattle.bandwidth_book.specs.Reservation.{AreInOrder, after_all, is_before, last_counts, most, most_below, place_in}
+use Rattle.bandwidth_book.proofs.Order.{before_place, place_within}
 
 before_top : (x : Reservation) (p : ℕ) → is_before x (after_all p) ≡ true → x.hold ≤ p
 before_top x p b = grind (arith, nat_tests)
@@ -26,6 +27,25 @@ later_bandwidth x y b h = grind (arith, nat_tests)
 
 number_is : (m n : ℕ) → m ≡ n → (m == n) ≡ true
 number_is m n e = grind (arith, nat_tests)
+
+over_top : (x : Reservation) (p : ℕ) → p < x.hold → is_before x (after_all p) ≡ false
+over_top x p b = grind (arith, nat_tests)
+
+under_top : (x : Reservation) (p : ℕ) → x.hold ≤ p → is_before x (after_all p) ≡ true
+under_top x p b = grind (arith, nat_tests)
+
+-- if the first is held at a worse priority, all are
+pub none_counted : (p : ℕ) (d : Reservation) (hs : List Reservation) → p < (get_or hs 0 d).hold → place_in (after_all p) hs ≡ 0
+none_counted p d [] h = refl
+none_counted p d (x ∷ hs) h = let over = over_top x p h in rw over refl
+
+-- if the last is held at the priority or a better one, all are
+pub all_counted : (p : ℕ) (d : Reservation) (hs : List Reservation) → AreInOrder hs → (get_or hs (length hs - 1) d).hold ≤ p → length hs ≡ place_in (after_all p) hs
+all_counted p d [] o h = refl
+all_counted p d (x ∷ hs) o h =
+    let last = before_place (after_all p) d (x ∷ hs) (length (x ∷ hs) - 1) o (omega arith) (under_top (get_or (x ∷ hs) (length (x ∷ hs) - 1) d) p h) in
+    let within = place_within (after_all p) (x ∷ hs) in
+    omega (arith, last, within)
 
 nothing_held : (x : Reservation) (p : ℕ) (hs : List Reservation) → p < x.hold → AllByRecursion (λ y. is_before y x ≡ false) hs → most hs p ≡ 0
 nothing_held x p [] n a = refl

@@ -1,5 +1,5 @@
 -- The entries of a tunnel, by link.
-use Rattle.std.specs.Prelude.{⊤, ◌≡◌, ◌<◌, ◌≤◌, ◌==◌, ℕ, suc, Bool, true, List, [], ◌∷◌, Option, Some, None, is_some, length, map, nat_lt, slice_get, if◌then◌else◌}
+use Rattle.std.specs.Prelude.{⊤, ◌≡◌, ◌<◌, ◌≤◌, ◌==◌, ℕ, suc, Bool, true, not, ◌&&◌, List, [], ◌∷◌, ◌++◌, reverse, Option, Some, None, is_some, length, map, nat_lt, slice_get, if◌then◌else◌}
 use Rattle.std.specs.List.{AllByRecursion}
 use Rattle.bandwidth_book.specs.Reservation.{Reservation}
 use Rattle.bandwidth_book.specs.Reservation.{moved_all, promised_after}
@@ -27,6 +27,29 @@ pub record IsMoved (motion : Motion) (hs : List Reservation) (old new : Option H
   pub kept : held_in new ≡ moved_all motion (held_in old) hs
   pub busy : IsBusy old → IsBusy new
   pub below : promised_in new ≤ promised_after motion (length hs) (promised_in old)
+
+-- the same, but the new one may be left with nothing
+pub record IsShifted (motion : Motion) (hs : List Reservation) (old new : Option Holdings) : Type 0 where
+  pub kept : held_in new ≡ moved_all motion (held_in old) hs
+  pub below : promised_in new ≤ promised_after motion (length hs) (promised_in old)
+
+-- an entry that may be missing, and one in place of it that holds as much and has promised as much room
+pub record IsSame (old new : Option Holdings) : Type 0 where
+  pub kept : held_in new ≡ held_in old
+  pub promised : promised_in new ≡ promised_in old
+
+-- two lists of entries, the second the other way round, as one
+abbrev pub joined_with : List LinkEntry → List LinkEntry → List LinkEntry
+joined_with front back = front ++ reverse back
+
+-- whether an entry holds something, or has promised room
+abbrev pub is_busy : Holdings → Bool
+is_busy e = not (length e.held == 0 && e.promised == 0)
+
+-- an entry that may be missing, if it is busy
+abbrev pub if_busy : Option Holdings → Option Holdings
+if_busy None = None
+if_busy (Some e) = if is_busy e then Some e else None
 
 -- the entry of a link
 abbrev pub entry_on : ℕ → List LinkEntry → Option Holdings

@@ -1,5 +1,5 @@
 -- What lists of paths hold on the links.
-use Rattle.std.specs.Prelude.{◌≡◌, ◌<◌, ◌≤◌, ℕ, List, [], ◌∷◌, ◌++◌, length}
+use Rattle.std.specs.Prelude.{◌≡◌, ◌<◌, ◌≤◌, ℕ, List, [], ◌∷◌, ◌++◌, length, option_to_list, slice_get}
 use Rattle.lsp_base.specs.declared.path.Path.{Path}
 use Rattle.lsp_base.specs.declared.tunnel.Tunnel.{Tunnel}
 use Rattle.bandwidth_book.specs.Reservation.{Reservation}
@@ -11,6 +11,11 @@ use Rattle.bandwidth_book.specs.Tunnels.{held_by_path}
 abbrev pub held_by : ℕ → Tunnel → List Path → List Reservation
 held_by l t [] = []
 held_by l t (x ∷ xs) = held_by_path x.tunnel (held_of x) l t x.links ++ held_by l t xs
+
+-- the paths at these places
+abbrev pub picked : List ℕ → List Path → List Path
+picked [] paths = []
+picked (i ∷ is) paths = option_to_list (slice_get paths i) ++ picked is paths
 
 -- of each tunnel, holding priority and bandwidth, as much is held on each of n links as the paths hold there
 abbrev pub IsHeldBy : ℕ → (ℕ → Tunnel → List Reservation) → List Path → Type 0

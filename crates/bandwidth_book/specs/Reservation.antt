@@ -35,6 +35,11 @@ abbrev pub place_in : Reservation → List Reservation → ℕ
 place_in h [] = 0
 place_in h (x ∷ xs) = if is_before x h then suc (place_in h xs) else 0
 
+-- where those begin that come after it in the order
+abbrev pub end_in : Reservation → List Reservation → ℕ
+end_in h [] = 0
+end_in h (x ∷ xs) = if is_before h x then 0 else suc (end_in h xs)
+
 -- with one more, in its order
 abbrev pub with_one : Reservation → List Reservation → List Reservation
 with_one h [] = h ∷ []

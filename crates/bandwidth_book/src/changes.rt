@@ -66,8 +66,8 @@ impl Book {
         promise_paths(self.alloc, &mut self.ledgers, change.added.as_slice())
     }
 
-    /// Carries out a change: the dropped paths go, then the added ones come. It takes no memory, and gives
-    /// the room up that isn't used: no entry is left without paths. A change that isn't empty ends the
+    /// Carries out a change: the dropped paths go, then the added ones come. It needs no memory: it puts many dropped paths in
+    /// order if it gets some for that. It gives the room up that isn't used, so no entry is left without paths. A change that isn't empty ends the
     /// snapshot that was kept.
     pub fn change(&mut self, change: &Change)
         requires ready { IsReady self.old change.now }

@@ -1,7 +1,7 @@
 //! What one tunnel holds on one link.
 ghost use Rattle.std.specs.Prelude.{ℕ, ◌≡◌, ◌<◌, ◌≤◌, ◌+◌, [], length, max, nat_le, slice_index, if◌then◌else◌, false, IsTrue, ◌↔◌, IsOk, OnErr, OnOk};
 ghost use Rattle.smallvec.specs.SmallVec.{HasRoomFor};
-ghost use Rattle.bandwidth_book.specs.Reservation.{most, most_below, AreMaxima, AreInOrder, moved_one, place_in, promised_after, room_for, takes_memory, with_one, without_one};
+ghost use Rattle.bandwidth_book.specs.Reservation.{most, most_below, AreMaxima, AreInOrder, after_all, end_in, moved_one, place_in, promised_after, room_for, takes_memory, with_one, without_one};
 
 use crate::reservation::{Motion, Reservation, is_before, is_same_held};
 use smallvec::SmallVec;
@@ -62,13 +62,50 @@ fn place_of(held: &[Reservation], one: &Reservation) -> usize
     low
 }
 
+/// Finds where those begin that come after one in the order.
+#[tactic(auto, using(crate::proofs::Order::end_within))]
+fn end_of(held: &[Reservation], one: &Reservation) -> usize
+    requires { AreInOrder held.now }
+    ensures end { result ≡ end_in one.now held.now }
+    ensures within { result ≤ length held.now }
+{
+    let mut low = 0;
+    let mut high = held.len();
+    while low < high {
+        let middle = low + (high - low) / 2;
+        if is_before(one, &held[middle]) {
+            high = middle;
+        } else {
+            low = middle + 1;
+        }
+    }
+    low
+}
+
+/// Counts those that are held at the priority or a better one. If none is, or all are, there is no search.
+fn count_to(held: &[Reservation], priority: u8) -> usize
+    requires order { AreInOrder held.now }
+    requires priority { priority < 8 }
+    ensures count { result ≡ place_in (after_all priority) held.now }
+    ensures within { result ≤ length held.now }
+{
+    let count = held.len();
+    if count == 0 || held[0].hold() > u64::from(priority) {
+        0
+    } else if held[count - 1].hold() <= u64::from(priority) {
+        count
+    } else {
+        place_of(held, &Reservation::new(priority + 1, 0))
+    }
+}
+
 /// Finds the greatest bandwidth that is held at the priority and no better one: the last of them has it.
 fn last_of(held: &[Reservation], priority: u8) -> u64
     requires order { AreInOrder held.now }
     requires priority { priority < 8 }
     ensures { max (most_below held.now priority) result ≡ most held.now priority }
 {
-    let end = place_of(held, &Reservation::new(priority + 1, 0));
+    let end = count_to(held, priority);
     if end == 0 {
         return 0;
     }
@@ -131,8 +168,8 @@ fn maxima_of_few(held: &[Reservation]) -> [u64; 8]
     maxima
 }
 
-/// Puts one more in its order, into room that is there.
-#[tactic(auto, using(crate::proofs::Order::insert_in_place, crate::proofs::Order::order_with_one, crate::proofs::Order::length_with_one))]
+/// Puts one more in its order, into room that is there: after those that are the same, so that none of them is moved.
+#[tactic(auto, using(crate::proofs::Order::insert_at_end, crate::proofs::Order::order_with_one, crate::proofs::Order::length_with_one))]
 fn put_held(list: &mut SmallVec<Reservation, IN_PLACE>, held: Reservation)
     requires room { HasRoomFor list.old 1 }
     requires order { AreInOrder list.old.items }
@@ -140,20 +177,20 @@ fn put_held(list: &mut SmallVec<Reservation, IN_PLACE>, held: Reservation)
     ensures order { AreInOrder list.new.items }
     ensures capacity { list.old.capacity ≤ list.new.capacity }
 {
-    let place = place_of(list.as_slice(), &held);
-    list.insert(place, held).unwrap();
+    let end = end_of(list.as_slice(), &held);
+    list.insert(end, held).unwrap();
 }
 
-/// Takes one out that is the same, if there is one.
+/// Takes one out that is the same, if there is one: the last of them, so that none of them is moved.
 fn take_held(list: &mut SmallVec<Reservation, IN_PLACE>, held: Reservation)
     requires { AreInOrder list.old.items }
     ensures items { list.new.items ≡ without_one held list.old.items }
     ensures order { AreInOrder list.new.items }
     ensures capacity { list.new.capacity ≡ list.old.capacity }
 {
-    let place = place_of(list.as_slice(), &held);
-    if place < list.len() && is_same_held(&held, &list[place]) {
-        let _ = list.remove(place);
+    let end = end_of(list.as_slice(), &held);
+    if end > 0 && is_same_held(&held, &list[end - 1]) {
+        let _ = list.remove(end - 1);
     }
 }
 

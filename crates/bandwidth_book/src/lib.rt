@@ -7,7 +7,7 @@
 //! A layer above may rely on it that a book stands for a list of paths (`StandsFor` in `specs/Books.antt`):
 //! a new one for none, and after `change` one that stood for paths stands for them without the dropped and
 //! with the added ones, for each list that had the dropped ones. What it says of a list for which it stands
-//! are the definitions of `lsp_base`. `reserve` makes all the room, and `change` takes no memory and leaves
+//! are the definitions of `lsp_base`. `reserve` makes all the room, so `change` is never refused memory. It leaves
 //! no entry without paths, so that a book keeps memory for standing paths alone
 //! (`specs/Promises.antt`).
 //! `snapshot` gives a table of what is left of every link, of which a search can be made while the book goes
@@ -31,10 +31,12 @@
 
 mod book;
 mod changes;
+mod drops;
 mod entry;
 mod ledgers;
 mod link_entries;
 mod looks;
+mod many_links;
 mod own;
 mod paths;
 mod reservation;

@@ -1,16 +1,20 @@
 //! What one tunnel holds on its links, and how that moves the sums of the links.
-ghost use Rattle.std.specs.Prelude.{◌≡◌, ◌<◌, ◌≤◌, ◌+◌, ◌-◌, ◌^◌, ◌==◌, ◌∷◌, [], ℕ, true, false, length, slice_index, IfSome, IfNone, IsTrue, ◌↔◌, IfOk, IsOk, OnOk, if◌then◌else◌, None};
-ghost use Rattle.bandwidth_book.specs.Entries.{AreRising, IsAt, IsMoved, entry_on, kept, place_on, promised_to};
+ghost use Rattle.std.specs.Prelude.{◌≡◌, ◌<◌, ◌≤◌, ◌+◌, ◌-◌, ◌^◌, ◌==◌, ◌∷◌, [], ℕ, true, false, length, slice_index, IfSome, IfNone, IsTrue, ◌↔◌, IfOk, IsOk, OnOk, if◌then◌else◌, None, Some};
+ghost use Rattle.bandwidth_book.specs.Entries.{AreRising, IsAt, IsBusy, IsMoved, IsSame, IsShifted, entry_on, if_busy, is_busy, kept, place_on, promised_to};
 ghost use Rattle.bandwidth_book.specs.Reservation.{most, moved_one, promised_after, room_for, takes_memory};
 ghost use Rattle.bandwidth_book.specs.Tunnels.{held_by_links, sum_at};
 
 use crate::entry::Entry;
+use crate::many_links::put_missing;
 use crate::reservation::{Motion, Reservation};
 use smallvec::SmallVec;
 use std::alloc::{AllocError, Global};
 use std::default::MadeWith;
 use std::marker::Model;
 use te_base::LinkNumber;
+
+/// For how many links of a path entries are made all at once.
+const MANY_LINKS: usize = 16;
 
 /// What a tunnel holds on one of its links.
 #[derive(Drop)]
@@ -35,6 +39,8 @@ impl MadeWith<Global> for LinkEntry {
 #[derive(Drop)]
 pub struct LinkEntries {
     entries: SmallVec<LinkEntry, 4>,
+    /// Whether one of them may hold nothing and have promised no room.
+    may_be_idle: bool,
 }
 
 impl Model for LinkEntries {
@@ -43,11 +49,15 @@ impl Model for LinkEntries {
 
     ghost Value = { List LinkEntry };
 
-    ghost use Rattle.bandwidth_book.specs.Entries.{AreRising};
+    ghost use Rattle.std.specs.Prelude.{◌≡◌, ℕ, false};
+    ghost use Rattle.bandwidth_book.specs.Entries.{AreRising, IsBusy, entry_on};
 
     ghost view = { λ e. e.entries.items };
 
-    ghost invariant = { λ e. AreRising e.entries.items };
+    ghost invariant = { λ e. record {
+      rising : AreRising e.entries.items;
+      busy : (l : ℕ) → e.may_be_idle ≡ false → IsBusy (entry_on l e.entries.items);
+    } };
 }
 
 /// Takes what was before out of the sums, and adds what is after.
@@ -87,15 +97,58 @@ fn move_in(
     moved
 }
 
-/// Finds where the entry of a link belongs in the order, by a binary search.
+/// The same, and notes whether the entry is left idle.
+fn move_and_note(
+    entry: &mut Entry,
+    sums: &mut [u64; 8],
+    may_be_idle: &mut bool,
+    motion: Motion,
+    held: Reservation,
+) -> Result<(), AllocError>
+    requires room { room_for motion 1 ≤ entry.old.promised }
+    requires within { (p : ℕ) → p < 8 → most entry.old.held p ≤ slice_index sums.old p }
+    requires small { (p : ℕ) → p < 8 → slice_index sums.old p < 2 ^ 63 }
+    requires below { held.bandwidth < 2 ^ 48 }
+    ensures sums { (p : ℕ) → p < 8 → slice_index sums.new p + most entry.old.held p ≡ slice_index sums.old p + most entry.new.held p }
+    ensures held { entry.new.held ≡ moved_one motion held entry.old.held }
+    ensures ok { OnOk result (entry.new.promised ≡ promised_after motion 1 entry.old.promised) }
+    ensures promised { entry.new.promised ≤ promised_after motion 1 entry.old.promised }
+    ensures sure { takes_memory motion ≡ false → IsOk result }
+    ensures busy { may_be_idle.new ≡ false → IsBusy (Some entry.new) }
+    ensures same { may_be_idle.new ≡ false → may_be_idle.old ≡ false }
+{
+    let moved = move_in(entry, sums, motion, held);
+    if entry.is_idle() {
+        *may_be_idle = true;
+    }
+    moved
+}
+
+/// Bounds the place of a link's entry: before it there are as many as there are lower links, less those that are missing.
+fn bounds_of(entries: &[LinkEntry], link: LinkNumber) -> (usize, usize)
+    requires { AreRising entries.now }
+    ensures low { result.0 ≤ place_on link entries.now }
+    ensures high { place_on link entries.now ≤ result.1 }
+    ensures within { result.1 ≤ length entries.now }
+{
+    let count = entries.len();
+    if count == 0 {
+        return (0, 0);
+    }
+    let missing = entries[count - 1].link - (count - 1);
+    (link.saturating_sub(missing).min(count), link.min(count))
+}
+
+/// Finds where the entry of a link belongs in the order, by a binary search between its bounds.
 #[tactic(auto, using(crate::proofs::Rising::place_within))]
 fn place_of(entries: &[LinkEntry], link: LinkNumber) -> usize
     requires { AreRising entries.now }
     ensures place { result ≡ place_on link entries.now }
     ensures within { result ≤ length entries.now }
 {
-    let mut low = 0;
-    let mut high = entries.len();
+    let (least, most) = bounds_of(entries, link);
+    let mut low = least;
+    let mut high = most;
     while low < high {
         let middle = low + (high - low) / 2;
         if entries[middle].link < link {
@@ -108,7 +161,7 @@ fn place_of(entries: &[LinkEntry], link: LinkNumber) -> usize
 }
 
 /// Finds the place of the entry of a link.
-fn find(entries: &[LinkEntry], link: LinkNumber) -> Option<usize>
+pub(crate) fn find(entries: &[LinkEntry], link: LinkNumber) -> Option<usize>
     requires { AreRising entries.now }
     ensures within { IfSome result (λ i. i < length entries.now) }
     ensures found { IfSome result (λ i. IsAt link entries.now i) }
@@ -123,7 +176,7 @@ fn find(entries: &[LinkEntry], link: LinkNumber) -> Option<usize>
 }
 
 /// Puts an entry with room for one in, for a link that has none.
-#[tactic(auto, using(crate::proofs::Moved::refused))]
+#[tactic(auto, using(crate::proofs::Moved::not_shifted))]
 fn put_entry(
     alloc: Global,
     entries: &mut SmallVec<LinkEntry, 4>,
@@ -135,8 +188,9 @@ fn put_entry(
     requires none { entry_on link entries.old.items ≡ None }
     requires promise { takes_memory motion ≡ true }
     ensures rising { AreRising entries.new.items }
-    ensures moved { (l : ℕ) → IsMoved motion (if link == l then held ∷ [] else []) (entry_on l entries.old.items) (entry_on l entries.new.items) }
+    ensures moved { (l : ℕ) → IsShifted motion (if link == l then held ∷ [] else []) (entry_on l entries.old.items) (entry_on l entries.new.items) }
     ensures ok { OnOk result ((l : ℕ) → promised_after motion (length (if link == l then held ∷ [] else [])) (promised_to l entries.old.items) ≤ promised_to l entries.new.items) }
+    ensures busy { (l : ℕ) → IsBusy (entry_on l entries.old.items) → IsBusy (entry_on l entries.new.items) }
 {
     let mut entry = Entry::new(alloc);
     entry.move_one(motion, held)?;
@@ -145,9 +199,10 @@ fn put_entry(
     Ok(())
 }
 
-/// Moves a link's entry, which is at a place, and the sums of the link. It goes if it holds nothing and no room is promised.
+/// Moves a link's entry, which is at a place, and the sums of the link. It stays, even if it is idle then, which is noted.
 fn move_at(
     entries: &mut SmallVec<LinkEntry, 4>,
+    may_be_idle: &mut bool,
     place: usize,
     sums: &mut [u64; 8],
     link: LinkNumber,
@@ -163,16 +218,29 @@ fn move_at(
     requires below { held.bandwidth < 2 ^ 48 }
     ensures rising { AreRising entries.new.items }
     ensures sums { (p : ℕ) → p < 8 → slice_index sums.new p + most (kept link entries.old.items) p ≡ slice_index sums.old p + most (kept link entries.new.items) p }
-    ensures moved { (l : ℕ) → IsMoved motion (if link == l then held ∷ [] else []) (entry_on l entries.old.items) (entry_on l entries.new.items) }
+    ensures moved { (l : ℕ) → IsShifted motion (if link == l then held ∷ [] else []) (entry_on l entries.old.items) (entry_on l entries.new.items) }
     ensures ok { OnOk result ((l : ℕ) → promised_after motion (length (if link == l then held ∷ [] else [])) (promised_to l entries.old.items) ≤ promised_to l entries.new.items) }
     ensures sure { takes_memory motion ≡ false → IsOk result }
+    ensures busy { (l : ℕ) → may_be_idle.new ≡ false → IsBusy (entry_on l entries.old.items) → IsBusy (entry_on l entries.new.items) }
+    ensures same { may_be_idle.new ≡ false → may_be_idle.old ≡ false }
 {
-    let entry = &mut entries[place].entry;
-    let moved = move_in(entry, sums, motion, held);
-    if entry.is_idle() {
-        let _ = entries.remove(place);
-    }
-    moved
+    move_and_note(&mut entries[place].entry, sums, may_be_idle, motion, held)
+}
+
+/// Tests whether an entry holds something, or has promised room.
+fn is_busy(entry: &LinkEntry) -> bool
+    ensures { result ≡ is_busy entry.now.entry }
+{
+    !entry.entry.is_idle()
+}
+
+/// Takes out the entries that hold nothing and have promised no room, all in one pass.
+fn drop_idle(entries: &mut SmallVec<LinkEntry, 4>)
+    requires { AreRising entries.old.items }
+    ensures rising { AreRising entries.new.items }
+    ensures busy { (l : ℕ) → entry_on l entries.new.items ≡ if_busy (entry_on l entries.old.items) }
+{
+    entries.retain(|entry| is_busy(entry));
 }
 
 impl LinkEntries {
@@ -182,6 +250,7 @@ impl LinkEntries {
     {
         Ok(LinkEntries {
             entries: SmallVec::with_capacity(alloc, count)?,
+            may_be_idle: false,
         })
     }
 
@@ -211,6 +280,16 @@ impl LinkEntries {
         }
     }
 
+    /// Takes out the entries that hold nothing and have promised no room. If there is none, nothing is looked at.
+    fn drop_idle(&mut self)
+        ensures { (l : ℕ) → entry_on l self.new ≡ if_busy (entry_on l self.old) }
+    {
+        if self.may_be_idle {
+            drop_idle(&mut self.entries);
+            self.may_be_idle = false;
+        }
+    }
+
     /// Moves what a path holds on one link, and the sums of the link. A link that isn't there is skipped.
     fn move_on(
         &mut self,
@@ -226,7 +305,7 @@ impl LinkEntries {
         requires below { held.bandwidth < 2 ^ 48 }
         ensures count { length sums.new ≡ length sums.old }
         ensures sums { (l p : ℕ) → l < length sums.old → p < 8 → sum_at sums.new l p + most (kept l self.old) p ≡ sum_at sums.old l p + most (kept l self.new) p }
-        ensures moved { (l : ℕ) → l < length sums.old → IsMoved motion (if link == l then held ∷ [] else []) (entry_on l self.old) (entry_on l self.new) }
+        ensures moved { (l : ℕ) → l < length sums.old → IsShifted motion (if link == l then held ∷ [] else []) (entry_on l self.old) (entry_on l self.new) }
         ensures past { (l : ℕ) → length sums.old ≤ l → kept l self.new ≡ kept l self.old }
         ensures ok { OnOk result ((l : ℕ) → l < length sums.old → promised_after motion (length (if link == l then held ∷ [] else [])) (promised_to l self.old) ≤ promised_to l self.new) }
         ensures sure { takes_memory motion ≡ false → IsOk result }
@@ -237,6 +316,7 @@ impl LinkEntries {
         if let Some(place) = find(self.entries.as_slice(), link) {
             return move_at(
                 &mut self.entries,
+                &mut self.may_be_idle,
                 place,
                 &mut sums[link],
                 link,
@@ -250,8 +330,77 @@ impl LinkEntries {
         Ok(())
     }
 
+    /// Moves what a path holds on each of its links. Entries that hold nothing then stay.
+    fn move_each(
+        &mut self,
+        alloc: Global,
+        sums: &mut [[u64; 8]],
+        links: &[LinkNumber],
+        motion: Motion,
+        held: Reservation,
+    ) -> Result<(), AllocError>
+        requires room { (l : ℕ) → l < length sums.old → room_for motion (length (held_by_links held l links.now)) ≤ promised_to l self.old }
+        requires within { (l p : ℕ) → l < length sums.old → p < 8 → most (kept l self.old) p ≤ sum_at sums.old l p }
+        requires small { (l p : ℕ) → l < length sums.old → p < 8 → sum_at sums.old l p < most (kept l self.old) p + (2 ^ 63 - 2 ^ 48) }
+        requires least { (l p : ℕ) → l < length sums.old → most (kept l self.old) p < 2 ^ 48 }
+        requires below { held.bandwidth < 2 ^ 48 }
+        ensures count { length sums.new ≡ length sums.old }
+        ensures sums { (l p : ℕ) → l < length sums.old → p < 8 → sum_at sums.new l p + most (kept l self.old) p ≡ sum_at sums.old l p + most (kept l self.new) p }
+        ensures moved { (l : ℕ) → l < length sums.old → IsShifted motion (held_by_links held l links.now) (entry_on l self.old) (entry_on l self.new) }
+        ensures past { (l : ℕ) → length sums.old ≤ l → kept l self.new ≡ kept l self.old }
+        ensures ok { OnOk result ((l : ℕ) → l < length sums.old → promised_after motion (length (held_by_links held l links.now)) (promised_to l self.old) ≤ promised_to l self.new) }
+        ensures sure { takes_memory motion ≡ false → IsOk result }
+    {
+        for link in links {
+            self.move_on(alloc, sums, *link, motion, held)?;
+        }
+        Ok(())
+    }
+
+    /// Makes idle entries for the links that have none, if a promise is to be moved on many of them.
+    fn make_entries(
+        &mut self,
+        alloc: Global,
+        links: &[LinkNumber],
+        motion: Motion,
+    ) -> Result<(), AllocError>
+        ensures same { (l : ℕ) → IsSame (entry_on l self.old) (entry_on l self.new) }
+        ensures sure { takes_memory motion ≡ false → IsOk result }
+    {
+        if !motion.takes_memory() || links.len() < MANY_LINKS {
+            return Ok(());
+        }
+        put_missing(alloc, &mut self.entries, &mut self.may_be_idle, links)
+    }
+
+    /// Moves what a path holds on each of its links, once those of many links have entries. Entries that hold nothing then
+    /// stay.
+    fn move_all(
+        &mut self,
+        alloc: Global,
+        sums: &mut [[u64; 8]],
+        links: &[LinkNumber],
+        motion: Motion,
+        held: Reservation,
+    ) -> Result<(), AllocError>
+        requires room { (l : ℕ) → l < length sums.old → room_for motion (length (held_by_links held l links.now)) ≤ promised_to l self.old }
+        requires within { (l p : ℕ) → l < length sums.old → p < 8 → most (kept l self.old) p ≤ sum_at sums.old l p }
+        requires small { (l p : ℕ) → l < length sums.old → p < 8 → sum_at sums.old l p < most (kept l self.old) p + (2 ^ 63 - 2 ^ 48) }
+        requires least { (l p : ℕ) → l < length sums.old → most (kept l self.old) p < 2 ^ 48 }
+        requires below { held.bandwidth < 2 ^ 48 }
+        ensures count { length sums.new ≡ length sums.old }
+        ensures sums { (l p : ℕ) → l < length sums.old → p < 8 → sum_at sums.new l p + most (kept l self.old) p ≡ sum_at sums.old l p + most (kept l self.new) p }
+        ensures moved { (l : ℕ) → l < length sums.old → IsShifted motion (held_by_links held l links.now) (entry_on l self.old) (entry_on l self.new) }
+        ensures past { (l : ℕ) → length sums.old ≤ l → kept l self.new ≡ kept l self.old }
+        ensures ok { OnOk result ((l : ℕ) → l < length sums.old → promised_after motion (length (held_by_links held l links.now)) (promised_to l self.old) ≤ promised_to l self.new) }
+        ensures sure { takes_memory motion ≡ false → IsOk result }
+    {
+        self.make_entries(alloc, links, motion)?;
+        self.move_each(alloc, sums, links, motion, held)
+    }
+
     /// Walks over the links of a path: moves what it holds on each, and the sums of the link. A link that isn't there is
-    /// skipped. Only a promise is refused, where memory is.
+    /// skipped. Entries that hold nothing then, and have promised no room, go. Only a promise is refused, where memory is.
     pub fn move_links(
         &mut self,
         alloc: Global,
@@ -272,9 +421,8 @@ impl LinkEntries {
         ensures ok { OnOk result ((l : ℕ) → l < length sums.old → promised_after motion (length (held_by_links held l links.now)) (promised_to l self.old) ≤ promised_to l self.new) }
         ensures sure { takes_memory motion ≡ false → IsOk result }
     {
-        for link in links {
-            self.move_on(alloc, sums, *link, motion, held)?;
-        }
-        Ok(())
+        let moved = self.move_all(alloc, sums, links, motion, held);
+        self.drop_idle();
+        moved
     }
 }

@@ -9,6 +9,7 @@ ghost use Rattle.bandwidth_book.specs.Promises.{AreNoted};
 ghost use Rattle.bandwidth_book.specs.Reservation.{promised_after, room_for, takes_memory, with_all, without_all};
 ghost use Rattle.bandwidth_book.specs.Ledgers.{count, entry_at, held_at, promised_on};
 
+use crate::drops::drop_paths;
 use crate::ledgers::Ledgers;
 use crate::reservation::{Motion, held_of};
 use lsp_base::Path;
@@ -16,7 +17,7 @@ use sequence::Sequence;
 use std::alloc::{AllocError, Global};
 
 /// Moves what the paths hold on each of their links, in order. Only a promise is refused, where memory is.
-fn move_paths(
+pub(crate) fn move_paths(
     alloc: Global,
     ledgers: &mut Ledgers,
     motion: Motion,
@@ -61,7 +62,7 @@ pub fn change_paths(alloc: Global, ledgers: &mut Ledgers, dropped: &[Path], adde
     ensures stands { (paths : List Path) → IsHeldBy (count ledgers.old) (held_at ledgers.old) paths → HasAll paths dropped.now
         → IsHeldBy (count ledgers.old) (held_at ledgers.new) (without paths dropped.now ++ added.now) }
 {
-    move_paths(alloc, ledgers, Motion::Drop, dropped).unwrap();
+    drop_paths(alloc, ledgers, dropped);
     move_paths(alloc, ledgers, Motion::Add, added).unwrap();
 }
 

@@ -88,6 +88,11 @@ impl Reservation {
         self.number / (1 << 48)
     }
 
+    /// Ranks it against others: the later it is in the numbers' order, the lower.
+    pub fn rank(&self) -> u64 {
+        u64::MAX - self.number
+    }
+
     /// Returns the bandwidth.
     pub fn bandwidth(&self) -> u64
         ensures { result ≡ self.now.bandwidth }

@@ -13,7 +13,7 @@ use Rattle.lsp_base.specs.declared.path.Path.{Path}
 use Rattle.lsp_base.specs.declared.tunnel.Part.TheVariants.{Reported, Granted}
 use Rattle.lsp_base.specs.declared.tunnel.Tunnel.{Tunnel}
 use Rattle.lsp_base.specs.declared.tunnel.Tunnel.TheVariants.{Signalled, Asked}
-use Rattle.pcep_objects.specs.declared.object.MetricType.TheVariants.{Te}
+use Rattle.lsp_words.specs.declared.object.MetricType.TheVariants.{Te}
 use Rattle.commit_core.specs.Offers.{offered_path}
 use Rattle.commit_core.specs.Routes.{is_route}
 use Rattle.commit_core.specs.Verdicts.{verdict}
@@ -48,6 +48,7 @@ wanted bandwidth setup hold = record {
   bound = None;
   hop_bound = None;
   other_bounds = record { igp = None; te = None };
+  local_protection = false;
 }
 
 abbrev ticket : Purpose → Constraints → Ticket

@@ -1,7 +1,7 @@
 -- Paths that a network admits as its LSPs are now.
 use Rattle.std.specs.Prelude.{ℕ, Bool, false, ◌==◌, ◌&&◌, nat_lt, nat_le, List, [], ◌∷◌, length, map, Option, Some, None, slice_get}
 use Rattle.std.specs.List.{list_all}
-use Rattle.pcep_objects.specs.declared.object.Colours.{Colours}
+use Rattle.lsp_words.specs.declared.object.Colours.{Colours}
 use Rattle.te_base.specs.Ted.{Ted}
 use Rattle.te_base.specs.declared.network.Link.{Link}
 use Rattle.te_snapshot.specs.Admissible.{colours_pass, cost_of, is_distinct, is_within, keeps_other_bounds, node_of, nodes_of}

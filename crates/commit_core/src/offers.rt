@@ -4,7 +4,7 @@ ghost use Rattle.commit_core.specs.Offers.{is_request, tunnel_known, tunnel_name
 
 use crate::ticket::{Purpose, Ticket};
 use lsp_base::{LspBase, Part, Path, Tunnel};
-use pcep_objects::Plsp;
+use lsp_words::Plsp;
 use sequence::Sequence;
 use te_base::LinkNumber;
 

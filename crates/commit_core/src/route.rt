@@ -5,7 +5,7 @@ ghost use Rattle.te_snapshot.specs.Admissible.{end_of, is_distinct, nodes_of};
 ghost use Rattle.commit_core.specs.Routes.{leads, joins, all_have_colours, is_route};
 
 use lsp_base::Constraints;
-use pcep_objects::Colours;
+use lsp_words::Colours;
 use te_base::{LinkNumber, NodeNumber, TeBase};
 use te_snapshot::{colours_pass, cost_of, is_within, node_of};
 

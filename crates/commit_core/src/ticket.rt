@@ -1,7 +1,7 @@
 //! Tickets: paths that are asked for.
 use crate::name::LspName;
 use lsp_base::Constraints;
-use pcep_objects::Plsp;
+use lsp_words::Plsp;
 use sequence::PlainData;
 use std::alloc::AllocError;
 

@@ -32,3 +32,8 @@ IsFault kind (Err e) = error_kind e ≡ kind
 abbrev pub IsUnlessGone : {A : Type 0} → Result A Error → Result A Error → Type 0
 IsUnlessGone before (Ok done) = IfErr before (λ e. is_gone (error_kind e) ≡ true)
 IsUnlessGone before (Err e) = (before ≡ Err e) × (is_gone (error_kind e) ≡ false)
+
+-- a server that is gone isn't heard, and each other fault stays that fault
+abbrev pub IsUnheard : {A : Type 0} → Error → Result A Error → Type 0
+IsUnheard e (Ok unheard) = is_gone (error_kind e) ≡ true
+IsUnheard e (Err f) = (e ≡ f) × (is_gone (error_kind e) ≡ false)

@@ -1,23 +1,24 @@
 //! Who connects is served in a thread of its own.
+use crate::places::{AT_ONCE, Place, Stopwatch, free_place, free_places, make_room};
+use crate::reader::ControlReader;
 use crate::waits::is_quiet;
 use crate::writer::ControlWriter;
 use std::io::{Read, Write};
 use std::os::fd::OwnedFd;
 use std::os::unix::net::{UnixListener, UnixStream};
 use std::sync::Wait;
-use std::sync::atomic::{AtomicUsize, Ordering};
 use std::thread::Threads;
 use std::time::{Clock, Duration};
 use std::{io, thread};
-
-/// The greatest number of connections that are served at once. More wait until one has ended.
-pub const AT_ONCE: usize = 4;
 
 /// The longest wait of a read or a write of a connection, in milliseconds. An operator's reader has `WouldBlock` then.
 const WAIT_MS: u64 = 250;
 
 /// The longest wait of an accept, and the pause after one that failed, in milliseconds.
 const ACCEPT_WAIT_MS: u64 = 100;
+
+/// The time between two looks for a free place, in milliseconds.
+const ROOM_WAIT_MS: u64 = 10;
 
 /// What a connection knows of its run.
 pub trait Watch {
@@ -44,30 +45,67 @@ fn bound_waits(stream: &UnixStream) -> io::Result<()> {
 }
 
 /// Serves one connection.
-fn attend<P: Operator, W: Watch>(stream: &UnixStream, watch: &W, operator: &P) {
+fn attend<R: Clock, P: Operator, W: Watch>(
+    stream: &UnixStream,
+    place: &Place,
+    clock: &Stopwatch<'_, R>,
+    watch: &W,
+    operator: &P,
+) {
     if bound_waits(stream).is_err() {
         return;
     }
-    let mut reader = stream;
-    let mut writer = ControlWriter { stream, watch };
+    let mut reader = ControlReader {
+        stream,
+        place,
+        clock,
+    };
+    let mut writer = ControlWriter {
+        stream,
+        place,
+        clock,
+        watch,
+    };
     operator.operate(&mut reader, &mut writer);
 }
 
 /// The thread of one connection.
-fn attend_one<P: Operator, W: Watch>(
+fn attend_one<R: Clock, P: Operator, W: Watch>(
     stream: UnixStream,
+    place: &Place,
+    clock: &Stopwatch<'_, R>,
     watch: &W,
     operator: &P,
-    live: &AtomicUsize,
 ) {
-    attend(&stream, watch, operator);
+    attend(&stream, place, clock, watch, operator);
     drop(stream);
-    live.fetch_sub(1, Ordering::SeqCst);
+    place.leave();
 }
 
-/// Serves who connects until the run is to end, and waits for the ends of all connections. A connection whose thread
-/// can't be started ends at once, alone. The only fault is a listener whose waits can't be bounded: then nobody was
-/// served.
+/// Waits for a place, while the operator who is idle longest makes room. `None`: the run is to end.
+fn await_place<'a, R: Wait + Clock, W: Watch>(
+    rt: &R,
+    places: &'a [Place; AT_ONCE],
+    clock: &Stopwatch<'_, R>,
+    watch: &W,
+) -> Option<&'a Place> {
+    let came_ms = clock.now_ms();
+    for _ in rt.forever() {
+        if watch.is_closing() {
+            return None;
+        }
+        if let Some(place) = free_place(places) {
+            return Some(place);
+        }
+        make_room(places, came_ms, clock.now_ms());
+        thread::sleep(rt, Duration::from_millis(ROOM_WAIT_MS));
+    }
+    unreachable!()
+}
+
+/// Serves who connects until the run is to end, and waits for the ends of all connections. Four are served at once; for
+/// a fifth the one that is idle longest ends. A connection whose thread can't be started ends at once. The only fault is
+/// a listener whose waits can't be bounded: then nobody was served.
 pub fn listen_on<R: Wait + Threads + Clock + Sync, P: Operator + Sync, W: Watch + Sync>(
     rt: &R,
     listener: &UnixListener,
@@ -75,25 +113,26 @@ pub fn listen_on<R: Wait + Threads + Clock + Sync, P: Operator + Sync, W: Watch 
     operator: &P,
 ) -> io::Result<()> {
     bound_accepts(listener)?;
-    let live = AtomicUsize::new(0);
-    let seats = &live;
+    let all = free_places();
+    let places = &all;
+    let stopwatch = Stopwatch::new(rt);
+    let clock = &stopwatch;
     thread::scope(thread::scope_env(), rt, |scope| {
         for _ in rt.forever() {
             if watch.is_closing() {
                 break;
             }
-            if seats.load(Ordering::SeqCst) >= AT_ONCE {
-                thread::sleep(rt, Duration::from_millis(ACCEPT_WAIT_MS));
-                continue;
-            }
             match listener.accept() {
                 Ok((stream, _)) => {
-                    seats.fetch_add(1, Ordering::SeqCst);
+                    let Some(place) = await_place(rt, places, clock, watch) else {
+                        break;
+                    };
+                    place.take(clock.now_ms());
                     if scope
-                        .spawn(move || attend_one(stream, watch, operator, seats))
+                        .spawn(move || attend_one(stream, place, clock, watch, operator))
                         .is_err()
                     {
-                        seats.fetch_sub(1, Ordering::SeqCst);
+                        place.leave();
                     }
                 }
                 Err(error) if is_quiet(error.kind()) => {}

@@ -1,15 +1,19 @@
 //! The file of the socket.
-ghost use Rattle.std.specs.Prelude.{◌≡◌, ◌++◌, false, codes, IfErr, IfOk, string_bytes};
-ghost use Rattle.std.specs.declared.io.ErrorKind.TheVariants.{AddrInUse, AlreadyExists};
-ghost use Rattle.control_socket.specs.Waits.{IsFault, IsUnlessGone};
+ghost use Rattle.std.specs.Prelude.{◌≡◌, false, IfErr, IfOk, string_bytes};
+ghost use Rattle.std.specs.declared.io.ErrorKind.TheVariants.{AlreadyExists};
+ghost use Rattle.control_socket.specs.Paths.{folder_named, socket_in};
+ghost use Rattle.control_socket.specs.Waits.{IsFault};
 
-use crate::waits::is_gone;
+use crate::lock::lock_path;
+use crate::named::{FileId, Named, look_at, unless_gone};
 use std::alloc::{AllocError, Global};
-use std::fs::{DirBuilder, Files, Permissions};
+use std::fs::{DirBuilder, File, Files, Permissions};
 use std::io::ErrorKind;
 use std::net::Net;
-use std::os::unix::fs::{DirBuilderExt, FileTypeExt, PermissionsExt};
-use std::os::unix::net::{UnixListener, UnixStream};
+use std::os::unix::fs::{DirBuilderExt, PermissionsExt};
+use std::os::unix::net::UnixListener;
+use std::random::RandomSource;
+use std::time::Clock;
 use std::{fs, io};
 
 /// Only its owner may connect.
@@ -18,13 +22,16 @@ const OWNER_CONNECTS: u32 = 0o600;
 /// Only its owner may see what is in a folder.
 const OWNER_ENTERS: u32 = 0o700;
 
-/// A call that fails because its file isn't there has nothing to do.
-fn unless_gone(done: io::Result<()>) -> io::Result<()>
-    ensures { IsUnlessGone done result }
-{
-    match done {
-        Err(error) if is_gone(error.kind()) => Ok(()),
-        done => done,
+/// A listener, and which file it made.
+#[derive(Drop)]
+pub struct ControlFile {
+    listener: UnixListener,
+    id: FileId,
+}
+
+impl ControlFile {
+    pub fn listener(&self) -> &UnixListener {
+        &self.listener
     }
 }
 
@@ -36,87 +43,117 @@ fn test_socket(is_socket: bool) -> io::Result<()>
     if is_socket {
         Ok(())
     } else {
-        Err(io::Error::from(ErrorKind::AlreadyExists))
+        Err(io::Error::new(
+            ErrorKind::AlreadyExists,
+            "a file that is no socket stands there",
+        ))
     }
 }
 
-/// Refuses a socket at which a server listens.
-fn test_unheard(connected: io::Result<()>) -> io::Result<()>
-    ensures heard { IfOk connected (λ _. IsFault AddrInUse result) }
-    ensures unheard { IfErr connected (λ _. IsUnlessGone connected result) }
-{
-    match connected {
-        Ok(()) => Err(io::Error::from(ErrorKind::AddrInUse)),
-        Err(error) => unless_gone(Err(error)),
-    }
-}
-
-/// Connects to a server at the path, and lets it go.
-fn try_connect<R: Net>(rt: &R, path: &str) -> io::Result<()> {
-    let _stream = UnixStream::connect(rt, path)?;
-    Ok(())
-}
-
-/// Succeeds where the path is free: no file is there, or a socket at which no server listens any more.
-fn test_free<R: Files + Net>(rt: &R, path: &str) -> io::Result<()> {
-    let kind = match fs::symlink_metadata(rt, path) {
-        Ok(known) => known.file_type(),
+/// Frees the path. A socket that refuses connections is removed, since its server is gone; whatever else stands there
+/// stays, and is a fault.
+fn free_path<R: Files + Net>(named: &Named<'_, R>) -> io::Result<()> {
+    let found = match named.look() {
+        Ok(found) => found,
         Err(error) => return unless_gone(Err(error)),
     };
-    test_socket(kind.is_socket())?;
-    test_unheard(try_connect(rt, path))
+    test_socket(found.is_socket())?;
+    let unheard = named.try_server()?;
+    named.remove_stale(found, unheard)
 }
 
-/// The folder in which the socket is made: `PATH.new`.
-fn folder_of(alloc: Global, path: &str) -> Result<String, AllocError>
-    ensures { IfOk result (λ folder. string_bytes folder ≡ path.now ++ codes ".new") }
+/// The folder in which the socket is made, by some random digits: `PATH.1b5e07d4`.
+fn folder_named(alloc: Global, path: &str, digits: &str) -> Result<String, AllocError>
+    ensures { IfOk result (λ folder. string_bytes folder ≡ folder_named path.now digits.now) }
 {
-    format!(in alloc; "{path}.new")
+    format!(in alloc; "{path}.{digits}")
 }
 
 /// The socket in that folder.
 fn socket_in(alloc: Global, folder: &str) -> Result<String, AllocError>
-    ensures { IfOk result (λ socket. string_bytes socket ≡ folder.now ++ codes "/s") }
+    ensures { IfOk result (λ socket. string_bytes socket ≡ socket_in folder.now) }
 {
     format!(in alloc; "{folder}/s")
 }
 
-/// Makes a folder that only its owner may enter. One that a server left which was killed is emptied and made anew.
-fn make_folder<R: Files>(rt: &R, folder: &str, socket: &str) -> io::Result<()> {
-    unless_gone(fs::remove_file(rt, socket))?;
-    unless_gone(fs::remove_dir(rt, folder))?;
+/// A name for the folder that nobody can know before.
+fn draw_folder<R: RandomSource>(rt: &R, alloc: Global, path: &str) -> io::Result<String> {
+    let mut bytes = [0u8; 4];
+    rt.fill_bytes(&mut bytes)?;
+    let digits = hex::encode(alloc, &bytes)?;
+    Ok(folder_named(alloc, path, &digits)?)
+}
+
+/// Makes a folder that only its owner may enter. One that is there stays, and is a fault.
+fn make_folder<R: Files>(rt: &R, folder: &str) -> io::Result<()> {
     let mut builder = DirBuilder::new();
     builder.mode(OWNER_ENTERS);
     builder.create(rt, folder)
 }
 
-/// Binds a socket in the folder, and moves it to the path once only its owner may connect.
-fn bind_in<R: Files + Net>(rt: &R, socket: &str, path: &str) -> io::Result<UnixListener> {
+/// Binds a socket in the folder, and gives it the path too once only its owner may connect. Whatever came to the path
+/// meanwhile stays, and is a fault (link(2)).
+fn bind_in<R: Files + Net>(rt: &R, socket: &str, path: &str) -> io::Result<ControlFile> {
     let listener = UnixListener::bind(rt, socket)?;
     fs::set_permissions(rt, socket, Permissions::from_mode(OWNER_CONNECTS))?;
-    fs::rename(rt, socket, path)?;
-    Ok(listener)
+    let id = look_at(rt, socket)?.id();
+    fs::hard_link(rt, socket, path)?;
+    Ok(ControlFile { listener, id })
 }
 
-/// A listener at the path, to which only its owner may connect (mode 0600). A socket that a server left which is gone
-/// is replaced; one at which a server listens stays (`AddrInUse`), and so does what is no socket (`AlreadyExists`).
-///
-/// Nobody else can connect at any moment: the socket is made in a folder `PATH.new` that only its owner may enter, and
-/// moved from there. So the path has 101 bytes at most (`InvalidInput`).
-pub fn open_path<R: Files + Net>(rt: &R, alloc: Global, path: &str) -> io::Result<UnixListener> {
-    test_free(rt, path)?;
-    let folder = folder_of(alloc, path)?;
+/// Makes the socket in a folder of its own, which is gone afterwards.
+fn make_at<R: Files + Net + RandomSource>(
+    rt: &R,
+    alloc: Global,
+    path: &str,
+) -> io::Result<ControlFile> {
+    let folder = draw_folder(rt, alloc, path)?;
     let socket = socket_in(alloc, &folder)?;
-    make_folder(rt, &folder, &socket)?;
-    let listener = bind_in(rt, &socket, path);
-    if listener.is_err() {
-        unless_gone(fs::remove_file(rt, socket.as_str()))?;
-    }
-    fs::remove_dir(rt, folder.as_str())?;
-    listener
+    make_folder(rt, &folder)?;
+    let file = bind_in(rt, &socket, path);
+    let _gone = fs::remove_file(rt, socket.as_str());
+    let _gone = fs::remove_dir(rt, folder.as_str());
+    file
 }
 
-/// Takes the file away. The listener is still there then, so that no other server can have taken the path.
-pub fn close_path<R: Files>(rt: &R, _listener: &UnixListener, path: &str) -> io::Result<()> {
-    unless_gone(fs::remove_file(rt, path))
+/// A listener at the path, to which only its owner may connect (mode 0600). The socket of a server that is gone is
+/// replaced; one at which a server listens stays (`AddrInUse`), and so does what is no socket (`AlreadyExists`).
+///
+/// Nobody else can connect at any moment: the socket is made in a folder that only its owner may enter, and linked to
+/// the path from there. So the path has 96 bytes at most (`InvalidInput`). Of several servers that come to one path at
+/// once, one has it (`lock_path`).
+pub fn open_path<R: Files<File = File> + Net + Clock + RandomSource>(
+    rt: &R,
+    alloc: Global,
+    path: &str,
+) -> io::Result<ControlFile> {
+    let lock = lock_path(rt, alloc, path)?;
+    let file = match free_path(&Named::new(rt, path)) {
+        Ok(()) => make_at(rt, alloc, path),
+        Err(error) => Err(error),
+    };
+    drop(lock);
+    file
+}
+
+/// Removes the file at the path if it is this one.
+fn remove_own<R: Files>(named: &Named<'_, R>, made: FileId) -> io::Result<()> {
+    match named.look() {
+        Ok(found) if found.id() == made => named.remove_made(found, made),
+        Ok(_) => Ok(()),
+        Err(error) => unless_gone(Err(error)),
+    }
+}
+
+/// Takes the file away if it still is the one that was made. Another's at the path stays.
+pub fn close_path<R: Files<File = File> + Clock>(
+    rt: &R,
+    alloc: Global,
+    file: &ControlFile,
+    path: &str,
+) -> io::Result<()> {
+    let lock = lock_path(rt, alloc, path)?;
+    let removed = remove_own(&Named::new(rt, path), file.id);
+    drop(lock);
+    removed
 }

@@ -1,24 +1,27 @@
 -- What each look sees of a database.
-use Rattle.std.specs.Prelude.{ℕ, ◌≡◌, ◌≤◌, ◌-◌, ◌+◌, Bool, true, false, [], length, map, filter, drop, slice_get, Option, Some, None, if◌then◌else◌}
+use Rattle.std.specs.Prelude.{ℕ, ◌≡◌, ◌≤◌, ◌-◌, ◌+◌, Bool, true, false, [], length, map, filter, drop, slice_get, option_map, Option, Some, None, if◌then◌else◌}
 use Rattle.lsp_base.specs.declared.effect.Record.{Record}
 use Rattle.te_snapshot.specs.Left.{all_left, left_on, state_beside}
 use Rattle.te_snapshot.specs.Network.{network_of}
 use Rattle.step_core.specs.declared.peer.Peer.{Peer}
 use Rattle.history_core.specs.Histories.{Content, steps_of, grants_of}
+use Rattle.pce_seen.specs.Gaps.{gaps_of, placed}
+use Rattle.pce_seen.specs.Grants.{is_grant_asked}
 use Rattle.pce_seen.specs.Lsps.{IsPage, held_on, lsp_in}
 use Rattle.pce_seen.specs.declared.ask.Ask.{Ask}
 use Rattle.pce_seen.specs.declared.ask.Ask.TheVariants as ask
-use Rattle.pce_seen.specs.declared.lsps.LspPage.{LspPage}
 use Rattle.pce_seen.specs.declared.lsps.LinkUse.{LinkUse}
 use Rattle.pce_seen.specs.declared.peers.KnownPeer.{KnownPeer}
 use Rattle.pce_seen.specs.declared.peers.LspOwner.{LspOwner}
 use Rattle.pce_seen.specs.declared.peers.SeenPeers.{SeenPeers}
+use Rattle.pce_seen.specs.declared.places.PlacedPage.{PlacedPage}
 use Rattle.pce_seen.specs.declared.steps.LastSteps.{LastSteps}
 use Rattle.pce_seen.specs.declared.seen.Book.{Book}
 use Rattle.pce_seen.specs.declared.seen.Counts.{Counts}
 use Rattle.pce_seen.specs.declared.seen.Network.{Network}
 use Rattle.pce_seen.specs.declared.seen.Seen.{Seen}
 use Rattle.pce_seen.specs.declared.seen.Seen.TheVariants as seen
+use Rattle.database_looks.specs.Grants.{SeesGrants}
 use Rattle.database_looks.specs.Moves.{SeesDisplaced, SeesMovable}
 use Rattle.database_looks.specs.Origins.{SeesOrigins}
 use Rattle.database_looks.specs.Steps.{known_step}
@@ -35,6 +38,7 @@ counts_in d = record {
   sessions_up = length (filter (λ p. p.up) d.state.peers);
   lsps = length d.state.base.records;
   paths = length d.state.base.paths;
+  waiting_grants = length (filter (is_grant_asked None) d.state.base.paths);
   tickets = length d.state.tickets;
 }
 
@@ -69,10 +73,11 @@ pub record SeesPeers (d : Content) (seen : SeenPeers) : Type 0 where
   pub peers : seen.peers.items ≡ map known_peer d.state.peers
   pub lsps : seen.lsps.items ≡ map owner_of_lsp d.state.base.records
 
--- a page of LSPs
-pub record SeesLsps (peer : Option ℕ) (from : ℕ) (d : Content) (seen : LspPage) : Type 0 where
-  pub page : IsPage d.state.base peer from seen
-  pub steps : seen.steps ≡ steps_of d
+-- a page of LSPs, and where the routes of their paths have gaps
+pub record SeesLsps (peer : Option ℕ) (from : ℕ) (d : Content) (seen : PlacedPage) : Type 0 where
+  pub page : IsPage d.state.base peer from seen.page
+  pub steps : (seen.page).steps ≡ steps_of d
+  pub gaps : seen.gaps.items ≡ map (gaps_of d.state.te) (seen.page).lsps.items
 
 -- a link with its ends and what the paths leave of it; and what those over it hold, where they are listed
 pub record IsUse (d : Content) (number : ℕ) (lists_paths : Bool) (seen : LinkUse) : Type 0 where
@@ -99,7 +104,7 @@ Sees ask.Book d (seen.Book book) = SeesBook d book
 Sees ask.Peers d (seen.Peers peers) = SeesPeers d peers
 Sees ask.Tickets d (seen.Tickets tickets) = tickets.items ≡ d.state.tickets
 Sees (ask.Lsps peer from) d (seen.Lsps page) = SeesLsps peer from d page
-Sees (ask.Lsp peer plsp) d (seen.Lsp lsp) = lsp ≡ lsp_in d.state.base peer plsp
+Sees (ask.Lsp peer plsp) d (seen.Lsp lsp) = lsp ≡ option_map (placed d.state.te) (lsp_in d.state.base peer plsp)
 Sees (ask.Link link) d (seen.Link found) = SeesLink link true d found
 Sees (ask.Steps last) d (seen.Steps steps) = SeesSteps last d steps
 Sees (ask.LinkLine link) d (seen.Link found) = SeesLink link false d found
@@ -107,4 +112,5 @@ Sees (ask.Why peer plsp) d (seen.Origins origins) = SeesOrigins peer plsp d orig
 Sees (ask.Better peer from) d (seen.Movable movable) = SeesMovable peer from d movable
 Sees (ask.Without link) d (seen.Displaced displaced) = SeesDisplaced link d displaced
 Sees (ask.Path from to bandwidth priorities) d (seen.Network network) = SeesNetwork d network
+Sees (ask.Grants peer from) d (seen.Grants page) = SeesGrants peer from d page
 Sees a d s = ⊥

@@ -1,6 +1,7 @@
 //! An operator's question as a look.
 use crate::book::{see_book, see_network};
 use crate::counts::see_counts;
+use crate::grants::see_grants;
 use crate::look::Look;
 use crate::lsps::{see_link, see_lsp, see_lsps};
 use crate::moves::{see_displaced, see_movable};
@@ -34,6 +35,9 @@ impl Look for Ask {
                 alloc, database, peer, from,
             )?)),
             Ask::Without { link } => Ok(Seen::Displaced(see_displaced(alloc, database, link)?)),
+            Ask::Grants { peer, from } => {
+                Ok(Seen::Grants(see_grants(alloc, database, peer, from)?))
+            }
             Ask::Path { .. } => Ok(Seen::Network(see_network(alloc, database)?)),
         }
     }

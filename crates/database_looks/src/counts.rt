@@ -1,9 +1,11 @@
 //! How much there is of what.
-ghost use Rattle.std.specs.Prelude.{◌≡◌, length, filter};
+ghost use Rattle.std.specs.Prelude.{◌≡◌, None, length, filter};
+ghost use Rattle.pce_seen.specs.Grants.{is_grant_asked};
 ghost use Rattle.database_looks.specs.Looks.{counts_in};
 
 use history_core::Database;
-use pce_seen::Counts;
+use lsp_base::Path;
+use pce_seen::{Counts, is_grant_asked};
 use step_core::Peer;
 
 /// Counts the peers whose session is up.
@@ -13,6 +15,19 @@ fn sessions_up(peers: &[Peer]) -> u64
     let mut count = 0;
     for peer in peers {
         if peer.up {
+            count += 1;
+        }
+    }
+    count
+}
+
+/// Counts the paths that were granted, and that no report has settled.
+fn waiting_grants(paths: &[Path]) -> u64
+    ensures { result ≡ length (filter (is_grant_asked None) paths.now) }
+{
+    let mut count = 0;
+    for path in paths {
+        if is_grant_asked(None, path) {
             count += 1;
         }
     }
@@ -34,6 +49,7 @@ pub(crate) fn see_counts(database: &Database) -> Counts
         sessions_up: sessions_up(state.peers()),
         lsps: state.lsps().records().len() as u64,
         paths: state.lsps().paths().len() as u64,
+        waiting_grants: waiting_grants(state.lsps().paths()),
         tickets: state.ticket_count() as u64,
     }
 }

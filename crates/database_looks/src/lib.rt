@@ -15,6 +15,7 @@
 mod ask;
 mod book;
 mod counts;
+mod grants;
 mod left;
 mod look;
 mod lsps;
@@ -24,9 +25,11 @@ mod numbers;
 mod origins;
 mod peers;
 mod steps;
+mod upkeep;
 
 pub use book::BookLook;
 pub use left::LeftLook;
 pub use look::Look;
 pub use numbers::NumbersLook;
 pub use steps::kind_of;
+pub use upkeep::{SeenGrant, UpkeepLook, UpkeepPage};

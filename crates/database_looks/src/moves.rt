@@ -5,7 +5,7 @@ ghost use Rattle.te_snapshot.specs.Network.{network_of};
 ghost use Rattle.database_looks.specs.Moves.{own_of, IsDisplaced, SeesDisplaced, SeesMovable};
 
 use crate::book::snapshot_of;
-use crate::lsps::see_lsps;
+use crate::lsps::page_at;
 use history_core::Database;
 use pce_seen::{Displaced, KnownLsp, LspPage, Movable, lsps_over};
 use std::alloc::{AllocError, Global};
@@ -66,7 +66,7 @@ pub(crate) fn see_movable(
 ) -> Result<Movable, AllocError>
     ensures { IfOk result (SeesMovable peer from database.now) }
 {
-    let page = see_lsps(alloc, database, peer, from)?;
+    let page = page_at(alloc, database, peer, from)?;
     match with_own(alloc, database, &page.lsps) {
         Ok(seen) => Ok(movable(page, seen)),
         Err(error) => {

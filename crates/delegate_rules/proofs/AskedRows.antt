@@ -8,7 +8,7 @@ use Rattle.lsp_base.specs.declared.tunnel.Part.{Part}
 use Rattle.lsp_base.specs.declared.tunnel.Part.TheVariants.{Reported, Granted}
 use Rattle.lsp_base.specs.declared.tunnel.Tunnel.TheVariants.{Unsignalled}
 use Rattle.lsp_base.specs.declared.why.Why.TheVariants.{UnknownLsp, NotDelegated, Pending}
-use Rattle.pcep_objects.specs.declared.object.MetricType.TheVariants.{Te}
+use Rattle.lsp_words.specs.declared.object.MetricType.TheVariants.{Te}
 use Rattle.delegate_rules.specs.Returns.{given_back, return_result}
 use Rattle.delegate_rules.specs.Refusals.{refused_effect}
 
@@ -28,6 +28,7 @@ held = record {
     bound = None;
     hop_bound = None;
     other_bounds = record { igp = None; te = None };
+    local_protection = false;
   };
   tunnel = Unsignalled 1 5;
   removing = None;

@@ -12,8 +12,8 @@ use Rattle.lsp_base.specs.declared.tunnel.Tunnel.TheVariants.{Signalled, Unsigna
 use Rattle.lsp_base.specs.declared.tunnel.Part.TheVariants.{Reported, Granted}
 use Rattle.lsp_base.specs.declared.path.Path.{Path}
 use Rattle.lsp_base.specs.declared.why.Why.TheVariants.{BadReport}
-use Rattle.pcep_objects.specs.declared.object.Hop.{Hop}
-use Rattle.pcep_objects.specs.declared.object.Hop.TheVariants.{Host}
+use Rattle.lsp_words.specs.declared.object.Hop.{Hop}
+use Rattle.lsp_words.specs.declared.object.Hop.TheVariants.{Host}
 use Rattle.pcep_objects.specs.declared.object.Operational.TheVariants.{Down, Up, GoingUp}
 use Rattle.pcep_messages.specs.declared.message.StateReport.{StateReport}
 use Rattle.delegate_rules.specs.Reports.{reported_path, reported_lsp, reported_constraints, no_identifiers}
@@ -55,6 +55,9 @@ first = record {
   bandwidth = 500000;
   priorities = record { setup = 7; hold = 0 };
   colours = record { exclude_any = 0; include_any = 0; include_all = 0 };
+  local_protection = false;
+  error_code = None;
+  rsvp_error = None;
 }
 
 -- with another LSP ID and Tunnel ID

@@ -8,8 +8,8 @@ use Rattle.lsp_base.specs.declared.tunnel.Part.TheVariants.{Reported}
 use Rattle.lsp_base.specs.declared.path.Path.{Path}
 use Rattle.lsp_base.specs.declared.lsp.Lsp.{Lsp}
 use Rattle.lsp_base.specs.declared.lsp.Constraints.{Constraints}
-use Rattle.pcep_objects.specs.declared.object.MetricType.TheVariants.{Te}
-use Rattle.pcep_objects.specs.declared.object.Hop.{Hop}
+use Rattle.lsp_words.specs.declared.object.MetricType.TheVariants.{Te}
+use Rattle.lsp_words.specs.declared.object.Hop.{Hop}
 use Rattle.pcep_objects.specs.declared.object.Identifiers.{Identifiers}
 use Rattle.pcep_objects.specs.declared.object.Operational.{Operational}
 use Rattle.pcep_objects.specs.declared.object.Operational.TheVariants.{Down, Up, Active, GoingDown, GoingUp}
@@ -91,6 +91,7 @@ reported_constraints r old =
       bound = None;
       hop_bound = None;
       other_bounds = record { igp = None; te = None };
+      local_protection = r.local_protection;
     }
 
 unfoldable pub reported_lsp : ℕ → StateReport → Option Lsp → Lsp

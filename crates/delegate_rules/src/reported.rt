@@ -110,6 +110,7 @@ fn constraints_of_report(report: &StateReport, old: Option<&Lsp>) -> Constraints
             igp: None,
             te: None,
         },
+        local_protection: report.local_protection,
     }
 }
 

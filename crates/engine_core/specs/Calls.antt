@@ -3,10 +3,12 @@ use Rattle.std.specs.Prelude.{List, [], ◌∷◌}
 use Rattle.step_core.specs.declared.event.Event.{Event}
 use Rattle.step_core.specs.declared.event.Reply.{Reply}
 use Rattle.step_core.specs.declared.event.Reply.TheVariants.{Done}
+use Rattle.engine_core.specs.Deeds.{Deed, Called}
 use Rattle.engine_core.specs.declared.store.Call.{Call}
 
-abbrev pub called : Event → Reply → Call
-called event reply = record { event = event; reply = reply }
+-- an event is submitted, and gets this reply
+abbrev pub called : Event → Reply → Deed
+called event reply = Called (record { event = event; reply = reply })
 
 -- the reply to the last of these calls
 abbrev pub newest_reply : List Call → Reply

@@ -1,9 +1,9 @@
--- What the engine does with what a session gives: the events that it submits for a peer, and by their replies
--- what it sends and when it ends the session. `go_on` is what comes afterwards. `Reaches c` stands wherever memory
+-- What the engine does with what a session gives: what it shows the store, the events that it submits for a peer, and by
+-- their replies what it sends and when it ends the session. `go_on` is what comes afterwards. `Reaches c` stands wherever memory
 -- may run out, with the client as it then is.
 use Rattle.std.specs.Prelude.{ℕ, suc, zero, Bool, true, false, ◌==◌, ◌&&◌, not, List, [], ◌∷◌, Option, Some, None, if◌then◌else◌}
-use Rattle.pcep_objects.specs.declared.object.Capabilities.{Capabilities}
-use Rattle.pcep_objects.specs.declared.object.Hop.{Hop}
+use Rattle.lsp_words.specs.declared.object.Capabilities.{Capabilities}
+use Rattle.lsp_words.specs.declared.object.Hop.{Hop}
 use Rattle.pcep_messages.specs.declared.fault.About.{About}
 use Rattle.pcep_messages.specs.declared.fault.About.TheVariants as about
 use Rattle.pcep_messages.specs.declared.message.Message.{Message}
@@ -11,6 +11,7 @@ use Rattle.pcep_messages.specs.declared.message.Message.TheVariants as messages
 use Rattle.pcep_messages.specs.declared.message.PathRequest.{PathRequest}
 use Rattle.pcep_messages.specs.declared.message.StateReport.{StateReport}
 use Rattle.pcep_objects.specs.declared.request_objects.NoPathVector.{NoPathVector}
+use Rattle.pcep_objects.specs.declared.session_objects.Open.{Open}
 use Rattle.commit_core.specs.declared.ticket.Purpose.TheVariants as purposes
 use Rattle.pcep_messages.specs.declared.notice.PcError.{PcError}
 use Rattle.pcep_session.specs.Calls.{begun, fed, sent, error_reported, ended_by}
@@ -27,7 +28,8 @@ use Rattle.step_core.specs.declared.event.Event.TheVariants as event
 use Rattle.step_core.specs.declared.event.Reply.{Reply}
 use Rattle.step_core.specs.declared.event.Reply.TheVariants.{Done, Booked, Refused, Out}
 use Rattle.engine_core.specs.Requests.{purpose_of, vector_for, no_path_for}
-use Rattle.engine_core.specs.Plans.{Plan, Returns, Reaches, submitting}
+use Rattle.engine_core.specs.Deeds.{Opened, Delivered}
+use Rattle.engine_core.specs.Plans.{Plan, Returns, Reaches, Shows, submitting}
 use Rattle.engine_core.specs.declared.client.Client.{Client}
 
 -- the client whose session is now this one
@@ -68,8 +70,16 @@ after_up Done c = record c { joined = true }
 after_up (Refused why) c = after_refused_up why c
 after_up reply c = c
 
+-- the peer's Open is shown
+abbrev pub showing_open : {W : Type 0} → Option Open → Plan W → Plan W
+showing_open None plan = plan
+showing_open (Some open_) plan = Shows (Opened open_) plan
+
+abbrev pub joining : {W : Type 0} → ℕ → Option Capabilities → Client → (Client → Plan W) → Plan W
+joining peer capabilities c go_on = submitting c (event.Up peer capabilities) (λ reply. go_on (after_up reply c))
+
 abbrev pub on_up : {W : Type 0} → ℕ → Option Capabilities → Client → (Client → Plan W) → Plan W
-on_up peer capabilities c go_on = submitting c (event.Up peer capabilities) (λ reply. go_on (after_up reply c))
+on_up peer capabilities c go_on = showing_open c.session.peer (joining peer capabilities c go_on)
 
 -- ---- reports (RFC 8231 section 6.1)
 
@@ -145,11 +155,16 @@ on_requests peer (r ∷ rs) c go_on = on_request peer r c (λ after. on_requests
 
 -- ---- messages
 
+-- the events of a message
+abbrev pub taking : {W : Type 0} → ℕ → Message → Client → (Client → Plan W) → Plan W
+taking peer (messages.Report reports) c go_on = on_reports peer reports c go_on
+taking peer (messages.Request requests) c go_on = on_requests peer requests c go_on
+taking peer (messages.Error errors) c go_on = on_refusals peer errors.srps c go_on
+taking peer message c go_on = go_on c
+
+-- each message that is delivered is shown once, before its events
 abbrev pub on_message : {W : Type 0} → ℕ → Message → Client → (Client → Plan W) → Plan W
-on_message peer (messages.Report reports) c go_on = on_reports peer reports c go_on
-on_message peer (messages.Request requests) c go_on = on_requests peer requests c go_on
-on_message peer (messages.Error errors) c go_on = on_refusals peer errors.srps c go_on
-on_message peer message c go_on = go_on c
+on_message peer message c go_on = Shows (Delivered message) (taking peer message c go_on)
 
 -- ---- Down
 

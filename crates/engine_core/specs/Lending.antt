@@ -2,24 +2,25 @@
 use Rattle.std.specs.Prelude.{ℕ, ◌≡◌, true, false, List, [], ◌∷◌, ◌++◌}
 use Rattle.step_core.specs.Steps.{step}
 use Rattle.history_core.specs.Histories.{Content, stepped, is_full, rolled_up, steps_of}
+use Rattle.engine_core.specs.Deeds.{Deed, Called, Shown, calls_of}
 use Rattle.engine_core.specs.declared.lent.Lent.{Lent}
-use Rattle.engine_core.specs.declared.store.Call.{Call}
 
--- each call is a step of the database that is kept, with the step's reply
-abbrev pub Steps : Content → List Call → Content → Type 0
+-- each call is a step of the database that is kept, with the step's reply; what is shown leaves it as it is
+abbrev pub Steps : Content → List Deed → Content → Type 0
 Steps d [] after = after ≡ d
-Steps d (call ∷ calls) after =
-    (is_full d ≡ false) × (call.reply ≡ (step d.state call.event).reply) × Steps (stepped d call.event call.reply) calls after
+Steps d (Shown sight ∷ deeds) after = Steps d deeds after
+Steps d (Called call ∷ deeds) after =
+    (is_full d ≡ false) × (call.reply ≡ (step d.state call.event).reply) × Steps (stepped d call.event call.reply) deeds after
 
 -- no further step can be kept
 abbrev pub IsFull : Content → Type 0
 IsFull d = is_full d ≡ true
 
 -- the database of the same loan takes these steps, and the calls are added to the list
-pub record LentMoves (old : Lent) (made : List Call) (new : Lent) : Type 0 where
+pub record LentMoves (old : Lent) (made : List Deed) (new : Lent) : Type 0 where
   pub same_loan : new.database.ghost_name ≡ old.database.ghost_name
   pub steps : Steps old.database.now made new.database.now
-  pub added : new.calls.items ≡ old.calls.items ++ made
+  pub added : new.calls.items ≡ old.calls.items ++ calls_of made
 
 -- the database of the same loan is rolled, and `steps` steps were taken before its base
 pub record LentRolls (old : Lent) (steps : ℕ) (new : Lent) : Type 0 where

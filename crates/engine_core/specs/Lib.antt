@@ -1,4 +1,5 @@
 pub mod Requests
+pub mod Deeds
 pub mod Calls
 pub mod Plans
 pub mod Engine
@@ -7,5 +8,6 @@ pub mod Sent
 pub mod Stores
 pub mod Performed
 pub mod Lending
+pub mod DeedLaws
 pub mod LendingLaws
 pub mod Laws

@@ -3,7 +3,7 @@ use Rattle.std.specs.Prelude.{◌≡◌, Result, Ok, Err}
 use Rattle.history_core.specs.Histories.{Content, applied}
 use Rattle.history_core.specs.declared.fault.Fault.{Fault}
 use Rattle.history_core.specs.declared.fault.Fault.TheVariants.{OutOfMemory, HistoryFull}
-use Rattle.engine_core.specs.Plans.{Plan, Returns, Reaches, Submits}
+use Rattle.engine_core.specs.Plans.{Plan, Returns, Reaches, Shows, Submits}
 
 abbrev pub and_then : {A B : Type 0} → Result A Fault → (A → Result B Fault) → Result B Fault
 and_then (Ok a) go_on = go_on a
@@ -13,6 +13,7 @@ and_then (Err fault) go_on = Err fault
 abbrev pub performed : {W : Type 0} → Plan W → Content → Result (W × Content) Fault
 performed (Returns w) d = Ok (w, d)
 performed (Reaches c plan) d = performed plan d
+performed (Shows sight plan) d = performed plan d
 performed (Submits event go_on) d = and_then (applied d event) (λ done. performed (go_on done.0) done.1)
 
 -- what a call leaves that carries a plan out; where memory ran out nothing is said

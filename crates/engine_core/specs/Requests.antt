@@ -1,7 +1,7 @@
 -- Path requests (RFC 5440 section 6.4): what is asked for, and how a request is answered that isn't searched for.
 use Rattle.std.specs.Prelude.{ℕ, true, false, Option, Some, None}
-use Rattle.pcep_objects.specs.declared.object.MetricType.{MetricType}
-use Rattle.pcep_objects.specs.declared.object.MetricType.TheVariants.{Igp, Te, Hops}
+use Rattle.lsp_words.specs.declared.object.MetricType.{MetricType}
+use Rattle.lsp_words.specs.declared.object.MetricType.TheVariants.{Igp, Te, Hops}
 use Rattle.pcep_objects.specs.declared.request_objects.NoPathVector.{NoPathVector}
 use Rattle.pcep_messages.specs.declared.message.Answer.TheVariants as answers
 use Rattle.pcep_messages.specs.declared.message.Bounds.{Bounds}
@@ -40,6 +40,7 @@ constraints_of r = record {
   bound = bound_on r.minimise r.bounds;
   hop_bound = (r.bounds).hops;
   other_bounds = bounds_beside r.minimise r.bounds;
+  local_protection = false;
 }
 
 abbrev pub purpose_of : PathRequest → Purpose

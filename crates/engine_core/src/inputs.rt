@@ -3,7 +3,8 @@
 ghost use Rattle.std.specs.Prelude.{◌≡◌, ◌<◌, [], length, OnOk, OnErr, IfErr};
 ghost use Rattle.history_core.specs.declared.fault.Fault.TheVariants.{OutOfMemory};
 ghost use Rattle.engine_core.specs.Calls.{newest_reply};
-ghost use Rattle.engine_core.specs.Engine.{event_of, on_up, on_wanted, after_report, on_report, on_reports, refused_request, after_request, on_request, on_requests, on_refusal, on_refusals, on_message, on_down, on_input, turns};
+ghost use Rattle.engine_core.specs.Engine.{event_of, on_up, on_wanted, after_report, on_report, on_reports, refused_request, after_request, on_request, on_requests, on_refusal, on_refusals, joining, taking, on_message, on_down, on_input, turns};
+ghost use Rattle.engine_core.specs.Deeds.{open_shown};
 ghost use Rattle.engine_core.specs.Plans.{Plan};
 ghost use Rattle.engine_core.specs.Stores.{Serves};
 ghost use Rattle.engine_core.specs.declared.client.Client.{Client};
@@ -15,8 +16,30 @@ use crate::store::{Store, hand_in, reply};
 use history_core::{Event, Fault, Purpose, Reply, Why};
 use pcep_messages::{Errors, Message, PathRequest, StateReport};
 use pcep_objects::{Capabilities, Plsp};
-use pcep_session::Input;
+use pcep_session::{Input, Session};
 
+/// The store is shown the Open of the session's peer.
+fn show_open<S: Store>(session: &Session, store: &mut S)
+    ensures { S.moves store.old (open_shown session.now.peer) store.new }
+{
+    if let Some(peer_open) = session.peer_open() {
+        store.show_open(peer_open);
+    }
+}
+
+fn join<S: Store>(
+    client: &mut Client,
+    peer: u32,
+    capabilities: Option<Capabilities>,
+    store: &mut S,
+) -> Result<(), Fault>
+    ensures { (go_on : Client → Plan Client) → Serves result S.moves S.is_full store.old store.new client.old client.new (joining peer capabilities client.old go_on) go_on }
+{
+    hand_in(store, Event::Up { peer, capabilities })?;
+    after_up(client, reply(store))
+}
+
+/// The session came up: its peer's Open is shown before its Up is submitted.
 fn on_up<S: Store>(
     client: &mut Client,
     peer: u32,
@@ -25,8 +48,8 @@ fn on_up<S: Store>(
 ) -> Result<(), Fault>
     ensures { (go_on : Client → Plan Client) → Serves result S.moves S.is_full store.old store.new client.old client.new (on_up peer capabilities client.old go_on) go_on }
 {
-    hand_in(store, Event::Up { peer, capabilities })?;
-    after_up(client, reply(store))
+    show_open(&client.session, store);
+    join(client, peer, capabilities, store)
 }
 
 /// The end of synchronization (RFC 8231 section 5.6), or the report of an LSP.
@@ -175,6 +198,23 @@ fn on_requests<S: Store>(
     Ok(())
 }
 
+fn take_message<S: Store>(
+    client: &mut Client,
+    peer: u32,
+    message: Message,
+    store: &mut S,
+) -> Result<(), Fault>
+    ensures { (go_on : Client → Plan Client) → Serves result S.moves S.is_full store.old store.new client.old client.new (taking peer message client.old go_on) go_on }
+{
+    match message {
+        Message::Report(reports) => on_reports(client, peer, reports.into_vec(), store),
+        Message::Request(requests) => on_requests(client, peer, requests.into_vec(), store),
+        Message::Error(Errors { srps, .. }) => on_refusals(client, peer, srps.into_vec(), store),
+        _ => Ok(()),
+    }
+}
+
+/// The session delivered a message: it is shown before its events are submitted.
 fn on_message<S: Store>(
     client: &mut Client,
     peer: u32,
@@ -183,12 +223,8 @@ fn on_message<S: Store>(
 ) -> Result<(), Fault>
     ensures { (go_on : Client → Plan Client) → Serves result S.moves S.is_full store.old store.new client.old client.new (on_message peer message client.old go_on) go_on }
 {
-    match message {
-        Message::Report(reports) => on_reports(client, peer, reports.into_vec(), store),
-        Message::Request(requests) => on_requests(client, peer, requests.into_vec(), store),
-        Message::Error(Errors { srps, .. }) => on_refusals(client, peer, srps.into_vec(), store),
-        _ => Ok(()),
-    }
+    store.show_message(&message);
+    take_message(client, peer, message, store)
 }
 
 /// A peer that is joined goes down.

@@ -11,6 +11,8 @@ use crate::client::Client;
 use crate::serving::{hang_up, serve};
 use crate::store::{Call, Store};
 use history_core::{Database, Event, Fault, SharedEvent};
+use pcep_messages::Message;
+use pcep_objects::Open;
 use sequence::PlainData;
 use std::alloc::{AllocError, Global};
 
@@ -64,6 +66,10 @@ impl<'a> Store for Lent<'a> {
         self.calls.push_reserved(Call { event, reply });
         Ok(())
     }
+
+    fn show_open(&mut self, _peer_open: Open) {}
+
+    fn show_message(&mut self, _message: &Message) {}
 
     fn calls(&self) -> &[Call] {
         self.calls.as_slice()

@@ -2,16 +2,18 @@
 //!
 //! A `Client` is a session with a peer. `serve` hands it bytes at a moment, submits what the session makes of
 //! them to a `Store` as events of the peer, answers the replies in the session's output, and sends what waits
-//! for the peer; `hang_up` is the end of the transport. No clock, socket or lock is touched here: `Lent` is a
+//! for the peer; `hang_up` is the end of the transport. The store is shown the peer's Open as the session comes up, and
+//! each message that it delivers, before the events that come of it. No clock, socket or lock is touched here: `Lent` is a
 //! database on one thread, and another store may be one that threads share. `serve_database` and
 //! `hang_up_database` do the same over a database whose calls nobody reads.
 //!
 //! What `serve` does is a plan (`specs/Plans`): events that are submitted one after the other, each chosen by the
-//! replies to those before it, and the states of the client on the way. `specs/Engine` has the plan of each call
-//! as a table: what is submitted for each input of the session, and what the replies mean for it. The contracts
-//! say that the calls which were added to the store's list carry that plan out and that the session is the one in
-//! which it ends; after a fault they carry out its beginning, and the session is ended as it was where the plan
-//! broke off, with all output up to there (`specs/Stores`). A session is served until it gives nothing more
+//! replies to those before it, what is shown between them, and the states of the client on the way. `specs/Engine` has
+//! the plan of each call as a table: what is shown and submitted for each input of the session, and what the replies mean
+//! for it. The contracts say that what was done with the store (`specs/Deeds`: the calls that were added to its list, and
+//! what it was shown) carries that plan out and that the session is the one in which it ends; after a fault it carries out
+//! its beginning, and the session is ended as it was where the plan broke off, with all output up to there
+//! (`specs/Stores`). A session is served until it gives nothing more
 //! (`specs/Laws`). `specs/Performed` carries a plan out against one database.
 //!
 //! ```text

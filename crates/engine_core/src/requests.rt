@@ -44,6 +44,7 @@ fn constraints_of(request: &PathRequest) -> Constraints
         bound: bound_on(request.minimise, &request.bounds),
         hop_bound: request.bounds.hops,
         other_bounds: bounds_beside(request.minimise, &request.bounds),
+        local_protection: false,
     }
 }
 

@@ -4,9 +4,12 @@ ghost use Rattle.std.specs.Prelude.{ℕ, ◌≡◌, ◌<◌, ◌-◌, [], ◌∷
 ghost use Rattle.history_core.specs.declared.fault.Fault.TheVariants.{HistoryFull};
 ghost use Rattle.step_core.specs.declared.event.Reply.{Reply};
 ghost use Rattle.engine_core.specs.Calls.{called, newest_reply};
+ghost use Rattle.engine_core.specs.Deeds.{Deed, Opened, Delivered, Shown, calls_of};
 ghost use Rattle.engine_core.specs.declared.store.Call.{Call};
 
 use history_core::{Event, Fault, Reply, SharedEvent};
+use pcep_messages::Message;
+use pcep_objects::Open;
 use sequence::PlainData;
 use std::alloc::AllocError;
 
@@ -27,13 +30,13 @@ impl PlainData for Call {
 }
 
 /// Where events go: a database that is lent, or one that is shared. It keeps a list of the calls that were
-/// made.
+/// made, and is shown what its session makes known: a store that notes nothing of that ignores it.
 pub trait Store {
     /// The calls since the list was last emptied.
     ghost calls: { Self → List Call };
 
-    /// These calls lead from the one to the other.
-    ghost moves: { Self → List Call → Self → Type 0 };
+    /// These deeds, in order, lead from the one to the other.
+    ghost moves: { Self → List Deed → Self → Type 0 };
 
     /// The same store, but for its list.
     ghost same_but_calls: { Self → Self → Type 0 };
@@ -49,6 +52,14 @@ pub trait Store {
         ensures submitted { OnOk result ((reply : Reply) × moves self.old (called event reply ∷ []) self.new) }
         ensures unchanged { OnErr result (moves self.old [] self.new) }
         ensures full { result ≡ Err HistoryFull → is_full self.new };
+
+    /// Is shown the peer's Open, as the session comes up (RFC 5440 section 6.2). No call is made.
+    fn show_open(&mut self, peer_open: Open)
+        ensures { moves self.old (Shown (Opened peer_open) ∷ []) self.new };
+
+    /// Is shown a message that the session delivers. No call is made.
+    fn show_message(&mut self, message: &Message)
+        ensures { moves self.old (Shown (Delivered message.now) ∷ []) self.new };
 
     /// The calls since the list was last emptied, oldest first.
     fn calls(&self) -> &[Call]
@@ -67,9 +78,9 @@ pub trait Store {
 
     ghost moves_nowhere: { (s : Self) → moves s [] s };
 
-    ghost moves_on: { (a b c : Self) (first second : List Call) → moves a first b → moves b second c → moves a (first ++ second) c };
+    ghost moves_on: { (a b c : Self) (first second : List Deed) → moves a first b → moves b second c → moves a (first ++ second) c };
 
-    ghost moves_add: { (a b : Self) (made : List Call) → moves a made b → calls b ≡ calls a ++ made };
+    ghost moves_add: { (a b : Self) (made : List Deed) → moves a made b → calls b ≡ calls a ++ calls_of made };
 }
 
 /// Submits an event. Its call is the newest in the list.

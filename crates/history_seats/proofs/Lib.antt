@@ -2,3 +2,6 @@ mod Places
 mod Placed
 mod Whole
 mod Folding
+pub mod Pasts
+pub mod AllSteps
+mod StepBytes

@@ -1,14 +1,14 @@
 -- What a seat ends as where its hand was lent.
 use Rattle.std.specs.Prelude.{Option}
 use Rattle.std.specs.Borrow.{Lends, Fml, RattleType, MutBor}
-use Rattle.std.specs.declared.sync.ledger.Ledger.{Ghosts}
 use Rattle.std.specs.contracts.option.Option as option
 use Rattle.place_tokens.specs.declared.rule.Room as room
 use Rattle.step_core.specs.declared.job.Job.{Job}
 use Rattle.step_core.specs.contracts.job.Job as job
+use Rattle.history_seats.specs.declared.brands.Brands as brands
 use Rattle.history_seats.specs.Receipts.{SeatContent}
 use Rattle.history_seats.specs.contracts.seat.Seat.{the_row}
 
 -- the seat ends with what was last put in place of the result in its hand
-abbrev pub LendsHand : (S G B : RattleType) → Ghosts S.Denot → Ghosts G.Denot → room.Ghosts B.Denot → MutBor SeatContent → MutBor (Option Job) → Fml
-LendsHand S G B steps grants names s r = Lends (the_row S G B steps grants names) (option.the_row job.the_row) s r (λ w. record s.now { hand = w })
+abbrev pub LendsHand : (B : RattleType) → brands.Ghosts B.Denot → room.Ghosts B.Denot → MutBor SeatContent → MutBor (Option Job) → Fml
+LendsHand B ledgers names s r = Lends (the_row B ledgers names) (option.the_row job.the_row) s r (λ w. record s.now { hand = w })

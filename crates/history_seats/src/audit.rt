@@ -4,13 +4,12 @@ ghost use Rattle.history_core.specs.Histories.{steps_of};
 ghost use Rattle.history_seats.specs.Receipts.{IsPlaced};
 ghost use Rattle.history_seats.specs.Audits.{Agrees, Differs, SeatAgrees, SeatDiffers, AllAgree, AllOnce, AllRise, AllDistinct, Fails, steps_received, late_received};
 
+use crate::brands::Brands;
 use crate::fault::AuditFault;
 use crate::receipt::Receipt;
 use crate::sameness::SameAs;
 use crate::seat::Seat;
 use history_core::Database;
-use place_tokens::Room;
-use std::sync::ledger::Ledger;
 
 /// Whether the receipt is of a rolled place, or its event and its brief are those of the kept step at its place.
 fn agrees(database: &Database, receipt: &Receipt) -> bool
@@ -41,10 +40,7 @@ fn differing(database: &Database, receipts: &[Receipt]) -> Option<u64>
 }
 
 /// The same of a seat, which has folded no place that isn't rolled.
-fn differing_in<S: Ledger, G: Ledger, B: Room>(
-    database: &Database,
-    seat: &Seat<S, G, B>,
-) -> Option<u64>
+fn differing_in<B: Brands>(database: &Database, seat: &Seat<B>) -> Option<u64>
     ensures none { IfNone result (SeatAgrees database.now seat.now) }
     ensures some { IfSome result (λ place. SeatDiffers database.now place seat.now) }
 {
@@ -55,10 +51,7 @@ fn differing_in<S: Ledger, G: Ledger, B: Room>(
 }
 
 /// The same of all seats.
-fn differing_seat<S: Ledger, G: Ledger, B: Room>(
-    database: &Database,
-    seats: &[Seat<S, G, B>],
-) -> Option<u64>
+fn differing_seat<B: Brands>(database: &Database, seats: &[Seat<B>]) -> Option<u64>
     ensures none { IfNone result (AllAgree database.now seats.now) }
     ensures some { IfSome result (λ place. Any (SeatDiffers database.now place) seats.now) }
 {
@@ -73,9 +66,9 @@ fn differing_seat<S: Ledger, G: Ledger, B: Room>(
 
 /// The test of the receipts. Where each kept one agrees with its step, the seats' places leave nothing else that
 /// could fail.
-pub(crate) fn test_receipts<S: Ledger, G: Ledger, B: Room>(
+pub(crate) fn test_receipts<B: Brands>(
     database: &Database,
-    seats: &[Seat<S, G, B>],
+    seats: &[Seat<B>],
 ) -> Result<(), AuditFault>
     requires summed { steps_received seats.now ≡ steps_of database.now }
     requires distinct { AllDistinct (steps_of database.now) seats.now }

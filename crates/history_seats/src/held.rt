@@ -1,39 +1,51 @@
 //! The database with the totals of all seats.
-ghost use Rattle.std.specs.Prelude.{◌≡◌, ◌<◌, ◌≤◌, ◌↔◌, All, List, [], ◌∷◌, ◌++◌, length, IsTrue, IfOk, IfErr, OnOk, OnErr, replicate, vec_len, ◌+◌};
+ghost use Rattle.std.specs.Prelude.{◌≡◌, ◌<◌, ◌≤◌, ◌↔◌, All, List, [], ◌∷◌, ◌++◌, length, IsTrue, IfOk, IfErr, OnOk, OnErr, replicate, vec_len, ◌+◌, ◌-◌, ◌^◌, min};
+ghost use mathlib.Core.List.{IsPrefix};
 ghost use Rattle.step_core.specs.Steps.{step};
 ghost use Rattle.history_core.specs.Briefs.{brief_of};
-ghost use Rattle.history_core.specs.Histories.{Replays, IsSound, kept_step, stepped, is_full, steps_of, grants_of, rolled_up};
-ghost use Rattle.history_seats.specs.Receipts.{IsPlaced, new_seat, received, tidy, unkept};
+ghost use Rattle.history_core.specs.Histories.{kept_step, is_full, steps_of, grants_of};
+ghost use Rattle.history_tokens.specs.declared.rule.Happening.TheVariants.{Took, Rolled};
+ghost use Rattle.history_seats.specs.Past.{database_at, with_seen, stepped_at};
+ghost use Rattle.history_seats.specs.Seeing.{HasSeenOf};
+ghost use Rattle.history_seats.specs.Bytes.{kept_bytes};
+ghost use Rattle.history_seats.specs.Receipts.{IsPlaced, new_seat, tidy, unkept};
 ghost use Rattle.history_seats.specs.Audits.{AllDistinct, IsAudited, Fails, steps_received, grants_received};
 
 use crate::audit::test_receipts;
+use crate::brands::{Brands, Grants, Steps};
+use crate::bytes::more_bytes;
 use crate::fault::AuditFault;
 use crate::receipt::{Receipt, grant_count, past_floor};
 use crate::seat::Seat;
-use crate::shares::{gather, gather_places};
+use crate::shares::{compare_all, gather, gather_places};
 use history_core::{Brief, Database, Fault, Step};
-use place_tokens::{Drawn, Room, Source, Unopened};
+use history_tokens::{Front, Keeper, Unnamed};
+use place_tokens::{Drawn, Source, Unopened};
 use sequence::PlainData;
 use std::alloc::{AllocError, Global};
 use std::marker::Model;
 use std::mem;
-use std::sync::ledger::{Blank, Book, Ledger, Share};
+use std::sync::ledger::{Blank, Book, Share};
 use step_core::{Event, Reply, SharedEvent};
 
-/// A database, with the totals of what its seats received, and the source of the places of its steps. A
-/// contract sees the database.
-pub struct Held<S: Ledger, G: Ledger, B: Room> {
+/// A database, with the totals of what its seats received, the source of the places of its steps, and the keeper of what
+/// has happened to it. A contract sees that: the steps and rolls, oldest first, which led to the database from the network
+/// that the type names.
+pub struct Held<B: Brands> {
     alloc: Global,
     database: Database,
     /// How many seats there are.
     seats: u64,
-    steps: Book<S>,
-    grants: Book<G>,
+    steps: Book<Steps<B>>,
+    grants: Book<Grants<B>>,
     source: Source<B>,
+    history: Keeper<Event, B>,
+    /// How many bytes the kept steps take in memory.
+    bytes: u64,
 }
 
 /// Drops each part. A derived drop would be proved anew for each owner.
-impl<S: Ledger, G: Ledger, B: Room> Drop for Held<S, G, B> {
+impl<B: Brands> Drop for Held<B> {
     fn drop(self) {
         let Held {
             alloc: _,
@@ -42,26 +54,34 @@ impl<S: Ledger, G: Ledger, B: Room> Drop for Held<S, G, B> {
             steps,
             grants,
             source,
+            history,
+            bytes: _,
         } = self;
         drop(database);
         drop(steps);
         drop(grants);
         drop(source);
+        drop(history);
     }
 }
 
-impl<S: Ledger, G: Ledger, B: Room> Model for Held<S, G, B> {
-    ghost use Rattle.std.specs.Prelude.{◌≡◌, ◌<◌, length};
-    ghost use Rattle.history_core.specs.Histories.{Content, steps_of, grants_of};
+impl<B: Brands> Model for Held<B> {
+    ghost use Rattle.std.specs.Prelude.{◌≡◌, ◌<◌, List, length};
+    ghost use Rattle.history_core.specs.Histories.{steps_of, grants_of};
+    ghost use Rattle.history_tokens.specs.declared.rule.Happening.{Happening};
+    ghost use Rattle.history_seats.specs.Past.{database_at};
+    ghost use Rattle.history_seats.specs.Bytes.{kept_bytes};
+    ghost use Rattle.step_core.specs.declared.event.Event.{Event};
 
-    ghost Value = { Content };
+    ghost Value = { List (Happening Event) };
 
-    ghost view = { λ h. h.database };
+    ghost view = { λ h. h.history };
 
     ghost invariant = { λ h.
         (h.steps.total ≡ steps_of h.database) × (h.grants.total ≡ grants_of h.database)
-        × (0 < h.seats) × (h.seats ≡ S.parts) × (h.seats ≡ G.parts) × (h.seats ≡ B.seats)
-        × (h.source ≡ steps_of h.database) };
+        × (0 < h.seats) × (h.seats ≡ B.seats)
+        × (h.source ≡ steps_of h.database) × (h.database ≡ database_at B.text h.history)
+        × (h.bytes ≡ kept_bytes (database_at B.text h.history)) };
 }
 
 /// The brief of the last of the steps.
@@ -72,19 +92,22 @@ fn newest_brief(steps: &[Step]) -> Brief
     steps[steps.len() - 1].brief
 }
 
-impl<S: Ledger, G: Ledger, B: Room> Held<S, G, B> {
+impl<B: Brands> Held<B> {
     /// The next token's seat, with a part of each share.
     fn next_seat(
         alloc: Global,
-        steps_left: &mut Share<S>,
-        grants_left: &mut Share<G>,
+        steps_left: &mut Share<Steps<B>>,
+        grants_left: &mut Share<Grants<B>>,
         tokens: &mut Vec<Drawn<B>>,
-    ) -> Seat<S, G, B>
+        history: &mut Keeper<Event, B>,
+    ) -> Seat<B>
         requires steps { (1 ≤ steps_left.old.parts) × (steps_left.old.amount ≡ 0) }
         requires grants { (1 ≤ grants_left.old.parts) × (grants_left.old.amount ≡ 0) }
         requires some { 0 < vec_len tokens.old }
         requires none_drawn { All (λ d. d ≡ []) tokens.old.items }
+        requires nothing_happened { history.old ≡ [] }
         ensures seat { result ≡ new_seat }
+        ensures nothing_happened { history.new ≡ [] }
         ensures steps { (steps_left.new.parts + 1 ≡ steps_left.old.parts) × (steps_left.new.amount ≡ 0) }
         ensures grants { (grants_left.new.parts + 1 ≡ grants_left.old.parts) × (grants_left.new.amount ≡ 0) }
         ensures count { vec_len tokens.new + 1 ≡ vec_len tokens.old }
@@ -98,6 +121,7 @@ impl<S: Ledger, G: Ledger, B: Room> Held<S, G, B> {
             steps_left.split_off(1, 0),
             grants_left.split_off(1, 0),
             drawn,
+            history.front(),
         )
     }
 
@@ -105,18 +129,22 @@ impl<S: Ledger, G: Ledger, B: Room> Held<S, G, B> {
     fn seats_of(
         alloc: Global,
         n: u64,
-        steps_left: &mut Share<S>,
-        grants_left: &mut Share<G>,
+        steps_left: &mut Share<Steps<B>>,
+        grants_left: &mut Share<Grants<B>>,
         tokens: &mut Vec<Drawn<B>>,
-    ) -> Result<Vec<Seat<S, G, B>>, AllocError>
+        history: &mut Keeper<Event, B>,
+    ) -> Result<Vec<Seat<B>>, AllocError>
         requires steps { (steps_left.old.parts ≡ n) × (steps_left.old.amount ≡ 0) }
         requires grants { (grants_left.old.parts ≡ n) × (grants_left.old.amount ≡ 0) }
         requires tokens { tokens.old.items ≡ replicate n [] }
-        ensures { IfOk result (λ seats. seats.items ≡ replicate n new_seat) }
+        requires nothing_happened { history.old ≡ [] }
+        ensures nothing_happened { history.new ≡ [] }
+        ensures seats { IfOk result (λ seats. seats.items ≡ replicate n new_seat) }
     {
         let mut seats = Vec::new(alloc);
         for _i in 0..n {
-            seats.push(Held::<S, G, B>::next_seat(alloc, steps_left, grants_left, tokens))?;
+            let seat = Held::<B>::next_seat(alloc, steps_left, grants_left, tokens, history);
+            seats.push(seat)?;
         }
         Ok(seats)
     }
@@ -125,19 +153,22 @@ impl<S: Ledger, G: Ledger, B: Room> Held<S, G, B> {
     fn seated(
         alloc: Global,
         n: u64,
-        steps: Share<S>,
-        grants: Share<G>,
+        steps: Share<Steps<B>>,
+        grants: Share<Grants<B>>,
         room: Unopened,
-    ) -> Result<(Source<B>, Vec<Seat<S, G, B>>), AllocError>
+        history: &mut Keeper<Event, B>,
+    ) -> Result<(Source<B>, Vec<Seat<B>>), AllocError>
         requires steps { (steps.parts ≡ n) × (steps.amount ≡ 0) }
         requires grants { (grants.parts ≡ n) × (grants.amount ≡ 0) }
         requires room { (room.table ≡ B.table) × (room.seats ≡ B.seats) × (room.seats ≡ n) }
+        requires nothing_happened { history.old ≡ [] }
+        ensures nothing_happened { history.new ≡ [] }
         ensures source { IfOk result (λ r. r.0 ≡ 0) }
         ensures seats { IfOk result (λ r. r.1.items ≡ replicate n new_seat) }
     {
         let (mut steps, mut grants) = (steps, grants);
         let (source, mut tokens) = room.open::<B>(alloc)?;
-        let seats = Held::<S, G, B>::seats_of(alloc, n, &mut steps, &mut grants, &mut tokens)?;
+        let seats = Held::<B>::seats_of(alloc, n, &mut steps, &mut grants, &mut tokens, history)?;
         Ok((source, seats))
     }
 
@@ -150,20 +181,24 @@ impl<S: Ledger, G: Ledger, B: Room> Held<S, G, B> {
         steps: Blank,
         grants: Blank,
         room: Unopened,
-    ) -> Result<(Held<S, G, B>, Vec<Seat<S, G, B>>), AllocError>
+        history: Unnamed<Event>,
+    ) -> Result<(Held<B>, Vec<Seat<B>>), AllocError>
         requires none_taken { steps_of database ≡ 0 }
+        requires text { database.text ≡ B.text }
+        requires history { history ≡ B.log }
         requires seats { (1 ≤ n) × (n ≤ 256) }
-        requires steps { (steps.name ≡ S.name) × (steps.parts ≡ S.parts) × (steps.parts ≡ n) }
-        requires grants { (grants.name ≡ G.name) × (grants.parts ≡ G.parts) × (grants.parts ≡ n) }
+        requires steps { (steps.name ≡ B.steps) × (steps.parts ≡ B.seats) × (steps.parts ≡ n) }
+        requires grants { (grants.name ≡ B.grants) × (grants.parts ≡ B.seats) × (grants.parts ≡ n) }
         requires room { (room.table ≡ B.table) × (room.seats ≡ B.seats) × (room.seats ≡ n) }
-        ensures database { IfOk result (λ r. r.0 ≡ database) }
+        ensures database { IfOk result (λ r. (r.0 ≡ []) × (database ≡ database_at B.text [])) }
         ensures seats { IfOk result (λ r. r.1.items ≡ replicate n new_seat) }
     {
         // for the proof alone: no step is kept
         let _none = database.history();
-        let (steps, steps_left) = steps.open::<S>();
-        let (grants, grants_left) = grants.open::<G>();
-        match Held::<S, G, B>::seated(alloc, n, steps_left, grants_left, room) {
+        let (steps, steps_left) = steps.open::<Steps<B>>();
+        let (grants, grants_left) = grants.open::<Grants<B>>();
+        let mut history = history.named::<B>();
+        match Held::<B>::seated(alloc, n, steps_left, grants_left, room, &mut history) {
             Ok((source, seats)) => Ok((
                 Held {
                     alloc,
@@ -172,6 +207,8 @@ impl<S: Ledger, G: Ledger, B: Room> Held<S, G, B> {
                     steps,
                     grants,
                     source,
+                    history,
+                    bytes: 0,
                 },
                 seats,
             )),
@@ -184,14 +221,22 @@ impl<S: Ledger, G: Ledger, B: Room> Held<S, G, B> {
 
     /// The database, lent to be looked at.
     pub fn database(&self) -> &Database
-        ensures { result.now ≡ self.now }
+        ensures { result.now ≡ database_at B.text self.now }
     {
         &self.database
     }
 
+    /// How many bytes the kept steps take in memory, with their receipts and all that their events hold: the sum of
+    /// `event_bytes::bytes_of`, 2^64 - 1 at the most. A roll makes it 0.
+    pub fn kept_bytes(&self) -> u64
+        ensures { result ≡ kept_bytes (database_at B.text self.now) }
+    {
+        self.bytes
+    }
+
     /// The database alone. The seats are of no more use.
     pub fn into_database(self) -> Database
-        ensures { result ≡ self }
+        ensures { result ≡ database_at B.text self }
     {
         let Held {
             alloc: _,
@@ -200,44 +245,42 @@ impl<S: Ledger, G: Ledger, B: Room> Held<S, G, B> {
             steps: _,
             grants: _,
             source: _,
+            history: _,
+            bytes: _,
         } = self;
         database
     }
 
     /// One event, as one step of the database, and its receipt to the seat. After a fault the database and the
     /// seat are as before, and the event is dropped; `HistoryFull` is tested first.
-    pub fn step(&mut self, seat: &mut Seat<S, G, B>, event: Event) -> Result<Reply, Fault>
-        ensures step { IfOk result (λ reply. self.new ≡ stepped self.old event reply) }
-        ensures reply { IfOk result (λ reply. reply ≡ (step self.old.state event).reply) }
-        ensures receipt { IfOk result (λ reply. seat.new ≡ received (tidy self.old.rolled seat.old) (steps_of self.old) event reply) }
-        ensures full { (result ≡ Err Fault.HistoryFull) ↔ IsTrue (is_full self.old) }
-        ensures unchanged_on_fault { OnErr result ((self.new ≡ self.old) × (seat.new ≡ seat.old)) }
-        ensures found_replays { Replays self.old }
-        ensures found_sound { IsSound self.old }
+    pub fn step(&mut self, seat: &mut Seat<B>, event: Event) -> Result<Reply, Fault>
+        ensures step { IfOk result (λ _. self.new ≡ self.old ++ Took event ∷ []) }
+        ensures reply { IfOk result (λ reply. reply ≡ (step (database_at B.text self.old).state event).reply) }
+        ensures begins { IsPrefix seat.old.seen self.old }
+        ensures receipt { IfOk result (λ reply. seat.new ≡ stepped_at B.text self.old event reply seat.old) }
+        ensures full { (result ≡ Err Fault.HistoryFull) ↔ IsTrue (is_full (database_at B.text self.old)) }
+        ensures unchanged_on_fault { OnErr result ((self.new ≡ self.old) × (seat.new ≡ with_seen self.old seat.old)) }
     {
-        // for the proof alone: the history that is found replays
-        let _found = self.database.history();
         if self.database.is_full() {
+            self.history.show(&mut seat.seen);
             return Err(Fault::HistoryFull);
         }
-        let shared = SharedEvent::new(self.alloc, event)?;
+        let Ok(shared) = SharedEvent::new(self.alloc, event) else {
+            self.history.show(&mut seat.seen);
+            return Err(Fault::OutOfMemory);
+        };
         self.step_shared(seat, shared)
     }
 
     /// The same of an event that others keep too. It stands in memory once, also for the history and the
     /// receipt.
-    pub fn step_shared(
-        &mut self,
-        seat: &mut Seat<S, G, B>,
-        event: SharedEvent,
-    ) -> Result<Reply, Fault>
-        ensures step { IfOk result (λ reply. self.new ≡ stepped self.old event reply) }
-        ensures reply { IfOk result (λ reply. reply ≡ (step self.old.state event).reply) }
-        ensures receipt { IfOk result (λ reply. seat.new ≡ received (tidy self.old.rolled seat.old) (steps_of self.old) event reply) }
-        ensures full { (result ≡ Err Fault.HistoryFull) ↔ IsTrue (is_full self.old) }
-        ensures unchanged_on_fault { OnErr result ((self.new ≡ self.old) × (seat.new ≡ seat.old)) }
-        ensures found_replays { Replays self.old }
-        ensures found_sound { IsSound self.old }
+    pub fn step_shared(&mut self, seat: &mut Seat<B>, event: SharedEvent) -> Result<Reply, Fault>
+        ensures step { IfOk result (λ _. self.new ≡ self.old ++ Took event ∷ []) }
+        ensures reply { IfOk result (λ reply. reply ≡ (step (database_at B.text self.old).state event).reply) }
+        ensures begins { IsPrefix seat.old.seen self.old }
+        ensures receipt { IfOk result (λ reply. seat.new ≡ stepped_at B.text self.old event reply seat.old) }
+        ensures full { (result ≡ Err Fault.HistoryFull) ↔ IsTrue (is_full (database_at B.text self.old)) }
+        ensures unchanged_on_fault { OnErr result ((self.new ≡ self.old) × (seat.new ≡ with_seen self.old seat.old)) }
     {
         let (reply, _let_go) = self.step_and_fold(seat, event)?;
         Ok(reply)
@@ -247,20 +290,19 @@ impl<S: Ledger, G: Ledger, B: Room> Held<S, G, B> {
     /// lock is free. Room for the new receipt is made before the step, and nothing fails after it.
     pub fn step_and_fold(
         &mut self,
-        seat: &mut Seat<S, G, B>,
+        seat: &mut Seat<B>,
         event: SharedEvent,
     ) -> Result<(Reply, Vec<Receipt>), Fault>
-        ensures step { IfOk result (λ r. self.new ≡ stepped self.old event r.0) }
-        ensures reply { IfOk result (λ r. r.0 ≡ (step self.old.state event).reply) }
-        ensures receipt { IfOk result (λ r. seat.new ≡ received (tidy self.old.rolled seat.old) (steps_of self.old) event r.0) }
-        ensures given { IfOk result (λ r. r.1.items ≡ unkept self.old.rolled seat.old) }
-        ensures full { (result ≡ Err Fault.HistoryFull) ↔ IsTrue (is_full self.old) }
-        ensures unchanged_on_fault { OnErr result ((self.new ≡ self.old) × (seat.new ≡ seat.old)) }
-        ensures found_replays { Replays self.old }
-        ensures found_sound { IsSound self.old }
+        ensures step { IfOk result (λ _. self.new ≡ self.old ++ Took event ∷ []) }
+        ensures reply { IfOk result (λ r. r.0 ≡ (step (database_at B.text self.old).state event).reply) }
+        ensures begins { IsPrefix seat.old.seen self.old }
+        ensures receipt { IfOk result (λ r. seat.new ≡ stepped_at B.text self.old event r.0 seat.old) }
+        ensures given { IfOk result (λ r. r.1.items ≡ unkept (database_at B.text self.old).rolled seat.old) }
+        ensures full { (result ≡ Err Fault.HistoryFull) ↔ IsTrue (is_full (database_at B.text self.old)) }
+        ensures unchanged_on_fault { OnErr result ((self.new ≡ self.old) × (seat.new ≡ with_seen self.old seat.old)) }
     {
-        // for the proof alone: the history that is found is sound
-        let _found = self.database.history();
+        // for the proof alone: the seat has seen all that has happened until now
+        self.history.show(&mut seat.seen);
         if self.database.is_full() {
             return Err(Fault::HistoryFull);
         }
@@ -290,6 +332,9 @@ impl<S: Ledger, G: Ledger, B: Room> Held<S, G, B> {
         let _steps = self.database.steps();
         let _grants = self.database.grants();
         self.source.draw(&mut seat.drawn);
+        self.history.took(&mut seat.seen, event.event());
+        let bytes = more_bytes(self.bytes, event.event());
+        self.bytes = bytes;
         seat.received += 1;
         seat.granted += grants;
         seat.receipts.push_reserved(Receipt {
@@ -303,10 +348,13 @@ impl<S: Ledger, G: Ledger, B: Room> Held<S, G, B> {
     /// Lets a seat that waits keep its receipts no longer, where the places of all of them are rolled: they are
     /// given, oldest first, to be dropped once a lock is free, and stay counted. It is no step. A seat that
     /// steps does this by itself. Takes no memory.
-    pub fn fold(&self, seat: &mut Seat<S, G, B>) -> Vec<Receipt>
-        ensures folded { seat.new ≡ tidy self.now.rolled seat.old }
-        ensures given { result.items ≡ unkept self.now.rolled seat.old }
+    pub fn fold(&mut self, seat: &mut Seat<B>) -> Vec<Receipt>
+        ensures same { self.new ≡ self.old }
+        ensures begins { IsPrefix seat.old.seen self.old }
+        ensures folded { seat.new ≡ with_seen self.old (tidy (database_at B.text self.old).rolled seat.old) }
+        ensures given { result.items ≡ unkept (database_at B.text self.old).rolled seat.old }
     {
+        self.history.show(&mut seat.seen);
         let rolled = self.database.rolled();
         let Some(floor) = past_floor(seat.floor, rolled, seat.receipts.as_slice()) else {
             return Vec::new(self.alloc);
@@ -320,32 +368,68 @@ impl<S: Ledger, G: Ledger, B: Room> Held<S, G, B> {
     /// The state becomes the base, and the kept steps are dropped. It is no step, and no seat changes: each folds its
     /// receipts when it steps next, or by `fold`. Whoever rolls shows a seat, so that a look, which has none, can't roll.
     /// Where memory is refused nothing has changed.
-    pub fn roll(&mut self, _seat: &Seat<S, G, B>) -> Result<(), AllocError>
-        ensures rolled { OnOk result (self.new ≡ rolled_up self.old) }
+    pub fn roll(&mut self, seat: &mut Seat<B>) -> Result<(), AllocError>
+        ensures rolled { OnOk result (self.new ≡ self.old ++ Rolled ∷ []) }
         ensures unchanged_without_memory { OnErr result (self.new ≡ self.old) }
-        ensures replays { Replays self.new }
+        ensures begins { IsPrefix seat.old.seen self.old }
+        ensures seen { seat.new ≡ with_seen self.new seat.old }
     {
-        self.database.roll()
+        let _kept_no_longer = self.take_rolled(seat)?;
+        Ok(())
     }
 
     /// The same, and the steps that were kept are given, oldest first, to be dropped once a lock is free.
-    pub fn take_rolled(&mut self, _seat: &Seat<S, G, B>) -> Result<Vec<Step>, AllocError>
-        ensures rolled { OnOk result (self.new ≡ rolled_up self.old) }
-        ensures given { IfOk result (λ steps. steps.items ≡ self.old.history) }
+    pub fn take_rolled(&mut self, seat: &mut Seat<B>) -> Result<Vec<Step>, AllocError>
+        ensures rolled { OnOk result (self.new ≡ self.old ++ Rolled ∷ []) }
+        ensures given { IfOk result (λ steps. steps.items ≡ (database_at B.text self.old).history) }
         ensures unchanged_without_memory { OnErr result (self.new ≡ self.old) }
-        ensures replays { Replays self.new }
+        ensures begins { IsPrefix seat.old.seen self.old }
+        ensures seen { seat.new ≡ with_seen self.new seat.old }
     {
-        self.database.take_rolled()
+        self.history.show(&mut seat.seen);
+        let steps = self.database.take_rolled()?;
+        self.bytes = 0;
+        self.history.rolled();
+        self.history.show(&mut seat.seen);
+        Ok(steps)
+    }
+
+    /// A front that has seen all that has happened.
+    pub fn front(&mut self) -> Front<Event, B>
+        ensures front { result ≡ self.old }
+        ensures same { self.new ≡ self.old }
+    {
+        self.history.front()
+    }
+
+    /// The seat has seen all that has happened.
+    pub fn show_seat(&mut self, seat: &mut Seat<B>)
+        ensures begins { IsPrefix seat.old.seen self.old }
+        ensures shown { seat.new ≡ with_seen self.old seat.old }
+        ensures same { self.new ≡ self.old }
+    {
+        self.history.show(&mut seat.seen);
+    }
+
+    /// The front has seen all that has happened, and nothing that it had seen before is lost.
+    pub fn show(&mut self, seen: &mut Front<Event, B>)
+        ensures begins { IsPrefix seen.old self.old }
+        ensures shown { seen.new ≡ self.old }
+        ensures same { self.new ≡ self.old }
+    {
+        self.history.show(seen);
     }
 
     /// Tests, in the order of `AuditFault`, that all seats are here, and that their receipts are those of the
     /// history. Nothing changes, and no memory is taken.
-    pub fn audit(&mut self, seats: &mut Vec<Seat<S, G, B>>) -> Result<(), AuditFault>
+    pub fn audit(&mut self, seats: &mut Vec<Seat<B>>) -> Result<(), AuditFault>
         ensures same { self.new ≡ self.old }
         ensures same_seats { seats.new.items ≡ seats.old.items }
-        ensures ok { IfOk result (λ _. IsAudited S.parts self.old seats.old.items) }
-        ensures err { IfErr result (Fails S.parts self.old seats.old.items) }
+        ensures ok { IfOk result (λ _. IsAudited B.seats (database_at B.text self.old) seats.old.items) }
+        ensures one_history { All (HasSeenOf self.old) seats.old.items }
+        ensures err { IfErr result (Fails B.seats (database_at B.text self.old) seats.old.items) }
     {
+        compare_all(&mut self.history, seats.as_mut_slice());
         if seats.len() as u64 != self.seats {
             return Err(AuditFault::SeatMissing);
         }
@@ -355,13 +439,13 @@ impl<S: Ledger, G: Ledger, B: Room> Held<S, G, B> {
 
     /// Puts the places and the shares of all seats together, and gives them back: they are all steps and all
     /// grants.
-    fn gather_seats(&mut self, seats: &mut [Seat<S, G, B>])
-        requires { length seats.old ≡ S.parts }
+    fn gather_seats(&mut self, seats: &mut [Seat<B>])
+        requires { length seats.old ≡ B.seats }
         ensures held { self.new ≡ self.old }
         ensures seats { seats.new ≡ seats.old }
-        ensures steps { steps_received seats.old ≡ steps_of self.old }
-        ensures grants { grants_received seats.old ≡ grants_of self.old }
-        ensures distinct { AllDistinct (steps_of self.old) seats.old }
+        ensures steps { steps_received seats.old ≡ steps_of (database_at B.text self.old) }
+        ensures grants { grants_received seats.old ≡ grants_of (database_at B.text self.old) }
+        ensures distinct { AllDistinct (steps_of (database_at B.text self.old)) seats.old }
         ensures placed { All IsPlaced seats.old }
     {
         let table = &self.source.table;

@@ -2,9 +2,9 @@
 //! `Held` is a database of which every step is taken for a seat, and is `Database::apply` with one receipt
 //! to that seat: the place of the step among all, its event, and the brief of its reply. Nothing else gives
 //! a seat a receipt, and a fault leaves both as they were. Each seat has a share of all steps and one of all
-//! grants (`std::sync::ledger`; two type parameters name the ledgers, the third the source of places), so that
-//! the seats of one `Held` are known from all others by their type, and an audit of all of them never finds that
-//! the sums differ.
+//! grants (`std::sync::ledger`). One type parameter, `Brands`, names these ledgers, the source of places and the
+//! history, so that the seats of one `Held` are known from all others by their type, and an audit of all of them
+//! never finds that the sums differ.
 //!
 //! Each step's place is drawn for its seat from a source under the same lock (`place_tokens`), so that every
 //! step that ever was, rolled or kept, was received by exactly one seat, once (`received_once`): no audit finds a place
@@ -15,8 +15,8 @@
 //! what an audit compares, and when each fault comes.
 //!
 //! ```text
-//! fn closed<S: Ledger, G: Ledger, B: Room>(held: Held<S, G, B>, seats: &mut Vec<Seat<S, G, B>>) -> Result<Database, AuditFault>
-//!     ensures audited { IfOk result (λ database. IsAudited S.parts database seats.old.items) }
+//! fn closed<B: Brands>(held: Held<B>, seats: &mut Vec<Seat<B>>) -> Result<Database, AuditFault>
+//!     ensures audited { IfOk result (λ database. IsAudited B.seats database seats.old.items) }
 //!     ensures same_seats { seats.new.items ≡ seats.old.items }
 //! {
 //!     let mut held = held;
@@ -27,6 +27,8 @@
 #![tactic(auto)]
 
 mod audit;
+mod brands;
+mod bytes;
 mod fault;
 mod held;
 mod laws;
@@ -37,8 +39,11 @@ mod shares;
 #[cfg(test)]
 mod tests;
 
+pub use brands::Brands;
+pub use bytes::receipt_bytes;
 pub use fault::AuditFault;
 pub use held::Held;
-pub use laws::{fold_counts, one_receipt_each, received_once};
+pub use history_tokens::{Front, Happening, Unnamed};
+pub use laws::{all_steps, each_replays, fold_counts, one_receipt_each, received_once};
 pub use receipt::Receipt;
 pub use seat::Seat;

@@ -4,7 +4,9 @@ ghost use Rattle.std.specs.Prelude.{◌≡◌, ◌↔◌, IsTrue};
 use commit_core::{LspName, Purpose};
 use lsp_base::{Constraints, OtherBounds};
 use pcep_messages::StateReport;
-use pcep_objects::{Capabilities, Colours, Hop, Identifiers, MetricType, Operational, Plsp};
+use pcep_objects::{
+    Capabilities, Colours, Hop, Identifiers, MetricType, Operational, Plsp, RsvpError,
+};
 use pcep_word::{Ipv4, Priorities};
 use sequence::Sequence;
 use step_core::{Event, LinkReload};
@@ -88,6 +90,12 @@ impl SameAs for Identifiers {
     }
 }
 
+impl SameAs for RsvpError {
+    fn is_same(&self, other: &RsvpError) -> bool {
+        *self == *other
+    }
+}
+
 impl SameAs for Capabilities {
     fn is_same(&self, other: &Capabilities) -> bool {
         *self == *other
@@ -141,6 +149,7 @@ impl SameAs for Constraints {
             && self.bound.is_same(&other.bound)
             && self.hop_bound.is_same(&other.hop_bound)
             && self.other_bounds.is_same(&other.other_bounds)
+            && self.local_protection == other.local_protection
     }
 }
 
@@ -181,6 +190,9 @@ impl SameAs for StateReport {
             && self.bandwidth == other.bandwidth
             && self.priorities.is_same(&other.priorities)
             && self.colours.is_same(&other.colours)
+            && self.local_protection == other.local_protection
+            && self.error_code.is_same(&other.error_code)
+            && self.rsvp_error.is_same(&other.rsvp_error)
     }
 }
 

@@ -1,15 +1,17 @@
 //! Seats.
+use crate::brands::{Brands, Grants, Steps};
 use crate::receipt::Receipt;
-use place_tokens::{Drawn, Room};
+use history_tokens::Front;
+use place_tokens::Drawn;
 use std::alloc::{AllocError, Global};
 use std::marker::Model;
-use std::sync::ledger::{Ledger, Share};
-use step_core::Job;
+use std::sync::ledger::Share;
+use step_core::{Event, Job};
 
 /// What one caller holds: its receipts, its shares of all steps and of all grants, the token of its places, and
 /// perhaps a job. It is changed by calls of `Held` alone, but for the job in its hand, and a seat that is dropped
 /// fails every audit from then on.
-pub struct Seat<S: Ledger, G: Ledger, B: Room> {
+pub struct Seat<B: Brands> {
     /// How many steps the seat received, the folded ones among them.
     pub(crate) received: u64,
     /// How many of these were grants.
@@ -22,14 +24,16 @@ pub struct Seat<S: Ledger, G: Ledger, B: Room> {
     pub(crate) floor: u64,
     pub(crate) receipts: Vec<Receipt>,
     pub(crate) hand: Option<Job>,
-    pub(crate) steps: Share<S>,
-    pub(crate) grants: Share<G>,
+    pub(crate) steps: Share<Steps<B>>,
+    pub(crate) grants: Share<Grants<B>>,
     /// The places of all its steps.
     pub(crate) drawn: Drawn<B>,
+    /// The beginning of the one history that it has seen.
+    pub(crate) seen: Front<Event, B>,
 }
 
 /// Drops each part. A derived drop would be proved anew for each owner.
-impl<S: Ledger, G: Ledger, B: Room> Drop for Seat<S, G, B> {
+impl<B: Brands> Drop for Seat<B> {
     fn drop(self) {
         let Seat {
             received: _,
@@ -42,22 +46,24 @@ impl<S: Ledger, G: Ledger, B: Room> Drop for Seat<S, G, B> {
             steps,
             grants,
             drawn,
+            seen,
         } = self;
         drop(receipts);
         drop(hand);
         drop(steps);
         drop(grants);
         drop(drawn);
+        drop(seen);
     }
 }
 
-impl<S: Ledger, G: Ledger, B: Room> Model for Seat<S, G, B> {
+impl<B: Brands> Model for Seat<B> {
     ghost use Rattle.std.specs.Prelude.{◌≡◌, ◌+◌, ◌≤◌, length};
     ghost use Rattle.history_seats.specs.Receipts.{SeatContent, Placed, granted_in};
 
     ghost Value = { SeatContent };
 
-    ghost view = { λ s. record { folded = s.folded; folded_grants = s.folded_grants; floor = s.floor; receipts = s.receipts.items; hand = s.hand; places = s.drawn } };
+    ghost view = { λ s. record { folded = s.folded; folded_grants = s.folded_grants; floor = s.floor; receipts = s.receipts.items; hand = s.hand; places = s.drawn; seen = s.seen } };
 
     ghost invariant = { λ s.
         (s.steps.parts ≡ 1) × (s.grants.parts ≡ 1)
@@ -68,17 +74,24 @@ impl<S: Ledger, G: Ledger, B: Room> Model for Seat<S, G, B> {
         × Placed s.folded s.floor s.receipts.items s.drawn };
 }
 
-impl<S: Ledger, G: Ledger, B: Room> Seat<S, G, B> {
+impl<B: Brands> Seat<B> {
     ghost use Rattle.std.specs.Prelude.{◌≡◌, []};
     ghost use Rattle.std.specs.Borrow.{sem};
     ghost use Rattle.history_seats.specs.Receipts.{SeatContent, new_seat, steps_at, grants_at};
     ghost use Rattle.history_seats.specs.Lending.{LendsHand};
 
     /// A seat that received nothing. Takes no memory.
-    pub(crate) fn new(alloc: Global, steps: Share<S>, grants: Share<G>, drawn: Drawn<B>) -> Self
+    pub(crate) fn new(
+        alloc: Global,
+        steps: Share<Steps<B>>,
+        grants: Share<Grants<B>>,
+        drawn: Drawn<B>,
+        seen: Front<Event, B>,
+    ) -> Self
         requires steps { (steps.parts ≡ 1) × (steps.amount ≡ 0) }
         requires grants { (grants.parts ≡ 1) × (grants.amount ≡ 0) }
         requires drawn { drawn ≡ [] }
+        requires seen { seen ≡ [] }
         ensures { result ≡ new_seat }
     {
         Seat {
@@ -92,6 +105,7 @@ impl<S: Ledger, G: Ledger, B: Room> Seat<S, G, B> {
             steps,
             grants,
             drawn,
+            seen,
         }
     }
 
@@ -104,7 +118,7 @@ impl<S: Ledger, G: Ledger, B: Room> Seat<S, G, B> {
 
     /// The job in the seat's hand, lent: it may be taken out, and another put in.
     pub fn hand(&mut self) -> &mut Option<Job>
-        ensures* writes_back { sem 𝓛 (LendsHand S.row G.row B.row S.Ledger G.Ledger B.Room self.entry result) }
+        ensures* writes_back { sem 𝓛 (LendsHand B.row B.Brands.own B.Room self.entry result) }
         ensures value { result.now ≡ self.old.hand }
     {
         &mut self.hand

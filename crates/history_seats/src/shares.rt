@@ -1,24 +1,28 @@
 //! The shares and the places of all seats, put together.
 ghost use Rattle.std.specs.Prelude.{◌≡◌, ◌+◌, ◌<◌, ℕ, All, length, sum_by};
 ghost use Rattle.place_tokens.specs.Drawing.{keeping, times, once_below};
+ghost use Rattle.history_seats.specs.Seeing.{HasSeenOf};
 ghost use Rattle.history_seats.specs.Receipts.{IsPlaced};
 ghost use Rattle.history_seats.specs.Audits.{steps_received, grants_received};
 
+use crate::brands::{Brands, Grants, Steps};
 use crate::seat::Seat;
-use place_tokens::{PlaceTable, Room, Token, give_back, learn, lend};
-use std::sync::ledger::{Book, Ledger, Share};
+use history_tokens::Keeper;
+use place_tokens::{PlaceTable, Token, give_back, learn, lend};
+use std::sync::ledger::{Book, Share};
+use step_core::Event;
 
 /// Lends each seat's shares to those that were seen, until all parts are together and so are the totals, and
 /// gives them back. It does nothing at run time, but to go down the seats.
-pub(crate) fn gather<S: Ledger, G: Ledger, B: Room>(
-    steps: &mut Book<S>,
-    grants: &mut Book<G>,
-    seats: &mut [Seat<S, G, B>],
-    seen: &mut Share<S>,
-    taken: &mut Share<G>,
+pub(crate) fn gather<B: Brands>(
+    steps: &mut Book<Steps<B>>,
+    grants: &mut Book<Grants<B>>,
+    seats: &mut [Seat<B>],
+    seen: &mut Share<Steps<B>>,
+    taken: &mut Share<Grants<B>>,
 )
-    requires steps { seen.old.parts + length seats.old ≡ S.parts }
-    requires grants { taken.old.parts + length seats.old ≡ G.parts }
+    requires steps { seen.old.parts + length seats.old ≡ B.seats }
+    requires grants { taken.old.parts + length seats.old ≡ B.seats }
     requires backed { (0 < seen.old.parts) × (0 < taken.old.parts) }
     ensures same_seats { seats.new ≡ seats.old }
     ensures same_totals { (steps.new.total ≡ steps.old.total) × (grants.new.total ≡ grants.old.total) }
@@ -43,10 +47,10 @@ pub(crate) fn gather<S: Ledger, G: Ledger, B: Room>(
 
 /// Lends the keeper what each seat's token knows, until all are together and it learns that they have each place
 /// once, and gives it back. Each seat costs a few loads of one word.
-pub(crate) fn gather_places<S: Ledger, G: Ledger, B: Room>(
+pub(crate) fn gather_places<B: Brands>(
     table: &PlaceTable,
     keeper: &mut Token,
-    seats: &mut [Seat<S, G, B>],
+    seats: &mut [Seat<B>],
 )
     requires table { (keeper.old.table_id ≡ table.now.shared.table_id) × (table.now.shared.table_id ≡ B.table) × (table.now.shared.table_id.words ≡ 1) }
     requires keeper { (0 < keeper.old.me.0.parts) × (keeper.old.me ≡ keeping keeper.old.me.0.parts keeper.old.me.0.next keeper.old.me.0.lent) }
@@ -63,4 +67,16 @@ pub(crate) fn gather_places<S: Ledger, G: Ledger, B: Room>(
     lend(table, keeper, &mut first.drawn.token);
     gather_places(table, keeper, rest);
     give_back(table, keeper, &mut first.drawn.token);
+}
+
+/// What each seat has seen is a beginning of the history.
+pub(crate) fn compare_all<B: Brands>(history: &mut Keeper<Event, B>, seats: &mut [Seat<B>])
+    ensures same { (history.new ≡ history.old) × (seats.new ≡ seats.old) }
+    ensures seen { All (HasSeenOf history.old) seats.old }
+{
+    let Some((first, rest)) = seats.split_first_mut() else {
+        return;
+    };
+    history.compare(&mut first.seen);
+    compare_all(history, rest);
 }

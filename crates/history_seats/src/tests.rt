@@ -4,15 +4,16 @@ ghost use Rattle.history_core.specs.Histories.{steps_of};
 ghost use Rattle.history_seats.specs.Audits.{IsAudited};
 
 use crate::receipt::grant_count;
-use crate::{AuditFault, Held, Receipt, Seat};
+use crate::{AuditFault, Brands, Held, Receipt, Seat};
 use history_core::{Brief, Database};
+use history_tokens::Unnamed;
 use pcep_objects::Capabilities;
-use place_tokens::{Room, Unopened};
+use place_tokens::Unopened;
 use sequence::PlainData;
 use std::alloc::Global;
 use std::marker::Brand;
 use std::process::Abort;
-use std::sync::ledger::{Blank, Ledger};
+use std::sync::ledger::Blank;
 use std::test::Fail;
 use step_core::{Event, SharedEvent};
 use te_base::TeBase;
@@ -69,11 +70,15 @@ fn receipts_of_rolled_places_are_folded(rt: HostRuntime) -> Result<(), Fail> {
 #[test]
 fn an_audited_database_is_given(rt: HostRuntime) -> Result<(), Fail> {
     let room = Unopened::new(rt.alloc(), 2)?;
-    let database = run_closed::<Brand, Brand, Brand>(
+    let history = Unnamed::new(rt.alloc())?;
+    let database = new_database(rt.alloc())?;
+    let database = run_closed::<Brand>(
         rt.alloc(),
+        database,
         Blank::new(2),
         Blank::new(2),
         room,
+        history,
     )?;
     assert_eq!(rt; database.steps(), 0);
     Ok(())
@@ -105,49 +110,63 @@ fn new_database(alloc: Global) -> Result<Database, Fail>
 /// The case, under new names.
 fn run_named<R: Abort>(rt: &R, alloc: Global, case: Case) -> Result<(), Fail> {
     let room = Unopened::new(alloc, 2)?;
-    run::<Brand, Brand, Brand, _>(rt, alloc, Blank::new(2), Blank::new(2), room, case)
+    let history = Unnamed::new(alloc)?;
+    let database = new_database(alloc)?;
+    run::<Brand, _>(
+        rt,
+        alloc,
+        database,
+        Blank::new(2),
+        Blank::new(2),
+        room,
+        history,
+        case,
+    )
 }
 
 /// A new database with two seats, four steps, and the case.
-fn run<S: Ledger, G: Ledger, B: Room, R: Abort>(
+fn run<B: Brands, R: Abort>(
     rt: &R,
     alloc: Global,
+    database: Database,
     steps: Blank,
     grants: Blank,
     room: Unopened,
+    history: Unnamed<Event>,
     case: Case,
 ) -> Result<(), Fail>
-    requires steps { (steps.name ≡ S.name) × (steps.parts ≡ S.parts) × (steps.parts ≡ 2) }
-    requires grants { (grants.name ≡ G.name) × (grants.parts ≡ G.parts) × (grants.parts ≡ 2) }
+    requires steps { (steps.name ≡ B.steps) × (steps.parts ≡ B.seats) × (steps.parts ≡ 2) }
+    requires grants { (grants.name ≡ B.grants) × (grants.parts ≡ B.seats) × (grants.parts ≡ 2) }
     requires room { (room.table ≡ B.table) × (room.seats ≡ B.seats) × (room.seats ≡ 2) }
+    requires database { (steps_of database ≡ 0) × (database.text ≡ B.text) }
+    requires history { history ≡ B.log }
 {
-    let database = new_database(alloc)?;
-    let (mut held, mut seats) = Held::<S, G, B>::new(alloc, database, 2, steps, grants, room)?;
+    let (mut held, mut seats) = Held::<B>::new(alloc, database, 2, steps, grants, room, history)?;
     test_case(rt, alloc, &mut held, &mut seats, case)
 }
 
 /// The database with no step, once it was audited.
-fn run_closed<S: Ledger, G: Ledger, B: Room>(
+fn run_closed<B: Brands>(
     alloc: Global,
+    database: Database,
     steps: Blank,
     grants: Blank,
     room: Unopened,
+    history: Unnamed<Event>,
 ) -> Result<Database, Fail>
-    requires steps { (steps.name ≡ S.name) × (steps.parts ≡ S.parts) × (steps.parts ≡ 2) }
-    requires grants { (grants.name ≡ G.name) × (grants.parts ≡ G.parts) × (grants.parts ≡ 2) }
+    requires steps { (steps.name ≡ B.steps) × (steps.parts ≡ B.seats) × (steps.parts ≡ 2) }
+    requires grants { (grants.name ≡ B.grants) × (grants.parts ≡ B.seats) × (grants.parts ≡ 2) }
     requires room { (room.table ≡ B.table) × (room.seats ≡ B.seats) × (room.seats ≡ 2) }
+    requires database { (steps_of database ≡ 0) × (database.text ≡ B.text) }
+    requires history { history ≡ B.log }
 {
-    let database = new_database(alloc)?;
-    let (held, mut seats) = Held::<S, G, B>::new(alloc, database, 2, steps, grants, room)?;
+    let (held, mut seats) = Held::<B>::new(alloc, database, 2, steps, grants, room, history)?;
     Ok(closed(held, &mut seats)?)
 }
 
 /// The database, once its audit has passed.
-fn closed<S: Ledger, G: Ledger, B: Room>(
-    held: Held<S, G, B>,
-    seats: &mut Vec<Seat<S, G, B>>,
-) -> Result<Database, AuditFault>
-    ensures audited { IfOk result (λ database. IsAudited S.parts database seats.old.items) }
+fn closed<B: Brands>(held: Held<B>, seats: &mut Vec<Seat<B>>) -> Result<Database, AuditFault>
+    ensures audited { IfOk result (λ database. IsAudited B.seats database seats.old.items) }
     ensures same_seats { seats.new.items ≡ seats.old.items }
 {
     let mut held = held;
@@ -155,11 +174,11 @@ fn closed<S: Ledger, G: Ledger, B: Room>(
     Ok(held.into_database())
 }
 
-fn test_case<S: Ledger, G: Ledger, B: Room, R: Abort>(
+fn test_case<B: Brands, R: Abort>(
     rt: &R,
     alloc: Global,
-    held: &mut Held<S, G, B>,
-    seats: &mut Vec<Seat<S, G, B>>,
+    held: &mut Held<B>,
+    seats: &mut Vec<Seat<B>>,
     case: Case,
 ) -> Result<(), Fail> {
     take_steps(held, seats)?;
@@ -172,9 +191,9 @@ fn test_case<S: Ledger, G: Ledger, B: Room, R: Abort>(
 }
 
 /// One event of a seat.
-fn step_at<S: Ledger, G: Ledger, B: Room>(
-    held: &mut Held<S, G, B>,
-    seats: &mut Vec<Seat<S, G, B>>,
+fn step_at<B: Brands>(
+    held: &mut Held<B>,
+    seats: &mut Vec<Seat<B>>,
     at: usize,
     event: Event,
 ) -> Result<(), Fail> {
@@ -184,10 +203,7 @@ fn step_at<S: Ledger, G: Ledger, B: Room>(
 }
 
 /// The first seat steps at the places 0 and 2, and the second at 1 and 3.
-fn take_steps<S: Ledger, G: Ledger, B: Room>(
-    held: &mut Held<S, G, B>,
-    seats: &mut Vec<Seat<S, G, B>>,
-) -> Result<(), Fail> {
+fn take_steps<B: Brands>(held: &mut Held<B>, seats: &mut Vec<Seat<B>>) -> Result<(), Fail> {
     step_at(
         held,
         seats,
@@ -203,10 +219,7 @@ fn take_steps<S: Ledger, G: Ledger, B: Room>(
 }
 
 /// A copy of a receipt of the first seat.
-fn receipt<S: Ledger, G: Ledger, B: Room>(
-    seats: &Vec<Seat<S, G, B>>,
-    at: usize,
-) -> Result<Receipt, Fail> {
+fn receipt<B: Brands>(seats: &Vec<Seat<B>>, at: usize) -> Result<Receipt, Fail> {
     let seat = seats.first().ok_or("a seat")?;
     let receipt = seat.receipts().get(at).ok_or("a receipt")?;
     Ok(receipt.copy()?)
@@ -214,11 +227,7 @@ fn receipt<S: Ledger, G: Ledger, B: Room>(
 
 /// Writes over a receipt. Whether it is there, the other is of its place, and neither is of a grant: else nothing is
 /// done. A receipt of another place fits no seat.
-fn overwrite_in<S: Ledger, G: Ledger, B: Room>(
-    seat: &mut Seat<S, G, B>,
-    at: usize,
-    receipt: Receipt,
-) -> bool {
+fn overwrite_in<B: Brands>(seat: &mut Seat<B>, at: usize, receipt: Receipt) -> bool {
     if at >= seat.receipts.len() {
         return false;
     }
@@ -233,11 +242,7 @@ fn overwrite_in<S: Ledger, G: Ledger, B: Room>(
 }
 
 /// Writes over a receipt of the first seat.
-fn overwrite<S: Ledger, G: Ledger, B: Room>(
-    seats: &mut Vec<Seat<S, G, B>>,
-    at: usize,
-    receipt: Receipt,
-) -> Result<(), Fail> {
+fn overwrite<B: Brands>(seats: &mut Vec<Seat<B>>, at: usize, receipt: Receipt) -> Result<(), Fail> {
     let seat = seats.first_mut().ok_or("a seat")?;
     if overwrite_in(seat, at, receipt) {
         Ok(())
@@ -246,11 +251,7 @@ fn overwrite<S: Ledger, G: Ledger, B: Room>(
     }
 }
 
-fn forge<S: Ledger, G: Ledger, B: Room>(
-    alloc: Global,
-    seats: &mut Vec<Seat<S, G, B>>,
-    forgery: Forgery,
-) -> Result<(), Fail> {
+fn forge<B: Brands>(alloc: Global, seats: &mut Vec<Seat<B>>, forgery: Forgery) -> Result<(), Fail> {
     let mut forged = receipt(seats, 1)?;
     match forgery {
         Forgery::Brief => forged.brief = Brief::Gone,
@@ -260,11 +261,11 @@ fn forge<S: Ledger, G: Ledger, B: Room>(
 }
 
 /// The audit finds a forgery twice, so changes nothing, and nothing once the forgery is undone.
-fn test_forgery<S: Ledger, G: Ledger, B: Room, R: Abort>(
+fn test_forgery<B: Brands, R: Abort>(
     rt: &R,
     alloc: Global,
-    held: &mut Held<S, G, B>,
-    seats: &mut Vec<Seat<S, G, B>>,
+    held: &mut Held<B>,
+    seats: &mut Vec<Seat<B>>,
     forgery: Forgery,
 ) -> Result<(), Fail> {
     let right = receipt(seats, 1)?;
@@ -277,11 +278,11 @@ fn test_forgery<S: Ledger, G: Ledger, B: Room, R: Abort>(
     Ok(())
 }
 
-fn test_forgeries<S: Ledger, G: Ledger, B: Room, R: Abort>(
+fn test_forgeries<B: Brands, R: Abort>(
     rt: &R,
     alloc: Global,
-    held: &mut Held<S, G, B>,
-    seats: &mut Vec<Seat<S, G, B>>,
+    held: &mut Held<B>,
+    seats: &mut Vec<Seat<B>>,
 ) -> Result<(), Fail> {
     for forgery in [Forgery::Brief, Forgery::Event] {
         test_forgery(rt, alloc, held, seats, forgery)?;
@@ -293,10 +294,10 @@ fn test_forgeries<S: Ledger, G: Ledger, B: Room, R: Abort>(
     Ok(())
 }
 
-fn test_missing_seat<S: Ledger, G: Ledger, B: Room, R: Abort>(
+fn test_missing_seat<B: Brands, R: Abort>(
     rt: &R,
-    held: &mut Held<S, G, B>,
-    seats: &mut Vec<Seat<S, G, B>>,
+    held: &mut Held<B>,
+    seats: &mut Vec<Seat<B>>,
 ) -> Result<(), Fail> {
     let seat = seats.pop().ok_or("a seat")?;
     assert_eq!(rt; held.audit(seats), Err(AuditFault::SeatMissing));
@@ -307,12 +308,12 @@ fn test_missing_seat<S: Ledger, G: Ledger, B: Room, R: Abort>(
 }
 
 /// The first seat steps once more, and that step's receipt, the only one that it keeps then, is forged.
-fn test_after_a_roll<S: Ledger, G: Ledger, B: Room, R: Abort>(
+fn test_after_a_roll<B: Brands, R: Abort>(
     rt: &R,
-    held: &mut Held<S, G, B>,
-    seats: &mut Vec<Seat<S, G, B>>,
+    held: &mut Held<B>,
+    seats: &mut Vec<Seat<B>>,
 ) -> Result<(), Fail> {
-    let seat = seats.first().ok_or("a seat")?;
+    let seat = seats.first_mut().ok_or("a seat")?;
     held.roll(seat)?;
     step_at(held, seats, 0, Event::Take)?;
     assert_eq!(rt; held.audit(seats), Ok(()));
@@ -328,22 +329,17 @@ fn test_after_a_roll<S: Ledger, G: Ledger, B: Room, R: Abort>(
 }
 
 /// What a seat counts and keeps.
-fn assert_seat<S: Ledger, G: Ledger, B: Room, R: Abort>(
-    rt: &R,
-    seat: &Seat<S, G, B>,
-    steps: u64,
-    kept: usize,
-) {
+fn assert_seat<B: Brands, R: Abort>(rt: &R, seat: &Seat<B>, steps: u64, kept: usize) {
     assert_eq!(rt; seat.steps(), steps);
     assert_eq!(rt; seat.grants(), 0);
     assert_eq!(rt; seat.receipts().len(), kept);
 }
 
 /// The second seat's receipts are folded once their places are rolled, and not before.
-fn test_fold<S: Ledger, G: Ledger, B: Room, R: Abort>(
+fn test_fold<B: Brands, R: Abort>(
     rt: &R,
-    held: &mut Held<S, G, B>,
-    seats: &mut Vec<Seat<S, G, B>>,
+    held: &mut Held<B>,
+    seats: &mut Vec<Seat<B>>,
 ) -> Result<(), Fail> {
     let seat = seats.get_mut(1).ok_or("a seat")?;
     assert_eq!(rt; held.fold(seat).len(), 0);

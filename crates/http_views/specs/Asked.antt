@@ -38,6 +38,14 @@ lsps_given (Err w) = asked.Wrong w
 abbrev pub lsps_asked : List ℕ → Asked
 lsps_asked query = lsps_given (lsps_query query)
 
+-- a page of grants, likewise
+abbrev pub grants_given : Result LspsQuery Wrong → Asked
+grants_given (Ok query) = Document (ask.Grants query.peer (unwrap_or query.from 0))
+grants_given (Err w) = asked.Wrong w
+
+abbrev pub grants_asked : List ℕ → Asked
+grants_asked query = grants_given (lsps_query query)
+
 abbrev pub link_given : Result (Option ℕ) Wrong → Asked
 link_given (Ok (Some link)) = Document (ask.Link link)
 link_given (Ok None) = asked.Wrong wrong.Number
@@ -74,6 +82,7 @@ asked_at path query =
     else if bytes_eq path (codes "/api/peers") then alone query (Document ask.Peers)
     else if bytes_eq path (codes "/api/tickets") then alone query (Document ask.Tickets)
     else if bytes_eq path (codes "/api/lsps") then lsps_asked query
+    else if bytes_eq path (codes "/api/grants") then grants_asked query
     else if bytes_eq path (codes "/api/link") then link_asked query
     else if bytes_eq path (codes "/api/path") then path_asked query
     else NotFound
@@ -92,6 +101,6 @@ asked_of method path query = allowed method (asked_at path query)
 
 abbrev pub asked_by : Request (List ℕ) → Asked
 asked_by request =
-    if is_own (head_of request).headers
+    if is_own (head_of request).uri (head_of request).headers
     then asked_of (head_of request).method (uri_path (head_of request).uri) (unwrap_or (uri_query (head_of request).uri) [])
     else asked.Wrong wrong.Host

@@ -1,8 +1,12 @@
 -- Whether a request names this server by an address.
-use Rattle.std.specs.Prelude.{ℕ, ◌==◌, ◌&&◌, ◌||◌, Bool, false, List, codes, slice_index, is_some, Option, Some, None}
+use Rattle.std.specs.Prelude.{ℕ, ◌==◌, ◌&&◌, ◌||◌, Bool, false, List, codes, map, slice_index, is_some, Option, Some, None, option_map}
+use Rattle.std.specs.Char.{to_ascii_lowercase}
 use Rattle.std.specs.Str.{bytes_eq}
 use Rattle.http_header.specs.FieldValue.{FieldValue, is_visible_text}
 use Rattle.http_header.specs.HeaderMap.{Entries, get}
+use Rattle.http_uri.specs.Grammar.{authority_host}
+use Rattle.http_uri.specs.Uri.{uri_authority}
+use Rattle.http_uri.specs.declared.uri.Uri.{Uri}
 use Rattle.http_views.specs.Words.{address_in, cut_at}
 
 -- what stands before the port
@@ -13,9 +17,13 @@ name_or (Some cut) host = cut.0
 abbrev pub host_name : List ℕ → List ℕ
 host_name host = name_or (cut_at 58 host) host
 
+-- a host has no case (RFC 3986 section 3.2.2)
+abbrev pub is_localhost : List ℕ → Bool
+is_localhost name = bytes_eq (map to_ascii_lowercase name) (codes "localhost")
+
 -- `localhost`, or an address of IPv4
 abbrev pub is_own_name : List ℕ → Bool
-is_own_name name = bytes_eq name (codes "localhost") || is_some (address_in name)
+is_own_name name = is_localhost name || is_some (address_in name)
 
 -- `[` opens an address of IPv6: `http_server` refuses any other text in brackets
 abbrev pub is_bracketed : List ℕ → Bool
@@ -32,5 +40,10 @@ abbrev pub is_own_first : Option FieldValue → Bool
 is_own_first None = false
 is_own_first (Some value) = is_own_value value
 
-abbrev pub is_own : Entries FieldValue → Bool
-is_own headers = is_own_first (get headers (codes "host"))
+-- the host in a target of absolute form counts, whatever Host says (RFC 9112 section 3.2.2)
+abbrev pub is_own_of : Option (List ℕ) → Entries FieldValue → Bool
+is_own_of None headers = is_own_first (get headers (codes "host"))
+is_own_of (Some host) headers = is_own_host host
+
+abbrev pub is_own : Uri → Entries FieldValue → Bool
+is_own target headers = is_own_of (option_map authority_host (uri_authority target)) headers

@@ -1,6 +1,6 @@
 //! What a request asks for, by its host, its method, its path and its query.
 ghost use Rattle.std.specs.Prelude.{◌≡◌, ◌||◌, bytes_eq, codes};
-ghost use Rattle.http_views.specs.Asked.{allowed, alone, asked_at, asked_by, asked_of, link_asked, lsps_asked, only_reads, path_asked, path_of_query, wrong_text};
+ghost use Rattle.http_views.specs.Asked.{allowed, alone, asked_at, asked_by, asked_of, grants_asked, link_asked, lsps_asked, only_reads, path_asked, path_of_query, wrong_text};
 
 use crate::host::is_own;
 pub use crate::query::Wrong;
@@ -71,6 +71,18 @@ fn lsps_asked(query: &str) -> Asked
     }
 }
 
+fn grants_asked(query: &str) -> Asked
+    ensures { result ≡ grants_asked query.now }
+{
+    match lsps_query(query) {
+        Ok(given) => Asked::Document(Ask::Grants {
+            peer: given.peer,
+            from: given.from.unwrap_or(0),
+        }),
+        Err(wrong) => Asked::Wrong(wrong),
+    }
+}
+
 fn link_asked(query: &str) -> Asked
     ensures { result ≡ link_asked query.now }
 {
@@ -129,6 +141,7 @@ fn asked_at(path: &str, query: &str) -> Asked
         "/api/peers" => alone(query, Asked::Document(Ask::Peers)),
         "/api/tickets" => alone(query, Asked::Document(Ask::Tickets)),
         "/api/lsps" => lsps_asked(query),
+        "/api/grants" => grants_asked(query),
         "/api/link" => link_asked(query),
         "/api/path" => path_asked(query),
         _ => Asked::NotFound,
@@ -156,7 +169,7 @@ fn allowed(method: &str, asked: Asked) -> Asked
 pub fn asked_by(request: &Request<Bytes>) -> Asked
     ensures { result ≡ asked_by request.now }
 {
-    if !is_own(request.headers()) {
+    if !is_own(request.uri(), request.headers()) {
         return Asked::Wrong(Wrong::Host);
     }
     let uri = request.uri();

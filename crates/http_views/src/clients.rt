@@ -6,6 +6,7 @@ use http_server::{Config, Connection, Service};
 use http1::Limits;
 use mio::unix::SourceFd;
 use mio::{Events, Interest, Poll, Token};
+use server_rules::who_goes;
 use std::alloc::{AllocError, Global};
 use std::hash::RandomState;
 use std::io;
@@ -15,7 +16,7 @@ use std::os::fd::AsRawFd;
 use std::sync::Wait;
 use std::time::Duration;
 
-/// The most connections that live at once; others wait until one ends.
+/// The greatest number of connections that live at once.
 pub const AT_ONCE: usize = 8;
 
 /// The time after which a connection ends of which no byte of an answer goes out, in milliseconds.
@@ -75,7 +76,14 @@ impl Client {
     }
 }
 
-/// The connections that live, each in a slot.
+/// Who came while all slots were taken.
+#[derive(Drop)]
+struct Newcomer {
+    stream: TcpStream,
+    came_ms: u64,
+}
+
+/// The connections that live, each in a slot, and one that waits for a slot.
 #[derive(Drop)]
 struct Clients {
     alloc: Global,
@@ -83,6 +91,7 @@ struct Clients {
     poll: Poll,
     found: Events,
     slots: Vec<Option<Client>>,
+    newcomer: Option<Newcomer>,
 }
 
 fn empty_slots(alloc: Global) -> Result<Vec<Option<Client>>, AllocError> {
@@ -114,9 +123,11 @@ impl Clients {
             poll,
             found: Events::with_capacity(alloc, AT_ONCE)?,
             slots: empty_slots(alloc)?,
+            newcomer: None,
         })
     }
 
+    /// Gives the slot to a connection, in place of whoever has it.
     fn place(&mut self, at: usize, stream: TcpStream, now_ms: u64) -> io::Result<()> {
         stream.set_nonblocking(true)?;
         stream.set_nodelay(true)?;
@@ -136,15 +147,46 @@ impl Clients {
         Ok(())
     }
 
-    /// Takes one connection, where a slot is free and one waits. Says whether it did.
+    /// The slot for a connection that came then: a free one, or else that of the client who is idle longest, once
+    /// either has waited for a second.
+    fn slot_for(&self, came_ms: u64, now_ms: u64) -> Option<usize> {
+        if let Some(at) = self.slots.iter().position(|slot| slot.is_none()) {
+            return Some(at);
+        }
+        let mut since_ms = [now_ms; AT_ONCE];
+        for (since, slot) in since_ms.iter_mut().zip(self.slots.iter()) {
+            if let Some(client) = slot {
+                *since = client.served_ms;
+            }
+        }
+        who_goes(&since_ms, came_ms, now_ms)
+    }
+
+    /// Takes a connection that waits, if there is one.
+    fn meet(&mut self, listener: &TcpListener, now_ms: u64) {
+        if self.newcomer.is_none() {
+            if let Ok((stream, _address)) = listener.accept() {
+                self.newcomer = Some(Newcomer {
+                    stream,
+                    came_ms: now_ms,
+                });
+            }
+        }
+    }
+
+    /// Takes one connection, if one waits, and a slot is free or becomes free for it. Says whether it did.
     fn accept(&mut self, listener: &TcpListener, now_ms: u64) -> bool {
-        let Some(at) = self.slots.iter().position(|slot| slot.is_none()) else {
+        self.meet(listener, now_ms);
+        let Some(newcomer) = self.newcomer.take() else {
             return false;
         };
-        let Ok((stream, _address)) = listener.accept() else {
-            return false;
-        };
-        self.place(at, stream, now_ms).is_ok()
+        match self.slot_for(newcomer.came_ms, now_ms) {
+            Some(at) => self.place(at, newcomer.stream, now_ms).is_ok(),
+            None => {
+                self.newcomer = Some(newcomer);
+                false
+            }
+        }
     }
 
     /// Takes a turn of each connection. Says whether one moved.

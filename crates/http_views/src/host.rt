@@ -1,12 +1,12 @@
 //! Whether a request names this server by an address. A name that another's DNS resolves to this machine is refused, so
 //! that no page from elsewhere reads what is shown here.
-ghost use Rattle.std.specs.Prelude.{◌≡◌, ◌==◌, option_copied, slice_index};
+ghost use Rattle.std.specs.Prelude.{◌≡◌, ◌==◌, None, option_copied, slice_index};
 ghost use Rattle.http_header.specs.HeaderMap.{get};
 ghost use Rattle.std.specs.Prelude.{codes};
-ghost use Rattle.http_views.specs.Hosts.{host_name, is_bracketed, is_own, is_own_host, is_own_name, is_own_value};
+ghost use Rattle.http_views.specs.Hosts.{host_name, is_bracketed, is_own, is_localhost, is_own_host, is_own_name, is_own_of, is_own_value};
 
 use crate::words::{address_in, cut_at_colon};
-use http::{HeaderMap, HeaderValue, header};
+use http::{HeaderMap, HeaderValue, Uri, header};
 
 /// What stands before the port.
 fn host_name(host: &str) -> &str
@@ -18,10 +18,17 @@ fn host_name(host: &str) -> &str
     }
 }
 
+/// Whether it is this name, in any case of letters.
+fn is_localhost(name: &str) -> bool
+    ensures { result ≡ is_localhost name.now }
+{
+    name.eq_ignore_ascii_case("localhost")
+}
+
 fn is_own_name(name: &str) -> bool
     ensures { result ≡ is_own_name name.now }
 {
-    name == "localhost" || address_in(name).is_some()
+    is_localhost(name) || address_in(name).is_some()
 }
 
 fn is_bracketed(host: &[u8]) -> bool
@@ -49,12 +56,22 @@ fn is_own_value(value: &HeaderValue) -> bool
     }
 }
 
-/// Whether the request names this server by an address, or as `localhost`.
-pub(crate) fn is_own(headers: &HeaderMap<HeaderValue>) -> bool
-    ensures { result ≡ is_own headers.now }
+/// Whether the header fields name this server by an address, or as `localhost`.
+fn is_own_field(headers: &HeaderMap<HeaderValue>) -> bool
+    ensures { result ≡ is_own_of None headers.now }
 {
     match headers.get(header::HOST) {
         Some(value) => is_own_value(value),
         None => false,
+    }
+}
+
+/// Whether the request names this server by an address, or as `localhost`: in its target, or else in its header fields.
+pub(crate) fn is_own(target: &Uri, headers: &HeaderMap<HeaderValue>) -> bool
+    ensures { result ≡ is_own target.now headers.now }
+{
+    match target.host() {
+        Some(host) => is_own_host(host),
+        None => is_own_field(headers),
     }
 }

@@ -177,6 +177,7 @@ let links = [];
 let peers = [];
 let tickets = [];
 let lsps = { list: [], at: null };
+let grants = [];
 let places = new Map();   // by the node's name
 let named = new Map();    // nodes' names by their IDs
 let chosen = { kind: "nothing" };
@@ -224,6 +225,7 @@ async function readAll() {
   if (isNew) showLoads();
   else showTable();
   if (tab.id === "lsps" && (isNew || sweep)) await readLsps();
+  if (tab.id === "grants" && isNew) await readGrants();
 }
 
 async function takeBook(book) {
@@ -271,6 +273,19 @@ async function readLsps() {
   sweep = null;
   lsps = { router, list: mine.list, at: new Date() };
   if (tab.id === "lsps") showTable();
+}
+
+/** Grants that no report has settled, and deletions that are awaited. */
+async function readGrants() {
+  const rows = [];
+  for (let next = 0; next !== null;) {
+    const page = await read("/api/grants?from=" + next);
+    rows.push(...page.grants.map(grant => ({ ...grant, asked: "path" })));
+    rows.push(...page.deletions.map(deletion => ({ ...deletion, asked: "deletion", name: null, hold_priority: null, bandwidth_bytes_per_second: null, links: [] })));
+    next = page.next;
+  }
+  grants = rows;
+  if (tab.id === "grants") showTable();
 }
 
 /** One LSP of a router, found on the router's pages. */
@@ -351,7 +366,30 @@ function nameOf(lsp) {
 }
 
 function stateOf(lsp) {
-  return [lsp.is_delegated && "delegated", lsp.is_created && "created", lsp.is_removing && "removing", lsp.is_down && "down"].filter(Boolean).join(", ");
+  return [lsp.state, lsp.is_partly_placed && "partly placed", lsp.is_delegated && "delegated", lsp.is_created && "created", lsp.is_removing && "removing"]
+    .filter(Boolean).join(", ");
+}
+
+/** What the router says of a path, and where the path has a gap; nothing of a grant. */
+function saidOf(path) {
+  const reasons = [
+    path.error_code !== null && path.error + " (LSP-ERROR-CODE " + path.error_code + ")",
+    path.rsvp_error_node !== null && "RSVP error at " + called(path.rsvp_error_node) + ": code " + path.rsvp_error_code + ", value " + path.rsvp_error_value,
+  ].filter(Boolean);
+  const gap = path.gap_before_link !== null ? "before link " + path.gap_before_link : path.gap_after_link !== null ? "after link " + path.gap_after_link : "";
+  return [
+    path.state !== null && "Reported as " + path.state + (reasons.length ? ": " + reasons.join(", ") : "") + ".",
+    gap && "Partly placed: no link " + gap + ".",
+  ].filter(Boolean).join(" ");
+}
+
+function refusalOf(lsp) {
+  return lsp.refusal_type === null ? "" : "PCErr " + lsp.refusal_type + "/" + lsp.refusal_value + ", " + lsp.refusal;
+}
+
+/** How many paths of these LSPs have a gap. */
+function partlyPlaced(list) {
+  return list.reduce((sum, lsp) => sum + lsp.paths.filter(path => path.gap_before_link !== null || path.gap_after_link !== null).length, 0);
 }
 
 function pathName(path) {
@@ -845,10 +883,12 @@ function lspParts({ peer, plsp, lsp }) {
       ["Ends", called(lsp.source) + " \u2192 " + called(lsp.destination)],
       ["Bandwidth", exactly(lsp.bandwidth_bytes_per_second)],
       ["Priorities", lsp.setup_priority + " setup, " + lsp.hold_priority + " holding"],
+      ...(refusalOf(lsp) ? [["Last refused by", refusalOf(lsp)]] : []),
     ]),
     ...(lsp.paths.length ? lsp.paths.flatMap(path => [
       h("h3", {}, "Path " + pathName(path) + ": " + rate(path.bandwidth_bytes_per_second) + ", holding " + path.hold_priority + (path.is_fresh ? "" : ", of an earlier session")),
-      path.links.length ? pathTable(path.links) : h("p", {}, "It has no route."),
+      ...(saidOf(path) ? [h("p", {}, saidOf(path))] : []),
+      path.links.length ? pathTable(path.links) : h("p", {}, "No link is booked."),
     ]) : [h("p", {}, "It has no path.")]),
   ];
 }
@@ -942,6 +982,17 @@ const TABS = [
       from, to, bandwidth, levels, figure("Tries", ticket => ticket.tries), column("State", ticket => ticket.is_taken ? "searched for" : "waits"),
     ],
   },
+  {
+    id: "grants", title: "Grants", rows: () => grants, choice: null, isChosen: () => false,
+    columns: [
+      figure("SRP-ID", grant => grant.srp_id), column("Router", grant => grant.peer), column("For", grant => grant.asked),
+      column("Of", grant => grant.name !== null ? grant.name : "PLSP-ID " + grant.plsp_id),
+      column("Unanswered", grant => Number(grant.unanswered_ms), grant => grant.unanswered_ms === null ? "-" : span(grant.unanswered_ms)),
+      column("Bandwidth", grant => Number(grant.bandwidth_bytes_per_second), grant => grant.bandwidth_bytes_per_second === null ? "-" : rate(grant.bandwidth_bytes_per_second), true),
+      column("Hold", grant => Number(grant.hold_priority), grant => grant.hold_priority === null ? "-" : grant.hold_priority, true),
+      column("Links", grant => grant.links.length, grant => grant.links.join(",").slice(0, 60) || "-"),
+    ],
+  },
 ];
 
 let tab = TABS[0];
@@ -988,7 +1039,7 @@ function showTable() {
   $("back").disabled = tab.first === 0;
   $("on").disabled = tab.first + ROWS >= rows.length;
   $("of-router").hidden = tab.id !== "lsps";
-  $("age").textContent = tab.id === "lsps" && lsps.at ? "All read at " + clock(lsps.at) + "." : "";
+  $("age").textContent = tab.id === "lsps" && lsps.at ? "All read at " + clock(lsps.at) + (partlyPlaced(lsps.list) ? "; " + count(partlyPlaced(lsps.list), "path") + " partly placed." : ".") : "";
 }
 
 function open(one) {
@@ -996,6 +1047,7 @@ function open(one) {
   $("find").value = tab.words;
   showTable();
   if (tab.id === "lsps") readLsps().catch(showFault);
+  if (tab.id === "grants") readGrants().catch(showFault);
 }
 
 function stepTab(event, one) {

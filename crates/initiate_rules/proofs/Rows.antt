@@ -10,8 +10,8 @@ use Rattle.lsp_base.specs.declared.path.Path.{Path}
 use Rattle.lsp_base.specs.declared.tunnel.Part.TheVariants.{Granted}
 use Rattle.lsp_base.specs.declared.tunnel.Tunnel.TheVariants.{Asked, Unsignalled}
 use Rattle.lsp_base.specs.declared.why.Why.TheVariants.{UnknownLsp, NotCreatedHere, NotDelegated, Pending, NameInUse}
-use Rattle.pcep_objects.specs.declared.object.Hop.TheVariants.{Host}
-use Rattle.pcep_objects.specs.declared.object.MetricType.TheVariants.{Te}
+use Rattle.lsp_words.specs.declared.object.Hop.TheVariants.{Host}
+use Rattle.lsp_words.specs.declared.object.MetricType.TheVariants.{Te}
 use Rattle.pcep_messages.specs.declared.message.Initiate.TheVariants as initiates
 use Rattle.pcep_messages.specs.declared.message.Message.TheVariants as messages
 use Rattle.initiate_rules.specs.Numbers.{next_srp, is_srp_used}
@@ -48,6 +48,7 @@ asked = record {
   bound = None;
   hop_bound = None;
   other_bounds = record { igp = None; te = None };
+  local_protection = true;
 }
 
 -- by their remote addresses
@@ -60,7 +61,7 @@ updated : update_message links 1 1 asked (2 ∷ 3 ∷ []) ≡ messages.Update (r
   delegate = true;
   admin = true;
   ero = Host 0x0a030002 false ∷ Host 0x0a040002 false ∷ [];
-  attributes = Some (record { colours = record { exclude_any = 0; include_any = 0; include_all = 0 }; priorities = record { setup = 5; hold = 2 } });
+  attributes = Some (record { colours = record { exclude_any = 0; include_any = 0; include_all = 0 }; priorities = record { setup = 5; hold = 2 }; local_protection = true });
   bandwidth = Some 500000;
 })
 unfolding update_message
@@ -72,7 +73,7 @@ initiated : initiate_message links 1 (0x74 ∷ 0x31 ∷ []) asked (0 ∷ 1 ∷ [
   source = 0x0a000001;
   destination = 0x0a000004;
   ero = Host 0x0a010002 false ∷ Host 0x0a020002 false ∷ [];
-  attributes = Some (record { colours = record { exclude_any = 0; include_any = 0; include_all = 0 }; priorities = record { setup = 5; hold = 2 } });
+  attributes = Some (record { colours = record { exclude_any = 0; include_any = 0; include_all = 0 }; priorities = record { setup = 5; hold = 2 }; local_protection = false });
   bandwidth = Some 500000;
 }))
 unfolding initiate_message

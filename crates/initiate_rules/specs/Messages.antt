@@ -1,10 +1,10 @@
 -- The messages by which the PCE updates, returns, initiates and deletes an LSP (RFC 8231 section 6.2,
 -- RFC 8281 sections 5.3 and 5.4), and the replies to path requests (RFC 5440 section 6.5).
-use Rattle.std.specs.Prelude.{ℕ, true, false, List, [], ◌∷◌, Option, Some, None, unwrap_or, slice_get}
+use Rattle.std.specs.Prelude.{ℕ, Bool, true, false, List, [], ◌∷◌, Option, Some, None, unwrap_or, slice_get}
 use Rattle.std.specs.List.{flat_map}
-use Rattle.pcep_objects.specs.declared.object.Hop.{Hop}
-use Rattle.pcep_objects.specs.declared.object.Hop.TheVariants.{Host}
-use Rattle.pcep_objects.specs.declared.object.MetricType.{MetricType}
+use Rattle.lsp_words.specs.declared.object.Hop.{Hop}
+use Rattle.lsp_words.specs.declared.object.Hop.TheVariants.{Host}
+use Rattle.lsp_words.specs.declared.object.MetricType.{MetricType}
 use Rattle.pcep_messages.specs.Constraints.{metric_number}
 use Rattle.pcep_messages.specs.declared.message.Answer.TheVariants as answers
 use Rattle.pcep_messages.specs.declared.message.Attributes.{Attributes}
@@ -23,10 +23,11 @@ hop_over (Some link) = Host link.remote false ∷ []
 abbrev pub hops_over : List Link → List ℕ → List Hop
 hops_over links numbers = flat_map (λ n. hop_over (slice_get links n)) numbers
 
-abbrev pub attributes_of : Constraints → Attributes
-attributes_of c = record { colours = c.colours; priorities = c.priorities }
+-- with or without local protection (flag L of LSPA)
+abbrev pub attributes_of : Constraints → Bool → Attributes
+attributes_of c protected = record { colours = c.colours; priorities = c.priorities; local_protection = protected }
 
--- an update that carries out a grant keeps the delegation and has the LSP active
+-- an update that carries out a grant keeps the delegation and local protection, and has the LSP active
 unfoldable pub update_message : List Link → ℕ → ℕ → Constraints → List ℕ → Message
 update_message links srp plsp c numbers = messages.Update (record {
   srp = srp;
@@ -34,7 +35,7 @@ update_message links srp plsp c numbers = messages.Update (record {
   delegate = true;
   admin = true;
   ero = hops_over links numbers;
-  attributes = Some (attributes_of c);
+  attributes = Some (attributes_of c c.local_protection);
   bandwidth = Some c.bandwidth;
 })
 
@@ -50,7 +51,7 @@ return_message srp plsp = messages.Update (record {
   bandwidth = None;
 })
 
--- what is initiated has both ends; an end that isn't given would be written as 0.0.0.0
+-- what is initiated has both ends, and no local protection; an end that isn't given would be written as 0.0.0.0
 unfoldable pub initiate_message : List Link → ℕ → List ℕ → Constraints → List ℕ → Message
 initiate_message links srp name c numbers = messages.Initiate (initiates.Create (record {
   srp = srp;
@@ -58,7 +59,7 @@ initiate_message links srp name c numbers = messages.Initiate (initiates.Create 
   source = unwrap_or c.source 0;
   destination = unwrap_or c.destination 0;
   ero = hops_over links numbers;
-  attributes = Some (attributes_of c);
+  attributes = Some (attributes_of c false);
   bandwidth = Some c.bandwidth;
 }))
 

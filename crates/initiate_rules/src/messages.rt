@@ -28,17 +28,20 @@ fn hops_over(
     Ok(Sequence::from_vec(hops))
 }
 
-fn attributes_of(constraints: &Constraints) -> Attributes
-    ensures { result ≡ attributes_of constraints.now }
+/// What an LSPA says of the path that is asked for, and whether local protection is wanted.
+fn attributes_of(constraints: &Constraints, local_protection: bool) -> Attributes
+    ensures { result ≡ attributes_of constraints.now local_protection }
 {
     Attributes {
         colours: constraints.colours,
         priorities: constraints.priorities,
+        local_protection,
     }
 }
 
 /// The PCUpd that carries out a grant (RFC 8231 section 6.2): the LSP stays delegated and is to be active, over
-/// the links of these numbers, with the bandwidth, the priorities and the colours that the grant was found for.
+/// the links of these numbers, with the bandwidth, the priorities and the colours that the grant was found for, and with
+/// local protection if its router reported that it is wanted.
 #[tactic(auto, unfolding(crate::specs::Messages::update_message))]
 pub fn update_message(
     alloc: Global,
@@ -57,7 +60,7 @@ pub fn update_message(
         delegate: true,
         admin: true,
         ero,
-        attributes: Some(attributes_of(constraints)),
+        attributes: Some(attributes_of(constraints, constraints.local_protection)),
         bandwidth: Some(constraints.bandwidth),
     }))
 }
@@ -79,7 +82,8 @@ pub fn return_message(alloc: Global, srp: u32, plsp: Plsp) -> Message
 }
 
 /// The PCInitiate that sets an LSP up (RFC 8281 section 5.3): its name, its ends, its links, and the bandwidth,
-/// the priorities and the colours that it was asked for with. An end that isn't given is written as 0.0.0.0.
+/// the priorities and the colours that it was asked for with, and no local protection. An end that isn't given is written
+/// as 0.0.0.0.
 #[tactic(auto, unfolding(crate::specs::Messages::initiate_message))]
 pub fn initiate_message(
     alloc: Global,
@@ -99,7 +103,7 @@ pub fn initiate_message(
         source: constraints.source.unwrap_or(Ipv4(0)),
         destination: constraints.destination.unwrap_or(Ipv4(0)),
         ero,
-        attributes: Some(attributes_of(constraints)),
+        attributes: Some(attributes_of(constraints, false)),
         bandwidth: Some(constraints.bandwidth),
     })))
 }

@@ -16,7 +16,7 @@ use crate::path_list::{any_path_of_lsp, buckets_of_lsp, change_paths, make_stale
 use crate::pending::{has_grant_as, has_removal_as};
 use crate::record_table::RecordTable;
 use keyed_list::{KeyedList, Test};
-use pcep_objects::Plsp;
+use lsp_words::Plsp;
 use std::alloc::{AllocError, Global};
 use std::marker::Model;
 

@@ -9,7 +9,7 @@ use crate::effect::{Effect, Record, RecordChange};
 use crate::passes::RecordRule;
 use crate::path::Path;
 use keyed_list::Test;
-use pcep_objects::Plsp;
+use lsp_words::Plsp;
 use std::alloc::{AllocError, Global};
 
 /// Tests whether the path is one of the LSP's: reported, or a grant that is bound to it.

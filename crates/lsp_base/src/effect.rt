@@ -4,7 +4,7 @@ ghost use Rattle.lsp_base.specs.Lsps.{effect_of};
 
 use crate::lsp::Lsp;
 use crate::path::Path;
-use pcep_objects::Plsp;
+use lsp_words::Plsp;
 use sequence::{PlainData, Sequence};
 use std::alloc::AllocError;
 

@@ -6,7 +6,7 @@ use crate::drops::is_path_of_lsp;
 use crate::path::Path;
 use crate::tunnel::{Part, is_part_reported};
 use keyed_list::Test;
-use pcep_objects::Plsp;
+use lsp_words::Plsp;
 
 pub(crate) fn is_the_number(number: Option<u32>, other: u32) -> bool
     ensures { result ≡ is_number number other }

@@ -1,6 +1,6 @@
 //! What is known of one LSP, and what is asked of its path.
 use crate::tunnel::Tunnel;
-use pcep_objects::{Colours, MetricType};
+use lsp_words::{Colours, MetricType};
 use pcep_word::{Bandwidth, Ipv4, Priorities};
 use sequence::{PlainData, Sequence};
 use std::alloc::AllocError;
@@ -25,6 +25,8 @@ pub struct Constraints {
     pub bound: Option<u64>,
     pub hop_bound: Option<u64>,
     pub other_bounds: OtherBounds,
+    /// Local protection is wanted (flag L of LSPA, RFC 5440 section 7.11). It binds no path.
+    pub local_protection: bool,
 }
 
 /// What is known of one LSP.

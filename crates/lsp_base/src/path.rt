@@ -3,7 +3,7 @@ ghost use Rattle.std.specs.Prelude.{◌≡◌, IfOk};
 ghost use Rattle.lsp_base.specs.Same.{same_links, same_path};
 
 use crate::tunnel::{Part, Tunnel, is_same_part, is_same_tunnel};
-use pcep_objects::Plsp;
+use lsp_words::Plsp;
 use pcep_word::{Bandwidth, Priority};
 use sequence::{PlainData, Sequence};
 use std::alloc::AllocError;

@@ -7,7 +7,7 @@ ghost use Rattle.lsp_base.specs.Tables.{bucket_number};
 use crate::drops::is_path_of_lsp;
 use crate::path::{Path, is_same_path};
 use keyed_list::{Edit, Keyed, KeyedList, Test};
-use pcep_objects::Plsp;
+use lsp_words::Plsp;
 
 /// Returns the bucket of an LSP's paths.
 #[tactic(auto, unfolding(crate::specs::Tables::bucket_number))]

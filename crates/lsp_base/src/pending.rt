@@ -9,7 +9,7 @@ use crate::grants::{carries_srp, is_the_number};
 use crate::lsp::Lsp;
 use crate::path::Path;
 use keyed_list::Test;
-use pcep_objects::Plsp;
+use lsp_words::Plsp;
 
 /// Tests whether the LSP is delegated to the PCE. One of which nothing is known is not.
 pub fn is_delegated(lsp: Option<&Lsp>) -> bool

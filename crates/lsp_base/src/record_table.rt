@@ -11,7 +11,7 @@ use crate::lsp::Lsp;
 use crate::names::is_same_name;
 use indexmap::IndexMap;
 use keyed_list::{BucketIndex, Keyed, Test, any};
-use pcep_objects::Plsp;
+use lsp_words::Plsp;
 use std::alloc::{AllocError, Global};
 use std::marker::Model;
 

@@ -2,7 +2,7 @@
 ghost use Rattle.std.specs.Prelude.{◌≡◌};
 ghost use Rattle.lsp_base.specs.Same.{same_tunnel, same_part, is_reported};
 
-use pcep_objects::Plsp;
+use lsp_words::Plsp;
 use pcep_word::Ipv4;
 
 /// What shares its reservations on a common link (shared explicit reservation, RFC 3209 section 2.4.3).

@@ -3,6 +3,7 @@
 use crate::written::add_written_object;
 use message_words::{add_object, add_object_fault};
 use pcep_objects::{Object, ObjectFault, read_object};
+use sequence::PlainData;
 use std::alloc::{AllocError, Global};
 use std::fmt::Write;
 
@@ -39,12 +40,23 @@ fn add_fault(fault: ObjectFault, text: &mut String) -> Result<(), AllocError> {
     }
 }
 
+/// Adds a copy of an object, so that each kind is shown to be copied.
+fn add_copy(
+    alloc: Global,
+    object: &Object,
+    read: &[u8],
+    rest: &[u8],
+    text: &mut String,
+) -> Result<(), AllocError> {
+    add_whole_object(alloc, &object.copy()?, read, rest, text)
+}
+
 /// Adds the object at the front of the bytes, or its fault.
 pub fn add_read_object(alloc: Global, bytes: &[u8], text: &mut String) -> Result<(), AllocError> {
     match read_object(alloc, bytes) {
         Ok((object, size)) => {
             let (read, rest) = bytes.split_at(size);
-            add_whole_object(alloc, &object, read, rest, text)
+            add_copy(alloc, &object, read, rest, text)
         }
         Err(fault) => add_fault(fault, text),
     }

@@ -1,6 +1,7 @@
 -- Why bytes can't be read, in words, where in the message it stands, and what an open session answers.
 use Rattle.std.specs.Prelude.{ℕ, ◌≡◌, ◌==◌, ◌&&◌, not, ◌++◌, Bool, true, false, List, [], drop, slice_index, codes, Option, Some, None, is_none, IfSome, Result, Ok, Err, if◌then◌else◌}
 use Rattle.std.specs.Fmt.{decimal}
+use Rattle.error_words.specs.Errors.{error_words}
 use Rattle.pcep_objects.specs.Objects.{object_at}
 use Rattle.pcep_objects.specs.declared.fault.ObjectFault.{ObjectFault}
 use Rattle.pcep_objects.specs.declared.fault.ObjectFault.TheVariants as object
@@ -49,31 +50,8 @@ fault_code OutOfMemory = None
 
 -- ---- its words
 
-abbrev pub unrecognized : ℕ → List ℕ
-unrecognized value = if value == 1 then codes "unrecognized object class" else codes "unrecognized object type"
-
-abbrev pub lacking : ℕ → List ℕ
-lacking value =
-    if value == 1 then codes "RP object missing"
-    else (if value == 2 then codes "RRO missing for a reoptimization request"
-    else (if value == 3 then codes "END-POINTS object missing"
-    else (if value == 8 then codes "LSP object missing"
-    else (if value == 9 then codes "ERO object missing"
-    else (if value == 10 then codes "SRP object missing"
-    else (if value == 11 then codes "LSP-IDENTIFIERS TLV missing"
-    else codes "mandatory object missing"))))))
-
-abbrev pub error_name : ErrorCode → List ℕ
-error_name c =
-    if c.error_type == 1 then codes "invalid Open message"
-    else (if c.error_type == 3 then unrecognized c.value
-    else (if c.error_type == 4 then codes "not supported object class"
-    else (if c.error_type == 6 then lacking c.value
-    else (if c.error_type == 10 then codes "object with P flag not set"
-    else codes "refused"))))
-
 abbrev pub code_words : ErrorCode → List ℕ
-code_words c = codes "fault: " +> error_name c +> codes ", PCErr " +> decimal c.error_type +> codes "/" +> decimal c.value
+code_words c = codes "fault: " +> error_words c.error_type c.value +> codes ", PCErr " +> decimal c.error_type +> codes "/" +> decimal c.value
 
 abbrev pub object_fault_name : ObjectFault → List ℕ
 object_fault_name object.Short = codes "fewer than four bytes"

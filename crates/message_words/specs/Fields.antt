@@ -7,11 +7,12 @@ use Rattle.std.specs.declared.string.String.{String}
 use Rattle.byteorder.specs.Endian.{big_bytes}
 use Rattle.hex.specs.Hex.{encode_lower}
 use Rattle.pcep_word.specs.Address.{text_of}
-use Rattle.pcep_objects.specs.declared.object.Capabilities.{Capabilities}
-use Rattle.pcep_objects.specs.declared.object.Colours.{Colours}
-use Rattle.pcep_objects.specs.declared.object.Hop.{Hop}
-use Rattle.pcep_objects.specs.declared.object.Hop.TheVariants.{Host, Other}
+use Rattle.lsp_words.specs.declared.object.Capabilities.{Capabilities}
+use Rattle.lsp_words.specs.declared.object.Colours.{Colours}
+use Rattle.lsp_words.specs.declared.object.Hop.{Hop}
+use Rattle.lsp_words.specs.declared.object.Hop.TheVariants.{Host, Other}
 use Rattle.pcep_objects.specs.declared.object.Identifiers.{Identifiers}
+use Rattle.pcep_objects.specs.declared.object.RsvpError.{RsvpError}
 use Rattle.pcep_objects.specs.declared.object.Operational.{Operational}
 use Rattle.pcep_objects.specs.declared.object.Operational.TheVariants.{Down, Up, Active, GoingDown, GoingUp}
 use Rattle.pcep_objects.specs.declared.request_objects.NoPathVector.{NoPathVector}
@@ -60,6 +61,23 @@ name_words name = if list_all is_plain name then codes " name \"" +> name +> cod
 abbrev pub identifier_words : Option Identifiers → List ℕ
 identifier_words None = []
 identifier_words (Some i) = codes " sender " +> text_of i.sender +> codes " lsp-id " +> decimal i.lsp +> codes " tunnel-id " +> decimal i.tunnel +> codes " extended-tunnel-id " +> text_of i.extended +> codes " endpoint " +> text_of i.endpoint
+
+-- LSP-ERROR-CODE and RSVP-ERROR-SPEC (RFC 8231 sections 7.3.3 and 7.3.4)
+abbrev pub error_code_words : Option ℕ → List ℕ
+error_code_words None = []
+error_code_words (Some code) = codes " error-code " +> decimal code
+
+abbrev pub rsvp_error_words : Option RsvpError → List ℕ
+rsvp_error_words None = []
+rsvp_error_words (Some e) = codes " rsvp-error node " +> text_of e.node +> codes " flags " +> decimal e.flags +> codes " code " +> decimal e.code +> codes " value " +> decimal e.value
+
+abbrev pub lsp_error_words : Option ℕ → Option RsvpError → List ℕ
+lsp_error_words code error = error_code_words code +> rsvp_error_words error
+
+-- local protection (flag L of LSPA) is named where it is set
+abbrev pub protection_words : Bool → List ℕ
+protection_words false = []
+protection_words true = codes " local-protection 1"
 
 abbrev pub loose_mark : Bool → List ℕ
 loose_mark false = []

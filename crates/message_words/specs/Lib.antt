@@ -4,3 +4,4 @@ pub mod Messages
 pub mod Faults
 pub mod Looks
 pub mod Answers
+pub mod Streams

@@ -1,13 +1,13 @@
 -- Messages: a line for the kind, and one for each object that counts. A report or a request has an LSPA, a BANDWIDTH and a
 -- METRIC also where its bytes have none: what it counts as.
-use Rattle.std.specs.Prelude.{ℕ, List, [], ◌∷◌, codes, Option, Some, None}
+use Rattle.std.specs.Prelude.{ℕ, Bool, false, List, [], ◌∷◌, codes, Option, Some, None}
 use Rattle.std.specs.Fmt.{decimal}
 use Rattle.pcep_word.specs.Address.{text_of}
 use Rattle.pcep_word.specs.Priority.{InForce}
-use Rattle.pcep_objects.specs.declared.object.Colours.{Colours}
-use Rattle.pcep_objects.specs.declared.object.Hop.{Hop}
-use Rattle.pcep_objects.specs.declared.object.MetricType.{MetricType}
-use Rattle.pcep_objects.specs.declared.object.MetricType.TheVariants.{Igp, Te, Hops}
+use Rattle.lsp_words.specs.declared.object.Colours.{Colours}
+use Rattle.lsp_words.specs.declared.object.Hop.{Hop}
+use Rattle.lsp_words.specs.declared.object.MetricType.{MetricType}
+use Rattle.lsp_words.specs.declared.object.MetricType.TheVariants.{Igp, Te, Hops}
 use Rattle.pcep_objects.specs.declared.session_objects.Open.{Open}
 use Rattle.pcep_objects.specs.declared.session_objects.PcepError.{PcepError}
 use Rattle.pcep_messages.specs.declared.message.Answer.{Answer}
@@ -26,7 +26,7 @@ use Rattle.pcep_messages.specs.declared.message.PathReply.{PathReply}
 use Rattle.pcep_messages.specs.declared.message.StateReport.{StateReport}
 use Rattle.pcep_messages.specs.declared.message.Update.{Update}
 use Rattle.message_words.specs.declared.fields.LspFields.{LspFields}
-use Rattle.message_words.specs.Fields.{◌+>◌, bit, lsp_field_words, name_words, identifier_words, hops_words, colour_words, vector_words}
+use Rattle.message_words.specs.Fields.{◌+>◌, bit, lsp_field_words, name_words, identifier_words, lsp_error_words, protection_words, hops_words, colour_words, vector_words}
 use Rattle.message_words.specs.Objects.{open_words, error_words, named}
 
 -- ---- the lines
@@ -53,12 +53,12 @@ rro_line (Some hops) = codes "\n  RRO" +> hops_words hops
 abbrev pub bandwidth_line : ℕ → List ℕ
 bandwidth_line bandwidth = codes "\n  BANDWIDTH " +> decimal bandwidth +> codes " bytes/s"
 
--- the priorities in force and the colours
+-- the priorities in force, local protection and the colours
 abbrev pub priority_words : InForce → List ℕ
 priority_words p = codes "\n  LSPA setup " +> decimal p.setup +> codes " hold " +> decimal p.hold
 
-abbrev pub lspa_line : InForce → Colours → List ℕ
-lspa_line p colours = priority_words p +> colour_words colours
+abbrev pub lspa_line : InForce → Bool → Colours → List ℕ
+lspa_line p protected colours = priority_words p +> protection_words protected +> colour_words colours
 
 -- ---- state reports (RFC 8231 section 6.1)
 
@@ -73,10 +73,10 @@ abbrev pub lsp_line : StateReport → List ℕ
 lsp_line r = codes "\n  " +> lsp_field_words (fields_of r)
 
 abbrev pub reported_lsp : StateReport → List ℕ
-reported_lsp r = reported_srp r.srp +> lsp_line r +> named r.name +> identifier_words r.identifiers
+reported_lsp r = reported_srp r.srp +> lsp_line r +> named r.name +> identifier_words r.identifiers +> lsp_error_words r.error_code r.rsvp_error
 
 unfoldable pub report_words : StateReport → List ℕ
-report_words r = reported_lsp r +> ero_line r.ero +> rro_line r.rro +> lspa_line r.priorities r.colours +> bandwidth_line r.bandwidth
+report_words r = reported_lsp r +> ero_line r.ero +> rro_line r.rro +> lspa_line r.priorities r.local_protection r.colours +> bandwidth_line r.bandwidth
 
 abbrev pub reports_words : List StateReport → List ℕ
 reports_words [] = []
@@ -111,7 +111,7 @@ abbrev pub request_ends : PathRequest → List ℕ
 request_ends r = rp_line r.request +> ends_line r.source r.destination +> asked_plsp r.plsp
 
 unfoldable pub request_words : PathRequest → List ℕ
-request_words r = request_ends r +> lspa_line r.priorities r.colours +> bandwidth_line r.bandwidth +> metric_lines r.minimise r.bounds
+request_words r = request_ends r +> lspa_line r.priorities false r.colours +> bandwidth_line r.bandwidth +> metric_lines r.minimise r.bounds
 
 abbrev pub requests_words : List PathRequest → List ℕ
 requests_words [] = []
@@ -161,7 +161,7 @@ errors_words e = codes "PCErr" +> rp_lines e.requests +> srp_lines e.srps +> err
 
 abbrev pub attribute_line : Option Attributes → List ℕ
 attribute_line None = []
-attribute_line (Some a) = lspa_line a.priorities a.colours
+attribute_line (Some a) = lspa_line a.priorities a.local_protection a.colours
 
 abbrev pub wished_bandwidth : Option ℕ → List ℕ
 wished_bandwidth None = []

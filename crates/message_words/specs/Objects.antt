@@ -22,7 +22,7 @@ use Rattle.pcep_objects.specs.declared.session_objects.Notification.{Notificatio
 use Rattle.pcep_objects.specs.declared.session_objects.Open.{Open}
 use Rattle.pcep_objects.specs.declared.session_objects.PcepError.{PcepError}
 use Rattle.message_words.specs.declared.fields.LspFields.{LspFields}
-use Rattle.message_words.specs.Fields.{◌+>◌, bit, lsp_field_words, name_words, identifier_words, hops_words, colour_words, capability_words, vector_words}
+use Rattle.message_words.specs.Fields.{◌+>◌, bit, lsp_field_words, name_words, identifier_words, lsp_error_words, hops_words, colour_words, capability_words, vector_words}
 
 unfoldable pub timer_words : Open → List ℕ
 timer_words o = codes "OPEN keepalive " +> decimal o.keepalive +> codes " deadtimer " +> decimal o.dead_timer +> codes " sid " +> decimal o.sid
@@ -85,7 +85,7 @@ named None = []
 named (Some name) = name_words name
 
 abbrev pub lsp_words : LspObject → List ℕ
-lsp_words l = lsp_field_words (fields_of l) +> named l.name +> identifier_words l.identifiers
+lsp_words l = lsp_field_words (fields_of l) +> named l.name +> identifier_words l.identifiers +> lsp_error_words l.error_code l.rsvp_error
 
 abbrev pub srp_words : Srp → List ℕ
 srp_words s = codes "SRP srp-id " +> decimal s.id +> codes " remove " +> bit s.remove

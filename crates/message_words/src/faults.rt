@@ -2,57 +2,21 @@
 
 ghost use Rattle.std.specs.Prelude.{◌≡◌};
 ghost use Rattle.message_words.specs.Fields.{Adds};
-ghost use Rattle.message_words.specs.Faults.{unrecognized, lacking, error_name, code_words, object_fault_name, malformed_name, malformed_words, fault_code, coded_or_malformed, about_words, fault_words, close_words, error_answer, answer_words};
+ghost use Rattle.message_words.specs.Faults.{code_words, object_fault_name, malformed_name, malformed_words, fault_code, coded_or_malformed, about_words, fault_words, close_words, error_answer, answer_words};
 
 use crate::codes::{ErrorCode, about_of, fault_code, object_code};
+use error_words::error_words;
 use pcep_messages::{About, MessageFault};
 use pcep_objects::ObjectFault;
 use std::alloc::AllocError;
 use std::fmt::Write;
 
-fn unrecognized(value: u8) -> &'static str
-    ensures { result.now ≡ unrecognized value }
-{
-    match value {
-        1 => "unrecognized object class",
-        _ => "unrecognized object type",
-    }
-}
-
-fn lacking(value: u8) -> &'static str
-    ensures { result.now ≡ lacking value }
-{
-    match value {
-        1 => "RP object missing",
-        2 => "RRO missing for a reoptimization request",
-        3 => "END-POINTS object missing",
-        8 => "LSP object missing",
-        9 => "ERO object missing",
-        10 => "SRP object missing",
-        11 => "LSP-IDENTIFIERS TLV missing",
-        _ => "mandatory object missing",
-    }
-}
-
-/// What RFC 5440 section 7.15 and RFC 8231 section 8.5 call the error.
-fn error_name(code: ErrorCode) -> &'static str
-    ensures { result.now ≡ error_name code }
-{
-    match code.error_type {
-        1 => "invalid Open message",
-        3 => unrecognized(code.value),
-        4 => "not supported object class",
-        6 => lacking(code.value),
-        10 => "object with P flag not set",
-        _ => "refused",
-    }
-}
-
 /// Adds an error: `fault: LSP object missing, PCErr 6/8`.
 fn add_code(code: ErrorCode, text: &mut String) -> Result<(), AllocError>
     ensures { Adds result text.old text.new (code_words code) }
 {
-    let (name, error_type, value) = (error_name(code), code.error_type, code.value);
+    let (error_type, value) = (code.error_type, code.value);
+    let name = error_words(error_type, value);
     write!(text, "fault: {name}, PCErr {error_type}/{value}")
 }
 

@@ -3,9 +3,11 @@
 ghost use Rattle.std.specs.Prelude.{◌≡◌, Some};
 ghost use Rattle.std.specs.List.{list_all};
 ghost use Rattle.hex.specs.Hex.{encode_lower};
-ghost use Rattle.message_words.specs.Fields.{Adds, bit, word_digits, state_word, flag_words, lsp_field_words, is_plain, name_words, identifier_words, loose_mark, hop_words, hops_words, named_word, excluded, included_any, included_all, colour_words, capability_words, vector_words};
+ghost use Rattle.message_words.specs.Fields.{Adds, bit, word_digits, state_word, flag_words, lsp_field_words, is_plain, name_words, identifier_words, error_code_words, rsvp_error_words, lsp_error_words, protection_words, loose_mark, hop_words, hops_words, named_word, excluded, included_any, included_all, colour_words, capability_words, vector_words};
 
-use pcep_objects::{Capabilities, Colours, Hop, Identifiers, NoPathVector, Operational, Plsp};
+use pcep_objects::{
+    Capabilities, Colours, Hop, Identifiers, NoPathVector, Operational, Plsp, RsvpError,
+};
 use pcep_word::Ipv4;
 use std::alloc::{AllocError, Global};
 use std::fmt;
@@ -138,6 +140,53 @@ pub fn add_identifiers(
     let (lsp, tunnel) = (found.lsp, found.tunnel);
     write!(text, " sender {sender} lsp-id {lsp} tunnel-id {tunnel}")?;
     write!(text, " extended-tunnel-id {extended} endpoint {endpoint}")
+}
+
+/// Adds LSP-ERROR-CODE, where it is there.
+fn add_error_code(error_code: Option<u32>, text: &mut String) -> Result<(), AllocError>
+    ensures { Adds result text.old text.new (error_code_words error_code) }
+{
+    match error_code {
+        Some(code) => write!(text, " error-code {code}"),
+        None => Ok(()),
+    }
+}
+
+/// Adds the fields of RSVP-ERROR-SPEC, where it is there.
+fn add_rsvp_error(error: Option<RsvpError>, text: &mut String) -> Result<(), AllocError>
+    ensures { Adds result text.old text.new (rsvp_error_words error) }
+{
+    let Some(found) = error else {
+        return Ok(());
+    };
+    let (node, flags, code, value) = (found.node, found.flags, found.code, found.value);
+    write!(
+        text,
+        " rsvp-error node {node} flags {flags} code {code} value {value}"
+    )
+}
+
+/// Adds the errors of an LSP, each where it is there.
+pub fn add_errors(
+    error_code: Option<u32>,
+    rsvp_error: Option<RsvpError>,
+    text: &mut String,
+) -> Result<(), AllocError>
+    ensures { Adds result text.old text.new (lsp_error_words error_code rsvp_error) }
+{
+    add_error_code(error_code, text)?;
+    add_rsvp_error(rsvp_error, text)
+}
+
+/// The words of local protection, where it is wanted.
+pub fn protection_words(is_protected: bool) -> &'static str
+    ensures { result.now ≡ protection_words is_protected }
+{
+    if is_protected {
+        " local-protection 1"
+    } else {
+        ""
+    }
 }
 
 fn loose_mark(loose: bool) -> &'static str

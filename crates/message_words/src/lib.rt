@@ -3,8 +3,8 @@
 //!
 //! What is added to a text is by definition: `words_of` of a message (`specs/Messages.antt`), `object_words` of an object
 //! (`specs/Objects.antt`), `fault_words` of a fault (`specs/Faults.antt`). `add_decoded` says which of them the bytes of one
-//! message have: what they read as, or their first fault, with a byte at which an object has it. How a line is cut into
-//! messages (`streams`) is said by no clause.
+//! message have: what they read as, or their first fault, with a byte at which an object has it. `specs/Streams.antt` says how
+//! bytes are cut into messages; how a line is read (`streams`) is said by no clause.
 #![tactic(auto)]
 
 mod asking;

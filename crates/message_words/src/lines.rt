@@ -3,7 +3,7 @@
 ghost use Rattle.message_words.specs.Fields.{Adds};
 ghost use Rattle.message_words.specs.Messages.{rp_line, srp_line, ends_line, plsp_line, ero_line, bandwidth_line, priority_words, lspa_line, attribute_line, wished_bandwidth};
 
-use crate::fields::{add_colours, add_hops};
+use crate::fields::{add_colours, add_hops, protection_words};
 use pcep_messages::Attributes;
 use pcep_objects::{Colours, Hop, Plsp};
 use pcep_word::{Bandwidth, Ipv4, Priorities};
@@ -58,16 +58,18 @@ fn add_priorities(priorities: Priorities, text: &mut String) -> Result<(), Alloc
     write!(text, "\n  LSPA setup {setup} hold {hold}")
 }
 
-/// Adds the priorities in force and the colours.
+/// Adds the priorities in force, local protection where it is wanted, and the colours.
 pub fn add_lspa_line(
     alloc: Global,
     priorities: Priorities,
+    is_protected: bool,
     colours: Colours,
     text: &mut String,
 ) -> Result<(), AllocError>
-    ensures { Adds result text.old text.new (lspa_line priorities colours) }
+    ensures { Adds result text.old text.new (lspa_line priorities is_protected colours) }
 {
     add_priorities(priorities, text)?;
+    text.push_str(protection_words(is_protected))?;
     add_colours(alloc, colours, text)
 }
 
@@ -80,7 +82,15 @@ pub fn add_attributes(
     ensures { Adds result text.old text.new (attribute_line attributes) }
 {
     match attributes {
-        Some(found) => add_lspa_line(alloc, found.priorities, found.colours, text),
+        Some(found) => {
+            add_lspa_line(
+                alloc,
+                found.priorities,
+                found.local_protection,
+                found.colours,
+                text,
+            )
+        }
         None => Ok(()),
     }
 }

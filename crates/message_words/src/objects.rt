@@ -6,7 +6,7 @@ ghost use Rattle.pcep_objects.specs.declared.object.Object.TheVariants.{Ero, Rro
 ghost use Rattle.message_words.specs.Objects.{timer_words, nature_words, priority_words, open_words, rp_words, no_path_words, end_points_words, existing, bandwidth_words, metric_words, lspa_words, kept_name, kept_words, notification_words, error_words, close_words, fields_of, named, lsp_words, srp_words, object_words};
 
 use crate::fields::{
-    Bit, LspFields, add_capabilities, add_colours, add_hex, add_hops, add_identifiers,
+    Bit, LspFields, add_capabilities, add_colours, add_errors, add_hex, add_hops, add_identifiers,
     add_lsp_fields, add_name, add_vector,
 };
 use pcep_objects::{
@@ -197,13 +197,14 @@ pub fn add_named(
     }
 }
 
-/// Adds an LSP with its name and its identifiers.
+/// Adds an LSP with its name, its identifiers and its errors.
 fn add_lsp(alloc: Global, lsp: &LspObject, text: &mut String) -> Result<(), AllocError>
     ensures { Adds result text.old text.new (lsp_words lsp.now) }
 {
     add_lsp_fields(fields_of(lsp), text)?;
     add_named(alloc, &lsp.name, text)?;
-    add_identifiers(lsp.identifiers, text)
+    add_identifiers(lsp.identifiers, text)?;
+    add_errors(lsp.error_code, lsp.rsvp_error, text)
 }
 
 /// Adds `SRP srp-id 1 remove 0`.

@@ -4,7 +4,7 @@ ghost use Rattle.std.specs.Prelude.{◌≡◌};
 ghost use Rattle.message_words.specs.Fields.{Adds};
 ghost use Rattle.message_words.specs.Messages.{fields_of, reported_srp, lsp_line, reported_lsp, rro_line, report_words, reports_words, reports_text};
 
-use crate::fields::{LspFields, add_hops, add_identifiers, add_lsp_fields};
+use crate::fields::{LspFields, add_errors, add_hops, add_identifiers, add_lsp_fields};
 use crate::lines::{add_bandwidth_line, add_ero_line, add_lspa_line, add_srp_line};
 use crate::objects::add_named;
 use pcep_messages::StateReport;
@@ -53,7 +53,8 @@ fn add_reported_lsp(
     add_reported_srp(report.srp, text)?;
     add_lsp_line(report, text)?;
     add_named(alloc, &report.name, text)?;
-    add_identifiers(report.identifiers, text)
+    add_identifiers(report.identifiers, text)?;
+    add_errors(report.error_code, report.rsvp_error, text)
 }
 
 fn add_rro_line(
@@ -80,7 +81,8 @@ fn add_report(alloc: Global, report: &StateReport, text: &mut String) -> Result<
     add_reported_lsp(alloc, report, text)?;
     add_ero_line(alloc, report.ero.as_slice(), text)?;
     add_rro_line(alloc, &report.rro, text)?;
-    add_lspa_line(alloc, report.priorities, report.colours, text)?;
+    let (priorities, is_protected) = (report.priorities, report.local_protection);
+    add_lspa_line(alloc, priorities, is_protected, report.colours, text)?;
     add_bandwidth_line(report.bandwidth, text)
 }
 

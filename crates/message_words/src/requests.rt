@@ -70,7 +70,7 @@ fn add_request(alloc: Global, request: &PathRequest, text: &mut String) -> Resul
     ensures { Adds result text.old text.new (request_words request.now) }
 {
     add_request_ends(request, text)?;
-    add_lspa_line(alloc, request.priorities, request.colours, text)?;
+    add_lspa_line(alloc, request.priorities, false, request.colours, text)?;
     add_bandwidth_line(request.bandwidth, text)?;
     add_metrics(request.minimise, request.bounds, text)
 }

@@ -1,6 +1,7 @@
 //! Lines of hexadecimal digits, and what the messages in them say.
 
-ghost use Rattle.std.specs.Prelude.{◌<◌, ◌≢◌, [], length};
+ghost use Rattle.std.specs.Prelude.{◌≡◌, ◌<◌, ◌≤◌, ◌≢◌, ◌++◌, [], length};
+ghost use Rattle.message_words.specs.Streams.{first_length};
 
 use crate::decoding::add_decoded;
 use hex::FromHexError;
@@ -43,18 +44,29 @@ fn peer_line(line: &str) -> Option<PeerLine<'_>> {
     Some(PeerLine { word, peer, digits })
 }
 
-/// Cuts the bytes behind their first message, by the length in its header; all of them where that is none.
-fn cut_message(bytes: &[u8]) -> (&[u8], &[u8])
-    requires { bytes.now ≢ [] }
-    ensures { length result.1.now < length bytes.now }
+/// How long the first message is, by the length in its header (RFC 5440 section 6.1). It is all of the bytes if that length
+/// is less than a header or more than there is.
+fn first_length(bytes: &[u8]) -> usize
+    ensures length { result ≡ first_length bytes.now }
+    ensures fits { result ≤ length bytes.now }
 {
     if bytes.len() >= 4 {
-        let size = usize::from(bytes[2]) * 256 + usize::from(bytes[3]);
-        if 4 <= size && size < bytes.len() {
-            return bytes.split_at(size);
+        let said = usize::from(bytes[2]) * 256 + usize::from(bytes[3]);
+        if 4 <= said && said <= bytes.len() {
+            return said;
         }
     }
-    (bytes, &[])
+    bytes.len()
+}
+
+/// Cuts the bytes after their first message.
+fn cut_message(bytes: &[u8]) -> (&[u8], &[u8])
+    requires { bytes.now ≢ [] }
+    ensures whole { result.0.now ++ result.1.now ≡ bytes.now }
+    ensures first { length result.0.now ≡ first_length bytes.now }
+    ensures shorter { length result.1.now < length bytes.now }
+{
+    bytes.split_at(first_length(bytes))
 }
 
 /// Adds what each message of the bytes says, each from a line of its own on.

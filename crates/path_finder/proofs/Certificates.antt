@@ -8,8 +8,8 @@ use Rattle.te_base.specs.Ted.{IsLinkAmong}
 use Rattle.te_snapshot.specs.Leaving.{arc_of, turned}
 use Rattle.te_snapshot.proofs.Arcs.{leaving_has, entering_has}
 use Rattle.te_base.specs.declared.network.Link.{Link}
-use Rattle.pcep_objects.specs.declared.object.MetricType.{MetricType}
-use Rattle.pcep_objects.specs.declared.object.MetricType.TheVariants.{Te, Igp, Hops}
+use Rattle.lsp_words.specs.declared.object.MetricType.{MetricType}
+use Rattle.lsp_words.specs.declared.object.MetricType.TheVariants.{Te, Igp, Hops}
 use Rattle.te_snapshot.specs.Admissible.{is_open}
 use Rattle.path_finder.specs.declared.query.Query.{Query}
 use Rattle.path_finder.specs.Passing.{arc_metric, fee, toll}

@@ -5,8 +5,8 @@ use Rattle.std.proofs.lemmas.Bool.{cases_Bool, or_cases, and_cases}
 use Rattle.std.proofs.lemmas.Bool.Decides.{nat_tests}
 use Rattle.std.proofs.lemmas.Option.{same_Some, none-some, slice_get_within, get_or_from_slice_get}
 use Rattle.std.proofs.Math.ListN.{get_or}
-use Rattle.pcep_objects.specs.declared.object.MetricType.{MetricType}
-use Rattle.pcep_objects.specs.declared.object.MetricType.TheVariants.{Te, Igp, Hops}
+use Rattle.lsp_words.specs.declared.object.MetricType.{MetricType}
+use Rattle.lsp_words.specs.declared.object.MetricType.TheVariants.{Te, Igp, Hops}
 use Rattle.te_base.specs.declared.network.Link.{Link}
 use Rattle.te_snapshot.specs.Leaving.{arc_of}
 use Rattle.te_snapshot.specs.Admissible.{IsJoined, EachOpen, is_open, metric, metric_of, cost_of, end_of, nodes_of, is_distinct, node_of, IsAdmissible, IsLeast, IsImpossible}

@@ -1,7 +1,7 @@
 -- What a link adds to the cost of a path.
 use Rattle.std.specs.Prelude.{ℕ, Option, Some, None, if◌then◌else◌}
-use Rattle.pcep_objects.specs.declared.object.MetricType.{MetricType}
-use Rattle.pcep_objects.specs.declared.object.MetricType.TheVariants.{Igp, Te, Hops}
+use Rattle.lsp_words.specs.declared.object.MetricType.{MetricType}
+use Rattle.lsp_words.specs.declared.object.MetricType.TheVariants.{Igp, Te, Hops}
 use Rattle.te_base.specs.declared.network.Link.{Link}
 use Rattle.te_snapshot.specs.declared.outgoing.Outgoing.{Outgoing}
 use Rattle.te_snapshot.specs.Leaving.{arc_of}

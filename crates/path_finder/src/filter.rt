@@ -7,7 +7,7 @@ ghost use Rattle.te_snapshot.specs.Admissible.{is_open};
 ghost use Rattle.path_finder.specs.Passing.{arc_metric, fee, toll};
 
 use crate::query::Query;
-use pcep_objects::MetricType;
+use lsp_words::MetricType;
 use pcep_word::Priority;
 use te_base::{Link, LinkNumber};
 use te_snapshot::{Outgoing, colours_pass, own_share};

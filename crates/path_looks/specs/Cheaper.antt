@@ -1,6 +1,6 @@
 -- A path that costs less than those that an LSP has.
 use Rattle.std.specs.Prelude.{ℕ, ◌≡◌, ◌<◌, ◌≤◌, ◌&&◌, nat_le, min, List, length, Option, Some, None, IfSome, IfNone, if◌then◌else◌, fold}
-use Rattle.pcep_objects.specs.declared.object.MetricType.{MetricType}
+use Rattle.lsp_words.specs.declared.object.MetricType.{MetricType}
 use Rattle.te_base.specs.declared.network.Link.{Link}
 use Rattle.lsp_base.specs.declared.lsp.Constraints.{Constraints}
 use Rattle.lsp_base.specs.declared.path.Path.{Path}

@@ -1,6 +1,6 @@
 -- A path that is looked for on a snapshot, or what stands in its way.
 use Rattle.std.specs.Prelude.{ℕ, ℤ, Bool, not, List, [], ◌∷◌, ◌++◌, find, option_map, Option, Some, None}
-use Rattle.pcep_objects.specs.declared.object.Colours.{Colours}
+use Rattle.lsp_words.specs.declared.object.Colours.{Colours}
 use Rattle.lsp_base.specs.Shares.{priorities}
 use Rattle.lsp_base.specs.declared.lsp.Constraints.{Constraints}
 use Rattle.lsp_base.specs.declared.lsp.OtherBounds.{OtherBounds}
@@ -26,11 +26,18 @@ relaxed obstacle.Colours c = record c { colours = any_colours }
 relaxed obstacle.Bounds c = record c { bound = None; hop_bound = None; other_bounds = no_bounds }
 relaxed obstacle.Several c = record c { bandwidth = 0; colours = any_colours; bound = None; hop_bound = None; other_bounds = no_bounds }
 
--- For a tunnel that holds nothing yet: an admissible path of least cost; or there is none, and without the obstacle this
--- is one; or there is none whatever its bandwidth, colours and bounds.
+-- There is no path without any one of the obstacles that come before this one: bandwidth, colours, bounds, several.
+abbrev pub RefusesBefore : NetworkState → Constraints → Obstacle → Type 0
+RefusesBefore s c obstacle.Bandwidth = Unit {0}
+RefusesBefore s c obstacle.Colours = IsRefused s (relaxed obstacle.Bandwidth c) []
+RefusesBefore s c obstacle.Bounds = IsRefused s (relaxed obstacle.Bandwidth c) [] × IsRefused s (relaxed obstacle.Colours c) []
+RefusesBefore s c obstacle.Several = IsRefused s (relaxed obstacle.Bandwidth c) [] × IsRefused s (relaxed obstacle.Colours c) [] × IsRefused s (relaxed obstacle.Bounds c) []
+
+-- For a tunnel that holds nothing yet: an admissible path of least cost; or there is none, and this is one without the
+-- first obstacle that helps; or there is none whatever its bandwidth, colours and bounds.
 abbrev pub IsPathAnswer : NetworkState → Constraints → PathAnswer → Type 0
 IsPathAnswer s c (Path found) = IsAnswer s c [] found
-IsPathAnswer s c (Blocked by found) = IsRefused s c [] × IsAnswer s (relaxed by c) [] found
+IsPathAnswer s c (Blocked by found) = IsRefused s c [] × RefusesBefore s c by × IsAnswer s (relaxed by c) [] found
 IsPathAnswer s c NoWay = IsRefused s c [] × IsRefused s (relaxed obstacle.Several c) []
 
 -- the link doesn't bear the bandwidth at the priority

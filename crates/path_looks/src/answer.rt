@@ -1,12 +1,12 @@
 //! A path, or what stands in its way.
 ghost use Rattle.std.specs.Prelude.{◌≡◌, [], IfOk, IfSome, IfNone, None};
 ghost use Rattle.path_finder.specs.Answers.{IsAnswer, IsRefused};
-ghost use Rattle.path_looks.specs.Paths.{any_colours, no_bounds, relaxed, IsPathAnswer};
+ghost use Rattle.path_looks.specs.Paths.{any_colours, no_bounds, relaxed, IsPathAnswer, RefusesBefore};
 ghost use Rattle.path_looks.specs.declared.answer.Obstacle.TheVariants.{Several};
 
 use lsp_base::{Constraints, OtherBounds};
+use lsp_words::Colours;
 use path_finder::{Found, find};
-use pcep_objects::Colours;
 use pcep_word::Bandwidth;
 use std::alloc::{AllocError, Global};
 use te_snapshot::{OwnShares, Snapshot};
@@ -106,22 +106,24 @@ fn search_without(
     search(alloc, snapshot, &relaxed(by, wanted))
 }
 
-/// The order in which obstacles are tried.
-const ORDER: [Obstacle; 3] = [Obstacle::Bandwidth, Obstacle::Colours, Obstacle::Bounds];
-
-/// Finds the first obstacle without which there is a path.
+/// Finds the first of bandwidth, colours and bounds without which there is a path, or all of them together.
 fn first_obstacle(
     alloc: Global,
     snapshot: &Snapshot,
     wanted: &Constraints,
 ) -> Result<Option<(Obstacle, Found)>, AllocError>
     ensures found { IfOk result (λ r. IfSome r (λ f. IsAnswer snapshot.now (relaxed f.0 wanted.now) [] f.1)) }
+    ensures first { IfOk result (λ r. IfSome r (λ f. RefusesBefore snapshot.now wanted.now f.0)) }
     ensures none { IfOk result (λ r. IfNone r (IsRefused snapshot.now (relaxed Several wanted.now) [])) }
 {
-    for by in ORDER {
-        if let Some(path) = search_without(alloc, snapshot, wanted, by)? {
-            return Ok(Some((by, path)));
-        }
+    if let Some(path) = search_without(alloc, snapshot, wanted, Obstacle::Bandwidth)? {
+        return Ok(Some((Obstacle::Bandwidth, path)));
+    }
+    if let Some(path) = search_without(alloc, snapshot, wanted, Obstacle::Colours)? {
+        return Ok(Some((Obstacle::Colours, path)));
+    }
+    if let Some(path) = search_without(alloc, snapshot, wanted, Obstacle::Bounds)? {
+        return Ok(Some((Obstacle::Bounds, path)));
     }
     match search_without(alloc, snapshot, wanted, Obstacle::Several)? {
         Some(path) => Ok(Some((Obstacle::Several, path))),

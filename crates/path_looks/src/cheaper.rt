@@ -3,8 +3,8 @@ ghost use Rattle.std.specs.Prelude.{◌≡◌, ◌<◌, ◌≤◌, Some, IfOk, I
 ghost use Rattle.path_looks.specs.Cheaper.{known_cost, lesser, standing_cost, IsCheaper, IsUnbeaten};
 
 use lsp_base::{Constraints, Path};
+use lsp_words::MetricType;
 use path_finder::{Found, find};
-use pcep_objects::MetricType;
 use std::alloc::{AllocError, Global};
 use te_base::Link;
 use te_snapshot::{OwnShares, Snapshot, cost_of};

@@ -7,8 +7,8 @@ ghost use Rattle.path_looks.specs.Moves.{held_elsewhere, left_beside, moved, ope
 ghost use Rattle.path_looks.specs.declared.moves.Mover.{Mover as Trial};
 
 use lsp_base::Constraints;
+use lsp_words::Plsp;
 use path_finder::{Found, find};
-use pcep_objects::Plsp;
 use pcep_word::Priority;
 use sequence::Sequence;
 use std::alloc::{AllocError, Global};

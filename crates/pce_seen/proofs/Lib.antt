@@ -1,2 +1,4 @@
 mod Pages
 mod Once
+mod Spans
+mod Covered

@@ -13,8 +13,13 @@ abbrev pub next_better : Option ℕ → Option ℕ → Option Ask
 next_better peer None = None
 next_better peer (Some from) = Some (ask.Better peer from)
 
--- behind a page of LSPs the next one of the same peer; nothing else has pages
+abbrev pub next_grants : Option ℕ → Option ℕ → Option Ask
+next_grants peer None = None
+next_grants peer (Some from) = Some (ask.Grants peer from)
+
+-- behind a page of LSPs or of grants the next one of the same peer; nothing else has pages
 abbrev pub next_ask : Ask → Seen → Option Ask
-next_ask (ask.Lsps peer from) (seen.Lsps page) = next_page peer page.next
+next_ask (ask.Lsps peer from) (seen.Lsps placed) = next_page peer (placed.page).next
 next_ask (ask.Better peer from) (seen.Movable movable) = next_better peer (movable.page).next
+next_ask (ask.Grants peer from) (seen.Grants page) = next_grants peer page.next
 next_ask a s = None

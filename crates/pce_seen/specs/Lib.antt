@@ -1,4 +1,6 @@
 pub mod Asks
 pub mod Lsps
+pub mod Grants
+pub mod Gaps
 pub mod Tunnels
 pub mod Over

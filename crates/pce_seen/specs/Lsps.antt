@@ -26,10 +26,10 @@ abbrev pub is_asked : Option ℕ → Record → Bool
 is_asked None r = true
 is_asked (Some peer) r = r.peer == peer
 
--- the records between the start of a page and the start of the next one, or the end
-abbrev pub passed : List Record → ℕ → Option ℕ → List Record
-passed records from None = drop from records
-passed records from (Some next) = take (next - from) (drop from records)
+-- the items between the start of a page and the start of the next one, or the end
+abbrev pub passed : {X : Type 0} → List X → ℕ → Option ℕ → List X
+passed xs from None = drop from xs
+passed xs from (Some next) = take (next - from) (drop from xs)
 
 -- A page from this place on has each LSP that is asked for, up to where the next page starts: none is skipped. It has 256
 -- at most, and 256 where another page follows.

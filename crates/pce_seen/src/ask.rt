@@ -3,7 +3,7 @@ ghost use Rattle.std.specs.Prelude.{◌≡◌};
 ghost use Rattle.pce_seen.specs.Asks.{next_ask};
 
 use crate::seen::Seen;
-use pcep_objects::Plsp;
+use lsp_words::Plsp;
 use pcep_word::{Bandwidth, Ipv4, Priorities};
 
 /// What an operator asks for. One look answers it.
@@ -53,6 +53,12 @@ pub enum Ask {
     Without {
         link: u64,
     },
+    /// A page of the grants that stand and the deletions that are awaited, of one peer or of all: from the path and the
+    /// record at this place on.
+    Grants {
+        peer: Option<u32>,
+        from: u64,
+    },
     /// A path that nobody asks the network for: nothing is booked.
     Path {
         from: Ipv4,
@@ -68,12 +74,16 @@ impl Ask {
         ensures { result ≡ next_ask self.now seen.now }
     {
         match (self, seen) {
-            (Ask::Lsps { peer, from: _ }, Seen::Lsps(page)) => match page.next {
+            (Ask::Lsps { peer, from: _ }, Seen::Lsps(placed)) => match placed.page.next {
                 Some(from) => Some(Ask::Lsps { peer: *peer, from }),
                 None => None,
             },
             (Ask::Better { peer, from: _ }, Seen::Movable(movable)) => match movable.page.next {
                 Some(from) => Some(Ask::Better { peer: *peer, from }),
+                None => None,
+            },
+            (Ask::Grants { peer, from: _ }, Seen::Grants(page)) => match page.next {
+                Some(from) => Some(Ask::Grants { peer: *peer, from }),
                 None => None,
             },
             _ => None,

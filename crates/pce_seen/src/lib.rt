@@ -3,6 +3,10 @@
 //!
 //! - `ask`: what is asked for
 //! - `lsps`: LSPs with their paths, and the paths over a link
+//! - `grants`: grants that stand and deletions that are awaited, in pages; `covers`: whether a report covers a grant
+//!   (`specs/Grants.antt`)
+//! - `gaps`, `places`: where the routes of paths have gaps (`specs/Gaps.antt`)
+//! - `paging`: pages of a list
 //! - `peers`, `steps`: routers with their sessions, kept steps of the history
 //! - `seen`: the network, its counts, and one type for all that is seen
 //! - `origins`: by which steps the paths of an LSP came
@@ -19,22 +23,34 @@
 #![tactic(auto)]
 
 mod ask;
+mod covers;
+mod gaps;
+mod grants;
 mod lsps;
 mod moves;
 mod origins;
 mod over;
+mod paging;
 mod peers;
+mod places;
 mod seen;
 mod steps;
 mod taking;
 mod tunnels;
 
 pub use ask::Ask;
+pub use covers::{covered_grants_hold_nothing, has_way, is_covered, is_grant_covered};
+pub use gaps::Gap;
+pub use grants::{
+    Deletion, GrantPage, GrantSpan, KnownGrant, deletions_of, grant_span, is_grant_asked,
+};
 pub use lsps::{HeldPath, KnownLsp, LinkUse, LspPage, PAGE_LIMIT};
 pub use moves::{Displaced, Movable, TRIED_LIMIT};
 pub use origins::{LspOrigins, Origin, TracedPath};
 pub use over::lsps_over;
+pub use paging::page_from;
 pub use peers::{KnownPeer, LspOwner, SeenPeers};
+pub use places::{PlacedLsp, PlacedPage, gaps_of_each, placed};
 pub use seen::{Book, Counts, Network, Seen};
 pub use steps::{EventKind, KnownStep, LastSteps, Outcome};
 pub use taking::{held_on, lsp_of, page_of, paths_of};

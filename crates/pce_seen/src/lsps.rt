@@ -1,6 +1,6 @@
 //! LSPs with their paths.
 use lsp_base::{Part, Path, Record, Tunnel};
-use pcep_objects::Plsp;
+use lsp_words::Plsp;
 use pcep_word::{Bandwidth, Priority};
 use sequence::Sequence;
 use te_base::{Link, Node};

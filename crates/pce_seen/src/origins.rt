@@ -1,6 +1,6 @@
 //! By which steps the paths of an LSP came.
 use lsp_base::Path;
-use pcep_objects::Plsp;
+use lsp_words::Plsp;
 
 /// By what a path came.
 #[derive(Clone, Copy, Debug, PartialEq, Eq)]

@@ -1,8 +1,10 @@
 //! The network, its counts, and all that is seen.
-use crate::lsps::{KnownLsp, LinkUse, LspPage};
+use crate::grants::GrantPage;
+use crate::lsps::LinkUse;
 use crate::moves::{Displaced, Movable};
 use crate::origins::LspOrigins;
 use crate::peers::SeenPeers;
+use crate::places::{PlacedLsp, PlacedPage};
 use crate::steps::LastSteps;
 use commit_core::Ticket;
 use te_base::{Link, Node};
@@ -24,6 +26,8 @@ pub struct Counts {
     pub sessions_up: u64,
     pub lsps: u64,
     pub paths: u64,
+    /// Paths that were granted, and that no report has settled.
+    pub waiting_grants: u64,
     pub tickets: u64,
 }
 
@@ -49,12 +53,13 @@ pub enum Seen {
     Book(Book),
     Peers(SeenPeers),
     Tickets(Vec<Ticket>),
-    Lsps(LspPage),
-    Lsp(Option<KnownLsp>),
+    Lsps(PlacedPage),
+    Lsp(Option<PlacedLsp>),
     Link(Option<LinkUse>),
     Steps(LastSteps),
     Origins(Option<LspOrigins>),
     Movable(Movable),
     Displaced(Option<Displaced>),
     Network(Network),
+    Grants(GrantPage),
 }

@@ -4,10 +4,11 @@ ghost use Rattle.lsp_base.specs.Lsps.{is_path_of};
 ghost use Rattle.lsp_base.specs.Shares.{has_link};
 ghost use Rattle.pce_seen.specs.Lsps.{held_on, held_path, is_asked, known_lsp, lsp_in, IsPage};
 
-use crate::lsps::{HeldPath, KnownLsp, LspPage, PAGE_LIMIT};
+use crate::lsps::{HeldPath, KnownLsp, LspPage};
+use crate::paging::{full_at, items_from};
 use keyed_list::Test;
 use lsp_base::{Lsp, LspBase, Path, Record, is_path_of_lsp};
-use pcep_objects::Plsp;
+use lsp_words::Plsp;
 use sequence::{PlainData, Sequence};
 use std::alloc::{AllocError, Global};
 use te_base::LinkNumber;
@@ -104,22 +105,20 @@ fn is_asked(peer: Option<u32>, known: &Record) -> bool
     }
 }
 
-/// Counts the records up to where a page is full and the next one starts; `None` where all are on the page.
-fn page_size(records: &[Record], peer: Option<u32>) -> Option<usize>
-    ensures some { IfSome result (λ size. (0 < size) × (size < length records.now)) }
-    ensures full { IfSome result (λ size. length (filter (is_asked peer) (take size records.now)) ≡ 256) }
-    ensures none { IfNone result (length (filter (is_asked peer) records.now) ≤ 256) }
-{
-    let mut count = 0;
-    for (size, known) in records.iter().enumerate() {
-        if count == PAGE_LIMIT {
-            return Some(size);
-        }
-        if is_asked(peer, known) {
-            count += 1;
-        }
+/// Tests whether an LSP is asked for.
+#[derive(Clone, Copy)]
+struct Asked {
+    peer: Option<u32>,
+}
+
+impl Test<Record> for Asked {
+    ghost use Rattle.pce_seen.specs.Lsps.{is_asked};
+
+    ghost passes = { λ s r. is_asked s.peer r };
+
+    fn passes(&self, known: &Record) -> bool {
+        is_asked(self.peer, known)
     }
-    None
 }
 
 /// Adds an LSP with its paths, where it is asked for.
@@ -154,18 +153,6 @@ fn copy_asked(
     Ok(seen)
 }
 
-/// Lends the records from a place on.
-fn records_from(records: &[Record], from: u64) -> &[Record]
-    ensures { result.now ≡ drop from records.now }
-{
-    let from = from as usize;
-    if from < records.len() {
-        &records[from..]
-    } else {
-        &records[records.len()..]
-    }
-}
-
 /// Sees a page of LSPs, of one peer or of all, from the record at a place on.
 pub fn page_of(
     alloc: Global,
@@ -177,8 +164,8 @@ pub fn page_of(
     ensures page { IfOk result (λ page. IsPage lsps.now.content peer from page) }
     ensures steps { IfOk result (λ page. page.steps ≡ steps) }
 {
-    let records = records_from(lsps.records(), from);
-    match page_size(records, peer) {
+    let records = items_from(lsps.records(), from);
+    match full_at(records, &Asked { peer }) {
         Some(size) => Ok(LspPage {
             steps,
             lsps: copy_asked(alloc, lsps, peer, &records[..size])?,

@@ -10,53 +10,28 @@
 //! ```text
 //! fn run<R: Wait + Threads + Clock + Net<Listener = TcpListener, Stream = TcpStream> + AllocGlobal + Log + Sync>(rt: &R, listener: &TcpListener, te: TeBase) -> Result<Audit, RunFault>
 //! {
-//!     let orders = Orders { workers: 2, sessions: Sessions::Endless, keep_seconds: 60, settle_seconds: 0, descriptors: None };
+//!     let orders = Orders { workers: 2, sessions: Sessions::Endless, keep_seconds: 60, settle_seconds: 0, answer_seconds: 120, history_megabytes: 512, descriptors: None };
 //!     let routers = Routers { known: &None, settle_for: &[] };
 //!     let listeners = Listeners { routers: listener, control: None, viewers: None };
 //!     serve_run(rt, listeners, te, &plan, orders, routers, &mut io::empty(), &mut io::sink())
 //! }
 //! ```
 //!
-//! The modules, lowest first: `seat_pool` (where seats rest), `network`, `expiry` (what happens to peers, and when they
-//! are forgotten), `noted` and `reload_notes` (stores that note it), `wakers` (what wakes a connection, and how many an address has), `run`
-//! (whether the run is to end, and why), `outlook` (what those who are shown a run see of it), `context` (what each thread is lent), `unrung` (whose connections a worker has yet to wake), `workers` (workers and keeper),
-//! `connection` (a connection's thread), `acceptor`, `shown` (what an operator is shown), `answering` (an operator's lines), `control` (operators who
-//! connect), `operator` (the one at standard input), `viewers` (viewers by HTTP), `server`.
+//! Each kind of thread has a crate of its own: `server_connections` (the acceptor and the connections),
+//! `server_operators`, `server_viewers`, `server_workers` (the keeper of time too) and `server_log`. They stand on
+//! `server_base`, which has what each thread is lent. Here they are started and joined.
+//!
+//! - `starting`: what a run says as it starts, and how many connections have a place in it
+//! - `server`: a whole run
 #![tactic(auto)]
 
-mod acceptor;
-mod answering;
-mod connection;
-mod context;
-mod control;
-mod counting;
-mod expiry;
-mod grant_gate;
-mod log_lines;
-mod log_queue;
-mod log_writer;
-mod memory;
-mod network;
-mod noted;
-mod operator;
-mod outlook;
-mod overheard;
-mod plan;
-mod reload_notes;
-mod run;
-mod seat_pool;
 mod server;
-mod shown;
 mod starting;
-mod timed_look;
-mod unrung;
-mod viewers;
-mod wakers;
-mod workers;
 
-pub use log_writer::ErrorOutput;
-pub use plan::FilePlan;
-pub use run::RunFault;
-pub use server::{AT_ONCE, Listeners, Orders, Routers, Sessions, serve_run};
+pub use server::{Listeners, Routers, serve_run};
+pub use server_log::ErrorOutput;
+pub use server_operators::FilePlan;
+pub use server_rules::{AT_ONCE, Orders, Sessions};
+pub use server_signals::RunFault;
+pub use server_viewers::ViewerListener;
 pub use shared_pce::{Audit, AuditFault, Fault};
-pub use viewers::ViewerListener;

@@ -1,66 +1,36 @@
 //! A whole run.
-ghost use Rattle.std.specs.Prelude.{◌≡◌, ◌≤◌};
-ghost use Rattle.pce_server.specs.Ranges.{AreOrders};
+ghost use Rattle.std.specs.Prelude.{◌≡◌, ◌≤◌, IfOk};
+ghost use Rattle.std.specs.List.{list_all};
+ghost use Rattle.server_rules.specs.Ranges.{AreOrders};
+ghost use Rattle.pce_server.specs.RunEnds.{is_down, EndsIn};
 
-use crate::acceptor::accept_all;
-use crate::context::{Context, RunState};
-use crate::control::{Operators, control_seats, hear_controls};
-use crate::log_lines::{LogLine, is_debug_wanted};
-use crate::log_queue::LogQueue;
-use crate::log_writer::{ErrorOutput, write_last, write_log};
-use crate::network::{LinkEnds, ends_of};
-use crate::operator::{end_with, hear_operator};
-use crate::run::RunFault;
-use crate::seat_pool::SeatPool;
-use crate::starting::{few_descriptors, listening_line, live_of};
-use crate::viewers::{ViewerListener, show_views};
-use crate::wakers::Wakers;
-use crate::workers::{keep_time, work};
+use crate::starting::{few_descriptors, listening_line, live_of, roll_at};
 use history_core::Database;
+use history_seats::Brands;
 use log::Log;
-use place_tokens::{Room, Unopened};
-use server_rules::Settling;
+use place_tokens::Unopened;
+use server_base::{Context, LinkEnds, RunState, SeatPool, ends_of};
+use server_connections::accept_all;
+use server_log::{LogLine, LogQueue, is_debug_wanted, write_last, write_log};
+use server_operators::{Operators, control_seats, end_with, hear_controls, hear_operator};
+use server_rules::Orders;
+use server_signals::RunFault;
 use server_talk::{Patient, Plan, bound_accepts};
-use shared_pce::{Audit, Fault, Seat, Shared};
-use std::alloc::{AllocError, Global};
+use server_viewers::{ViewerListener, show_views};
+use server_workers::{keep_time, work};
+use shared_pce::{Audit, Event, Fault, Seat, Shared, Unnamed};
+use std::alloc::Global;
 use std::io::Write;
 use std::marker::Brand;
 use std::net::{Net, TcpListener, TcpStream};
 use std::os::unix::net::UnixListener;
 use std::sync::Wait;
-use std::sync::ledger::{Blank, Ledger};
+use std::sync::ledger::Blank;
 use std::thread;
 use std::thread::Threads;
 use std::time::{Clock, Instant};
+use step_core::Peer;
 use te_base::TeBase;
-
-/// The number of connections that have a place, at most.
-pub const AT_ONCE: usize = 64;
-
-/// How many connections a run accepts.
-#[derive(Clone, Copy, PartialEq, Eq, Debug)]
-pub enum Sessions {
-    /// This number in all. The run ends when these and the operator's lines have ended.
-    Count(u64),
-    /// Any number, until the operator's lines end; with a control socket, until one of them asks for the end. Then each
-    /// session that lives is closed.
-    Endless,
-}
-
-/// What a run is given.
-#[derive(Clone, Copy, Debug)]
-pub struct Orders {
-    /// The number of threads that search for paths.
-    pub workers: u64,
-    pub sessions: Sessions,
-    /// The time for which a peer whose session ended is kept, in seconds (the State Timeout of RFC 8231 section 5.6).
-    pub keep_seconds: u64,
-    /// The time in seconds from the start for which no ticket is taken, unless each router that is to be waited for is
-    /// in sync.
-    pub settle_seconds: u64,
-    /// The number of descriptors that the process may have, where that is known.
-    pub descriptors: Option<u64>,
-}
 
 /// Where a run is reached.
 #[derive(Drop)]
@@ -110,27 +80,22 @@ where
         + Log
         + Sync,
     requires orders { AreOrders orders }
+    ensures ended { IfOk result (EndsIn te) }
 {
     let seats = 2 * live_of(orders.sessions)
         + orders.workers
-        + 2
+        + 4
         + control_seats(listeners.control);
     let (steps, grants) = (Blank::new(seats), Blank::new(seats));
     let room = Unopened::new(rt.alloc(), seats)?;
-    seated_run::<Brand, Brand, Brand, R, I, O, P>(
+    let history = Unnamed::new(rt.alloc())?;
+    seated_run::<Brand, R, I, O, P>(
         rt, listeners, te, orders, routers, seats, reader, writer, plan, steps, grants, room,
+        history,
     )
 }
 
-fn seated_run<
-    S: Ledger + Send + Sync,
-    G: Ledger + Send + Sync,
-    B: Room + Send + Sync,
-    R,
-    I: Patient,
-    O: Write,
-    P: Plan + Sync,
->(
+fn seated_run<B: Brands + Send + Sync, R, I: Patient, O: Write, P: Plan + Sync>(
     rt: &R,
     listeners: &Listeners<'_>,
     te: TeBase,
@@ -143,6 +108,7 @@ fn seated_run<
     steps: Blank,
     grants: Blank,
     room: Unopened,
+    history: Unnamed<Event>,
 ) -> Result<Audit, RunFault>
 where
     R: Wait
@@ -154,36 +120,127 @@ where
         + Sync,
     requires orders { AreOrders orders }
     requires seats { (1 ≤ seats) × (seats ≤ 256) }
-    requires steps { (steps.name ≡ S.name) × (steps.parts ≡ S.parts) × (steps.parts ≡ seats) }
-    requires grants { (grants.name ≡ G.name) × (grants.parts ≡ G.parts) × (grants.parts ≡ seats) }
+    requires steps { (steps.name ≡ B.steps) × (steps.parts ≡ B.seats) × (steps.parts ≡ seats) }
+    requires grants { (grants.name ≡ B.grants) × (grants.parts ≡ B.seats) × (grants.parts ≡ seats) }
     requires room { (room.table ≡ B.table) × (room.seats ≡ B.seats) × (room.seats ≡ seats) }
+    requires history { history ≡ B.log }
+    requires text { te ≡ B.text }
+    ensures ended { IfOk result (EndsIn B.text) }
+{
+    let listening = listening_line(listeners.routers, &te);
+    let ends = ends_of(rt.alloc(), &te)?;
+    opened_run::<B, R, I, O, P>(
+        rt, listeners, te, &ends, listening, orders, routers, seats, reader, writer, plan, steps,
+        grants, room, history,
+    )
+}
+
+/// Puts the database behind its lock with a pool of all seats, serves until the end, and closes it.
+fn opened_run<B: Brands + Send + Sync, R, I: Patient, O: Write, P: Plan + Sync>(
+    rt: &R,
+    listeners: &Listeners<'_>,
+    te: TeBase,
+    ends: &[LinkEnds],
+    listening: LogLine,
+    orders: Orders,
+    routers: Routers<'_>,
+    seats: u64,
+    reader: &mut I,
+    writer: &mut O,
+    plan: &P,
+    steps: Blank,
+    grants: Blank,
+    room: Unopened,
+    history: Unnamed<Event>,
+) -> Result<Audit, RunFault>
+where
+    R: Wait
+        + Threads
+        + Clock
+        + Net<Listener = TcpListener, Stream = TcpStream>
+        + AllocGlobal
+        + Log
+        + Sync,
+    requires orders { AreOrders orders }
+    requires seats { (1 ≤ seats) × (seats ≤ 256) }
+    requires steps { (steps.name ≡ B.steps) × (steps.parts ≡ B.seats) × (steps.parts ≡ seats) }
+    requires grants { (grants.name ≡ B.grants) × (grants.parts ≡ B.seats) × (grants.parts ≡ seats) }
+    requires room { (room.table ≡ B.table) × (room.seats ≡ B.seats) × (room.seats ≡ seats) }
+    requires history { history ≡ B.log }
+    requires text { te ≡ B.text }
+    ensures ended { IfOk result (EndsIn B.text) }
 {
     let alloc = rt.alloc();
-    let listening = listening_line(listeners.routers, &te);
-    let ends = ends_of(alloc, &te)?;
     let database = Database::new(alloc, te)?;
-    let (shared, all) = Shared::<S, G, B>::new(alloc, database, seats, steps, grants, room)?;
+    let roll_at = roll_at(orders);
+    let (shared, all) = Shared::<B>::new(
+        alloc, database, seats, steps, grants, room, history, roll_at,
+    )?;
     let pool = SeatPool::new(alloc, all)?;
+    logged_run(
+        rt, alloc, &shared, &pool, ends, listening, listeners, orders, routers, reader, writer,
+        plan,
+    )?;
+    close(rt, alloc, shared, pool.into_seats(alloc)?)
+}
+
+/// Says how the run starts, and serves until the end.
+fn logged_run<B: Brands + Send + Sync, R, I: Patient, O: Write, P: Plan + Sync>(
+    rt: &R,
+    alloc: Global,
+    shared: &Shared<B>,
+    pool: &SeatPool<B>,
+    ends: &[LinkEnds],
+    listening: LogLine,
+    listeners: &Listeners<'_>,
+    orders: Orders,
+    routers: Routers<'_>,
+    reader: &mut I,
+    writer: &mut O,
+    plan: &P,
+) -> Result<(), RunFault>
+where
+    R: Wait
+        + Threads
+        + Clock
+        + Net<Listener = TcpListener, Stream = TcpStream>
+        + AllocGlobal
+        + Log
+        + Sync,
+    requires orders { AreOrders orders }
+{
     let log = LogQueue::new(alloc, is_debug_wanted(rt))?;
     log.say(rt, listening, 0);
     if let Some(line) = few_descriptors(orders) {
         log.say(rt, line, 0);
     }
     serve_all(
-        rt, alloc, &shared, &pool, &log, &ends, listeners, orders, routers, reader, writer, plan,
-    )?;
-    close(rt, alloc, shared, pool.into_seats(alloc)?)
+        rt, alloc, shared, pool, &log, ends, listeners, orders, routers, reader, writer, plan,
+    )
 }
 
-/// Closes the database with all seats, and logs what its audit says.
-fn close<R: Net + Log, S: Ledger, G: Ledger, B: Room>(
+/// Tests whether none of these peers is up.
+fn are_all_down(peers: &[Peer]) -> bool
+    ensures { result ≡ list_all is_down peers.now }
+{
+    peers.iter().all(|peer| !peer.up)
+}
+
+/// Closes the database with all seats, and logs what its audit says. A peer that is still up there is one of which no Down
+/// could be submitted: a run that leaves one ends like one that owes a Down, and nothing is said of its audit.
+fn close<R: Net + Log, B: Brands>(
     rt: &R,
     alloc: Global,
-    shared: Shared<S, G, B>,
-    seats: Vec<Seat<S, G, B>>,
-) -> Result<Audit, RunFault> {
+    shared: Shared<B>,
+    seats: Vec<Seat<B>>,
+) -> Result<Audit, RunFault>
+    ensures { IfOk result (EndsIn B.text) }
+{
     match shared.close(seats) {
         Ok(audit) => {
+            if !are_all_down(audit.database.state().peers()) {
+                return Err(RunFault::Store(Fault::OutOfMemory));
+            }
             let (steps, grants) = (audit.steps, audit.grants);
             write_last(rt, alloc, LogLine::Audited { steps, grants });
             Ok(audit)
@@ -193,19 +250,11 @@ fn close<R: Net + Log, S: Ledger, G: Ledger, B: Room>(
 }
 
 /// Serves all until the end. All seats rest in the pool then.
-fn serve_all<
-    S: Ledger + Send + Sync,
-    G: Ledger + Send + Sync,
-    B: Room + Send + Sync,
-    R,
-    I: Patient,
-    O: Write,
-    P: Plan + Sync,
->(
+fn serve_all<B: Brands + Send + Sync, R, I: Patient, O: Write, P: Plan + Sync>(
     rt: &R,
     alloc: Global,
-    shared: &Shared<S, G, B>,
-    pool: &SeatPool<S, G, B>,
+    shared: &Shared<B>,
+    pool: &SeatPool<B>,
     log: &LogQueue,
     ends: &[LinkEnds],
     listeners: &Listeners<'_>,
@@ -230,9 +279,8 @@ where
     }
     let live = live_of(orders.sessions) as usize;
     let seats = 2 * live;
-    let wakers = Wakers::new(alloc, live, seats)?;
-    let settling = Settling::new(alloc, routers.settle_for, orders.settle_seconds * 1000)?;
-    let state = RunState::new(alloc, wakers, settling);
+    let settle_ms = orders.settle_seconds * 1000;
+    let state = RunState::new(alloc, live, seats, routers.settle_for, settle_ms)?;
     let context = Context {
         rt,
         alloc,
@@ -248,13 +296,31 @@ where
         waits: &state.waits,
         presences: &state.presences,
         marks: &state.marks,
+        upkeep: &state.upkeep,
+        words: &state.words,
+        errors: &state.errors,
+        answer_ms: orders.answer_seconds.saturating_mul(1000),
+        retry_ms: orders.retry_seconds.saturating_mul(1000),
         strangers: &state.strangers,
         ends,
         start: Instant::now(rt).ok(),
         keep_ms: orders.keep_seconds * 1000,
         seats,
+        usher: seats.saturating_add(orders.workers as usize),
+        closer: seats
+            .saturating_add(orders.workers as usize)
+            .saturating_add(1),
     };
-    run_logged(&context, listeners, orders, reader, writer, plan)?;
+    run_threads(
+        &context,
+        listeners.routers,
+        listeners.control,
+        listeners.viewers.as_ref(),
+        orders,
+        reader,
+        writer,
+        plan,
+    );
     if state.peers.owes_a_down(rt) {
         state.run.cut(rt, RunFault::Store(Fault::OutOfMemory));
     }
@@ -264,64 +330,19 @@ where
     }
 }
 
-/// Runs all threads, where there is memory for what the log waits in.
-fn run_logged<
-    S: Ledger + Send + Sync,
-    G: Ledger + Send + Sync,
-    B: Room + Send + Sync,
-    R,
-    I: Patient,
-    O: Write,
-    P: Plan + Sync,
->(
-    context: &Context<'_, R, S, G, B>,
-    listeners: &Listeners<'_>,
-    orders: Orders,
-    reader: &mut I,
-    writer: &mut O,
-    plan: &P,
-) -> Result<(), AllocError>
-where
-    R: Wait
-        + Threads
-        + Clock
-        + Net<Listener = TcpListener, Stream = TcpStream>
-        + AllocGlobal
-        + Log
-        + Sync,
-    requires orders { AreOrders orders }
-{
-    let output = ErrorOutput::new(context.rt, context.alloc)?;
-    let lines = context.log.room(context.alloc)?;
-    run_threads(
-        context,
-        output,
-        lines,
-        listeners.routers,
-        listeners.control,
-        listeners.viewers.as_ref(),
-        orders,
-        reader,
-        writer,
-        plan,
-    );
-    Ok(())
+/// The thread that writes the log. A run without memory for that ends.
+fn log_all<R: Wait + Clock + Net + Log, B: Brands>(context: &Context<'_, R, B>) {
+    let written = write_log(context.rt, context.alloc, context.log, &context.moments());
+    if written.is_err() {
+        context.cut(RunFault::Store(Fault::OutOfMemory));
+    }
 }
 
 /// Starts the threads, hears the operator, and joins them in order: the acceptor first, for workers are needed as
-/// long as connections live, and the log last. Slots: of connections, then of workers, of the keeper of time, of the operator, and of those at the control socket.
-fn run_threads<
-    S: Ledger + Send + Sync,
-    G: Ledger + Send + Sync,
-    B: Room + Send + Sync,
-    R,
-    I: Patient,
-    O: Write,
-    P: Plan + Sync,
->(
-    context: &Context<'_, R, S, G, B>,
-    output: ErrorOutput,
-    lines: Vec<LogLine>,
+/// long as connections live, and the log last. Slots: of connections,
+/// then of workers, of whoever makes room, of whoever drops a covered grant, of the keeper of time, of the operator, and of those at the control socket.
+fn run_threads<B: Brands + Send + Sync, R, I: Patient, O: Write, P: Plan + Sync>(
+    context: &Context<'_, R, B>,
     routers: &TcpListener,
     control: Option<&UnixListener>,
     viewers: Option<&ViewerListener<'_>>,
@@ -342,7 +363,7 @@ where
 {
     let rt = context.rt;
     let first = context.seats;
-    let keeper_at = first.saturating_add(orders.workers as usize);
+    let keeper_at = context.closer.saturating_add(1);
     let operator_at = keeper_at.saturating_add(1);
     let operators = Operators {
         context,
@@ -351,7 +372,7 @@ where
     };
     let operators = &operators;
     thread::scope(thread::scope_env(), rt, |scope| {
-        let log = scope.spawn(move || write_log(context, output, lines));
+        let log = scope.spawn(move || log_all(context));
         let mut has_worker = false;
         for worker in 0..orders.workers as usize {
             let at = first.saturating_add(worker);

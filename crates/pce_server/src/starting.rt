@@ -1,15 +1,32 @@
 //! What a run says as it starts, and how many connections have a place in it.
-ghost use Rattle.std.specs.Prelude.{◌≤◌};
-ghost use Rattle.pce_server.specs.Ranges.{AreSessions, AreOrders};
+ghost use Rattle.std.specs.Prelude.{◌≡◌, ◌*◌, ◌≤◌};
+ghost use Rattle.server_rules.specs.Ranges.{AreSessions, AreOrders};
 
-use crate::log_lines::LogLine;
-use crate::server::{AT_ONCE, Orders, Sessions};
+use server_log::LogLine;
+use server_rules::{AT_ONCE, Orders, Sessions};
 use server_talk::peer_of;
+use shared_pce::RollAt;
 use std::net::TcpListener;
 use te_base::TeBase;
 
 /// The number of descriptors that a run may have beside those of its connections.
 const OTHER_DESCRIPTORS: u64 = 128;
+
+/// The number of kept steps at which the history is rolled, of the 1,048,576 that it holds.
+const ROLL_STEPS: u64 = 1_000_000;
+
+/// When the history is rolled: at 1,000,000 kept steps, or if they take half of the memory that the history may take.
+/// Receipts hold the other half at the most: the rolled steps, until their seats fold them.
+pub(crate) fn roll_at(orders: Orders) -> RollAt
+    requires { AreOrders orders }
+    ensures steps { result.steps ≡ 1000000 }
+    ensures bytes { result.bytes ≡ orders.history_megabytes * 500000 }
+{
+    RollAt {
+        steps: ROLL_STEPS,
+        bytes: orders.history_megabytes * 500_000,
+    }
+}
 
 /// How many connections have a place, at most.
 pub(crate) fn live_of(sessions: Sessions) -> u64

@@ -1,5 +1,5 @@
 -- What is written nests few levels, and is read again.
-use Rattle.std.proofs.Common.{◌≡◌, ◌∙◌, ℕ, ◌+◌, ◌-◌, ◌^◌, ◌≤◌, min, ℤ, nat_eq, Bool, true, false, if◌then◌else◌, List, [], ◌∷◌, Option, None, Some, option_and_then, ap, sym, arith, append-nil}
+use Rattle.std.proofs.Common.{◌≡◌, ◌∙◌, ℕ, ◌+◌, ◌-◌, ◌^◌, ◌≤◌, min, ℤ, nat_eq, Bool, true, false, if◌then◌else◌, List, [], ◌∷◌, Option, None, Some, option_and_then, option_map, ap, sym, arith, append-nil}
 use Rattle.std.specs.Str.{is_utf8}
 use Rattle.json.specs.Json.{Json, document, value, if_last, max_depth, string, null}
 use Rattle.json.specs.Lex.{tokens}
@@ -8,14 +8,20 @@ use Rattle.json.proofs.Printed.Trees.{value-json_tokens}
 use Rattle.te_base.specs.declared.network.Link.{Link}
 use Rattle.te_base.specs.declared.network.Node.{Node}
 use Rattle.lsp_base.specs.declared.path.Path.{Path}
+use Rattle.pce_seen.specs.declared.grants.Deletion.{Deletion}
+use Rattle.pce_seen.specs.declared.grants.GrantPage.{GrantPage}
+use Rattle.pce_seen.specs.declared.grants.KnownGrant.{KnownGrant}
 use Rattle.pce_seen.specs.declared.lsps.HeldPath.{HeldPath}
 use Rattle.pce_seen.specs.declared.lsps.KnownLsp.{KnownLsp}
 use Rattle.pce_seen.specs.declared.lsps.LinkUse.{LinkUse}
+use Rattle.pce_seen.specs.declared.gaps.Gap.{Gap}
 use Rattle.pce_seen.specs.declared.lsps.LspPage.{LspPage}
 use Rattle.pce_seen.specs.declared.origins.LspOrigins.{LspOrigins}
 use Rattle.pce_seen.specs.declared.origins.TracedPath.{TracedPath}
 use Rattle.pce_seen.specs.declared.peers.KnownPeer.{KnownPeer}
 use Rattle.pce_seen.specs.declared.peers.LspOwner.{LspOwner}
+use Rattle.pce_seen.specs.declared.places.PlacedLsp.{PlacedLsp}
+use Rattle.pce_seen.specs.declared.places.PlacedPage.{PlacedPage}
 use Rattle.commit_core.specs.declared.ticket.Ticket.{Ticket}
 use Rattle.path_looks.specs.declared.answer.Obstacle.{Obstacle}
 use Rattle.path_looks.specs.declared.answer.PathAnswer.{PathAnswer}
@@ -29,12 +35,18 @@ use Rattle.server_counts.specs.declared.kinds.EndReason.{EndReason}
 use Rattle.server_counts.specs.declared.lefts.LeftRow.{LeftRow}
 use Rattle.server_counts.specs.declared.marks.Mark.{Mark}
 use Rattle.server_counts.specs.declared.presences.Presence.{Presence}
+use Rattle.server_rules.specs.declared.path_words.PathWords.{PathWords}
 use Rattle.pce_view.specs.declared.age.Age.{Age}
+use Rattle.pce_view.specs.declared.heard.Heard.{Heard}
 use Rattle.pce_view.specs.declared.moments.Moments.{Moments}
 use Rattle.pce_view.specs.declared.moves.BetterLsp.{BetterLsp}
-use Rattle.pce_view.specs.Fields.{address_or_null, amounts, end_json, left_or_null, lsp_id, name_or_null, obstacle_json, srp_id, text_or_null, whole_or_null, wholes, word_or_null}
-use Rattle.pce_view.specs.Views.{age_of, better_items, better_json, better_page_json, book_json, counted_json, delegated_of, full_items, full_json, held_items, held_json, left_by, left_row_items, left_row_json, left_rows_or_null, line_items, line_json, lines_json, link_json, links_json, lsp_items, lsp_json, lsp_or_null, lsps_of, moments_of, move_items, move_json, node_json, nodes_json, origins_or_null, page_json, path_answer_json, path_items, path_json, peer_items, peers_json, run_json, status_json, step_items, step_json, steps_json, ticket_items, ticket_json, tickets_json, traced_items, traced_json, use_json}
-use Rattle.pce_view.specs.Words.{cost_in, cost_of_path, link_in, links_in, links_of_path, obstacle_of, origin_step, origin_ticket, origin_word, outcome_number, purpose_name, purpose_plsp, purpose_request}
+use Rattle.pce_view.specs.declared.notes.LspNotes.{LspNotes}
+use Rattle.pce_view.specs.declared.notes.PathNotes.{PathNotes}
+use Rattle.pce_view.specs.Fields.{address_or_null, amounts, end_json, left_or_null, lsp_id, name_or_null, obstacle_json, refusal_words, srp_id, text_or_null, whole_or_null, wholes, word_or_null}
+use Rattle.pce_view.specs.States.{gap_at, gaps_at, lsp_notes, path_notes, word_on}
+use Rattle.pce_view.specs.Unanswered.{unanswered_ms}
+use Rattle.pce_view.specs.Views.{age_of, better_items, better_json, better_page_json, book_json, counted_json, delegated_of, deletion_items, deletion_json, full_items, full_json, grant_items, grant_json, grants_json, held_items, held_json, left_by, left_row_items, left_row_json, left_rows_or_null, line_items, line_json, lines_json, link_json, links_json, lsp_items, lsp_or_null, lsps_of, moments_of, move_items, move_json, node_json, nodes_json, noted_lsp_json, origins_or_null, page_json, path_answer_json, path_items, path_json, peer_items, peers_json, run_json, status_json, step_items, step_json, steps_json, ticket_items, ticket_json, tickets_json, traced_items, traced_json, use_json}
+use Rattle.pce_view.specs.Words.{cost_in, cost_of_path, link_in, links_in, links_of_path, lsp_error_word, obstacle_of, operational_word, origin_step, origin_ticket, origin_word, outcome_number, purpose_name, purpose_plsp, purpose_request, state_word}
 
 pub document-of_tokens : (text : List ℕ) (j : Json) → tokens text ≡ json_tokens j → depth j ≤ max_depth → document text ≡ Some j
 document-of_tokens text j is shallow =
@@ -63,6 +75,10 @@ text_by false bytes = omega arith
 
 text_or_shallow : (bytes : List ℕ) → depth (text_or_null bytes) ≤ 0
 text_or_shallow bytes = text_by (is_utf8 bytes) bytes
+
+word_or_shallow : (word : Option (List ℕ)) → depth (word_or_null word) ≤ 0
+word_or_shallow None = omega arith
+word_or_shallow (Some word) = omega arith
 
 pub status_shallow : (version : List ℕ) (uptime : ℕ) (counts : Counts) → depth (status_json version uptime counts) ≤ max_depth
 unfolding status_json
@@ -108,28 +124,53 @@ peer_items_shallow now_ms presences owners (peer ∷ peers) =
 pub peers_shallow : (now_ms : ℕ) (presences : List (ℕ × Presence)) (owners : List LspOwner) (peers : List KnownPeer) → depth (peers_json now_ms presences owners peers) ≤ max_depth
 peers_shallow now_ms presences owners peers = omega (arith, peer_items_shallow now_ms presences owners peers)
 
-path_shallow : (x : Path) → depth (path_json x) ≤ 2
+path_shallow : (n : PathNotes) (x : Path) → depth (path_json n x) ≤ 2
 unfolding path_json
-path_shallow x = omega (arith, whole_or_shallow (lsp_id x.part), whole_or_shallow (srp_id x.part), wholes_shallow x.links)
+path_shallow n x =
+    omega (
+      arith,
+      whole_or_shallow (lsp_id x.part),
+      whole_or_shallow (srp_id x.part),
+      wholes_shallow x.links,
+      word_or_shallow (option_map operational_word n.operational),
+      whole_or_shallow n.error_code,
+      word_or_shallow (option_map lsp_error_word n.error_code),
+      address_or_shallow n.rsvp_node,
+      whole_or_shallow n.rsvp_code,
+      whole_or_shallow n.rsvp_value,
+      whole_or_shallow n.gap_before,
+      whole_or_shallow n.gap_after,
+    )
 
-path_items_shallow : (xs : List Path) → items_depth (path_items xs) ≤ 2
-path_items_shallow [] = omega arith
-path_items_shallow (x ∷ xs) = omega (arith, path_shallow x, path_items_shallow xs)
+path_items_shallow : (words : PathWords) (gaps : List (Option Gap)) (place : ℕ) (xs : List Path) → items_depth (path_items words gaps place xs) ≤ 2
+path_items_shallow words gaps place [] = omega arith
+path_items_shallow words gaps place (x ∷ xs) = omega (arith, path_shallow (path_notes (word_on words x) (gap_at gaps place)) x, path_items_shallow words gaps (place + 1) xs)
 
-lsp_shallow : (l : KnownLsp) → depth (lsp_json l) ≤ 4
-unfolding lsp_json
-lsp_shallow l = omega (arith, text_or_shallow ((l.known).lsp).name, address_or_shallow (((l.known).lsp).constraints).source, address_or_shallow (((l.known).lsp).constraints).destination, path_items_shallow l.paths)
+noted_lsp_shallow : (n : LspNotes) (words : PathWords) (gaps : List (Option Gap)) (l : KnownLsp) → depth (noted_lsp_json n words gaps l) ≤ 4
+unfolding noted_lsp_json
+noted_lsp_shallow n words gaps l =
+    omega (
+      arith,
+      text_or_shallow ((l.known).lsp).name,
+      word_or_shallow (state_word n.state),
+      address_or_shallow (((l.known).lsp).constraints).source,
+      address_or_shallow (((l.known).lsp).constraints).destination,
+      whole_or_shallow n.refusal_type,
+      whole_or_shallow n.refusal_value,
+      word_or_shallow (refusal_words n.refusal),
+      path_items_shallow words gaps 0 l.paths,
+    )
 
-lsp_items_shallow : (ls : List KnownLsp) → items_depth (lsp_items ls) ≤ 4
-lsp_items_shallow [] = omega arith
-lsp_items_shallow (l ∷ ls) = omega (arith, lsp_shallow l, lsp_items_shallow ls)
+lsp_items_shallow : (h : Heard) (gaps : List (List (Option Gap))) (place : ℕ) (ls : List KnownLsp) → items_depth (lsp_items h gaps place ls) ≤ 4
+lsp_items_shallow h gaps place [] = omega arith
+lsp_items_shallow h gaps place (l ∷ ls) = omega (arith, noted_lsp_shallow (lsp_notes h l (gaps_at gaps place)) h.words (gaps_at gaps place) l, lsp_items_shallow h gaps (place + 1) ls)
 
-pub page_shallow : (from : ℕ) (page : LspPage) → depth (page_json from page) ≤ max_depth
-page_shallow from page = omega (arith, whole_or_shallow page.next, lsp_items_shallow page.lsps.items)
+pub page_shallow : (from : ℕ) (h : Heard) (placed : PlacedPage) → depth (page_json from h placed) ≤ max_depth
+page_shallow from h placed = omega (arith, whole_or_shallow (placed.page).next, lsp_items_shallow h placed.gaps.items 0 (placed.page).lsps.items)
 
-pub lsp_or_shallow : (l : Option KnownLsp) → depth (lsp_or_null l) ≤ max_depth
-lsp_or_shallow None = omega arith
-lsp_or_shallow (Some l) = omega (arith, lsp_shallow l)
+pub lsp_or_shallow : (h : Heard) (placed : Option PlacedLsp) → depth (lsp_or_null h placed) ≤ max_depth
+lsp_or_shallow h None = omega arith
+lsp_or_shallow h (Some placed) = omega (arith, noted_lsp_shallow (lsp_notes h placed.lsp placed.gaps) h.words placed.gaps placed.lsp)
 
 held_shallow : (h : HeldPath) → depth (held_json h) ≤ 1
 unfolding held_json
@@ -157,6 +198,25 @@ lines_shallow n u = omega (arith, line_items_shallow n u)
 name_or_shallow : (n : Option (List ℕ)) → depth (name_or_null n) ≤ 0
 name_or_shallow None = omega arith
 name_or_shallow (Some bytes) = text_or_shallow bytes
+
+grant_shallow : (unanswered : Option ℕ) (g : KnownGrant) → depth (grant_json unanswered g) ≤ 2
+unfolding grant_json
+grant_shallow unanswered g = omega (arith, whole_or_shallow unanswered, whole_or_shallow (srp_id (g.path).part), name_or_shallow g.name, wholes_shallow (g.path).links)
+
+grant_items_shallow : (now_ms : ℕ) (since : List (Option ℕ)) (place : ℕ) (gs : List KnownGrant) → items_depth (grant_items now_ms since place gs) ≤ 2
+grant_items_shallow now_ms since place [] = omega arith
+grant_items_shallow now_ms since place (g ∷ gs) = omega (arith, grant_shallow (unanswered_ms now_ms since place) g, grant_items_shallow now_ms since (place + 1) gs)
+
+deletion_shallow : (unanswered : Option ℕ) (d : Deletion) → depth (deletion_json unanswered d) ≤ 1
+unfolding deletion_json
+deletion_shallow unanswered d = omega (arith, whole_or_shallow unanswered)
+
+deletion_items_shallow : (now_ms : ℕ) (since : List (Option ℕ)) (place : ℕ) (ds : List Deletion) → items_depth (deletion_items now_ms since place ds) ≤ 1
+deletion_items_shallow now_ms since place [] = omega arith
+deletion_items_shallow now_ms since place (d ∷ ds) = omega (arith, deletion_shallow (unanswered_ms now_ms since place) d, deletion_items_shallow now_ms since (place + 1) ds)
+
+pub grants_shallow : (from now_ms : ℕ) (h : Heard) (page : GrantPage) → depth (grants_json from now_ms h page) ≤ max_depth
+grants_shallow from now_ms h page = omega (arith, whole_or_shallow page.next, grant_items_shallow now_ms h.grants_since_ms.items 0 page.grants.items, deletion_items_shallow now_ms h.deletions_since_ms.items 0 page.deletions.items)
 
 ticket_shallow : (t : Ticket) → depth (ticket_json t) ≤ 1
 unfolding ticket_json
@@ -198,10 +258,6 @@ left_or_shallow (Some room) = omega arith
 
 pub path_answer_shallow : (a : PathAnswer) (room : Option LinkRoom) (full : List FullLink) → depth (path_answer_json a room full) ≤ max_depth
 path_answer_shallow a room full = omega (arith, obstacle_shallow (obstacle_of a), whole_or_shallow (cost_in a), wholes_shallow (links_in a), whole_or_shallow (link_in room), left_or_shallow room, full_items_shallow full)
-
-word_or_shallow : (word : Option (List ℕ)) → depth (word_or_null word) ≤ 0
-word_or_shallow None = omega arith
-word_or_shallow (Some word) = omega arith
 
 left_row_shallow : (r : LeftRow) → depth (left_row_json r) ≤ 1
 unfolding left_row_json

@@ -1,8 +1,8 @@
 -- What is said to an operator's question, of what was seen.
-use Rattle.std.specs.Prelude.{ℕ, ◌≡◌, List, Option, Some, None}
+use Rattle.std.specs.Prelude.{ℕ, ◌≡◌, false, List, Option, Some, None}
 use Rattle.json.specs.Json.{document, null}
 use Rattle.pcep_word.specs.Priority.{InForce}
-use Rattle.pcep_objects.specs.declared.object.MetricType.TheVariants.{Te}
+use Rattle.lsp_words.specs.declared.object.MetricType.TheVariants.{Te}
 use Rattle.lsp_base.specs.declared.lsp.Constraints.{Constraints}
 use Rattle.te_snapshot.specs.Network.{NetworkState}
 use Rattle.path_looks.specs.Paths.{any_colours, full_links, no_bounds, IsPathAnswer}
@@ -24,13 +24,15 @@ use Rattle.pce_seen.specs.declared.seen.Seen.TheVariants as seen
 use Rattle.pce_view.specs.declared.answer.Form.{Form}
 use Rattle.pce_view.specs.declared.answer.Form.TheVariants.{Table, Json}
 use Rattle.pce_view.specs.declared.answer.Surroundings.{Surroundings}
-use Rattle.pce_view.specs.Views.{better_page_json, book_json, lines_json, lsp_or_null, origins_or_null, page_json, path_answer_json, peers_json, run_json, status_json, steps_json, tickets_json, use_json}
+use Rattle.pce_view.specs.declared.heard.Heard.{Heard}
+use Rattle.pce_view.specs.Views.{better_page_json, book_json, grants_json, lines_json, lsp_or_null, origins_or_null, page_json, path_answer_json, peers_json, run_json, status_json, steps_json, tickets_json, use_json}
 use Rattle.pce_view.specs.Words.{links_in}
 
--- the place at which the page of LSPs that is asked for starts
+-- the place at which the page that is asked for starts
 abbrev pub place_of : Ask → ℕ
 place_of (ask.Lsps peer from) = from
 place_of (ask.Better peer from) = from
+place_of (ask.Grants peer from) = from
 place_of a = 0
 
 -- the number of the link that is asked for
@@ -52,6 +54,7 @@ wanted from to bandwidth priorities = record {
   bound = None;
   hop_bound = None;
   other_bounds = no_bounds;
+  local_protection = false;
 }
 
 -- a path of least cost on the snapshot, or what stands in its way, as JSON
@@ -95,22 +98,23 @@ abbrev pub IsRunOrNull : ℕ → Option Displaced → List ℕ → Type 0
 IsRunOrNull link None text = document text ≡ Some null
 IsRunOrNull link (Some x) text = IsRunText link x text
 
--- a reader of JSON reads the text as exactly what was seen
-abbrev pub IsJsonOf : Surroundings → Ask → Seen → List ℕ → Type 0
-IsJsonOf around a (seen.Counts counts) text = document text ≡ Some (status_json around.version.now around.uptime_ms counts)
-IsJsonOf around a (seen.Book book) text = document text ≡ Some (book_json book.nodes.items book.links.items book.left.items)
-IsJsonOf around a (seen.Peers peers) text = document text ≡ Some (peers_json around.uptime_ms around.presences.now peers.lsps.items peers.peers.items)
-IsJsonOf around a (seen.Tickets tickets) text = document text ≡ Some (tickets_json tickets.items)
-IsJsonOf around a (seen.Lsps page) text = document text ≡ Some (page_json (place_of a) page)
-IsJsonOf around a (seen.Lsp lsp) text = document text ≡ Some (lsp_or_null lsp)
-IsJsonOf around a (seen.Link found) text = IsOneLinkText a found text
-IsJsonOf around a (seen.Steps steps) text = document text ≡ Some (steps_json steps.first steps.steps.items)
-IsJsonOf around a (seen.Origins origins) text = document text ≡ Some (origins_or_null around.uptime_ms around.marks.now around.lefts.now origins)
-IsJsonOf around a (seen.Movable movable) text = IsBetterText (place_of a) movable text
-IsJsonOf around a (seen.Displaced displaced) text = IsRunOrNull (number_of_link a) displaced text
-IsJsonOf around a (seen.Network network) text = IsNetworkText a network text
+-- a reader of JSON reads the text as exactly what was seen, with what routers said of it
+abbrev pub IsJsonOf : Surroundings → Heard → Ask → Seen → List ℕ → Type 0
+IsJsonOf around heard a (seen.Counts counts) text = document text ≡ Some (status_json around.version.now around.uptime_ms counts)
+IsJsonOf around heard a (seen.Book book) text = document text ≡ Some (book_json book.nodes.items book.links.items book.left.items)
+IsJsonOf around heard a (seen.Peers peers) text = document text ≡ Some (peers_json around.uptime_ms around.presences.now peers.lsps.items peers.peers.items)
+IsJsonOf around heard a (seen.Tickets tickets) text = document text ≡ Some (tickets_json tickets.items)
+IsJsonOf around heard a (seen.Lsps page) text = document text ≡ Some (page_json (place_of a) heard page)
+IsJsonOf around heard a (seen.Lsp lsp) text = document text ≡ Some (lsp_or_null heard lsp)
+IsJsonOf around heard a (seen.Link found) text = IsOneLinkText a found text
+IsJsonOf around heard a (seen.Steps steps) text = document text ≡ Some (steps_json steps.first steps.steps.items)
+IsJsonOf around heard a (seen.Origins origins) text = document text ≡ Some (origins_or_null around.uptime_ms around.marks.now around.lefts.now origins)
+IsJsonOf around heard a (seen.Movable movable) text = IsBetterText (place_of a) movable text
+IsJsonOf around heard a (seen.Displaced displaced) text = IsRunOrNull (number_of_link a) displaced text
+IsJsonOf around heard a (seen.Network network) text = IsNetworkText a network text
+IsJsonOf around heard a (seen.Grants page) text = document text ≡ Some (grants_json (place_of a) around.uptime_ms heard page)
 
 -- the text for programs; of that for people nothing is claimed
-abbrev pub AnswersAs : Form → Surroundings → Ask → Seen → List ℕ → Type 0
-AnswersAs Json around a s text = IsJsonOf around a s text
-AnswersAs Table around a s text = Unit {0}
+abbrev pub AnswersAs : Form → Surroundings → Heard → Ask → Seen → List ℕ → Type 0
+AnswersAs Json around heard a s text = IsJsonOf around heard a s text
+AnswersAs Table around heard a s text = Unit {0}

@@ -88,3 +88,5 @@ word_of (counted.Ended reason) = end_word reason
 word_of (counted.Received m) = message_word m
 word_of (counted.Sent m) = message_word m
 word_of (counted.ErrorSent kind value) = codes ""
+word_of (counted.ErrorReceived kind value) = codes ""
+word_of counted.NoAnswer = codes ""

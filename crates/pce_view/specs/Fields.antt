@@ -1,5 +1,5 @@
 -- The members of an object.
-use Rattle.std.specs.Prelude.{ℕ, ℤ, Bool, not, ◌==◌, ◌||◌, List, [], ◌∷◌, length, slice_get, Option, Some, None, is_some, if◌then◌else◌}
+use Rattle.std.specs.Prelude.{ℕ, ℤ, Bool, not, ◌==◌, ◌||◌, List, [], ◌∷◌, length, slice_get, Option, Some, None, is_some, option_map, if◌then◌else◌}
 use Rattle.std.specs.List.{list_all}
 use Rattle.std.specs.Str.{is_utf8}
 use Rattle.hex.specs.Hex.{encode_lower}
@@ -16,9 +16,11 @@ use Rattle.pce_view.specs.declared.fields.Member.{Member}
 use Rattle.path_looks.specs.declared.answer.Obstacle.{Obstacle}
 use Rattle.path_looks.specs.declared.link_room.LinkRoom.{LinkRoom}
 use Rattle.server_counts.specs.declared.kinds.EndReason.{EndReason}
+use Rattle.error_words.specs.Errors.{error_words}
+use Rattle.server_rules.specs.declared.peer_errors.PcErr.{PcErr}
 use Rattle.pce_view.specs.CountedWords.{end_word}
 use Rattle.pce_view.specs.Json.{whole, signed}
-use Rattle.pce_view.specs.Words.{cost_in, cost_of_path, event_word, is_found, link_in, links_in, links_of_path, obstacle_of, obstacle_word, origin_step, origin_ticket, origin_word, outcome_number, outcome_word, purpose_name, purpose_plsp, purpose_request, purpose_word}
+use Rattle.pce_view.specs.Words.{cost_in, cost_of_path, event_word, is_found, link_in, links_in, links_of_path, lsp_error_word, obstacle_of, obstacle_word, operational_word, origin_step, origin_ticket, origin_word, outcome_number, outcome_word, purpose_name, purpose_plsp, purpose_request, purpose_word, state_word}
 
 abbrev pub amounts : List ℤ → Items
 amounts [] = no_items
@@ -76,6 +78,10 @@ abbrev pub word_or_null : Option (List ℕ) → Json
 word_or_null None = null
 word_or_null (Some word) = string word
 
+-- what a PCErr means
+abbrev pub refusal_words : Option PcErr → Option (List ℕ)
+refusal_words error = option_map (λ (e : PcErr). error_words e.kind e.value) error
+
 -- what is left of a link, or nothing
 abbrev pub left_or_null : Option LinkRoom → Json
 left_or_null None = null
@@ -114,10 +120,15 @@ field_json (field.SrpId part) = whole_or_null (srp_id part)
 field_json (field.IsGranted part) = boolean (is_granted part)
 field_json (field.IsDown paths) = boolean (is_down paths.now)
 field_json (field.IsThere number) = boolean (is_some number)
+field_json (field.State state) = word_or_null (state_word state)
+field_json (field.StateOfPath operational) = word_or_null (option_map operational_word operational)
+field_json (field.LspError code) = word_or_null (option_map lsp_error_word code)
+field_json (field.Refusal error) = word_or_null (refusal_words error)
 field_json (field.Node name) = string name.now
 field_json (field.NodeAt nodes number) = string (name_at nodes.now number)
 field_json (field.Name bytes) = text_or_null bytes.now
 field_json (field.Hex bytes) = string (encode_lower bytes.now)
+field_json (field.NameOr name) = name_or_null name.now
 field_json (field.EndOf reason) = end_json reason
 field_json (field.PurposeWord purpose) = string (purpose_word purpose.now)
 field_json (field.PurposePlsp purpose) = whole_or_null (purpose_plsp purpose.now)

@@ -1,6 +1,8 @@
 pub mod Json
 pub mod Words
 pub mod Fields
+pub mod States
+pub mod Unanswered
 pub mod Moves
 pub mod Views
 pub mod Answers

@@ -1,5 +1,5 @@
 -- The metrics of what is seen and counted, in Prometheus's text format 0.0.4.
-use Rattle.std.specs.Prelude.{ℕ, ◌+◌, ◌-◌, ◌^◌, min, ℤ, List, [], ◌∷◌, ◌++◌, codes, cond, nat_eq, slice_get, Option, Some, None}
+use Rattle.std.specs.Prelude.{ℕ, ◌+◌, ◌-◌, ◌^◌, min, ℤ, List, [], ◌∷◌, ◌++◌, codes, cond, nat_eq, slice_get, unwrap_or, Option, Some, None}
 use Rattle.std.specs.Fmt.{decimal, signed_decimal}
 use Rattle.te_base.specs.declared.network.Node.{Node}
 use Rattle.te_base.specs.declared.network.Link.{Link}
@@ -15,13 +15,20 @@ use Rattle.pce_seen.specs.declared.steps.EventKind.TheVariants as event
 use Rattle.server_counts.specs.declared.kinds.ReplyKind.{ReplyKind}
 use Rattle.server_counts.specs.declared.kinds.ReplyKind.TheVariants as reply
 use Rattle.server_counts.specs.declared.kinds.EndReason.TheVariants as end
+use Rattle.server_counts.specs.declared.stream.Way.{Way}
+use Rattle.server_counts.specs.declared.stream.Way.TheVariants.{In, Out}
 use Rattle.pce_seen.specs.declared.seen.Book.{Book}
 use Rattle.pce_seen.specs.declared.seen.Counts.{Counts}
 use Rattle.pce_view.specs.declared.answer.Surroundings.{Surroundings}
+use Rattle.pce_view.specs.declared.metrics.Process.{Process}
 use Rattle.pce_view.specs.Fields.{name_at}
 use Rattle.pce_view.specs.Pieces.{bound_text, escaped, seconds}
 use Rattle.pce_view.specs.CountedWords.{word_of}
-use Rattle.pce_view.specs.Words.{event_word}
+use Rattle.pce_view.specs.States.{broken_in, number_in}
+use Rattle.pce_view.specs.Words.{event_word, state_word}
+use Rattle.pce_view.specs.declared.state_metrics.ShownState.{ShownState}
+use Rattle.pce_view.specs.declared.states.LspState.{LspState}
+use Rattle.pce_view.specs.declared.states.LspState.TheVariants as state
 
 -- what a metric is: its help and its type
 unfoldable pub head : List ℕ → List ℕ → List ℕ → List ℕ
@@ -81,6 +88,9 @@ commits_text c =
     family (codes "pced_commits_total") (codes "Searches that were committed, by verdict.") (codes "verdict") c
     (counted.Step event.Commit reply.Granted ∷ counted.Step event.Commit reply.Answered ∷ counted.Step event.Commit reply.Again ∷ counted.Step event.Commit reply.NoPath ∷ counted.Step event.Commit reply.GivenUp ∷ counted.Step event.Commit reply.Gone ∷ [])
 
+unfoldable pub unanswered_text : ℕ → List ℕ
+unanswered_text n = single (codes "pced_unanswered_total") (codes "counter") (codes "Grants and deletions that routers left unanswered.") n
+
 unfoldable pub ends_text : Counters → List ℕ
 ends_text c =
     family (codes "pced_connection_ends_total") (codes "Connections of routers that ended, by reason.") (codes "reason") c
@@ -105,34 +115,44 @@ sent_text c =
     family (codes "pced_messages_sent_total") (codes "Messages that were sent to routers, by type.") (codes "type") c
     (counted.Sent message.Open ∷ counted.Sent message.Keepalive ∷ counted.Sent message.Request ∷ counted.Sent message.Reply ∷ counted.Sent message.Notification ∷ counted.Sent message.Error ∷ counted.Sent message.Close ∷ counted.Sent message.Report ∷ counted.Sent message.Update ∷ counted.Sent message.Initiate ∷ counted.Sent message.Other ∷ [])
 
--- a line for a type and value of PCErr, where one was sent
-unfoldable pub error_line : ℕ → ℕ → ℕ → List ℕ
-error_line kind value n =
-    cond (nat_eq n 0) [] (codes "pced_errors_sent_total{type=\"" ++ (decimal kind ++ (codes "\",value=\"" ++ (decimal value ++ (codes "\"} " ++ (decimal n ++ codes "\n"))))))
+-- a PCErr that came or was sent
+abbrev pub error_of : Way → ℕ → ℕ → Counted
+error_of In kind value = counted.ErrorReceived kind value
+error_of Out kind value = counted.ErrorSent kind value
 
-abbrev pub error_values : Counters → ℕ → List ℕ → List ℕ
-error_values c kind [] = []
-error_values c kind (value ∷ values) = error_line kind value (count_of c (counted.ErrorSent kind value)) ++ error_values c kind values
+abbrev pub errors_name : Way → List ℕ
+errors_name In = codes "pced_errors_received_total"
+errors_name Out = codes "pced_errors_sent_total"
 
-abbrev pub error_kinds : Counters → List ℕ → List ℕ → List ℕ
-error_kinds c [] values = []
-error_kinds c (kind ∷ kinds) values = error_values c kind values ++ error_kinds c kinds values
+abbrev pub errors_help : Way → List ℕ
+errors_help In = codes "PCErr that routers sent, by type and value; 31 stands for all from 31 on."
+errors_help Out = codes "PCErr that were sent, by type and value; 31 stands for all from 31 on."
 
-unfoldable pub error_head : List ℕ
-error_head = head (codes "pced_errors_sent_total") (codes "counter") (codes "PCErr that were sent, by type and value; 31 stands for all from 31 on.")
+-- a line for a type and value of PCErr, if there was one
+unfoldable pub error_line : List ℕ → ℕ → ℕ → ℕ → List ℕ
+error_line name kind value n =
+    cond (nat_eq n 0) [] (name ++ (codes "{type=\"" ++ (decimal kind ++ (codes "\",value=\"" ++ (decimal value ++ (codes "\"} " ++ (decimal n ++ codes "\n")))))))
 
-unfoldable pub error_family : Counters → List ℕ → List ℕ → List ℕ
-error_family c kinds values = error_head ++ error_kinds c kinds values
+abbrev pub error_values : Way → Counters → ℕ → List ℕ → List ℕ
+error_values way c kind [] = []
+error_values way c kind (value ∷ values) = error_line (errors_name way) kind value (count_of c (error_of way kind value)) ++ error_values way c kind values
+
+abbrev pub error_kinds : Way → Counters → List ℕ → List ℕ → List ℕ
+error_kinds way c [] values = []
+error_kinds way c (kind ∷ kinds) values = error_values way c kind values ++ error_kinds way c kinds values
+
+unfoldable pub error_family : Way → Counters → List ℕ → List ℕ → List ℕ
+error_family way c kinds values = head (errors_name way) (codes "counter") (errors_help way) ++ error_kinds way c kinds values
 
 -- 0 to 31
 abbrev pub error_numbers : List ℕ
 error_numbers = 0 ∷ 1 ∷ 2 ∷ 3 ∷ 4 ∷ 5 ∷ 6 ∷ 7 ∷ 8 ∷ 9 ∷ 10 ∷ 11 ∷ 12 ∷ 13 ∷ 14 ∷ 15 ∷ 16 ∷ 17 ∷ 18 ∷ 19 ∷ 20 ∷ 21 ∷ 22 ∷ 23 ∷ 24 ∷ 25 ∷ 26 ∷ 27 ∷ 28 ∷ 29 ∷ 30 ∷ 31 ∷ []
 
-unfoldable pub errors_text : Counters → List ℕ
-errors_text c = error_family c error_numbers error_numbers
+unfoldable pub errors_text : Way → Counters → List ℕ
+errors_text way c = error_family way c error_numbers error_numbers
 
 unfoldable pub messages_text : Counters → List ℕ
-messages_text c = received_text c ++ (sent_text c ++ errors_text c)
+messages_text c = received_text c ++ (sent_text c ++ (errors_text Out c ++ errors_text In c))
 
 -- how many times were up to a bound
 unfoldable pub bucket_line : List ℕ → Option ℕ → ℕ → List ℕ
@@ -218,18 +238,24 @@ unfoldable pub links_text : List Node → List Link → List (List ℤ) → List
 links_text nodes links lefts = reservable_text nodes links ++ unreserved_text nodes links lefts
 
 unfoldable pub build_head : List ℕ
-build_head = head (codes "pced_build_info") (codes "gauge") (codes "The version of the program.")
+build_head = head (codes "pced_build_info") (codes "gauge") (codes "The version of the program, the logic of its proofs, and the commit of its sources.")
 
-unfoldable pub build_row : List ℕ → List ℕ
-build_row version = row (codes "pced_build_info") (codes "version") version 1
+unfoldable pub build_row : List ℕ → List ℕ → List ℕ → List ℕ
+build_row version logic commit = codes "pced_build_info{version=\"" ++ (escaped version ++ (codes "\",logic=\"" ++ (escaped logic ++ (codes "\",commit=\"" ++ (escaped commit ++ codes "\"} 1\n")))))
 
-unfoldable pub build_text : List ℕ → List ℕ
-build_text version = build_head ++ build_row version
+unfoldable pub build_text : List ℕ → List ℕ → List ℕ → List ℕ
+build_text version logic commit = build_head ++ build_row version logic commit
 
--- memory that isn't known is left out
-unfoldable pub memory_text : Option ℕ → List ℕ
-memory_text None = []
-memory_text (Some bytes) = single (codes "process_resident_memory_bytes") (codes "gauge") (codes "Memory of the process that is in RAM.") bytes
+-- a number that isn't known is left out
+abbrev pub known_single : List ℕ → List ℕ → Option ℕ → List ℕ
+known_single name help None = []
+known_single name help (Some n) = single name (codes "gauge") help n
+
+unfoldable pub process_text : Process → List ℕ
+process_text p =
+    known_single (codes "process_resident_memory_bytes") (codes "Memory of the process that is in RAM.") p.resident_bytes
+    ++ (known_single (codes "process_open_fds") (codes "File descriptors that are open.") p.open_descriptors
+    ++ known_single (codes "process_max_fds") (codes "File descriptors that may be open.") p.descriptor_limit)
 
 unfoldable pub sessions_up_text : ℕ → List ℕ
 sessions_up_text n = single (codes "pced_sessions_up") (codes "gauge") (codes "Sessions that are up.") n
@@ -258,11 +284,14 @@ gauges_text n = sessions_up_text n.sessions_up ++ (waiting_text n.tickets ++ lsp
 unfoldable pub steps_taken_text : Counts → List ℕ
 steps_taken_text n = kept_steps_text n.kept ++ (all_steps_text n.steps ++ grants_text n.grants)
 
+unfoldable pub waiting_grants_text : ℕ → List ℕ
+waiting_grants_text n = single (codes "pced_waiting_grants") (codes "gauge") (codes "Granted paths that no report has settled.") n
+
 unfoldable pub totals_text : Counts → List ℕ
-totals_text n = paths_text n.paths ++ steps_taken_text n
+totals_text n = paths_text n.paths ++ (waiting_grants_text n.waiting_grants ++ steps_taken_text n)
 
 unfoldable pub steps_text : Counters → List ℕ
-steps_text c = events_text c ++ (refusals_text c ++ commits_text c)
+steps_text c = events_text c ++ (refusals_text c ++ (commits_text c ++ unanswered_text (count_of c counted.NoAnswer)))
 
 unfoldable pub counters_text : Counters → List ℕ
 counters_text c = steps_text c ++ (connections_text c ++ (messages_text c ++ times_text c))
@@ -270,6 +299,26 @@ counters_text c = steps_text c ++ (connections_text c ++ (messages_text c ++ tim
 unfoldable pub seen_text : Counts → Book → List ℕ
 seen_text n book = gauges_text n ++ (totals_text n ++ links_text book.nodes.items book.links.items book.left.items)
 
--- all metrics: the version, memory, what was counted, and what was seen of the database
-abbrev pub metrics : Surroundings → Counts → Book → Counters → Option ℕ → List ℕ
-metrics around n book c memory = build_text around.version.now ++ (memory_text memory ++ (counters_text c ++ seen_text n book))
+-- an LSP of which nothing is known but what is booked is in no state
+abbrev pub state_label : LspState → List ℕ
+state_label s = unwrap_or (state_word s) (codes "unknown")
+
+abbrev pub state_rows : List ShownState → List LspState → List ℕ
+state_rows states [] = []
+state_rows states (s ∷ ss) = row (codes "pced_lsps_by_state") (codes "state") (state_label s) (number_in s states) ++ state_rows states ss
+
+unfoldable pub state_head : List ℕ
+state_head = head (codes "pced_lsps_by_state") (codes "gauge") (codes "LSPs by the state in which they are shown.")
+
+unfoldable pub state_family : List ShownState → List LspState → List ℕ
+state_family states each = state_head ++ state_rows states each
+
+unfoldable pub states_text : List ShownState → List ℕ
+states_text states = state_family states (state.Active ∷ state.Up ∷ state.GoingUp ∷ state.GoingDown ∷ state.Down ∷ state.Unplaced ∷ state.Unknown ∷ [])
+
+unfoldable pub placed_text : List ShownState → List ℕ
+placed_text states = states_text states ++ single (codes "pced_partly_placed_paths") (codes "gauge") (codes "Reported paths whose links have a gap.") (broken_in states)
+
+-- all metrics: which program it is, what the system says of it, what was counted, and what was seen of the database
+abbrev pub metrics : Surroundings → Counts → Book → Counters → Process → List ShownState → List ℕ
+metrics around n book c process states = build_text around.version.now around.logic.now around.commit.now ++ (process_text process ++ (counters_text c ++ (placed_text states ++ seen_text n book)))

@@ -1,19 +1,25 @@
 -- The JSON value of what is seen.
-use Rattle.std.specs.Prelude.{ℕ, ◌+◌, ◌-◌, ◌^◌, min, ℤ, ◌==◌, ◌&&◌, nat_eq, List, [], ◌∷◌, codes, count_by, is_some, Option, Some, None}
-use Rattle.json.specs.Json.{Json, null, boolean, string, array, object, Items, no_items, item, no_members, member}
+use Rattle.std.specs.Prelude.{ℕ, ◌+◌, ◌-◌, ◌^◌, min, ℤ, ◌==◌, ◌&&◌, nat_eq, List, [], ◌∷◌, codes, count_by, is_some, option_map, Option, Some, None}
+use Rattle.json.specs.Json.{Json, null, boolean, string, array, object, Items, Members, no_items, item, no_members, member}
 use Rattle.hex.specs.Hex.{encode_lower}
 use Rattle.te_base.specs.declared.network.Link.{Link}
 use Rattle.te_base.specs.declared.network.Node.{Node}
 use Rattle.lsp_base.specs.declared.path.Path.{Path}
 use Rattle.commit_core.specs.declared.ticket.Ticket.{Ticket}
+use Rattle.pce_seen.specs.declared.grants.Deletion.{Deletion}
+use Rattle.pce_seen.specs.declared.grants.GrantPage.{GrantPage}
+use Rattle.pce_seen.specs.declared.grants.KnownGrant.{KnownGrant}
 use Rattle.pce_seen.specs.declared.lsps.HeldPath.{HeldPath}
 use Rattle.pce_seen.specs.declared.lsps.KnownLsp.{KnownLsp}
 use Rattle.pce_seen.specs.declared.lsps.LinkUse.{LinkUse}
+use Rattle.pce_seen.specs.declared.gaps.Gap.{Gap}
 use Rattle.pce_seen.specs.declared.lsps.LspPage.{LspPage}
 use Rattle.pce_seen.specs.declared.origins.LspOrigins.{LspOrigins}
 use Rattle.pce_seen.specs.declared.origins.TracedPath.{TracedPath}
 use Rattle.pce_seen.specs.declared.peers.KnownPeer.{KnownPeer}
 use Rattle.pce_seen.specs.declared.peers.LspOwner.{LspOwner}
+use Rattle.pce_seen.specs.declared.places.PlacedLsp.{PlacedLsp}
+use Rattle.pce_seen.specs.declared.places.PlacedPage.{PlacedPage}
 use Rattle.pce_seen.specs.declared.seen.Counts.{Counts}
 use Rattle.pce_seen.specs.declared.steps.KnownStep.{KnownStep}
 use Rattle.path_looks.specs.declared.answer.PathAnswer.{PathAnswer}
@@ -29,12 +35,18 @@ use Rattle.server_counts.specs.declared.kinds.EndReason.{EndReason}
 use Rattle.server_counts.specs.declared.kinds.EndReason.TheVariants as end
 use Rattle.server_counts.specs.declared.presences.LastEnd.{LastEnd}
 use Rattle.server_counts.specs.declared.presences.Presence.{Presence}
+use Rattle.server_rules.specs.declared.path_words.PathWords.{PathWords}
 use Rattle.pce_view.specs.declared.age.Age.{Age}
+use Rattle.pce_view.specs.declared.heard.Heard.{Heard}
 use Rattle.pce_view.specs.declared.moments.Moments.{Moments}
 use Rattle.pce_view.specs.declared.moves.BetterLsp.{BetterLsp}
-use Rattle.pce_view.specs.Fields.{address, address_or_null, amounts, end_json, is_down, is_granted, left_or_null, lsp_id, name_at, name_or_null, obstacle_json, srp_id, text_or_null, whole_or_null, wholes, word_or_null}
+use Rattle.pce_view.specs.declared.notes.LspNotes.{LspNotes}
+use Rattle.pce_view.specs.declared.notes.PathNotes.{PathNotes}
+use Rattle.pce_view.specs.Fields.{address, address_or_null, amounts, end_json, is_down, is_granted, left_or_null, lsp_id, name_at, name_or_null, obstacle_json, refusal_words, srp_id, text_or_null, whole_or_null, wholes, word_or_null}
 use Rattle.pce_view.specs.Json.{whole, signed}
-use Rattle.pce_view.specs.Words.{cost_in, cost_of_path, event_word, is_found, link_in, links_in, links_of_path, obstacle_of, origin_step, origin_ticket, origin_word, outcome_number, outcome_word, purpose_name, purpose_plsp, purpose_request, purpose_word}
+use Rattle.pce_view.specs.States.{gap_at, gaps_at, lsp_notes, path_notes, word_on}
+use Rattle.pce_view.specs.Unanswered.{unanswered_ms}
+use Rattle.pce_view.specs.Words.{cost_in, cost_of_path, event_word, is_found, link_in, links_in, links_of_path, lsp_error_word, obstacle_of, operational_word, origin_step, origin_ticket, origin_word, outcome_number, outcome_word, purpose_name, purpose_plsp, purpose_request, purpose_word, state_word}
 
 -- how much there is of what
 unfoldable pub status_json : List ℕ → ℕ → Counts → Json
@@ -51,7 +63,8 @@ status_json version uptime counts = object
     (member (codes "lsps") (whole counts.lsps)
     (member (codes "paths") (whole counts.paths)
     (member (codes "tickets") (whole counts.tickets)
-    no_members))))))))))))
+    (member (codes "waiting_grants") (whole counts.waiting_grants)
+    no_members)))))))))))))
 
 unfoldable pub node_json : ℕ → Node → Json
 node_json number node = object
@@ -143,9 +156,9 @@ peer_items now_ms presences owners (peer ∷ peers) = item (peer_json now_ms pre
 abbrev pub peers_json : ℕ → List (ℕ × Presence) → List LspOwner → List KnownPeer → Json
 peers_json now_ms presences owners peers = object (member (codes "peers") (array (peer_items now_ms presences owners peers)) no_members)
 
--- a path of an LSP: reported under an LSP ID, or granted under an SRP-ID
-unfoldable pub path_json : Path → Json
-path_json x = object
+-- a path of an LSP: reported under an LSP ID, or granted under an SRP-ID; what its router says of it, and its first gap
+unfoldable pub path_json : PathNotes → Path → Json
+path_json n x = object
     (member (codes "lsp_id") (whole_or_null (lsp_id x.part))
     (member (codes "srp_id") (whole_or_null (srp_id x.part))
     (member (codes "is_granted") (boolean (is_granted x.part))
@@ -153,14 +166,23 @@ path_json x = object
     (member (codes "hold_priority") (whole x.hold)
     (member (codes "bandwidth_bytes_per_second") (whole x.bandwidth)
     (member (codes "links") (array (wholes x.links))
-    no_members)))))))
+    (member (codes "state") (word_or_null (option_map operational_word n.operational))
+    (member (codes "error_code") (whole_or_null n.error_code)
+    (member (codes "error") (word_or_null (option_map lsp_error_word n.error_code))
+    (member (codes "rsvp_error_node") (address_or_null n.rsvp_node)
+    (member (codes "rsvp_error_code") (whole_or_null n.rsvp_code)
+    (member (codes "rsvp_error_value") (whole_or_null n.rsvp_value)
+    (member (codes "gap_before_link") (whole_or_null n.gap_before)
+    (member (codes "gap_after_link") (whole_or_null n.gap_after)
+    no_members)))))))))))))))
 
-abbrev pub path_items : List Path → Items
-path_items [] = no_items
-path_items (x ∷ xs) = item (path_json x) (path_items xs)
+-- the paths from this place on
+abbrev pub path_items : PathWords → List (Option Gap) → ℕ → List Path → Items
+path_items words gaps place [] = no_items
+path_items words gaps place (x ∷ xs) = item (path_json (path_notes (word_on words x) (gap_at gaps place)) x) (path_items words gaps (place + 1) xs)
 
-unfoldable pub lsp_json : KnownLsp → Json
-lsp_json l = object
+unfoldable pub noted_lsp_json : LspNotes → PathWords → List (Option Gap) → KnownLsp → Json
+noted_lsp_json n words gaps l = object
     (member (codes "peer") (address (l.known).peer)
     (member (codes "plsp_id") (whole (l.known).plsp)
     (member (codes "name") (text_or_null ((l.known).lsp).name)
@@ -169,31 +191,86 @@ lsp_json l = object
     (member (codes "is_created") (boolean ((l.known).lsp).created)
     (member (codes "is_removing") (boolean (is_some ((l.known).lsp).removing))
     (member (codes "is_down") (boolean (is_down l.paths))
+    (member (codes "state") (word_or_null (state_word n.state))
+    (member (codes "is_partly_placed") (boolean n.is_partly_placed)
     (member (codes "setup_priority") (whole ((((l.known).lsp).constraints).priorities).setup)
     (member (codes "hold_priority") (whole ((((l.known).lsp).constraints).priorities).hold)
     (member (codes "bandwidth_bytes_per_second") (whole (((l.known).lsp).constraints).bandwidth)
     (member (codes "source") (address_or_null (((l.known).lsp).constraints).source)
     (member (codes "destination") (address_or_null (((l.known).lsp).constraints).destination)
-    (member (codes "paths") (array (path_items l.paths))
-    no_members))))))))))))))
+    (member (codes "refusal_type") (whole_or_null n.refusal_type)
+    (member (codes "refusal_value") (whole_or_null n.refusal_value)
+    (member (codes "refusal") (word_or_null (refusal_words n.refusal))
+    (member (codes "paths") (array (path_items words gaps 0 l.paths))
+    no_members)))))))))))))))))))
 
-abbrev pub lsp_items : List KnownLsp → Items
-lsp_items [] = no_items
-lsp_items (l ∷ ls) = item (lsp_json l) (lsp_items ls)
+-- an LSP whose paths have these gaps, with what its router says of it
+abbrev pub lsp_json : Heard → List (Option Gap) → KnownLsp → Json
+lsp_json h gaps l = noted_lsp_json (lsp_notes h l gaps) h.words gaps l
+
+-- the LSPs from this place on
+abbrev pub lsp_items : Heard → List (List (Option Gap)) → ℕ → List KnownLsp → Items
+lsp_items h gaps place [] = no_items
+lsp_items h gaps place (l ∷ ls) = item (lsp_json h (gaps_at gaps place) l) (lsp_items h gaps (place + 1) ls)
 
 -- a page of LSPs: the place of its first record, that of the next page, and at which count of steps it was seen
-abbrev pub page_json : ℕ → LspPage → Json
-page_json from page = object
+abbrev pub page_json : ℕ → Heard → PlacedPage → Json
+page_json from h placed = object
+    (member (codes "from") (whole from)
+    (member (codes "next") (whole_or_null (placed.page).next)
+    (member (codes "steps") (whole (placed.page).steps)
+    (member (codes "lsps") (array (lsp_items h placed.gaps.items 0 (placed.page).lsps.items))
+    no_members))))
+
+-- a grant that stands, and for how long it is unanswered: the PLSP-ID is 0 and the name is that which the LSP is to have, until a report binds it to the LSP
+unfoldable pub grant_json : Option ℕ → KnownGrant → Json
+grant_json unanswered g = object
+    (member (codes "peer") (address (g.path).peer)
+    (member (codes "srp_id") (whole_or_null (srp_id (g.path).part))
+    (member (codes "plsp_id") (whole (g.path).plsp)
+    (member (codes "name") (name_or_null g.name)
+    (member (codes "hold_priority") (whole (g.path).hold)
+    (member (codes "bandwidth_bytes_per_second") (whole (g.path).bandwidth)
+    (member (codes "links") (array (wholes (g.path).links))
+    (member (codes "unanswered_ms") (whole_or_null unanswered)
+    no_members))))))))
+
+-- each grant from this place on, at this moment
+abbrev pub grant_items : ℕ → List (Option ℕ) → ℕ → List KnownGrant → Items
+grant_items now_ms since place [] = no_items
+grant_items now_ms since place (g ∷ gs) = item (grant_json (unanswered_ms now_ms since place) g) (grant_items now_ms since (place + 1) gs)
+
+-- a deletion that is awaited
+unfoldable pub deletion_json : Option ℕ → Deletion → Json
+deletion_json unanswered d = object
+    (member (codes "peer") (address d.peer)
+    (member (codes "srp_id") (whole d.srp)
+    (member (codes "plsp_id") (whole d.plsp)
+    (member (codes "unanswered_ms") (whole_or_null unanswered)
+    no_members))))
+
+abbrev pub deletion_items : ℕ → List (Option ℕ) → ℕ → List Deletion → Items
+deletion_items now_ms since place [] = no_items
+deletion_items now_ms since place (d ∷ ds) = item (deletion_json (unanswered_ms now_ms since place) d) (deletion_items now_ms since (place + 1) ds)
+
+-- a page of both
+abbrev pub grants_members : ℕ → Heard → GrantPage → Members
+grants_members now_ms h page =
+    member (codes "grants") (array (grant_items now_ms h.grants_since_ms.items 0 page.grants.items))
+    (member (codes "deletions") (array (deletion_items now_ms h.deletions_since_ms.items 0 page.deletions.items))
+    no_members)
+
+abbrev pub grants_json : ℕ → ℕ → Heard → GrantPage → Json
+grants_json from now_ms h page = object
     (member (codes "from") (whole from)
     (member (codes "next") (whole_or_null page.next)
     (member (codes "steps") (whole page.steps)
-    (member (codes "lsps") (array (lsp_items page.lsps.items))
-    no_members))))
+    (grants_members now_ms h page))))
 
 -- one LSP, or nothing
-abbrev pub lsp_or_null : Option KnownLsp → Json
-lsp_or_null None = null
-lsp_or_null (Some l) = lsp_json l
+abbrev pub lsp_or_null : Heard → Option PlacedLsp → Json
+lsp_or_null h None = null
+lsp_or_null h (Some placed) = lsp_json h placed.gaps placed.lsp
 
 -- a tunnel on a link: its path of the greatest bandwidth there
 unfoldable pub held_json : HeldPath → Json

@@ -1,5 +1,5 @@
 -- Words for what is seen.
-use Rattle.std.specs.Prelude.{ℕ, Bool, true, false, List, [], codes, Option, Some, None}
+use Rattle.std.specs.Prelude.{ℕ, ◌==◌, Bool, true, false, List, [], codes, Option, Some, None, if◌then◌else◌}
 use Rattle.lsp_base.specs.Whys.{number_of}
 use Rattle.commit_core.specs.declared.ticket.Purpose.{Purpose}
 use Rattle.commit_core.specs.declared.ticket.Purpose.TheVariants.{Update, Initiate, Answer}
@@ -15,6 +15,10 @@ use Rattle.path_finder.specs.declared.found.Found.{Found}
 use Rattle.path_looks.specs.declared.link_room.LinkRoom.{LinkRoom}
 use Rattle.path_looks.specs.declared.answer.PathAnswer.{PathAnswer}
 use Rattle.path_looks.specs.declared.answer.PathAnswer.TheVariants.{Path, Blocked, NoWay}
+use Rattle.server_rules.specs.declared.path_word.Operational.{Operational}
+use Rattle.server_rules.specs.declared.path_word.Operational.TheVariants as operational
+use Rattle.pce_view.specs.declared.states.LspState.{LspState}
+use Rattle.pce_view.specs.declared.states.LspState.TheVariants as state
 
 -- what a ticket asks a path for
 abbrev pub purpose_word : Purpose → List ℕ
@@ -142,3 +146,34 @@ cost_of_path (Some found) = Some found.cost
 abbrev pub links_of_path : Option Found → List ℕ
 links_of_path None = []
 links_of_path (Some found) = found.links
+
+-- the state in which an LSP is shown, if one is known
+abbrev pub state_word : LspState → Option (List ℕ)
+state_word state.Active = Some (codes "active")
+state_word state.Up = Some (codes "up")
+state_word state.GoingUp = Some (codes "going up")
+state_word state.GoingDown = Some (codes "going down")
+state_word state.Down = Some (codes "down")
+state_word state.Unplaced = Some (codes "unplaced")
+state_word state.Unknown = None
+
+-- the state in which a router reports a path (RFC 8231 section 7.3)
+abbrev pub operational_word : Operational → List ℕ
+operational_word operational.Active = codes "active"
+operational_word operational.Up = codes "up"
+operational_word operational.GoingUp = codes "going up"
+operational_word operational.GoingDown = codes "going down"
+operational_word operational.Down = codes "down"
+
+-- what an LSP-ERROR-CODE means (RFC 8231 section 7.3.3)
+abbrev pub lsp_error_word : ℕ → List ℕ
+lsp_error_word code =
+    if code == 1 then codes "unknown reason"
+    else (if code == 2 then codes "limit reached for PCE-controlled LSPs"
+    else (if code == 3 then codes "too many pending LSP update requests"
+    else (if code == 4 then codes "unacceptable parameters"
+    else (if code == 5 then codes "internal error"
+    else (if code == 6 then codes "LSP administratively brought down"
+    else (if code == 7 then codes "LSP preempted"
+    else (if code == 8 then codes "RSVP signaling error"
+    else codes "unassigned error code")))))))

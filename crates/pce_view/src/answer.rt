@@ -8,7 +8,9 @@ ghost use Rattle.pce_view.specs.Words.{links_in};
 use crate::better::better_text;
 use crate::book::book_text;
 use crate::closing::null_text;
-use crate::columns::add_aligned;
+use crate::grant_tables::add_grants;
+use crate::grants::grants_text;
+use crate::heard::Heard;
 use crate::link::{line_text, link_text};
 use crate::link_tables::{add_book, add_link_line};
 use crate::lsp_tables::{add_link_use, add_one_lsp, add_origins, add_page};
@@ -30,6 +32,7 @@ use pcep_objects::{Colours, MetricType};
 use pcep_word::{Bandwidth, Ipv4, Priorities};
 use server_counts::{LeftRow, Mark, Presence};
 use std::alloc::{AllocError, Global};
+use table_text::add_aligned;
 use te_snapshot::Snapshot;
 
 /// For whom a text is.
@@ -45,6 +48,10 @@ pub enum Form {
 #[derive(Clone, Copy)]
 pub struct Surroundings<'a> {
     pub version: &'a str,
+    /// The toolchain's logic on which the program's proofs rest.
+    pub logic: &'a str,
+    /// The hash of the commit of the program's sources. Empty if it isn't known.
+    pub commit: &'a str,
     /// Since the run began.
     pub uptime_ms: u64,
     /// Since when each peer is up or down, in milliseconds since the run began.
@@ -55,12 +62,12 @@ pub struct Surroundings<'a> {
     pub lefts: &'a [LeftRow],
 }
 
-/// The place at which the page of LSPs that is asked for starts.
+/// The place at which the page that is asked for starts.
 fn place_of(ask: &Ask) -> u64
     ensures { result ≡ place_of ask.now }
 {
     match ask {
-        Ask::Lsps { from, .. } | Ask::Better { from, .. } => *from,
+        Ask::Lsps { from, .. } | Ask::Better { from, .. } | Ask::Grants { from, .. } => *from,
         _ => 0,
     }
 }
@@ -96,6 +103,7 @@ fn wanted(from: Ipv4, to: Ipv4, bandwidth: Bandwidth, priorities: Priorities) ->
             igp: None,
             te: None,
         },
+        local_protection: false,
     }
 }
 
@@ -174,18 +182,19 @@ fn one_link_text(alloc: Global, ask: &Ask, found: &Option<LinkUse>) -> Result<Ve
 fn json_text(
     alloc: Global,
     around: &Surroundings<'_>,
+    heard: &Heard,
     ask: &Ask,
     seen: &Seen,
 ) -> Result<Vec<u8>, AllocError>
-    ensures { IfOk result (λ text. IsJsonOf around.now ask.now seen.now text.items) }
+    ensures { IfOk result (λ text. IsJsonOf around.now heard.now ask.now seen.now text.items) }
 {
     match seen {
         Seen::Counts(counts) => status_text(alloc, around.version, around.uptime_ms, counts),
         Seen::Book(book) => book_text(alloc, book),
         Seen::Peers(peers) => peers_text(alloc, around.uptime_ms, around.presences, peers),
         Seen::Tickets(tickets) => tickets_text(alloc, tickets),
-        Seen::Lsps(page) => page_text(alloc, place_of(ask), page),
-        Seen::Lsp(lsp) => lsp_text(alloc, lsp),
+        Seen::Lsps(page) => page_text(alloc, place_of(ask), heard, page),
+        Seen::Lsp(lsp) => lsp_text(alloc, heard, lsp),
         Seen::Link(found) => one_link_text(alloc, ask, found),
         Seen::Steps(steps) => steps_text(alloc, steps),
         Seen::Origins(origins) => origins_text(
@@ -198,6 +207,7 @@ fn json_text(
         Seen::Movable(movable) => better_text(alloc, place_of(ask), movable),
         Seen::Displaced(displaced) => without_text(alloc, number_of_link(ask), displaced),
         Seen::Network(network) => network_text(alloc, ask, network),
+        Seen::Grants(page) => grants_text(alloc, place_of(ask), around.uptime_ms, heard, page),
     }
 }
 
@@ -259,6 +269,7 @@ fn add_rows(
     alloc: Global,
     text: &mut String,
     around: &Surroundings<'_>,
+    heard: &Heard,
     ask: &Ask,
     seen: &Seen,
 ) -> Result<(), AllocError> {
@@ -267,8 +278,8 @@ fn add_rows(
         Seen::Book(book) => add_book(alloc, text, book),
         Seen::Peers(peers) => add_peers(text, around.uptime_ms, around.presences, peers),
         Seen::Tickets(tickets) => add_tickets(text, tickets),
-        Seen::Lsps(page) => add_page(text, place_of(ask), page),
-        Seen::Lsp(lsp) => add_one_lsp(text, lsp),
+        Seen::Lsps(page) => add_page(text, heard, place_of(ask), page),
+        Seen::Lsp(lsp) => add_one_lsp(text, heard, lsp),
         Seen::Link(found) => add_one_link(alloc, text, ask, found),
         Seen::Steps(steps) => add_steps(text, steps),
         Seen::Origins(origins) => add_origins(
@@ -282,6 +293,7 @@ fn add_rows(
         Seen::Movable(movable) => add_better(alloc, text, place_of(ask), movable),
         Seen::Displaced(displaced) => add_without(alloc, text, number_of_link(ask), displaced),
         Seen::Network(network) => add_network(alloc, text, ask, network),
+        Seen::Grants(page) => add_grants(text, place_of(ask), around.uptime_ms, heard, page),
     }
 }
 
@@ -289,11 +301,12 @@ fn add_rows(
 fn columns_text(
     alloc: Global,
     around: &Surroundings<'_>,
+    heard: &Heard,
     ask: &Ask,
     seen: &Seen,
 ) -> Result<Vec<u8>, AllocError> {
     let mut rows = String::new(alloc);
-    add_rows(alloc, &mut rows, around, ask, seen)?;
+    add_rows(alloc, &mut rows, around, heard, ask, seen)?;
     let mut text = String::new(alloc);
     add_aligned(alloc, &mut text, &rows)?;
     Ok(text.into_bytes())
@@ -304,13 +317,14 @@ pub fn answer_text(
     alloc: Global,
     form: Form,
     around: &Surroundings<'_>,
+    heard: &Heard,
     ask: &Ask,
     seen: &Seen,
 ) -> Result<Vec<u8>, AllocError>
-    ensures { IfOk result (λ text. AnswersAs form around.now ask.now seen.now text.items) }
+    ensures { IfOk result (λ text. AnswersAs form around.now heard.now ask.now seen.now text.items) }
 {
     match form {
-        Form::Json => json_text(alloc, around, ask, seen),
-        Form::Table => columns_text(alloc, around, ask, seen),
+        Form::Json => json_text(alloc, around, heard, ask, seen),
+        Form::Table => columns_text(alloc, around, heard, ask, seen),
     }
 }

@@ -105,6 +105,10 @@ pub(crate) fn word_of(what: Counted) -> &'static str
         Counted::Refusal(number) => refusal_word(number),
         Counted::Ended(reason) => end_word(reason),
         Counted::Received(message) | Counted::Sent(message) => message_word(message),
-        Counted::Accepted | Counted::Stranger | Counted::ErrorSent(..) => "",
+        Counted::Accepted
+        | Counted::Stranger
+        | Counted::ErrorSent(..)
+        | Counted::ErrorReceived(..)
+        | Counted::NoAnswer => "",
     }
 }

@@ -1,19 +1,21 @@
 //! Objects of JSON, each written from a list of its members.
-ghost use Rattle.std.specs.Prelude.{◌≡◌, ◌++◌, ◌∷◌, [], OnOk};
+ghost use Rattle.std.specs.Prelude.{◌≡◌, ◌++◌, ◌∷◌, [], option_map, OnOk};
 ghost use Rattle.hex.specs.Hex.{encode_lower};
 ghost use Rattle.json.specs.Tree.{json_tokens, members_tokens};
 ghost use Rattle.json.specs.Json.{Json, Members, array, member, no_members, object, string};
 ghost use Rattle.json.specs.Token.{end_object};
-ghost use Rattle.pce_view.specs.Words.{origin_word, purpose_name};
-ghost use Rattle.pce_view.specs.Fields.{address, address_or_null, amounts, end_json, field_json, is_down, is_granted, left_or_null, lsp_id, members_json, members_then, name_at, name_or_null, obstacle_json, srp_id, text_or_null, whole_or_null, wholes, word_or_null};
+ghost use Rattle.pce_view.specs.Words.{lsp_error_word, operational_word, origin_word, purpose_name, state_word};
+ghost use Rattle.pce_view.specs.Fields.{address, address_or_null, amounts, end_json, field_json, is_down, is_granted, left_or_null, lsp_id, members_json, members_then, name_at, name_or_null, obstacle_json, refusal_words, srp_id, text_or_null, whole_or_null, wholes, word_or_null};
 
 use crate::counted_words::end_word;
+use crate::states::LspState;
 use crate::words::{
-    cost_in, cost_of_path, event_word, is_found, link_in, links_in, links_of_path, obstacle_of,
-    obstacle_word, origin_step, origin_ticket, origin_word, outcome_number, outcome_word,
-    purpose_plsp, purpose_request, purpose_word,
+    cost_in, cost_of_path, event_word, is_found, link_in, links_in, links_of_path, lsp_error_word,
+    obstacle_of, obstacle_word, operational_word, origin_step, origin_ticket, origin_word,
+    outcome_number, outcome_word, purpose_plsp, purpose_request, purpose_word, state_word,
 };
-use commit_core::Purpose;
+use commit_core::{LspName, Purpose};
+use error_words::error_words;
 use json::Writer;
 use lsp_base::{Part, Path};
 use path_looks::{Found, LinkRoom, Obstacle, PathAnswer};
@@ -22,6 +24,7 @@ use pcep_objects::Plsp;
 use pcep_word::{Bandwidth, Ipv4, Priorities, Priority};
 use sequence::Sequence;
 use server_counts::EndReason;
+use server_rules::{Operational, PcErr};
 use std::alloc::{AllocError, Global};
 use std::str;
 use te_base::{LinkNumber, Name, Node};
@@ -54,6 +57,14 @@ pub(crate) enum Field<'a> {
     IsDown(&'a Sequence<Path>),
     /// Whether a number is there.
     IsThere(Option<u32>),
+    /// The word of the state in which an LSP is shown.
+    State(LspState),
+    /// The word of the state in which a router reports a path.
+    StateOfPath(Option<Operational>),
+    /// The words of an LSP-ERROR-CODE.
+    LspError(Option<u64>),
+    /// The words of a PCErr.
+    Refusal(Option<PcErr>),
     /// The name of a node.
     Node(&'a Name),
     /// The name of the node of a number.
@@ -61,6 +72,8 @@ pub(crate) enum Field<'a> {
     /// Bytes as a text, where they are UTF-8.
     Name(&'a Sequence<u8>),
     Hex(&'a Sequence<u8>),
+    /// The name that an LSP is to have, if it waits for one.
+    NameOr(&'a Option<LspName>),
     /// Why a connection ended.
     EndOf(Option<EndReason>),
     /// What a ticket asks a path for.
@@ -114,7 +127,7 @@ fn put_address_or(alloc: Global, writer: &mut Writer, at: Option<Ipv4>) -> Resul
     }
 }
 
-fn put_whole_or(writer: &mut Writer, number: Option<u64>) -> Result<(), AllocError>
+pub(crate) fn put_whole_or(writer: &mut Writer, number: Option<u64>) -> Result<(), AllocError>
     ensures before { writer.new.before ≡ writer.old.before }
     ensures written { OnOk result (writer.new.tokens ≡ writer.old.tokens ++ json_tokens (whole_or_null number)) }
 {
@@ -231,6 +244,16 @@ fn put_purpose_name(writer: &mut Writer, purpose: &Purpose) -> Result<(), AllocE
     }
 }
 
+fn put_name_or(writer: &mut Writer, name: &Option<LspName>) -> Result<(), AllocError>
+    ensures before { writer.new.before ≡ writer.old.before }
+    ensures written { OnOk result (writer.new.tokens ≡ writer.old.tokens ++ json_tokens (name_or_null name.now)) }
+{
+    match name {
+        Some(name) => put_name(writer, name.as_slice()),
+        None => writer.null(),
+    }
+}
+
 fn put_end(writer: &mut Writer, reason: Option<EndReason>) -> Result<(), AllocError>
     ensures before { writer.new.before ≡ writer.old.before }
     ensures written { OnOk result (writer.new.tokens ≡ writer.old.tokens ++ json_tokens (end_json reason)) }
@@ -258,6 +281,50 @@ fn put_origin_word(writer: &mut Writer, origin: Origin) -> Result<(), AllocError
 {
     match origin_word(origin) {
         Some(word) => writer.string(word),
+        None => writer.null(),
+    }
+}
+
+/// Writes the word of the state of an LSP, or nothing.
+fn put_state(writer: &mut Writer, state: LspState) -> Result<(), AllocError>
+    ensures before { writer.new.before ≡ writer.old.before }
+    ensures written { OnOk result (writer.new.tokens ≡ writer.old.tokens ++ json_tokens (word_or_null (state_word state))) }
+{
+    match state_word(state) {
+        Some(word) => writer.string(word),
+        None => writer.null(),
+    }
+}
+
+/// Writes the word of the state of a path, or nothing.
+fn put_operational(writer: &mut Writer, operational: Option<Operational>) -> Result<(), AllocError>
+    ensures before { writer.new.before ≡ writer.old.before }
+    ensures written { OnOk result (writer.new.tokens ≡ writer.old.tokens ++ json_tokens (word_or_null (option_map operational_word operational))) }
+{
+    match operational {
+        Some(operational) => writer.string(operational_word(operational)),
+        None => writer.null(),
+    }
+}
+
+/// Writes what an LSP-ERROR-CODE means, or nothing.
+fn put_lsp_error(writer: &mut Writer, code: Option<u64>) -> Result<(), AllocError>
+    ensures before { writer.new.before ≡ writer.old.before }
+    ensures written { OnOk result (writer.new.tokens ≡ writer.old.tokens ++ json_tokens (word_or_null (option_map lsp_error_word code))) }
+{
+    match code {
+        Some(code) => writer.string(lsp_error_word(code)),
+        None => writer.null(),
+    }
+}
+
+/// Writes what a PCErr means, or nothing.
+fn put_refusal(writer: &mut Writer, error: Option<PcErr>) -> Result<(), AllocError>
+    ensures before { writer.new.before ≡ writer.old.before }
+    ensures written { OnOk result (writer.new.tokens ≡ writer.old.tokens ++ json_tokens (word_or_null (refusal_words error))) }
+{
+    match error {
+        Some(error) => writer.string(error_words(error.kind, error.value)),
         None => writer.null(),
     }
 }
@@ -297,10 +364,15 @@ fn put_value(alloc: Global, writer: &mut Writer, value: &Field<'_>) -> Result<()
         Field::IsGranted(part) => writer.boolean(is_granted(*part)),
         Field::IsDown(paths) => writer.boolean(is_down(paths.as_slice())),
         Field::IsThere(number) => writer.boolean(number.is_some()),
+        Field::State(state) => put_state(writer, *state),
+        Field::StateOfPath(operational) => put_operational(writer, *operational),
+        Field::LspError(code) => put_lsp_error(writer, *code),
+        Field::Refusal(error) => put_refusal(writer, *error),
         Field::Node(name) => writer.string(name.as_str()),
         Field::NodeAt(nodes, number) => writer.string(name_at(nodes, *number)),
         Field::Name(bytes) => put_name(writer, bytes.as_slice()),
         Field::Hex(bytes) => put_hex(alloc, writer, bytes.as_slice()),
+        Field::NameOr(name) => put_name_or(writer, name),
         Field::EndOf(reason) => put_end(writer, *reason),
         Field::PurposeWord(purpose) => writer.string(purpose_word(purpose)),
         Field::PurposePlsp(purpose) => put_whole_or(writer, purpose_plsp(purpose)),

@@ -1,10 +1,11 @@
 //! Tables for people: links, and what is left of them.
-use crate::columns::{add_percent, add_rate};
 use crate::fields::name_at;
 use crate::runs::{Run, runs_of};
+use crate::tables::add_ends;
 use pce_seen::{Book, LinkUse};
 use std::alloc::{AllocError, Global};
 use std::fmt::Write;
+use table_text::{add_percent, add_rate};
 use te_base::Link;
 
 /// Adds a priority, or the first and the last of several.
@@ -62,10 +63,9 @@ fn add_link(
     let igp = link.igp;
     let te = link.te;
     let colour = link.colour;
-    write!(
-        text,
-        "{number}\t{from}\t{to}\t{local}\t{remote}\t{igp}\t{te}\t{colour:#010x}\t"
-    )?;
+    write!(text, "{number}\t")?;
+    add_ends(text, from, to)?;
+    write!(text, "{local}\t{remote}\t{igp}\t{te}\t{colour:#010x}\t")?;
     add_rate(text, link.reservable.min(1 << 48) as i64)?;
     text.push('\t')?;
     add_lefts(alloc, text, link.reservable, left)

@@ -1,16 +1,26 @@
 //! Tables for people: LSPs, by what their paths came, and a link with the tunnels on it.
 use crate::age::age_of;
-use crate::columns::{add_links, add_name, add_percent, add_rate};
-use crate::fields::{is_down, lsp_id, srp_id};
+use crate::fields::{lsp_id, srp_id};
+use crate::heard::Heard;
 use crate::left::left_by;
+use crate::notes::{LspNotes, PathNotes, gap_at, gaps_at, lsp_notes, path_notes};
+use crate::states::word_on;
 use crate::tables::{add_ago, add_end, add_priorities};
-use crate::words::{origin_step, origin_ticket, origin_word};
+use crate::words::{
+    lsp_error_word, operational_word, origin_step, origin_ticket, origin_word, state_word,
+};
+use error_words::error_words;
 use lsp_base::{Lsp, Path};
-use pce_seen::{HeldPath, KnownLsp, LinkUse, LspOrigins, LspPage, TracedPath, tunnels_on};
+use pce_seen::{
+    HeldPath, KnownLsp, LinkUse, LspOrigins, PlacedLsp, PlacedPage, TracedPath, tunnels_on,
+};
 use pcep_word::Ipv4;
 use server_counts::{LeftRow, Mark};
+use server_rules::PcErr;
 use std::alloc::{AllocError, Global};
 use std::fmt::Write;
+use table_text::{add_name, add_numbers, add_percent, add_rate};
+use te_base::Node;
 
 /// Adds the words that hold, with a space between two.
 fn add_words(text: &mut String, words: &[(bool, &str)]) -> Result<(), AllocError> {
@@ -26,16 +36,23 @@ fn add_words(text: &mut String, words: &[(bool, &str)]) -> Result<(), AllocError
 }
 
 /// Adds what state an LSP is in.
-fn add_state(text: &mut String, lsp: &Lsp, paths: &[Path]) -> Result<(), AllocError> {
+fn add_state(
+    text: &mut String,
+    notes: LspNotes,
+    lsp: &Lsp,
+    paths: &[Path],
+) -> Result<(), AllocError> {
+    let state = state_word(notes.state);
     let is_stale = paths.iter().any(|path| !path.fresh);
     add_words(
         text,
         &[
+            (state.is_some(), state.unwrap_or("")),
+            (notes.is_partly_placed, "partly placed"),
             (lsp.delegated, "delegated"),
             (lsp.created, "created"),
             (lsp.removing.is_some(), "removing"),
             (is_stale, "stale"),
-            (is_down(paths), "down"),
         ],
     )
 }
@@ -55,7 +72,7 @@ fn add_path(text: &mut String, is_first: bool, path: &Path) -> Result<(), AllocE
         text.push_str("\t\t\t\t\t\t\t\t")?;
     }
     add_part(text, path)?;
-    add_links(text, path.links.as_slice())?;
+    add_numbers(text, path.links.as_slice())?;
     text.push('\n')
 }
 
@@ -69,14 +86,14 @@ fn add_paths(text: &mut String, paths: &[Path]) -> Result<(), AllocError> {
     Ok(())
 }
 
-fn add_lsp(text: &mut String, seen: &KnownLsp) -> Result<(), AllocError> {
+fn add_lsp(text: &mut String, notes: LspNotes, seen: &KnownLsp) -> Result<(), AllocError> {
     let peer = Ipv4(seen.known.peer);
     let plsp = seen.known.plsp.number();
     let lsp = &seen.known.lsp;
     write!(text, "{peer}\t{plsp}\t")?;
     add_name(text, lsp.name.as_slice())?;
     text.push('\t')?;
-    add_state(text, lsp, seen.paths.as_slice())?;
+    add_state(text, notes, lsp, seen.paths.as_slice())?;
     text.push('\t')?;
     add_priorities(text, lsp.constraints.priorities)?;
     add_rate(text, lsp.constraints.bandwidth.value() as i64)?;
@@ -89,22 +106,102 @@ fn add_lsp(text: &mut String, seen: &KnownLsp) -> Result<(), AllocError> {
 const LSP_HEAD: &str = "PEER\tPLSP\tNAME\tSTATE\tSETUP/HOLD\tBANDWIDTH\tFROM\tTO\tPATH\tLINKS\n";
 
 /// Adds a line for each path of each LSP of a page; the head stands on the first page.
-pub(crate) fn add_page(text: &mut String, from: u64, page: &LspPage) -> Result<(), AllocError> {
+pub(crate) fn add_page(
+    text: &mut String,
+    heard: &Heard,
+    from: u64,
+    placed: &PlacedPage,
+) -> Result<(), AllocError> {
     if from == 0 {
         text.push_str(LSP_HEAD)?;
     }
-    for seen in &page.lsps {
-        add_lsp(text, seen)?;
+    for (place, seen) in placed.page.lsps.iter().enumerate() {
+        let notes = lsp_notes(heard, seen, gaps_at(&placed.gaps, place));
+        add_lsp(text, notes, seen)?;
     }
     Ok(())
 }
 
-/// Adds one LSP.
-pub(crate) fn add_one_lsp(text: &mut String, seen: &Option<KnownLsp>) -> Result<(), AllocError> {
+/// Adds why a path is in the state in which its router reports it.
+fn add_reason(text: &mut String, notes: &PathNotes) -> Result<(), AllocError> {
+    if let Some(code) = notes.error_code {
+        let word = lsp_error_word(code);
+        write!(text, ": {word} (LSP-ERROR-CODE {code})")?;
+    }
+    if let (Some(node), Some(code), Some(value)) = (
+        notes.rsvp_node,
+        notes.rsvp_code,
+        notes.rsvp_value,
+    ) {
+        write!(text, ", RSVP error at {node}: code {code}, value {value}")?;
+    }
+    Ok(())
+}
+
+/// Adds where a path has a gap.
+fn add_gap(text: &mut String, path: &Path, notes: &PathNotes) -> Result<(), AllocError> {
+    let (word, link) = match (notes.gap_before, notes.gap_after) {
+        (Some(link), _) => ("before", link),
+        (None, Some(link)) => ("after", link),
+        (None, None) => return Ok(()),
+    };
+    add_part(text, path)?;
+    writeln!(text, "partly placed: no link {word} link {link}")
+}
+
+/// Adds in which state a router reports a path, and why.
+fn add_said(text: &mut String, path: &Path, notes: &PathNotes) -> Result<(), AllocError> {
+    let Some(operational) = notes.operational else {
+        return Ok(());
+    };
+    add_part(text, path)?;
+    text.push_str(operational_word(operational))?;
+    add_reason(text, notes)?;
+    text.push('\n')
+}
+
+/// Adds what a router says of a path, and where the path has a gap.
+fn add_path_notes(text: &mut String, path: &Path, notes: &PathNotes) -> Result<(), AllocError> {
+    add_said(text, path, notes)?;
+    add_gap(text, path, notes)
+}
+
+/// Adds by which PCErr a router last refused what was asked of an LSP.
+fn add_refusal(text: &mut String, error: Option<PcErr>) -> Result<(), AllocError> {
+    let Some(PcErr { kind, value }) = error else {
+        return Ok(());
+    };
+    let words = error_words(kind, value);
+    writeln!(text, "refused\tPCErr {kind}/{value}, {words}")
+}
+
+/// Adds what routers say of an LSP, a line for each path, and of what was asked of it.
+fn add_notes(
+    text: &mut String,
+    heard: &Heard,
+    notes: LspNotes,
+    placed: &PlacedLsp,
+) -> Result<(), AllocError> {
+    text.push('\x0c')?;
+    for (place, path) in placed.lsp.paths.as_slice().iter().enumerate() {
+        let gap = gap_at(placed.gaps.as_slice(), place);
+        add_path_notes(text, path, &path_notes(word_on(&heard.words, path), gap))?;
+    }
+    add_refusal(text, notes.refusal)
+}
+
+/// Adds one LSP, and what its router says of it.
+pub(crate) fn add_one_lsp(
+    text: &mut String,
+    heard: &Heard,
+    seen: &Option<PlacedLsp>,
+) -> Result<(), AllocError> {
     match seen {
-        Some(seen) => {
+        Some(placed) => {
+            let notes = lsp_notes(heard, &placed.lsp, placed.gaps.as_slice());
             text.push_str(LSP_HEAD)?;
-            add_lsp(text, seen)
+            add_lsp(text, notes, &placed.lsp)?;
+            add_notes(text, heard, notes, placed)
         }
         None => text.push_str("no such LSP\n"),
     }
@@ -128,23 +225,25 @@ fn add_each_held(alloc: Global, text: &mut String, paths: &[HeldPath]) -> Result
     Ok(())
 }
 
+/// Adds the name of the node at an end of a link, and the link's address there.
+fn add_node_end(text: &mut String, node: &Node, address: Ipv4) -> Result<(), AllocError> {
+    add_name(text, node.name.as_str().as_bytes())?;
+    writeln!(text, " {address}")
+}
+
 fn add_use(
     alloc: Global,
     text: &mut String,
     number: u64,
     seen: &LinkUse,
 ) -> Result<(), AllocError> {
-    let from = seen.from.name.as_str();
-    let to = seen.to.name.as_str();
-    let local = seen.link.local;
-    let remote = seen.link.remote;
     let igp = seen.link.igp;
     let te = seen.link.te;
     let colour = seen.link.colour;
-    write!(
-        text,
-        "link\t{number}\nfrom\t{from} {local}\nto\t{to} {remote}\n"
-    )?;
+    write!(text, "link\t{number}\nfrom\t")?;
+    add_node_end(text, &seen.from, seen.link.local)?;
+    text.push_str("to\t")?;
+    add_node_end(text, &seen.to, seen.link.remote)?;
     write!(
         text,
         "metrics\tIGP {igp}, TE {te}\ncolour\t{colour:#010x}\nreservable\t"
@@ -219,7 +318,7 @@ fn add_traced(
     seen: &TracedPath,
 ) -> Result<(), AllocError> {
     add_part(text, &seen.path)?;
-    add_links(text, seen.path.links.as_slice())?;
+    add_numbers(text, seen.path.links.as_slice())?;
     match (origin_word(seen.origin), origin_step(seen.origin)) {
         (Some(word), Some(step)) => write!(text, "\t{word}\t{step}\t")?,
         _ => write!(text, "\t{unknown}\t-\t")?,

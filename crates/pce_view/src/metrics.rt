@@ -1,16 +1,29 @@
 //! Metrics in Prometheus's text format 0.0.4.
 ghost use Rattle.std.specs.Prelude.{◌≡◌, ◌++◌, IfOk, OnOk};
-ghost use Rattle.pce_view.specs.Metrics.{all_steps_text, build_head, build_row, build_text, counters_text, gauges_text, grants_text, kept_steps_text, lsps_text, memory_text, metrics, paths_text, seen_text, sessions_up_text, steps_taken_text, totals_text, waiting_text};
+ghost use Rattle.pce_view.specs.Metrics.{all_steps_text, build_head, build_row, build_text, counters_text, gauges_text, grants_text, kept_steps_text, known_single, lsps_text, metrics, paths_text, process_text, seen_text, sessions_up_text, steps_taken_text, totals_text, waiting_grants_text, waiting_text};
 
 use crate::answer::Surroundings;
-use crate::families::{put_head, put_row, put_single};
+use crate::families::{put_head, put_single};
 use crate::link_metrics::put_links;
+use crate::pieces::{Piece, put_line};
 use crate::session_metrics::{put_connections, put_messages};
+use crate::state_metrics::{ShownState, put_placed};
 use crate::step_metrics::put_steps;
 use crate::time_metrics::put_times;
 use pce_seen::{Book, Counts};
 use server_counts::Counters;
 use std::alloc::{AllocError, Global};
+
+/// What the system says of the process.
+#[derive(Clone, Copy)]
+pub struct Process {
+    /// Its memory that is in RAM.
+    pub resident_bytes: Option<u64>,
+    /// The number of file descriptors that are open.
+    pub open_descriptors: Option<u64>,
+    /// The number of file descriptors that may be open.
+    pub descriptor_limit: Option<u64>,
+}
 
 #[tactic(auto, unfolding(crate::specs::Metrics::build_head))]
 fn put_build_head(text: &mut Vec<u8>) -> Result<(), AllocError>
@@ -20,41 +33,80 @@ fn put_build_head(text: &mut Vec<u8>) -> Result<(), AllocError>
         text,
         "pced_build_info",
         "gauge",
-        "The version of the program.",
+        "The version of the program, the logic of its proofs, and the commit of its sources.",
     )
 }
 
 #[tactic(auto, unfolding(crate::specs::Metrics::build_row))]
-fn put_build_row(text: &mut Vec<u8>, version: &str) -> Result<(), AllocError>
-    ensures { OnOk result (text.new.items ≡ text.old.items ++ build_row version.now) }
+fn put_build_row<'x>(
+    text: &mut Vec<u8>,
+    version: &'x str,
+    logic: &'x str,
+    commit: &'x str,
+) -> Result<(), AllocError>
+    ensures { OnOk result (text.new.items ≡ text.old.items ++ build_row version.now logic.now commit.now) }
 {
-    put_row(text, "pced_build_info", "version", version, 1)
+    put_line(
+        text,
+        &[
+            Piece::Text("pced_build_info{version=\""),
+            Piece::Label(version),
+            Piece::Text("\",logic=\""),
+            Piece::Label(logic),
+            Piece::Text("\",commit=\""),
+            Piece::Label(commit),
+            Piece::Text("\"} 1"),
+        ],
+    )
 }
 
-/// Adds the version.
+/// Adds the version, the logic and the commit.
 #[tactic(auto, unfolding(crate::specs::Metrics::build_text))]
-fn put_build(text: &mut Vec<u8>, version: &str) -> Result<(), AllocError>
-    ensures { OnOk result (text.new.items ≡ text.old.items ++ build_text version.now) }
+fn put_build(text: &mut Vec<u8>, version: &str, logic: &str, commit: &str) -> Result<(), AllocError>
+    ensures { OnOk result (text.new.items ≡ text.old.items ++ build_text version.now logic.now commit.now) }
 {
     put_build_head(text)?;
-    put_build_row(text, version)
+    put_build_row(text, version, logic, commit)
 }
 
-/// Adds the memory of the process, where it is known.
-#[tactic(auto, unfolding(crate::specs::Metrics::memory_text))]
-fn put_memory(text: &mut Vec<u8>, memory: Option<u64>) -> Result<(), AllocError>
-    ensures { OnOk result (text.new.items ≡ text.old.items ++ memory_text memory) }
+/// Adds a gauge, if its number is known.
+fn put_known(
+    text: &mut Vec<u8>,
+    name: &str,
+    help: &str,
+    number: Option<u64>,
+) -> Result<(), AllocError>
+    ensures { OnOk result (text.new.items ≡ text.old.items ++ known_single name.now help.now number) }
 {
-    match memory {
-        Some(bytes) => put_single(
-            text,
-            "process_resident_memory_bytes",
-            "gauge",
-            "Memory of the process that is in RAM.",
-            bytes,
-        ),
+    match number {
+        Some(number) => put_single(text, name, "gauge", help, number),
         None => Ok(()),
     }
+}
+
+/// Adds what the system says of the process.
+#[tactic(auto, unfolding(crate::specs::Metrics::process_text))]
+fn put_process(text: &mut Vec<u8>, process: Process) -> Result<(), AllocError>
+    ensures { OnOk result (text.new.items ≡ text.old.items ++ process_text process) }
+{
+    put_known(
+        text,
+        "process_resident_memory_bytes",
+        "Memory of the process that is in RAM.",
+        process.resident_bytes,
+    )?;
+    put_known(
+        text,
+        "process_open_fds",
+        "File descriptors that are open.",
+        process.open_descriptors,
+    )?;
+    put_known(
+        text,
+        "process_max_fds",
+        "File descriptors that may be open.",
+        process.descriptor_limit,
+    )
 }
 
 /// Adds the number of sessions that are up.
@@ -103,6 +155,20 @@ fn put_paths(text: &mut Vec<u8>, number: u64) -> Result<(), AllocError>
         "pced_paths",
         "gauge",
         "Paths of LSPs, reported or granted.",
+        number,
+    )
+}
+
+/// Adds the number of grants that wait for a report.
+#[tactic(auto, unfolding(crate::specs::Metrics::waiting_grants_text))]
+fn put_waiting_grants(text: &mut Vec<u8>, number: u64) -> Result<(), AllocError>
+    ensures { OnOk result (text.new.items ≡ text.old.items ++ waiting_grants_text number) }
+{
+    put_single(
+        text,
+        "pced_waiting_grants",
+        "gauge",
+        "Granted paths that no report has settled.",
         number,
     )
 }
@@ -168,12 +234,13 @@ fn put_steps_taken(text: &mut Vec<u8>, counts: &Counts) -> Result<(), AllocError
     put_grants(text, counts.grants)
 }
 
-/// Adds the paths, and steps and grants.
+/// Adds the paths, the grants that wait, and steps and grants.
 #[tactic(auto, unfolding(crate::specs::Metrics::totals_text))]
 fn put_totals(text: &mut Vec<u8>, counts: &Counts) -> Result<(), AllocError>
     ensures { OnOk result (text.new.items ≡ text.old.items ++ totals_text counts.now) }
 {
     put_paths(text, counts.paths)?;
+    put_waiting_grants(text, counts.waiting_grants)?;
     put_steps_taken(text, counts)
 }
 
@@ -205,28 +272,31 @@ fn put_metrics(
     counts: &Counts,
     book: &Book,
     counters: &Counters,
-    memory: Option<u64>,
+    process: Process,
+    states: &[ShownState],
 ) -> Result<(), AllocError>
-    ensures { OnOk result (text.new.items ≡ text.old.items ++ metrics around.now counts.now book.now counters.now memory) }
+    ensures { OnOk result (text.new.items ≡ text.old.items ++ metrics around.now counts.now book.now counters.now process states.now) }
 {
-    put_build(text, around.version)?;
-    put_memory(text, memory)?;
+    put_build(text, around.version, around.logic, around.commit)?;
+    put_process(text, process)?;
     put_counters(text, counters)?;
+    put_placed(text, states)?;
     put_seen(text, counts, book)
 }
 
-/// Says what was seen and counted in Prometheus's text format 0.0.4. Memory that isn't known is left out.
+/// Says what was seen and counted in Prometheus's text format 0.0.4. What the system doesn't say is left out.
 pub fn metrics_text(
     alloc: Global,
     around: &Surroundings<'_>,
     counts: &Counts,
     book: &Book,
     counters: &Counters,
-    memory: Option<u64>,
+    process: Process,
+    states: &[ShownState],
 ) -> Result<Vec<u8>, AllocError>
-    ensures { IfOk result (λ text. text.items ≡ metrics around.now counts.now book.now counters.now memory) }
+    ensures { IfOk result (λ text. text.items ≡ metrics around.now counts.now book.now counters.now process states.now) }
 {
     let mut text = Vec::new(alloc);
-    put_metrics(&mut text, around, counts, book, counters, memory)?;
+    put_metrics(&mut text, around, counts, book, counters, process, states)?;
     Ok(text)
 }

@@ -1,5 +1,4 @@
 //! Tables for people: cheaper paths, and where LSPs would go if a link went away.
-use crate::columns::{add_links, add_rate};
 use crate::moves::{BetterLsp, better_of, moves_of};
 use crate::tables::add_priorities;
 use crate::words::{cost_of_path, links_of_path};
@@ -8,6 +7,7 @@ use pce_seen::{Displaced, Movable};
 use pcep_word::Ipv4;
 use std::alloc::{AllocError, Global};
 use std::fmt::Write;
+use table_text::{add_numbers, add_rate};
 
 fn add_better_lsp(text: &mut String, better: &BetterLsp) -> Result<(), AllocError> {
     let peer = Ipv4(better.peer);
@@ -15,7 +15,7 @@ fn add_better_lsp(text: &mut String, better: &BetterLsp) -> Result<(), AllocErro
     let cost = better.cheaper.standing;
     let less = better.cheaper.path.cost;
     write!(text, "{peer}\t{plsp}\t{cost}\t{less}\t")?;
-    add_links(text, better.cheaper.path.links.as_slice())?;
+    add_numbers(text, better.cheaper.path.links.as_slice())?;
     text.push('\n')
 }
 
@@ -46,7 +46,7 @@ fn add_move(text: &mut String, of: &Move) -> Result<(), AllocError> {
         Some(cost) => write!(text, "\t{cost}\t")?,
         None => text.push_str("\tno place\t")?,
     }
-    add_links(text, links_of_path(&of.path))?;
+    add_numbers(text, links_of_path(&of.path))?;
     text.push('\n')
 }
 

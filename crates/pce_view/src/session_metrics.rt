@@ -1,12 +1,11 @@
 //! Metrics of connections and messages.
 ghost use Rattle.std.specs.Prelude.{◌≡◌, ◌++◌, OnOk};
 ghost use Rattle.server_counts.specs.Counts.{count_of};
-ghost use Rattle.server_counts.specs.declared.kinds.Counted.TheVariants.{ErrorSent};
-ghost use Rattle.pce_view.specs.Metrics.{accepted_text, connections_text, ends_text, error_family, error_head, error_kinds, error_line, error_values, errors_text, messages_text, received_text, sent_text, strangers_text};
+ghost use Rattle.pce_view.specs.Metrics.{accepted_text, connections_text, ends_text, error_family, error_kinds, error_line, error_of, error_values, errors_help, errors_name, errors_text, messages_text, received_text, sent_text, strangers_text};
 
 use crate::families::{put_family, put_head, put_single};
 use crate::pieces::{Piece, put_line};
-use server_counts::{Counted, Counters, EndReason, MessageKind};
+use server_counts::{Counted, Counters, EndReason, MessageKind, Way};
 use std::alloc::AllocError;
 
 /// The types and values of PCErr that are counted apart.
@@ -136,9 +135,43 @@ fn put_sent(text: &mut Vec<u8>, counters: &Counters) -> Result<(), AllocError>
     )
 }
 
+/// A PCErr that came or was sent.
+fn error_of(way: Way, kind: u8, value: u8) -> Counted
+    ensures { result ≡ error_of way kind value }
+{
+    match way {
+        Way::In => Counted::ErrorReceived(kind, value),
+        Way::Out => Counted::ErrorSent(kind, value),
+    }
+}
+
+fn errors_name(way: Way) -> &'static str
+    ensures { result.now ≡ errors_name way }
+{
+    match way {
+        Way::In => "pced_errors_received_total",
+        Way::Out => "pced_errors_sent_total",
+    }
+}
+
+fn errors_help(way: Way) -> &'static str
+    ensures { result.now ≡ errors_help way }
+{
+    match way {
+        Way::In => "PCErr that routers sent, by type and value; 31 stands for all from 31 on.",
+        Way::Out => "PCErr that were sent, by type and value; 31 stands for all from 31 on.",
+    }
+}
+
 #[tactic(auto, unfolding(crate::specs::Metrics::error_line))]
-fn put_error_line(text: &mut Vec<u8>, kind: u8, value: u8, number: u64) -> Result<(), AllocError>
-    ensures { OnOk result (text.new.items ≡ text.old.items ++ error_line kind value number) }
+fn put_error_line<'x>(
+    text: &mut Vec<u8>,
+    name: &'x str,
+    kind: u8,
+    value: u8,
+    number: u64,
+) -> Result<(), AllocError>
+    ensures { OnOk result (text.new.items ≡ text.old.items ++ error_line name.now kind value number) }
 {
     if number == 0 {
         return Ok(());
@@ -146,7 +179,8 @@ fn put_error_line(text: &mut Vec<u8>, kind: u8, value: u8, number: u64) -> Resul
     put_line(
         text,
         &[
-            Piece::Text("pced_errors_sent_total{type=\""),
+            Piece::Text(name),
+            Piece::Text("{type=\""),
             Piece::Whole(kind as u64),
             Piece::Text("\",value=\""),
             Piece::Whole(value as u64),
@@ -157,78 +191,71 @@ fn put_error_line(text: &mut Vec<u8>, kind: u8, value: u8, number: u64) -> Resul
 }
 
 /// Adds the line of a type and value.
-fn put_error(text: &mut Vec<u8>, counters: &Counters, kind: u8, value: u8) -> Result<(), AllocError>
-    ensures { OnOk result (text.new.items ≡ text.old.items ++ error_line kind value (count_of counters.now (ErrorSent kind value))) }
+fn put_error(
+    text: &mut Vec<u8>,
+    way: Way,
+    counters: &Counters,
+    kind: u8,
+    value: u8,
+) -> Result<(), AllocError>
+    ensures { OnOk result (text.new.items ≡ text.old.items ++ error_line (errors_name way) kind value (count_of counters.now (error_of way kind value))) }
 {
-    put_error_line(
-        text,
-        kind,
-        value,
-        counters.count(Counted::ErrorSent(kind, value)),
-    )
+    let number = counters.count(error_of(way, kind, value));
+    put_error_line(text, errors_name(way), kind, value, number)
 }
 
-/// Adds a line for each value of a type that was ever sent.
+/// Adds a line for each value of a type that there ever was.
 fn put_error_values(
     text: &mut Vec<u8>,
+    way: Way,
     counters: &Counters,
     kind: u8,
     values: &[u8],
 ) -> Result<(), AllocError>
-    ensures { OnOk result (text.new.items ≡ text.old.items ++ error_values counters.now kind values.now) }
+    ensures { OnOk result (text.new.items ≡ text.old.items ++ error_values way counters.now kind values.now) }
 {
     for value in values {
-        put_error(text, counters, kind, *value)?;
+        put_error(text, way, counters, kind, *value)?;
     }
     Ok(())
 }
 
 fn put_error_kinds(
     text: &mut Vec<u8>,
+    way: Way,
     counters: &Counters,
     kinds: &[u8],
     values: &[u8],
 ) -> Result<(), AllocError>
-    ensures { OnOk result (text.new.items ≡ text.old.items ++ error_kinds counters.now kinds.now values.now) }
+    ensures { OnOk result (text.new.items ≡ text.old.items ++ error_kinds way counters.now kinds.now values.now) }
 {
     for kind in kinds {
-        put_error_values(text, counters, *kind, values)?;
+        put_error_values(text, way, counters, *kind, values)?;
     }
     Ok(())
-}
-
-#[tactic(auto, unfolding(crate::specs::Metrics::error_head))]
-fn put_error_head(text: &mut Vec<u8>) -> Result<(), AllocError>
-    ensures { OnOk result (text.new.items ≡ text.old.items ++ error_head) }
-{
-    put_head(
-        text,
-        "pced_errors_sent_total",
-        "counter",
-        "PCErr that were sent, by type and value; 31 stands for all from 31 on.",
-    )
 }
 
 /// Adds the PCErr of these types and values.
 #[tactic(auto, unfolding(crate::specs::Metrics::error_family))]
 fn put_error_family(
     text: &mut Vec<u8>,
+    way: Way,
     counters: &Counters,
     kinds: &[u8],
     values: &[u8],
 ) -> Result<(), AllocError>
-    ensures { OnOk result (text.new.items ≡ text.old.items ++ error_family counters.now kinds.now values.now) }
+    ensures { OnOk result (text.new.items ≡ text.old.items ++ error_family way counters.now kinds.now values.now) }
 {
-    put_error_head(text)?;
-    put_error_kinds(text, counters, kinds, values)
+    put_head(text, errors_name(way), "counter", errors_help(way))?;
+    put_error_kinds(text, way, counters, kinds, values)
 }
 
-/// Adds the PCErr that were sent.
+/// Adds the PCErr that came, or that were sent.
 #[tactic(auto, unfolding(crate::specs::Metrics::errors_text))]
-fn put_errors(text: &mut Vec<u8>, counters: &Counters) -> Result<(), AllocError>
-    ensures { OnOk result (text.new.items ≡ text.old.items ++ errors_text counters.now) }
+fn put_errors(text: &mut Vec<u8>, way: Way, counters: &Counters) -> Result<(), AllocError>
+    ensures { OnOk result (text.new.items ≡ text.old.items ++ errors_text way counters.now) }
 {
-    put_error_family(text, counters, &NUMBERS, &NUMBERS)
+    put_error_family(text, way, counters, &NUMBERS, &NUMBERS)
 }
 
 /// Adds messages.
@@ -238,5 +265,6 @@ pub(crate) fn put_messages(text: &mut Vec<u8>, counters: &Counters) -> Result<()
 {
     put_received(text, counters)?;
     put_sent(text, counters)?;
-    put_errors(text, counters)
+    put_errors(text, Way::Out, counters)?;
+    put_errors(text, Way::In, counters)
 }

@@ -73,6 +73,10 @@ fn put_status<'x>(
                 name: "tickets",
                 value: Field::Whole(counts.tickets),
             },
+            Member {
+                name: "waiting_grants",
+                value: Field::Whole(counts.waiting_grants),
+            },
         ],
     )
 }

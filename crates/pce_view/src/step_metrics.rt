@@ -4,10 +4,10 @@ ghost use Rattle.server_counts.specs.Counts.{count_of};
 ghost use Rattle.server_counts.specs.declared.kinds.Counted.TheVariants.{Step};
 ghost use Rattle.pce_view.specs.CountedWords.{word_of};
 ghost use Rattle.pce_view.specs.Words.{event_word};
-ghost use Rattle.pce_view.specs.Metrics.{all_events, commits_text, event_family, event_head, event_line, event_lines, events_text, refusals_text, steps_text};
+ghost use Rattle.pce_view.specs.Metrics.{all_events, commits_text, event_family, event_head, event_line, event_lines, events_text, refusals_text, steps_text, unanswered_text};
 
 use crate::counted_words::word_of;
-use crate::families::{put_family, put_head};
+use crate::families::{put_family, put_head, put_single};
 use crate::pieces::{Piece, put_line};
 use crate::words::event_word;
 use pce_seen::EventKind;
@@ -208,6 +208,20 @@ fn put_commits(text: &mut Vec<u8>, counters: &Counters) -> Result<(), AllocError
     )
 }
 
+/// Adds the number of grants and deletions that routers left unanswered.
+#[tactic(auto, unfolding(crate::specs::Metrics::unanswered_text))]
+fn put_unanswered(text: &mut Vec<u8>, number: u64) -> Result<(), AllocError>
+    ensures { OnOk result (text.new.items ≡ text.old.items ++ unanswered_text number) }
+{
+    put_single(
+        text,
+        "pced_unanswered_total",
+        "counter",
+        "Grants and deletions that routers left unanswered.",
+        number,
+    )
+}
+
 /// Adds what was counted of steps.
 #[tactic(auto, unfolding(crate::specs::Metrics::steps_text))]
 pub(crate) fn put_steps(text: &mut Vec<u8>, counters: &Counters) -> Result<(), AllocError>
@@ -215,5 +229,6 @@ pub(crate) fn put_steps(text: &mut Vec<u8>, counters: &Counters) -> Result<(), A
 {
     put_events(text, counters)?;
     put_refusals(text, counters)?;
-    put_commits(text, counters)
+    put_commits(text, counters)?;
+    put_unanswered(text, counters.count(Counted::NoAnswer))
 }

@@ -1,5 +1,4 @@
 //! Tables for people.
-use crate::columns::{add_duration, add_name, add_rate};
 use crate::counted_words::end_word;
 use crate::fields::name_at;
 use crate::moments::{Moments, moments_of};
@@ -14,6 +13,7 @@ use pcep_word::{Ipv4, Priorities, Priority};
 use server_counts::{Presence, presence_in};
 use std::alloc::AllocError;
 use std::fmt::Write;
+use table_text::{add_duration, add_name, add_rate};
 use te_base::{LinkNumber, Node};
 use te_snapshot::Snapshot;
 
@@ -36,13 +36,17 @@ pub(crate) fn add_status(
         sessions_up,
         lsps,
         paths,
+        waiting_grants,
         tickets,
     } = *counts;
     write!(
         text,
         "\nnodes\t{nodes}\nlinks\t{links}\nsessions up\t{sessions_up}\n"
     )?;
-    write!(text, "LSPs\t{lsps}\npaths\t{paths}\ntickets\t{tickets}\n")?;
+    write!(
+        text,
+        "LSPs\t{lsps}\npaths\t{paths}\ntickets\t{tickets}\nwaiting grants\t{waiting_grants}\n"
+    )?;
     write!(
         text,
         "steps\t{steps}\ngrants\t{grants}\nrolled steps\t{rolled}\nkept steps\t{kept}\n"
@@ -200,6 +204,14 @@ pub(crate) fn add_steps(text: &mut String, seen: &LastSteps) -> Result<(), Alloc
     Ok(())
 }
 
+/// Adds the names of the nodes at a link's ends.
+pub(crate) fn add_ends(text: &mut String, from: &str, to: &str) -> Result<(), AllocError> {
+    add_name(text, from.as_bytes())?;
+    text.push('\t')?;
+    add_name(text, to.as_bytes())?;
+    text.push('\t')
+}
+
 fn add_hop(
     text: &mut String,
     nodes: &[Node],
@@ -212,7 +224,9 @@ fn add_hop(
     let from = name_at(nodes, link.from);
     let to = name_at(nodes, link.to);
     let te = link.te;
-    writeln!(text, "{number}\t{from}\t{to}\t{te}")
+    write!(text, "{number}\t")?;
+    add_ends(text, from, to)?;
+    writeln!(text, "{te}")
 }
 
 fn add_hops(

@@ -1,10 +1,12 @@
 //! Words for what is seen.
 ghost use Rattle.std.specs.Prelude.{◌≡◌, option_map};
-ghost use Rattle.pce_view.specs.Words.{booked_word, cost_in, cost_of_path, event_word, is_found, link_in, links_in, links_of_path, obstacle_of, obstacle_word, origin_step, origin_ticket, origin_word, outcome_number, outcome_word, purpose_plsp, purpose_request, purpose_word};
+ghost use Rattle.pce_view.specs.Words.{booked_word, cost_in, cost_of_path, event_word, is_found, link_in, links_in, links_of_path, lsp_error_word, obstacle_of, obstacle_word, operational_word, origin_step, origin_ticket, origin_word, outcome_number, outcome_word, purpose_plsp, purpose_request, purpose_word, state_word};
 
+use crate::states::LspState;
 use commit_core::Purpose;
 use path_looks::{Found, LinkRoom, Obstacle, PathAnswer};
 use pce_seen::{EventKind, Origin, Outcome};
+use server_rules::Operational;
 use te_base::LinkNumber;
 
 /// Says what a ticket asks a path for.
@@ -224,5 +226,50 @@ pub(crate) fn links_of_path(path: &Option<Found>) -> &[LinkNumber]
     match path {
         Some(found) => found.links.as_slice(),
         None => &[],
+    }
+}
+
+/// Names the state in which an LSP is shown.
+pub(crate) fn state_word(state: LspState) -> Option<&'static str>
+    ensures { option_map (λ word. word.now) result ≡ state_word state }
+{
+    match state {
+        LspState::Active => Some("active"),
+        LspState::Up => Some("up"),
+        LspState::GoingUp => Some("going up"),
+        LspState::GoingDown => Some("going down"),
+        LspState::Down => Some("down"),
+        LspState::Unplaced => Some("unplaced"),
+        LspState::Unknown => None,
+    }
+}
+
+/// Names the state in which a router reports a path (RFC 8231 section 7.3).
+pub(crate) fn operational_word(operational: Operational) -> &'static str
+    ensures { result.now ≡ operational_word operational }
+{
+    match operational {
+        Operational::Active => "active",
+        Operational::Up => "up",
+        Operational::GoingUp => "going up",
+        Operational::GoingDown => "going down",
+        Operational::Down => "down",
+    }
+}
+
+/// Says what an LSP-ERROR-CODE means (RFC 8231 section 7.3.3).
+pub(crate) fn lsp_error_word(code: u64) -> &'static str
+    ensures { result.now ≡ lsp_error_word code }
+{
+    match code {
+        1 => "unknown reason",
+        2 => "limit reached for PCE-controlled LSPs",
+        3 => "too many pending LSP update requests",
+        4 => "unacceptable parameters",
+        5 => "internal error",
+        6 => "LSP administratively brought down",
+        7 => "LSP preempted",
+        8 => "RSVP signaling error",
+        _ => "unassigned error code",
     }
 }

@@ -8,30 +8,26 @@
 //! wrong in a link text (`te_words`).
 #![tactic(auto)]
 
-mod arguments;
-mod check;
-mod decode;
-mod descriptors;
 mod serve;
-mod stamped;
-mod status;
-mod tell;
 
 ghost use Rattle.std.specs.Prelude.{◌≡◌, IfOk, IsOk};
 ghost use Rattle.clap.specs.Values.{kind_of};
-ghost use Rattle.pced.specs.Statuses.{ended_status, ended_serve_status, ended_tell_status, refused_status};
+ghost use Rattle.pced_commands.specs.Statuses.{ended_serve_status, ended_tell_status, refused_status};
 
-use arguments::{Task, parse};
-use check::check;
 use clap::Error;
 use clap::error::ErrorKind;
-use decode::{decode, explain};
 use log::Log;
-use pce_engine::{ScriptFault, run_script};
+use pce_engine::ScriptFault;
 use pce_server::ErrorOutput;
-use serve::{ServeFault, serve};
-use status::{failed, lines_status, refused, serve_status, status, tell_status};
+use pced_commands::{
+    LinesEnd, ServeFault, TellFault, check, lines_status, print_version, refused, serve_status,
+    tell_all, tell_status,
+};
+use pced_words::{ServeWords, Task, parse};
+use script_commands::{decode, end, explain_script, fail, open_standard, print_script};
+use serve::serve;
 use std::alloc::Global;
+use std::fs::Files;
 use std::io;
 use std::net::{Net, TcpListener, TcpStream};
 use std::process::ExitCode;
@@ -39,32 +35,24 @@ use std::rt::Runtime;
 use std::sync::Wait;
 use std::thread::Threads;
 use std::time::Duration;
-use tell::{LinesEnd, TellFault, tell_all};
 
-/// Help goes to standard output, a refusal of the words to standard error.
-fn refuse<R: Print + Eprint>(rt: &R, error: Error) -> io::Result<u8>
+/// Help and the version go to standard output, a refusal of the words to standard error.
+fn print_error<R: Files + Print + Eprint + AllocGlobal>(rt: &R, error: &Error) -> io::Result<()> {
+    match error.kind() {
+        ErrorKind::DisplayVersion => print_version(rt),
+        _ => error.print(rt),
+    }
+}
+
+/// Words that are no command, likewise.
+fn refuse<R: Files + Print + Eprint + AllocGlobal>(rt: &R, error: Error) -> io::Result<u8>
     ensures { IfOk result (λ given. given ≡ refused_status (kind_of error)) }
 {
     match error.kind() {
         ErrorKind::OutOfMemory => end(rt, Err(ScriptFault::OutOfMemory(0))),
         kind => {
-            error.print(rt)?;
+            print_error(rt, &error)?;
             Ok(refused(kind))
-        }
-    }
-}
-
-/// How a script ended: the text of a fault goes to standard error, and the status is given. Where there is no
-/// fault, nothing is written, and nothing fails.
-fn end<R: Eprint>(rt: &R, outcome: Result<(), ScriptFault>) -> io::Result<u8>
-    ensures status { IfOk result (λ given. given ≡ ended_status outcome) }
-    ensures nothing_to_write { IsOk outcome → IsOk result }
-{
-    match outcome {
-        Ok(()) => Ok(0),
-        Err(fault) => {
-            eprintln!(rt; "{fault}")?;
-            Ok(status(fault))
         }
     }
 }
@@ -77,10 +65,20 @@ fn is_error_read<R: AllocGlobal + Net>(rt: &R) -> bool {
     }
 }
 
-/// How a server ended, likewise. The text is left out where nobody reads standard error, so that the program ends.
+/// Writes what is told of a start that failed, if anything is.
+fn tell_of_start<R: Eprint>(rt: &R, told: &str) -> io::Result<()> {
+    if told.is_empty() {
+        return Ok(());
+    }
+    eprintln!(rt; "{told}")
+}
+
+/// How a server ended, likewise, after what is told of its start. Both are left out if nobody reads standard error, so that
+/// the program ends.
 fn end_serving<R: Eprint + AllocGlobal + Net>(
     rt: &R,
     outcome: Result<(), ServeFault>,
+    told: &str,
 ) -> io::Result<u8>
     ensures status { IfOk result (λ given. given ≡ ended_serve_status outcome) }
     ensures nothing_to_write { IsOk outcome → IsOk result }
@@ -89,21 +87,23 @@ fn end_serving<R: Eprint + AllocGlobal + Net>(
         return Ok(0);
     };
     if is_error_read(rt) {
+        tell_of_start(rt, told)?;
         eprintln!(rt; "{fault}")?;
     }
     Ok(serve_status(fault))
 }
 
-/// Runs a script, and prints what it prints, explained, at its end.
-fn explain_script<R: Runtime<A = Global>>(rt: &R, printed: &mut Vec<u8>) -> io::Result<u8> {
-    let outcome = run_script(rt.alloc(), &mut rt.reader(), printed);
-    explain(rt, printed)?;
-    end(rt, outcome)
-}
-
-fn decode_all<R: Runtime<A = Global>>(rt: &R) -> io::Result<u8> {
-    decode(rt)?;
-    Ok(0)
+fn serve_to_end<
+    R: Runtime<A = Global>
+        + Net<Listener = TcpListener, Stream = TcpStream>
+        + Wait
+        + Threads
+        + Log
+        + Sync,
+>(rt: &R, files: &HostRuntime, words: &ServeWords<'_>) -> io::Result<u8> {
+    let mut told = String::new(rt.alloc());
+    let outcome = serve(rt, files, words, &mut told);
+    end_serving(rt, outcome, &told)
 }
 
 /// How lines were answered, likewise.
@@ -132,24 +132,19 @@ fn run<
     let words: Vec<String> = std::env::args(rt)?.collect(alloc)?;
     match parse(alloc, &words) {
         Err(error) => refuse(rt, error),
-        Ok(Task::Script { explain: false }) => {
-            end(rt, run_script(alloc, &mut rt.reader(), &mut io::writer(rt)))
-        }
-        Ok(Task::Script { explain: true }) => explain_script(rt, &mut Vec::new(alloc)),
-        Ok(Task::Decode) => decode_all(rt),
-        Ok(Task::Check(file)) => check(rt, file),
-        Ok(Task::Serve(words)) => end_serving(rt, serve(rt, files, &words)),
+        Ok(Task::Script { explain: false }) => print_script(rt),
+        Ok(Task::Script { explain: true }) => explain_script(rt),
+        Ok(Task::Decode) => decode(rt),
+        Ok(Task::Check(file)) => check(files, file),
+        Ok(Task::Serve(words)) => serve_to_end(rt, files, &words),
         Ok(Task::Tell(words)) => end_lines(rt, tell_all(rt, &words)),
     }
 }
 
 fn main(rt: HostRuntime) -> ExitCode {
+    open_standard(&rt);
     match run(&rt, &rt) {
         Ok(status) => ExitCode::from(status),
-        Err(error) => {
-            let fault = failed(&error);
-            let _ = eprintln!(rt; "{fault}");
-            ExitCode::from(status(fault))
-        }
+        Err(error) => ExitCode::from(fail(&rt, &error)),
     }
 }

@@ -1,63 +1,31 @@
 //! `pced serve`: the file, the listener, the run, and what can go wrong with each, in this order.
-ghost use Rattle.std.specs.Prelude.{◌≤◌, Some};
-ghost use Rattle.pced.specs.Texts.{serve_text};
-ghost use Rattle.pce_server.specs.Ranges.{AreSessions, AreOrders};
+ghost use Rattle.std.specs.Prelude.{◌≤◌};
+ghost use Rattle.server_rules.specs.Ranges.{AreSessions, AreOrders};
 
-use crate::arguments::ServeWords;
-use crate::descriptors::descriptor_limit;
-use crate::stamped::Stamped;
-use control_socket::{close_path, open_path};
+use control_socket::{ControlFile, close_path, open_path};
 use log::{LevelFilter, Log, Logged};
 use pce_engine::TeFault;
 use pce_server::{
     Fault, FilePlan, Listeners, Orders, Routers, RunFault, Sessions, ViewerListener, serve_run,
 };
+use pced_commands::{ServeFault, Stamped, add_checked, descriptor_limit};
+use pced_words::ServeWords;
 use pcep_word::Ipv4;
 use server_talk::{PolledInput, PolledOutput};
 use std::alloc::Global;
-use std::fs::Files;
+use std::fmt::Write;
 use std::hash::RandomState;
+use std::io;
+use std::io::IsTerminal;
 use std::net::{Ipv4Addr, Net, SocketAddr, TcpListener, TcpStream};
 use std::os::unix::net::UnixListener;
 use std::rt::Runtime;
 use std::str::FromStr;
 use std::sync::Wait;
 use std::thread::Threads;
-use std::{error, fmt, fs, io};
 use te_base::TeBase;
 use te_places::places_text;
-
-/// Why a server did not run to its end. `Display` gives the text for standard error.
-#[derive(Clone, Copy, Debug, PartialEq, Eq)]
-pub enum ServeFault {
-    /// What is to be listened on is no `ADDR:PORT`, a router is no address, or there is no such level of the log.
-    BadArgument,
-    /// The file can't be read, or the listener can't be made.
-    Device,
-    /// The link text has this fault.
-    Te(TeFault),
-    /// The run ended by this fault.
-    Run(RunFault),
-}
-
-impl fmt::Display for ServeFault {
-    ghost output = { λ fault. Some (serve_text fault) };
-
-    fn fmt<W: fmt::Write>(&self, f: &mut fmt::Formatter<W>) -> fmt::Result {
-        match *self {
-            ServeFault::BadArgument => f.write_str("bad argument"),
-            ServeFault::Device => f.write_str("device fault"),
-            ServeFault::Te(TeFault::OutOfMemory) => f.write_str("out of memory"),
-            ServeFault::Te(fault) => {
-                let number = fault.number();
-                write!(f, "te fault {number}")
-            }
-            ServeFault::Run(fault) => write!(f, "{fault}"),
-        }
-    }
-}
-
-impl error::Error for ServeFault {}
+use text_files::read_file;
 
 /// The port of a decimal number below 65,536.
 fn port_in(word: &str) -> Option<u16> {
@@ -75,26 +43,83 @@ fn place_in(word: &str) -> Option<SocketAddr> {
     Some(SocketAddr::from((Ipv4Addr::from_bits(address.0), port)))
 }
 
-/// The links and nodes of a text in a file.
-fn base_in(alloc: Global, text: &[u8]) -> Result<TeBase, ServeFault> {
-    let Ok(text) = str::from_utf8(text) else {
-        return Err(ServeFault::Te(TeFault::NotToml));
-    };
-    match TeBase::read(alloc, text) {
-        Ok(base) => Ok(base),
-        Err(fault) => Err(ServeFault::Te(fault)),
+/// The address and the port that an option gives.
+fn place_of(told: &mut String, option: &str, word: &str) -> Result<SocketAddr, ServeFault> {
+    match place_in(word) {
+        Some(place) => Ok(place),
+        None => {
+            let _told = write!(told, "{option} {word}: not ADDR:PORT, as 192.0.2.1:4189");
+            Err(ServeFault::BadArgument)
+        }
     }
 }
 
-/// The network that only known routers are of, where others aren't to be heard.
-fn known_in(alloc: Global, text: &[u8], only_known: bool) -> Result<Option<TeBase>, ServeFault> {
+/// The most verbose level of the log.
+fn level_of(told: &mut String, word: &str) -> Result<LevelFilter, ServeFault> {
+    match LevelFilter::from_str(word) {
+        Ok(level) => Ok(level),
+        Err(_) => {
+            let _told = write!(
+                told,
+                "--log {word}: none of off, error, warn, info, debug and trace"
+            );
+            Err(ServeFault::BadArgument)
+        }
+    }
+}
+
+/// The routers that are waited for, for a time that is above 0 if there are any.
+fn settle_for_of<'a>(
+    told: &mut String,
+    words: &'a ServeWords<'_>,
+) -> Result<&'a [u32], ServeFault> {
+    match &words.settle_for {
+        Ok(routers) if routers.is_empty() || words.orders.settle_seconds > 0 => {
+            Ok(routers.as_slice())
+        }
+        Ok(_) => {
+            let _told = told.push_str("--settle-for: given without --settle SECONDS above 0");
+            Err(ServeFault::BadArgument)
+        }
+        Err(word) => {
+            let _told = write!(told, "--settle-for {word}: not an address, as 192.0.2.1");
+            Err(ServeFault::BadArgument)
+        }
+    }
+}
+
+/// The links and nodes of a text in a file.
+fn base_in(alloc: Global, told: &mut String, text: &[u8]) -> Result<TeBase, ServeFault> {
+    match read_base(alloc, text) {
+        Ok(base) => Ok(base),
+        Err(fault) => {
+            let _told = add_checked(alloc, text, told);
+            Err(ServeFault::Te(fault))
+        }
+    }
+}
+
+fn read_base(alloc: Global, text: &[u8]) -> Result<TeBase, TeFault> {
+    match str::from_utf8(text) {
+        Ok(text) => TeBase::read(alloc, text),
+        Err(_) => Err(TeFault::NotToml),
+    }
+}
+
+/// The network that only known routers are of, if others aren't to be heard.
+fn known_in(
+    alloc: Global,
+    told: &mut String,
+    text: &[u8],
+    only_known: bool,
+) -> Result<Option<TeBase>, ServeFault> {
     if !only_known {
         return Ok(None);
     }
-    Ok(Some(base_in(alloc, text)?))
+    Ok(Some(base_in(alloc, told, text)?))
 }
 
-/// The fault of a file or a listener.
+/// The fault of a listener, or of what the system gives.
 fn device_fault(error: &io::Error) -> ServeFault {
     match error.kind() {
         io::ErrorKind::OutOfMemory => ServeFault::Run(RunFault::Store(Fault::OutOfMemory)),
@@ -102,61 +127,88 @@ fn device_fault(error: &io::Error) -> ServeFault {
     }
 }
 
-fn read_text<R: Runtime<A = Global>>(rt: &R, file: &str) -> Result<Vec<u8>, ServeFault> {
-    match fs::read(rt, file) {
+/// Reads the link text.
+fn read_text(files: &HostRuntime, told: &mut String, file: &str) -> Result<Vec<u8>, ServeFault> {
+    match read_file(files, file) {
         Ok(text) => Ok(text),
-        Err(error) => Err(device_fault(&error)),
+        Err(fault) => {
+            let _told = write!(told, "cannot read {file}: {fault}");
+            if fault.is_out_of_memory() {
+                return Err(ServeFault::Run(RunFault::Store(Fault::OutOfMemory)));
+            }
+            Err(ServeFault::Device)
+        }
     }
 }
 
 fn listen<R: Net<Listener = TcpListener, Stream = TcpStream>>(
     rt: &R,
+    told: &mut String,
     place: SocketAddr,
 ) -> Result<TcpListener, ServeFault> {
     match TcpListener::bind(rt, place) {
         Ok(listener) => Ok(listener),
-        Err(error) => Err(device_fault(&error)),
+        Err(error) => {
+            let _told = write!(told, "cannot listen on {place}: {error}");
+            Err(device_fault(&error))
+        }
     }
 }
 
-/// The control socket, where there is to be one.
-fn open_control<R: Runtime<A = Global> + Net>(
-    rt: &R,
+/// The control socket, if there is to be one.
+fn open_control(
+    files: &HostRuntime,
+    alloc: Global,
+    told: &mut String,
     path: Option<&str>,
-) -> Result<Option<UnixListener>, ServeFault> {
+) -> Result<Option<ControlFile>, ServeFault> {
     let Some(path) = path else {
         return Ok(None);
     };
-    match open_path(rt, rt.alloc(), path) {
-        Ok(listener) => Ok(Some(listener)),
-        Err(error) => Err(device_fault(&error)),
+    match open_path(files, alloc, path) {
+        Ok(file) => Ok(Some(file)),
+        Err(error) => {
+            let _told = write!(told, "cannot make the control socket {path}: {error}");
+            Err(device_fault(&error))
+        }
     }
 }
 
 /// Takes the file of the control socket away. One that can't be removed is found stale by the next server.
-fn close_control<R: Files>(rt: &R, control: &Option<UnixListener>, path: Option<&str>) {
-    if let (Some(listener), Some(path)) = (control, path) {
-        let _removed = close_path(rt, listener, path);
+fn close_control(
+    files: &HostRuntime,
+    alloc: Global,
+    control: &Option<ControlFile>,
+    path: Option<&str>,
+) {
+    if let (Some(file), Some(path)) = (control, path) {
+        let _removed = close_path(files, alloc, file, path);
     }
 }
 
-/// The address and the port of viewers, where there are to be any.
-fn http_place_in(word: Option<&str>) -> Result<Option<SocketAddr>, ServeFault> {
+/// Where operators connect, if they may.
+fn listener_of(control: &Option<ControlFile>) -> Option<&UnixListener> {
+    match control {
+        Some(file) => Some(file.listener()),
+        None => None,
+    }
+}
+
+/// The address and the port of viewers, if there are to be any.
+fn http_place_of(told: &mut String, word: Option<&str>) -> Result<Option<SocketAddr>, ServeFault> {
     match word {
-        Some(word) => match place_in(word) {
-            Some(place) => Ok(Some(place)),
-            None => Err(ServeFault::BadArgument),
-        },
+        Some(word) => Ok(Some(place_of(told, "--http", word)?)),
         None => Ok(None),
     }
 }
 
 fn listen_http<R: Net<Listener = TcpListener, Stream = TcpStream>>(
     rt: &R,
+    told: &mut String,
     place: Option<SocketAddr>,
 ) -> Result<Option<TcpListener>, ServeFault> {
     match place {
-        Some(place) => Ok(Some(listen(rt, place)?)),
+        Some(place) => Ok(Some(listen(rt, told, place)?)),
         None => Ok(None),
     }
 }
@@ -176,13 +228,20 @@ fn places_in(alloc: Global, text: &[u8], is_shown: bool) -> Result<Vec<u8>, Serv
 }
 
 /// Keys that nobody knows, for viewers, where they may connect.
-fn viewer_keys(files: &HostRuntime, is_wanted: bool) -> Result<Option<RandomState>, ServeFault> {
+fn viewer_keys(
+    files: &HostRuntime,
+    told: &mut String,
+    is_wanted: bool,
+) -> Result<Option<RandomState>, ServeFault> {
     if !is_wanted {
         return Ok(None);
     }
     match RandomState::new(files) {
         Ok(keys) => Ok(Some(keys)),
-        Err(_) => Err(ServeFault::Device),
+        Err(error) => {
+            let _told = write!(told, "cannot read random bytes: {error}");
+            Err(ServeFault::Device)
+        }
     }
 }
 
@@ -243,11 +302,15 @@ fn orders_within(orders: Orders) -> Orders
         sessions: sessions_within(orders.sessions),
         keep_seconds: within(0, orders.keep_seconds, 3600),
         settle_seconds: within(0, orders.settle_seconds, 3600),
+        answer_seconds: within(0, orders.answer_seconds, 3600),
+        retry_seconds: within(0, orders.retry_seconds, 3600),
+        history_megabytes: within(16, orders.history_megabytes, 65536),
         descriptors: orders.descriptors,
     }
 }
 
-/// Serves until the end of the run. Each operator's thread reads the link text through the system's own `files`.
+/// Serves until the end of the run. Each operator's thread reads the link text through the system's own `files`. If the start
+/// fails, what failed, on what and why is added to `told`.
 pub fn serve<
     R: Runtime<A = Global>
         + Net<Listener = TcpListener, Stream = TcpStream>
@@ -255,29 +318,32 @@ pub fn serve<
         + Threads
         + Log
         + Sync,
->(rt: &R, files: &HostRuntime, words: &ServeWords<'_>) -> Result<(), ServeFault> {
-    let Some(place) = place_in(words.listen) else {
-        return Err(ServeFault::BadArgument);
-    };
-    let http_place = http_place_in(words.http)?;
-    let Ok(level) = LevelFilter::from_str(words.log) else {
-        return Err(ServeFault::BadArgument);
-    };
-    let Some(settle_for) = &words.settle_for else {
-        return Err(ServeFault::BadArgument);
-    };
-    let text = read_text(rt, words.file)?;
-    let base = base_in(rt.alloc(), &text)?;
-    let second = base_in(rt.alloc(), &text)?;
-    let known = known_in(rt.alloc(), &text, words.only_known)?;
-    let listener = listen(rt, place)?;
-    let http = listen_http(rt, http_place)?;
+>(
+    rt: &R,
+    files: &HostRuntime,
+    words: &ServeWords<'_>,
+    told: &mut String,
+) -> Result<(), ServeFault> {
+    let place = place_of(told, "--listen", words.listen)?;
+    let http_place = http_place_of(told, words.http)?;
+    let level = level_of(told, words.log)?;
+    let settle_for = settle_for_of(told, words)?;
+    let text = read_text(files, told, words.file)?;
+    let base = base_in(rt.alloc(), told, &text)?;
+    let second = base_in(rt.alloc(), told, &text)?;
+    let known = known_in(rt.alloc(), told, &text, words.only_known)?;
+    let listener = listen(rt, told, place)?;
+    let http = listen_http(rt, told, http_place)?;
     let places = places_in(rt.alloc(), &text, http_place.is_some())?;
-    let keys = viewer_keys(files, http.is_some())?;
+    let keys = viewer_keys(files, told, http.is_some())?;
+    let is_terminal = files.reader().is_terminal();
     let mut input = rt.reader();
-    let mut reader = match PolledInput::new(rt, rt.alloc(), &mut input) {
+    let mut reader = match PolledInput::new(rt, rt.alloc(), &mut input, files, is_terminal) {
         Ok(reader) => reader,
-        Err(error) => return Err(device_fault(&error)),
+        Err(error) => {
+            let _told = write!(told, "cannot wait for standard input: {error}");
+            return Err(device_fault(&error));
+        }
     };
     let mut output = io::writer(rt);
     let mut writer = match PolledOutput::new(rt, rt.alloc(), &mut output) {
@@ -298,8 +364,15 @@ pub fn serve<
         file: words.file,
         te: &second,
     };
-    let control = open_control(rt, words.control)?;
-    let listeners = listeners_at(&listener, control.as_ref(), &http, keys, &places, files);
+    let control = open_control(files, rt.alloc(), told, words.control)?;
+    let listeners = listeners_at(
+        &listener,
+        listener_of(&control),
+        &http,
+        keys,
+        &places,
+        files,
+    );
     let outcome = serve_run(
         &logged,
         &listeners,
@@ -310,7 +383,7 @@ pub fn serve<
         &mut reader,
         &mut writer,
     );
-    close_control(rt, &control, words.control);
+    close_control(files, rt.alloc(), &control, words.control);
     match outcome {
         Ok(_audit) => Ok(()),
         Err(fault) => Err(ServeFault::Run(fault)),

@@ -10,6 +10,7 @@ use te_base::TeBase;
 
 mod book;
 mod buffers;
+mod copies;
 mod ends;
 mod fakes;
 mod lines;
@@ -20,6 +21,7 @@ mod quiet;
 mod refused;
 mod reloads;
 mod rules;
+mod scripts;
 mod shared;
 mod snapshots;
 mod stores;

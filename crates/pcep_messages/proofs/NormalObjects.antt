@@ -56,13 +56,13 @@ answer (answers.NoPath vector) normal = (tt, tt)
 
 update : (u : Update) → IsUpdate u → AreNormal (update_objects u)
 update u normal =
-    (normal.srp, (record { plsp = normal.plsp; identifiers = tt }, (normal.ero, both (attributes_objects u.attributes) (bandwidth_objects u.bandwidth) (attributes u.attributes normal.attributes) (bandwidth u.bandwidth normal.bandwidth))))
+    (normal.srp, (record { plsp = normal.plsp; identifiers = tt; error_code = tt; rsvp_error = tt }, (normal.ero, both (attributes_objects u.attributes) (bandwidth_objects u.bandwidth) (attributes u.attributes normal.attributes) (bandwidth u.bandwidth normal.bandwidth))))
 
 create : (c : Create) → IsCreate c → AreNormal (create_objects c)
 create c normal = (
   normal.srp,
   (
-    record { plsp = omega arith; identifiers = tt },
+    record { plsp = omega arith; identifiers = tt; error_code = tt; rsvp_error = tt },
     (
       (refl, record { source = normal.source; destination = normal.destination }),
       (normal.ero, both (attributes_objects c.attributes) (bandwidth_objects c.bandwidth) (attributes c.attributes normal.attributes) (bandwidth c.bandwidth normal.bandwidth)),
@@ -72,7 +72,7 @@ create c normal = (
 
 initiate : (i : Initiate) → IsInitiate i → AreNormal (initiate_objects i)
 initiate (initiates.Create c) normal = create c normal
-initiate (initiates.Remove srp plsp) normal = (normal.0, (record { plsp = normal.1; identifiers = tt }, tt))
+initiate (initiates.Remove srp plsp) normal = (normal.0, (record { plsp = normal.1; identifiers = tt; error_code = tt; rsvp_error = tt }, tt))
 
 pub normal_objects : (message : Message) → IsNormal message → AllByRecursion spelling.IsNormal (objects_written message)
 normal_objects (messages.Opening opening) normal = (tt, tt)

@@ -10,7 +10,7 @@ use Rattle.pcep_objects.specs.declared.kind.Kind.TheVariants.{Ero}
 use Rattle.pcep_objects.specs.RequestObjects.{IsRp, IsEndPoints}
 use Rattle.pcep_objects.specs.Spelling.{IsHop, IsLspa, IsLsp}
 use Rattle.pcep_objects.specs.declared.fault.ObjectFault.{ObjectFault}
-use Rattle.pcep_objects.specs.declared.object.Hop.{Hop}
+use Rattle.lsp_words.specs.declared.object.Hop.{Hop}
 use Rattle.pcep_objects.specs.declared.object.LspObject.{LspObject}
 use Rattle.pcep_objects.specs.declared.object.Lspa.{Lspa}
 use Rattle.pcep_objects.specs.declared.object.Metric.{Metric}

@@ -3,7 +3,7 @@ use Rattle.std.proofs.Common.{◌≡◌, ℕ, List, [], ◌∷◌, map, fold, Op
 use Rattle.std.specs.Option.{option_or}
 use Rattle.pcep_objects.specs.declared.fault.BodyFault.{BodyFault}
 use Rattle.pcep_objects.specs.declared.fault.ObjectFault.{ObjectFault}
-use Rattle.pcep_objects.specs.declared.object.Hop.{Hop}
+use Rattle.lsp_words.specs.declared.object.Hop.{Hop}
 use Rattle.pcep_objects.specs.declared.object.LspObject.{LspObject}
 use Rattle.pcep_objects.specs.declared.object.Lspa.{Lspa}
 use Rattle.pcep_objects.specs.declared.object.Metric.{Metric}

@@ -4,7 +4,7 @@ use Rattle.std.specs.List.{filter_map}
 use Rattle.std.proofs.lemmas.List.Elements.{filter_map-append}
 use Rattle.std.proofs.lemmas.List.{append-nil}
 use Rattle.pcep_word.specs.Priority.{in_force}
-use Rattle.pcep_objects.specs.declared.object.Hop.{Hop}
+use Rattle.lsp_words.specs.declared.object.Hop.{Hop}
 use Rattle.pcep_objects.specs.declared.object.Object.{Object}
 use Rattle.pcep_objects.specs.declared.object.Object.TheVariants as objects
 use Rattle.pcep_objects.specs.declared.session_objects.PcepError.{PcepError}
@@ -88,11 +88,11 @@ reply_again reply = answered_again reply.request reply.answer
 -- ---- PCUpd
 
 attributes_again : (attributes : Attributes) → attributes.priorities.hold ≤ attributes.priorities.setup
-    → record { colours = attributes.colours; priorities = in_force attributes.priorities.setup attributes.priorities.hold } ≡ attributes
+    → record { colours = attributes.colours; priorities = in_force attributes.priorities.setup attributes.priorities.hold; local_protection = attributes.local_protection } ≡ attributes
 attributes_again attributes better =
     let setup = attributes.priorities.setup in
     let hold : min attributes.priorities.hold setup ≡ attributes.priorities.hold = omega arith in
-    let with_hold : ℕ → Attributes = λ n. record { colours = attributes.colours; priorities = record { setup = setup; hold = n } } in
+    let with_hold : ℕ → Attributes = λ n. record { colours = attributes.colours; priorities = record { setup = setup; hold = n }; local_protection = attributes.local_protection } in
     ap with_hold hold
 
 abbrev updated : ℕ → ℕ → Bool → Bool → List Hop → Option Attributes → Option ℕ → Update

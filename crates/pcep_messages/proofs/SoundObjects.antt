@@ -5,7 +5,7 @@ use Rattle.std.specs.List.{AllByRecursion}
 use Rattle.byteorder.specs.Numbers.{big_from-lt}
 use Rattle.pcep_word.specs.Word.{bandwidth_of, IsBandwidth, IsBound}
 use Rattle.pcep_objects.specs.Steps.{◌>>=◌, field}
-use Rattle.pcep_objects.specs.Tlvs.{skipped_tlvs, value_in}
+use Rattle.pcep_objects.specs.Tlvs.{skipped_tlvs, value_in, fitting_in}
 use Rattle.pcep_objects.specs.Routes.{hops_of}
 use Rattle.pcep_objects.specs.Bodies as bodies
 use Rattle.pcep_objects.specs.Metrics.{metric_of}
@@ -122,7 +122,7 @@ lsp_others : (bytes : List ℕ) → gives_ends (bodies.lsp_body bytes) ≡ false
 unfolding bodies.lsp_body
 lsp_others bytes =
     let tlvs = drop 4 bytes in
-    tested _ BadLength _ (later (value_in 18 (Some 16) tlvs) _ (λ identifiers. others (value_in 17 None tlvs) _ (λ name. refl)))
+    tested _ BadLength _ (later (value_in 18 (Some 16) tlvs) _ (λ identifiers. later (value_in 17 None tlvs) _ (λ name. later (fitting_in 20 4 tlvs) _ (λ code. others (fitting_in 21 12 tlvs) _ (λ error. refl)))))
 
 srp_others : (bytes : List ℕ) → gives_ends (bodies.srp_body bytes) ≡ false
 unfolding bodies.srp_body

@@ -6,8 +6,8 @@ use Rattle.pcep_objects.specs.declared.object.Object.{Object}
 use Rattle.pcep_objects.specs.declared.object.Object.TheVariants as objects
 use Rattle.pcep_messages.specs.Counting.{bandwidth_of}
 use Rattle.pcep_messages.specs.declared.message.Bounds.{Bounds}
-use Rattle.pcep_objects.specs.declared.object.MetricType.{MetricType}
-use Rattle.pcep_objects.specs.declared.object.MetricType.TheVariants.{Igp, Te, Hops}
+use Rattle.lsp_words.specs.declared.object.MetricType.{MetricType}
+use Rattle.lsp_words.specs.declared.object.MetricType.TheVariants.{Igp, Te, Hops}
 
 -- a PLSP-ID
 abbrev pub plsp_of : Object → Option ℕ

@@ -2,7 +2,7 @@
 use Rattle.std.specs.Prelude.{ℕ, max, List, [], ◌∷◌, map, fold, Option, Some, None}
 use Rattle.std.specs.Option.{option_or}
 use Rattle.pcep_objects.specs.declared.object.BandwidthType.TheVariants.{Requested}
-use Rattle.pcep_objects.specs.declared.object.Hop.{Hop}
+use Rattle.lsp_words.specs.declared.object.Hop.{Hop}
 use Rattle.pcep_objects.specs.declared.object.LspObject.{LspObject}
 use Rattle.pcep_objects.specs.declared.object.Lspa.{Lspa}
 use Rattle.pcep_objects.specs.declared.object.Metric.{Metric}

@@ -1,7 +1,7 @@
 -- The parts of a message that has one item: what counts of its objects.
 use Rattle.std.specs.Prelude.{ℕ, List, Option, Some, None, Result, Err}
 use Rattle.pcep_objects.specs.declared.fault.ObjectFault.{ObjectFault}
-use Rattle.pcep_objects.specs.declared.object.Hop.{Hop}
+use Rattle.lsp_words.specs.declared.object.Hop.{Hop}
 use Rattle.pcep_objects.specs.declared.object.LspObject.{LspObject}
 use Rattle.pcep_objects.specs.declared.object.Lspa.{Lspa}
 use Rattle.pcep_objects.specs.declared.object.Metric.{Metric}

@@ -4,7 +4,7 @@ use Rattle.std.specs.Option.{option_map}
 use Rattle.pcep_objects.specs.Kinds.{class_number}
 use Rattle.pcep_objects.specs.Steps.{◌>>=◌}
 use Rattle.pcep_objects.specs.declared.kind.Kind.TheVariants as kinds
-use Rattle.pcep_objects.specs.declared.object.Hop.{Hop}
+use Rattle.lsp_words.specs.declared.object.Hop.{Hop}
 use Rattle.pcep_objects.specs.declared.object.Metric.{Metric}
 use Rattle.pcep_objects.specs.declared.request_objects.NoPath.{NoPath}
 use Rattle.pcep_objects.specs.declared.request_objects.Rp.{Rp}

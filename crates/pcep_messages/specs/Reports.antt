@@ -4,11 +4,11 @@ use Rattle.std.specs.Option.{unwrap_or}
 use Rattle.pcep_word.specs.Priority.{InForce, in_force}
 use Rattle.pcep_objects.specs.Steps.{◌>>=◌}
 use Rattle.pcep_objects.specs.declared.fault.ObjectFault.{ObjectFault}
-use Rattle.pcep_objects.specs.declared.object.Hop.{Hop}
+use Rattle.lsp_words.specs.declared.object.Hop.{Hop}
 use Rattle.pcep_objects.specs.declared.object.Srp.{Srp}
 use Rattle.pcep_objects.specs.declared.object.LspObject.{LspObject}
 use Rattle.pcep_objects.specs.declared.object.Object.{Object}
-use Rattle.pcep_objects.specs.declared.object.Colours.{Colours}
+use Rattle.lsp_words.specs.declared.object.Colours.{Colours}
 use Rattle.pcep_objects.specs.declared.object.Lspa.{Lspa}
 use Rattle.pcep_messages.specs.Counting.{first_of, srp_of, lsp_of, ero_of, rro_of, lspa_of, bandwidth_of, greatest_of}
 use Rattle.pcep_messages.specs.Items.{named_in, up_to_start, items_in}
@@ -42,6 +42,11 @@ abbrev pub colours_of : Option Lspa → Colours
 colours_of None = record { exclude_any = 0; include_any = 0; include_all = 0 }
 colours_of (Some lspa) = lspa.colours
 
+-- local protection (flag L) is wanted only where an LSPA says so
+abbrev pub is_protected : Option Lspa → Bool
+is_protected None = false
+is_protected (Some lspa) = lspa.local_protection
+
 -- ---- one item, by the first of each of its objects and its greatest bandwidth; without ERO the route is empty
 
 abbrev pub report_with : Option Srp → LspObject → Option (List Hop) → Option (List Hop) → Option Lspa → ℕ → StateReport
@@ -61,6 +66,9 @@ report_with srp lsp ero rro lspa bandwidth = record {
   bandwidth = bandwidth;
   priorities = priorities_of lspa;
   colours = colours_of lspa;
+  local_protection = is_protected lspa;
+  error_code = lsp.error_code;
+  rsvp_error = lsp.rsvp_error;
 }
 
 -- No LSP is 6/8 (LSP missing), an LSP without its identifiers is MissingIdentifiers, no ERO is 6/9 (ERO missing) unless the LSP was

@@ -11,7 +11,7 @@ use Rattle.pcep_objects.specs.declared.object.Object.TheVariants as objects
 use Rattle.pcep_objects.specs.declared.request_objects.EndPoints.{EndPoints}
 use Rattle.pcep_objects.specs.declared.request_objects.Rp.{Rp}
 use Rattle.pcep_objects.specs.declared.object.Lspa.{Lspa}
-use Rattle.pcep_objects.specs.declared.object.MetricType.{MetricType}
+use Rattle.lsp_words.specs.declared.object.MetricType.{MetricType}
 use Rattle.pcep_messages.specs.Constraints.{plsp_of, is_rro, is_above_zero, bandwidth_asked, minimised_by, or_te, bounds_of}
 use Rattle.pcep_messages.specs.Counting.{first_of, end_points_of, lspa_of, greatest_of}
 use Rattle.pcep_messages.specs.Objects.{found_in_request}

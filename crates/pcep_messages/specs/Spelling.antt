@@ -44,6 +44,8 @@ lsp_object plsp delegate admin name = record {
   created = false;
   name = name;
   identifiers = None;
+  error_code = None;
+  rsvp_error = None;
 }
 
 -- END-POINTS are written with P set
@@ -54,12 +56,11 @@ end_points_object source destination = objects.EndPoints (record { p = true; sou
 abbrev pub no_path_object : Option NoPathVector → Object
 no_path_object vector = objects.NoPath (record { nature = 0; constraints = false; vector = vector })
 
--- LSPA with L clear
 abbrev pub attributes_objects : Option Attributes → List Object
 attributes_objects None = []
 attributes_objects (Some attributes) =
     let priorities = attributes.priorities in
-    objects.Lspa (record { colours = attributes.colours; setup = priorities.setup; hold = priorities.hold; local_protection = false }) ∷ []
+    objects.Lspa (record { colours = attributes.colours; setup = priorities.setup; hold = priorities.hold; local_protection = attributes.local_protection }) ∷ []
 
 abbrev pub bandwidth_objects : Option ℕ → List Object
 bandwidth_objects None = []

@@ -4,7 +4,7 @@ use Rattle.std.specs.Option.{option_map, unwrap_or}
 use Rattle.pcep_word.specs.Priority.{in_force}
 use Rattle.pcep_objects.specs.Kinds.{class_number}
 use Rattle.pcep_objects.specs.declared.kind.Kind.TheVariants as kinds
-use Rattle.pcep_objects.specs.declared.object.Hop.{Hop}
+use Rattle.lsp_words.specs.declared.object.Hop.{Hop}
 use Rattle.pcep_objects.specs.declared.object.LspObject.{LspObject}
 use Rattle.pcep_objects.specs.declared.object.Lspa.{Lspa}
 use Rattle.pcep_objects.specs.declared.object.Srp.{Srp}
@@ -27,7 +27,7 @@ abbrev pub about_parts : Parts → About
 about_parts parts = about_srp (srp_id parts.srp)
 
 abbrev pub attributes_of : Lspa → Attributes
-attributes_of lspa = record { colours = lspa.colours; priorities = in_force lspa.setup lspa.hold }
+attributes_of lspa = record { colours = lspa.colours; priorities = in_force lspa.setup lspa.hold; local_protection = lspa.local_protection }
 
 -- ---- PCUpd: without ERO the route is empty
 

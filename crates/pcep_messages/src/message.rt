@@ -2,7 +2,7 @@
 
 use pcep_objects::{
     Colours, Hop, Identifiers, MetricType, MetricValue, NoPathVector, Open, Operational, PcepError,
-    Plsp,
+    Plsp, RsvpError,
 };
 use pcep_word::{Bandwidth, Ipv4, Priorities};
 use sequence::{PlainData, Sequence};
@@ -39,6 +39,12 @@ pub struct StateReport {
     pub priorities: Priorities,
     /// The link colours that bind the path; none where the report has no LSPA.
     pub colours: Colours,
+    /// Local protection is wanted (flag L of LSPA, RFC 5440 section 7.11); not where the report has no LSPA.
+    pub local_protection: bool,
+    /// Why the LSP isn't up, where the report says it (LSP-ERROR-CODE, RFC 8231 section 7.3.3).
+    pub error_code: Option<u32>,
+    /// What RSVP found, where the report says it (RSVP-ERROR-SPEC, RFC 8231 section 7.3.4).
+    pub rsvp_error: Option<RsvpError>,
 }
 
 /// The least bound that a request sets on each metric; None: it sets none.
@@ -114,6 +120,8 @@ pub struct Attributes {
     pub colours: Colours,
     /// The setup priority and the holding priority in force.
     pub priorities: Priorities,
+    /// Local protection is wanted (flag L, RFC 5440 section 7.11).
+    pub local_protection: bool,
 }
 
 /// A change of an LSP that the PCE asks for (RFC 8231 section 6.2).
@@ -205,6 +213,9 @@ impl PlainData for StateReport {
             bandwidth: self.bandwidth,
             priorities: self.priorities,
             colours: self.colours,
+            local_protection: self.local_protection,
+            error_code: self.error_code,
+            rsvp_error: self.rsvp_error,
         })
     }
 }

@@ -65,6 +65,8 @@ fn lsp_object(plsp: Plsp, delegate: bool, admin: bool) -> LspObject
         created: false,
         name: None,
         identifiers: None,
+        error_code: None,
+        rsvp_error: None,
     }
 }
 
@@ -151,7 +153,7 @@ pub fn put_cost(cost: Option<Cost>, out: &mut Vec<u8>) -> Result<(), AllocError>
     put_metric(metric, out)
 }
 
-/// Appends the LSPA of attributes, with L clear.
+/// Appends the LSPA of attributes.
 #[tactic(auto, unfolding(crate::specs::Spelling::object_spelled, crate::specs::Spelling::object_fits, pcep_objects::specs::Spelling::colours_written))]
 fn put_attributes(attributes: Option<Attributes>, out: &mut Vec<u8>) -> Result<(), AllocError>
     ensures written { OnOk result (out.new.items ≡ out.old.items ++ objects_spelled (attributes_objects attributes)) }
@@ -165,7 +167,7 @@ fn put_attributes(attributes: Option<Attributes>, out: &mut Vec<u8>) -> Result<(
         colours: attributes.colours,
         setup: attributes.priorities.setup(),
         hold: attributes.priorities.hold(),
-        local_protection: false,
+        local_protection: attributes.local_protection,
     };
     put_lspa(&lspa, out)
 }

@@ -3,7 +3,7 @@
 ghost use Rattle.std.specs.Prelude.{◌≡◌, [], None};
 ghost use Rattle.std.specs.Option.{unwrap_or};
 ghost use Rattle.pcep_messages.specs.Faults.{Gives};
-ghost use Rattle.pcep_messages.specs.Reports.{report_with, srp_id, about_srp, lacks_identifiers, priorities_of, colours_of, cut_off};
+ghost use Rattle.pcep_messages.specs.Reports.{report_with, srp_id, about_srp, lacks_identifiers, priorities_of, colours_of, is_protected, cut_off};
 ghost use Rattle.pcep_messages.specs.ReportSteps.{report_from};
 
 use crate::fault::{About, MessageFault};
@@ -61,6 +61,16 @@ pub fn colours_of(lspa: Option<Lspa>) -> Colours
     }
 }
 
+/// Whether local protection is wanted.
+fn is_protected(lspa: Option<Lspa>) -> bool
+    ensures { result ≡ is_protected lspa }
+{
+    match lspa {
+        None => false,
+        Some(lspa) => lspa.local_protection,
+    }
+}
+
 pub fn hops_or_empty(alloc: Global, ero: Option<Sequence<Hop>>) -> Sequence<Hop>
     ensures { result ≡ unwrap_or ero [] }
 {
@@ -78,6 +88,7 @@ fn report_with(alloc: Global, item: Item, lsp: LspObject) -> StateReport
     let srp = srp_id(item.srp);
     let priorities = priorities_of(item.lspa);
     let colours = colours_of(item.lspa);
+    let local_protection = is_protected(item.lspa);
     StateReport {
         srp,
         plsp: lsp.plsp,
@@ -94,6 +105,9 @@ fn report_with(alloc: Global, item: Item, lsp: LspObject) -> StateReport
         bandwidth: item.bandwidth,
         priorities,
         colours,
+        local_protection,
+        error_code: lsp.error_code,
+        rsvp_error: lsp.rsvp_error,
     }
 }
 

@@ -22,6 +22,7 @@ fn attributes_of(lspa: Option<Lspa>) -> Option<Attributes>
         Some(lspa) => Some(Attributes {
             colours: lspa.colours,
             priorities: Priorities::new(lspa.setup, lspa.hold),
+            local_protection: lspa.local_protection,
         }),
         None => None,
     }

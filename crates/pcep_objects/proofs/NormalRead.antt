@@ -17,16 +17,17 @@ use Rattle.pcep_objects.specs.declared.object.BandwidthType.{BandwidthType}
 use Rattle.pcep_objects.specs.declared.object.BandwidthType.TheVariants.{Requested, Current}
 use Rattle.pcep_objects.specs.declared.object.KeptClass.{KeptClass}
 use Rattle.pcep_objects.specs.declared.object.KeptClass.TheVariants.{Iro, Svec, LoadBalancing}
-use Rattle.pcep_objects.specs.declared.object.Hop.{Hop}
-use Rattle.pcep_objects.specs.declared.object.Hop.TheVariants.{Host, Other}
+use Rattle.lsp_words.specs.declared.object.Hop.{Hop}
+use Rattle.lsp_words.specs.declared.object.Hop.TheVariants.{Host, Other}
 use Rattle.pcep_objects.specs.declared.object.Lspa.{Lspa}
 use Rattle.pcep_objects.specs.declared.object.Metric.{Metric}
+use Rattle.pcep_objects.specs.declared.object.RsvpError.{RsvpError}
 use Rattle.pcep_objects.specs.declared.object.Object.{Object}
 use Rattle.pcep_objects.specs.declared.object.Object.TheVariants as objects
 use Rattle.pcep_objects.specs.declared.request_objects.Rp.{Rp}
 use Rattle.pcep_objects.specs.declared.request_objects.EndPoints.{EndPoints}
 use Rattle.pcep_objects.specs.Steps.{◌>>=◌, field, has, cut}
-use Rattle.pcep_objects.specs.Tlvs.{Tlv, tlv_size, tlv_at, tlvs_in, skipped_tlvs, first_of, are_sized, first_sized, value_in, identifiers_of}
+use Rattle.pcep_objects.specs.Tlvs.{Tlv, tlv_size, tlv_at, tlvs_in, skipped_tlvs, first_of, are_sized, first_sized, first_fitting, value_in, fitting_in, identifiers_of, rsvp_error_in}
 use Rattle.pcep_objects.specs.Routes.{plain_type, subobject_size, hop_of, hops_of}
 use Rattle.pcep_objects.specs.Bodies.{bandwidth_or_bad, bandwidth_body, ero_body, rro_body, lspa_body, operational_of, lsp_body, srp_body, kept}
 use Rattle.pcep_objects.specs.SessionObjects.{open_of, close_of, notification_of, error_of}
@@ -34,7 +35,7 @@ use Rattle.pcep_objects.specs.RequestObjects.{rp_of, no_path_of, end_points_of, 
 use Rattle.pcep_objects.specs.Metrics.{metric_or_bad, metric_of}
 use Rattle.pcep_objects.specs.Kinds.{kind_at}
 use Rattle.pcep_objects.specs.Objects.{header_at, body_of, sized, with_header, object_at, Reads}
-use Rattle.pcep_objects.specs.Spelling.{IsByte, HasWrittenP, IsHop, IsOther, AreIdentifiers, MayBeIdentifiers, IsNormal}
+use Rattle.pcep_objects.specs.Spelling.{IsByte, HasWrittenP, IsHop, IsOther, AreIdentifiers, MayBeIdentifiers, MayBeWord, IsRsvpError, MayBeRsvpError, IsNormal}
 
 abbrev AreBytes : List ℕ → Type 0
 AreBytes bytes = AllByRecursion IsByte bytes
@@ -204,6 +205,32 @@ value_bytes number size bytes found good e =
     let all = all_cut tlv_size (λ tlv. Ok (tlv_at tlv)) HasBytes tlv_bytes 0 bytes g.0 good g.1 in
     subst MayBeBytes (sized_is_first (are_sized number size g.0) (first_of number g.0) found g.2) (first_bytes number g.0 all)
 
+may_be_word : (value : Option (List ℕ)) → MayBeBytes value → MayBeWord (option_map (field 0 4) value)
+unfolding MayBeBytes
+may_be_word None good = tt
+may_be_word (Some value) good = field_below 0 4 value good
+
+error_if : (is : Bool) (error : RsvpError) → IsRsvpError error → MayBeRsvpError (cond is (Some error) None)
+error_if true error good = good
+error_if false error good = tt
+
+may_be_error : (value : Option (List ℕ)) → MayBeBytes value → MayBeRsvpError (rsvp_error_in value)
+unfolding MayBeBytes
+may_be_error None good = tt
+may_be_error (Some value) good = error_if (eqb (field 0 4 value) 0x000C0601) _ (record { node = field_below 4 4 value good; value = field_below 10 2 value good })
+
+fitting_bytes_in : (number size : ℕ) (tlvs : List Tlv) → AllByRecursion HasBytes tlvs → MayBeBytes (first_fitting number size tlvs)
+unfolding HasBytes MayBeBytes
+fitting_bytes_in number size [] good = tt
+fitting_bytes_in number size (tlv ∷ tlvs) good = one_of (eqb tlv.number number && eqb (length tlv.value) size) tlv.value (first_fitting number size tlvs) good.0 (fitting_bytes_in number size tlvs good.1)
+
+fitting_bytes : (number size : ℕ) (bytes : List ℕ) (found : Option (List ℕ)) → AreBytes bytes → fitting_in number size bytes ≡ Ok found → MayBeBytes found
+unfolding fitting_in tlvs_in
+fitting_bytes number size bytes found good e =
+    let m = mapped (tlvs_in bytes) (first_fitting number size) found e in
+    let all = all_cut tlv_size (λ tlv. Ok (tlv_at tlv)) HasBytes tlv_bytes 0 bytes m.0 good m.1 in
+    subst MayBeBytes m.2 (fitting_bytes_in number size m.0 all)
+
 -- ---- bodies
 
 abbrev rp_read : Bool → List ℕ → Rp
@@ -284,8 +311,8 @@ lspa_normal bytes object good e =
       hold = omega arith;
     })
 
-abbrev lsp_read : List ℕ → Option (List ℕ) → Option (List ℕ) → Object
-lsp_read bytes identifiers name = objects.Lsp (record {
+abbrev lsp_read : List ℕ → Option (List ℕ) → Option (List ℕ) → Option (List ℕ) → Option (List ℕ) → Object
+lsp_read bytes identifiers name error_code rsvp_error = objects.Lsp (record {
   plsp = field 0 4 bytes / 2 ^ 12;
   delegate = has (field 0 4 bytes) 0x001;
   sync = has (field 0 4 bytes) 0x002;
@@ -295,17 +322,28 @@ lsp_read bytes identifiers name = objects.Lsp (record {
   created = has (field 0 4 bytes) 0x080;
   name = name;
   identifiers = option_map identifiers_of identifiers;
+  error_code = option_map (field 0 4) error_code;
+  rsvp_error = rsvp_error_in rsvp_error;
 })
 
 lsp_normal : (bytes : List ℕ) (object : Object) → AreBytes bytes → lsp_body bytes ≡ Ok object → IsNormal object
 unfolding lsp_body
 lsp_normal bytes object good e =
     let tlvs = drop 4 bytes in
-    let p = passed (ltb (length bytes) 4) body.BadLength (value_in 18 (Some 16) tlvs >>= λ identifiers. value_in 17 None tlvs >>= λ name. Ok (lsp_read bytes identifiers name)) object e in
-    let g = given (value_in 18 (Some 16) tlvs) (λ (identifiers : Option (List ℕ)). value_in 17 None tlvs >>= λ name. Ok (lsp_read bytes identifiers name)) object p.1 in
-    let m = mapped (value_in 17 None tlvs) (lsp_read bytes g.0) object g.2 in
+    let inside = dropped 4 bytes good in
+    let errors : Option (List ℕ) → Option (List ℕ) → Result Object BodyFault = λ identifiers name. fitting_in 20 4 tlvs >>= λ code. fitting_in 21 12 tlvs >>= λ error. Ok (lsp_read bytes identifiers name code error) in
+    let p = passed (ltb (length bytes) 4) body.BadLength (value_in 18 (Some 16) tlvs >>= λ identifiers. value_in 17 None tlvs >>= errors identifiers) object e in
+    let g = given (value_in 18 (Some 16) tlvs) (λ (identifiers : Option (List ℕ)). value_in 17 None tlvs >>= errors identifiers) object p.1 in
+    let h = given (value_in 17 None tlvs) (errors g.0) object g.2 in
+    let i = given (fitting_in 20 4 tlvs) (λ (code : Option (List ℕ)). fitting_in 21 12 tlvs >>= λ error. Ok (lsp_read bytes g.0 h.0 code error)) object h.2 in
+    let m = mapped (fitting_in 21 12 tlvs) (lsp_read bytes g.0 h.0 i.0) object i.2 in
     let word : field 0 4 bytes < 4294967296 = field_below 0 4 bytes good in
-    subst IsNormal m.2 (record { plsp = omega arith; identifiers = may_be_identifiers g.0 (value_bytes 18 (Some 16) tlvs g.0 (dropped 4 bytes good) g.1) })
+    subst IsNormal m.2 (record {
+      plsp = omega arith;
+      identifiers = may_be_identifiers g.0 (value_bytes 18 (Some 16) tlvs g.0 inside g.1);
+      error_code = may_be_word i.0 (fitting_bytes 20 4 tlvs i.0 inside i.1);
+      rsvp_error = may_be_error m.0 (fitting_bytes 21 12 tlvs m.0 inside m.1);
+    })
 
 srp_normal : (bytes : List ℕ) (object : Object) → AreBytes bytes → srp_body bytes ≡ Ok object → IsNormal object
 unfolding srp_body

@@ -10,15 +10,16 @@ use Rattle.pcep_objects.specs.declared.object.KeptClass.{KeptClass}
 use Rattle.pcep_objects.specs.declared.object.KeptClass.TheVariants.{Iro, Svec, LoadBalancing}
 use Rattle.pcep_objects.specs.declared.object.Identifiers.{Identifiers}
 use Rattle.pcep_objects.specs.declared.object.Kept.{Kept}
+use Rattle.pcep_objects.specs.declared.object.RsvpError.{RsvpError}
 use Rattle.pcep_objects.specs.declared.object.Object.{Object}
 use Rattle.pcep_objects.specs.declared.object.Object.TheVariants as objects
 use Rattle.pcep_objects.specs.declared.request_objects.NoPathVector.{NoPathVector}
-use Rattle.pcep_objects.specs.declared.object.Capabilities.{Capabilities}
+use Rattle.lsp_words.specs.declared.object.Capabilities.{Capabilities}
 use Rattle.pcep_objects.specs.RequestObjects.{vector_after}
 use Rattle.pcep_objects.specs.SessionObjects.{capabilities_after}
 use Rattle.pcep_objects.specs.Kinds.{kind_at, class_number, type_number}
 use Rattle.pcep_objects.specs.Objects.{body_of, Reads}
-use Rattle.pcep_objects.specs.Spelling.{colours_written, name_written, identifiers_written, bandwidth_kind, kept_kind, kind_of, p_written, body_written, written, fits, IsKept, IsNormal}
+use Rattle.pcep_objects.specs.Spelling.{colours_written, name_written, details_written, bandwidth_kind, kept_kind, kind_of, p_written, body_written, written, fits, IsKept, IsNormal}
 use Rattle.pcep_objects.proofs.Again.{object_again, srp_again, ero_again, rro_again, fours}
 use Rattle.pcep_objects.proofs.SessionAgain.{open_again, close_again, notification_again, error_again}
 use Rattle.pcep_objects.proofs.RequestAgain.{rp_again, no_path_again, end_points_again}
@@ -80,9 +81,15 @@ name_fours : (name : Option (List ℕ)) → length (name_written name) % 4 ≡ 0
 name_fours None = refl
 name_fours (Some name) = omega (arith, length_tlv 17 name)
 
-identifiers_fours : (identifiers : Option Identifiers) → length (identifiers_written identifiers) % 4 ≡ 0
-identifiers_fours None = refl
-identifiers_fours (Some identifiers) = refl
+details_fours : (ids : Option Identifiers) (code : Option ℕ) (error : Option RsvpError) → length (details_written ids code error) % 4 ≡ 0
+details_fours None None None = refl
+details_fours None None (Some error) = refl
+details_fours None (Some code) None = refl
+details_fours None (Some code) (Some error) = refl
+details_fours (Some ids) None None = refl
+details_fours (Some ids) None (Some error) = refl
+details_fours (Some ids) (Some code) None = refl
+details_fours (Some ids) (Some code) (Some error) = refl
 
 pub body_fours : (object : Object) → IsNormal object → length (body_written object) % 4 ≡ 0
 unfolding colours_written
@@ -101,8 +108,8 @@ body_fours (objects.Error object) normal = refl
 body_fours (objects.Close object) normal = refl
 body_fours (objects.Lsp object) normal =
     let name = name_written object.name in
-    let identifiers = identifiers_written object.identifiers in
-    omega (arith, name_fours object.name, identifiers_fours object.identifiers, length-append name identifiers)
+    let details = details_written object.identifiers object.error_code object.rsvp_error in
+    omega (arith, name_fours object.name, details_fours object.identifiers object.error_code object.rsvp_error, length-append name details)
 body_fours (objects.Srp object) normal = refl
 
 -- ---- bodies
@@ -136,8 +143,8 @@ body_again (objects.Error object) normal fit = rw (error_again object) refl
 body_again (objects.Close object) normal fit = rw (close_again object) refl
 body_again (objects.Lsp object) normal fit =
     let name = name_written object.name in
-    let identifiers = identifiers_written object.identifiers in
-    lsp_again object normal (omega (arith, fit, length-append name identifiers))
+    let details = details_written object.identifiers object.error_code object.rsvp_error in
+    lsp_again object normal (omega (arith, fit, length-append name details))
 body_again (objects.Srp object) normal fit = srp_again object normal
 
 pub again : (object : Object) (rest : List ℕ) → IsNormal object → fits object ≡ true → Reads (written object ++ rest) (length (written object)) object

@@ -13,15 +13,16 @@ use Rattle.pcep_objects.specs.declared.object.Lspa.{Lspa}
 use Rattle.pcep_objects.specs.declared.object.Metric.{Metric}
 use Rattle.pcep_objects.specs.declared.object.Operational.{Operational}
 use Rattle.pcep_objects.specs.declared.object.Operational.TheVariants.{Down, Up, Active, GoingDown, GoingUp}
+use Rattle.pcep_objects.specs.declared.object.RsvpError.{RsvpError}
 use Rattle.pcep_objects.specs.declared.object.Object.{Object}
 use Rattle.pcep_objects.specs.declared.object.Object.TheVariants as objects
 use Rattle.pcep_objects.specs.Steps.{field, has, cut}
 use Rattle.pcep_objects.specs.Tlvs.{tlvs_in, skipped_tlvs}
 use Rattle.pcep_objects.specs.Metrics.{metric_of, metric_written}
 use Rattle.pcep_objects.specs.Bodies.{bandwidth_body, lspa_body, lsp_body, operational_of}
-use Rattle.pcep_objects.specs.Spelling.{bandwidth_written, colours_written, lspa_written, IsLspa, operational_number, lsp_word, name_written, identifiers_written, lsp_written, IsLsp}
+use Rattle.pcep_objects.specs.Spelling.{bandwidth_written, colours_written, lspa_written, IsLspa, operational_number, lsp_word, name_written, details_written, lsp_written, IsLsp}
 use Rattle.pcep_objects.proofs.Flags.{bit_small, weight, has_bit}
-use Rattle.pcep_objects.proofs.TlvAgain.{name_found, identifiers_found, identifiers_back}
+use Rattle.pcep_objects.proofs.TlvAgain.{name_found, identifiers_found, code_found, error_found, identifiers_back, code_back, error_back}
 
 -- ---- BANDWIDTH
 
@@ -83,8 +84,8 @@ lspa_again lspa good =
 
 -- ---- LSP
 
-known : ℕ → Bool → Bool → Bool → Bool → Operational → Bool → Option (List ℕ) → Option Identifiers → Result Object BodyFault
-known plsp delegate sync remove admin operational created name identifiers = Ok (objects.Lsp (record {
+known : ℕ → Bool → Bool → Bool → Bool → Operational → Bool → Option (List ℕ) → Option Identifiers → Option ℕ → Option RsvpError → Result Object BodyFault
+known plsp delegate sync remove admin operational created name identifiers error_code rsvp_error = Ok (objects.Lsp (record {
   plsp = plsp;
   delegate = delegate;
   sync = sync;
@@ -94,6 +95,8 @@ known plsp delegate sync remove admin operational created name identifiers = Ok 
   created = created;
   name = name;
   identifiers = identifiers;
+  error_code = error_code;
+  rsvp_error = rsvp_error;
 }))
 
 operational_small : (operational : Operational) → operational_number operational ≤ 4
@@ -110,10 +113,10 @@ operational_again Active word e = rw e refl
 operational_again GoingDown word e = rw e refl
 operational_again GoingUp word e = rw e refl
 
-flags_again : (plsp : ℕ) (d s r a c : Bool) (o : Operational) (name : Option (List ℕ)) (ids : Option Identifiers) (n : ℕ)
+flags_again : (plsp : ℕ) (d s r a c : Bool) (o : Operational) (name : Option (List ℕ)) (ids : Option Identifiers) (code : Option ℕ) (error : Option RsvpError) (n : ℕ)
     → n ≡ plsp * 2 ^ 12 + cond d 0x001 0 + cond s 0x002 0 + cond r 0x004 0 + cond a 0x008 0 + operational_number o * 0x010 + cond c 0x080 0
-    → known (n / 2 ^ 12) (has n (2 ^ 0)) (has n (2 ^ 1)) (has n (2 ^ 2)) (has n (2 ^ 3)) (operational_of n) (has n (2 ^ 7)) name ids ≡ known plsp d s r a o c name ids
-flags_again plsp d s r a c o name ids n e =
+    → known (n / 2 ^ 12) (has n (2 ^ 0)) (has n (2 ^ 1)) (has n (2 ^ 2)) (has n (2 ^ 3)) (operational_of n) (has n (2 ^ 7)) name ids code error ≡ known plsp d s r a o c name ids code error
+flags_again plsp d s r a c o name ids code error n e =
     let wd = weight d 1 in
     let ws = weight s 2 in
     let wr = weight r 4 in
@@ -152,6 +155,11 @@ word_small lsp small =
 pub lsp_again : (lsp : LspObject) → IsLsp lsp → length (name_written lsp.name) < 2 ^ 16 → lsp_body (lsp_written lsp) ≡ Ok (objects.Lsp lsp)
 unfolding lsp_body known
 lsp_again lsp good fits =
-    let w : field 0 4 (lsp_written lsp) ≡ lsp_word lsp = big_number-reads_back 4 (lsp_word lsp) (name_written lsp.name ++ identifiers_written lsp.identifiers) (word_small lsp good.plsp) in
+    let ids = lsp.identifiers in
+    let code = lsp.error_code in
+    let error = lsp.rsvp_error in
+    let w : field 0 4 (lsp_written lsp) ≡ lsp_word lsp = big_number-reads_back 4 (lsp_word lsp) (name_written lsp.name ++ details_written ids code error) (word_small lsp good.plsp) in
     let four : ltb (length (lsp_written lsp)) 4 ≡ false = le-ltb _ _ (omega arith) in
-    rw (four, w, identifiers_found lsp.name lsp.identifiers fits, name_found lsp.name lsp.identifiers fits, identifiers_back lsp.identifiers good.identifiers) (flags_again lsp.plsp lsp.delegate lsp.sync lsp.remove lsp.admin lsp.created lsp.operational lsp.name lsp.identifiers (lsp_word lsp) refl)
+    rw (four, w, identifiers_found lsp.name ids code error fits, name_found lsp.name ids code error fits, code_found lsp.name ids code error fits, error_found lsp.name ids code error fits)
+    (rw (identifiers_back ids good.identifiers, code_back code good.error_code, error_back error good.rsvp_error)
+    (flags_again lsp.plsp lsp.delegate lsp.sync lsp.remove lsp.admin lsp.created lsp.operational lsp.name ids code error (lsp_word lsp) refl))

@@ -1,6 +1,6 @@
 -- The bodies of a session's objects are read again from their spelling.
 use Rattle.std.proofs.Common.{◌≡◌, ℕ, Bool, true, false, Option, Some, None, Ok, refl}
-use Rattle.pcep_objects.specs.declared.object.Capabilities.{Capabilities}
+use Rattle.lsp_words.specs.declared.object.Capabilities.{Capabilities}
 use Rattle.pcep_objects.specs.declared.session_objects.Open.{Open}
 use Rattle.pcep_objects.specs.declared.session_objects.Close.{Close}
 use Rattle.pcep_objects.specs.declared.session_objects.Notification.{Notification}

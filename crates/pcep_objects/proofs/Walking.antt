@@ -1,12 +1,12 @@
 -- TLVs that are walked one after the other are those that the bytes are cut into.
-use Rattle.std.proofs.Common.{◌≡◌, ℕ, zero, suc, ◌-◌, ◌+◌, ◌<◌, ◌≤◌, ◌⊎◌, inl, inr, Bool, true, false, ◌||◌, cond, ltb, eqb, List, [], ◌∷◌, length, take, drop, Option, Some, None, Result, Ok, Err, refl, sym, ap, ◌∙◌, arith}
-use Rattle.std.proofs.lemmas.Bool.{eq-eqb, ne_eqb, ltb-false}
+use Rattle.std.proofs.Common.{◌≡◌, ℕ, zero, suc, ◌-◌, ◌+◌, ◌<◌, ◌≤◌, ◌⊎◌, inl, inr, Bool, true, false, ◌&&◌, ◌||◌, cond, ltb, eqb, List, [], ◌∷◌, length, take, drop, Option, Some, None, Result, Ok, Err, refl, sym, ap, ◌∙◌, arith}
+use Rattle.std.proofs.lemmas.Bool.{and_parts, eq-eqb, eqb-true, ne_eqb, ltb-false}
 use Rattle.std.proofs.lemmas.List.{take-take}
 use Rattle.std.specs.Option.{option_or}
 use Rattle.pcep_objects.specs.declared.fault.BodyFault.{BodyFault}
 use Rattle.pcep_objects.specs.declared.fault.BodyFault.TheVariants.{BadTlv}
 use Rattle.pcep_objects.specs.Steps.{◌>>=◌, field, cut}
-use Rattle.pcep_objects.specs.Tlvs.{Tlv, padded, tlv_size, tlv_at, tlvs_in, skipped_tlvs, first_of, may_have, are_sized, first_sized, value_in}
+use Rattle.pcep_objects.specs.Tlvs.{Tlv, padded, tlv_size, tlv_at, tlvs_in, skipped_tlvs, first_of, may_have, are_sized, first_sized, value_in, first_fitting, fitting_in}
 use Rattle.pcep_objects.proofs.Cutting.{step}
 
 -- what was found before, or what is found
@@ -187,3 +187,63 @@ unfolding value_in tlvs_in cut
 value_done number size None [] total none so_far = sym so_far
 value_done number size (Some value) [] total none so_far = sym so_far
 value_done number size found (b ∷ bytes) total none so_far = absurd (omega arith)
+
+-- ---- the first TLV of a type and a size
+
+abbrev fit : ℕ → ℕ → List Tlv → Result (Option (List ℕ)) BodyFault
+fit number size tlvs = Ok (first_fitting number size tlvs)
+
+one_more : (number size other : ℕ) (value : List ℕ) (fits : Bool) (found : Option (List ℕ)) (r : Result (List Tlv) BodyFault) → (eqb other number && eqb (length value) size) ≡ fits
+    → or_found found (behind other value r >>= fit number size) ≡ or_found (option_or found (cond fits (Some value) None)) (r >>= fit number size)
+one_more number size other value fits found (Err fault) e = refl
+one_more number size other value fits (Some earlier) (Ok tlvs) e = refl
+one_more number size other value true None (Ok tlvs) e = rw e refl
+one_more number size other value false None (Ok tlvs) e = rw e refl
+
+goes_on : (number size : ℕ) (found : Option (List ℕ)) (rest after : List ℕ) (other : ℕ) (value : List ℕ) (fits : Bool) (total : Result (Option (List ℕ)) BodyFault)
+    → tlvs_in rest ≡ behind other value (tlvs_in after) → (eqb other number && eqb (length value) size) ≡ fits → or_found found (fitting_in number size rest) ≡ total
+    → or_found (option_or found (cond fits (Some value) None)) (fitting_in number size after) ≡ total
+unfolding fitting_in
+goes_on number size found rest after other value fits total h e so_far =
+    sym (one_more number size other value fits found (tlvs_in after) e) ∙ ap (λ r. or_found found (r >>= fit number size)) (sym h) ∙ so_far
+
+fits_both : (number size other n : ℕ) → other ≡ number → n ≡ size → (eqb other number && eqb n size) ≡ true
+fits_both number size other n a b = let s : eqb other number ≡ true = eq-eqb other number a in let t : eqb n size ≡ true = eq-eqb n size b in rw (s, t) refl
+
+and_is : (a b : Bool) → ((a && b) ≡ true) ⊎ ((a && b) ≡ false)
+and_is true true = inl refl
+and_is true false = inr refl
+and_is false b = inr refl
+
+fits_not : (number size other n : ℕ) → (other ≡ number → n ≡ size → ⊥) → (eqb other number && eqb n size) ≡ false
+fits_not number size other n h = elim (and_is (eqb other number) (eqb n size)) [
+  | inl e ↦ absurd (h (eqb-true other number (and_parts _ _ e).0) (eqb-true n size (and_parts _ _ e).1))
+  | inr e ↦ e
+]
+
+pub first_fits : (number size : ℕ) (found : Option (List ℕ)) (rest after : List ℕ) (other : ℕ) (value : List ℕ) (total : Result (Option (List ℕ)) BodyFault) → found ≡ None
+    → tlvs_in rest ≡ behind other value (tlvs_in after) → other ≡ number → length value ≡ size → or_found found (fitting_in number size rest) ≡ total → or_found (Some value) (fitting_in number size after) ≡ total
+first_fits number size None rest after other value total none h a b so_far = goes_on number size None rest after other value true total h (fits_both number size other (length value) a b) so_far
+first_fits number size (Some found) rest after other value total none h a b so_far = cc
+
+pub later_fits : (number size : ℕ) (found : Option (List ℕ)) (earlier : List ℕ) (rest after : List ℕ) (other : ℕ) (value : List ℕ) (total : Result (Option (List ℕ)) BodyFault) → found ≡ Some earlier
+    → tlvs_in rest ≡ behind other value (tlvs_in after) → other ≡ number → length value ≡ size → or_found found (fitting_in number size rest) ≡ total → or_found found (fitting_in number size after) ≡ total
+later_fits number size None earlier rest after other value total some h a b so_far = cc
+later_fits number size (Some found) earlier rest after other value total some h a b so_far = goes_on number size (Some found) rest after other value true total h (fits_both number size other (length value) a b) so_far
+
+pub other_fits : (number size : ℕ) (found : Option (List ℕ)) (rest after : List ℕ) (other : ℕ) (value : List ℕ) (total : Result (Option (List ℕ)) BodyFault)
+    → tlvs_in rest ≡ behind other value (tlvs_in after) → (other ≡ number → length value ≡ size → ⊥) → or_found found (fitting_in number size rest) ≡ total → or_found found (fitting_in number size after) ≡ total
+other_fits number size None rest after other value total h never so_far = goes_on number size None rest after other value false total h (fits_not number size other (length value) never) so_far
+other_fits number size (Some found) rest after other value total h never so_far = goes_on number size (Some found) rest after other value false total h (fits_not number size other (length value) never) so_far
+
+pub fitting_ends : (number size : ℕ) (found : Option (List ℕ)) (rest : List ℕ) (total : Result (Option (List ℕ)) BodyFault)
+    → 0 < length rest → tlv_size rest ≡ Err BadTlv → or_found found (fitting_in number size rest) ≡ total → total ≡ Err BadTlv
+unfolding fitting_in
+fitting_ends number size found rest total some h so_far = sym so_far ∙ rw (ends rest some h) refl
+
+pub fitting_done : (number size : ℕ) (found : Option (List ℕ)) (rest : List ℕ) (total : Result (Option (List ℕ)) BodyFault)
+    → length rest ≡ 0 → or_found found (fitting_in number size rest) ≡ total → total ≡ found_value found
+unfolding fitting_in tlvs_in cut
+fitting_done number size None [] total none so_far = sym so_far
+fitting_done number size (Some value) [] total none so_far = sym so_far
+fitting_done number size found (b ∷ bytes) total none so_far = absurd (omega arith)

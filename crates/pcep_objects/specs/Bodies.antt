@@ -3,7 +3,7 @@ use Rattle.std.specs.Prelude.{ℕ, Bool, ◌/◌, ◌%◌, ◌^◌, min, true, f
 use Rattle.std.specs.Option.{option_map}
 use Rattle.pcep_word.specs.Word.{bandwidth_of}
 use Rattle.pcep_objects.specs.Steps.{◌>>=◌, field, has}
-use Rattle.pcep_objects.specs.Tlvs.{skipped_tlvs, value_in, identifiers_of}
+use Rattle.pcep_objects.specs.Tlvs.{skipped_tlvs, value_in, fitting_in, identifiers_of, rsvp_error_in}
 use Rattle.pcep_objects.specs.Routes.{hops_of}
 use Rattle.pcep_objects.specs.declared.fault.BodyFault.{BodyFault}
 use Rattle.pcep_objects.specs.declared.fault.BodyFault.TheVariants.{BadLength, BadNumber}
@@ -58,12 +58,15 @@ operational_of word =
     if o == 0 then Down else (if o == 2 then Active else (if o == 3 then GoingDown else (if o == 4 then GoingUp else Up)))
 
 -- LSP (RFC 8231 section 7.3, RFC 8281 section 5.3.1): a PLSP-ID of 20 bits and 12 flags, and TLVs, of which it
--- names SYMBOLIC-PATH-NAME (17, RFC 8231 section 7.3.2) and IPV4-LSP-IDENTIFIERS (18, of 16 bytes)
+-- names SYMBOLIC-PATH-NAME (17, RFC 8231 section 7.3.2) and IPV4-LSP-IDENTIFIERS (18, of 16 bytes), and of those of the size given here
+-- LSP-ERROR-CODE (20, RFC 8231 section 7.3.3) and RSVP-ERROR-SPEC (21, RFC 8231 section 7.3.4)
 unfoldable pub lsp_body : List ℕ → Result Object BodyFault
 lsp_body body =
     if nat_lt (length body) 4 then Err BadLength else (do
       identifiers ← value_in 18 (Some 16) (drop 4 body)
       name ← value_in 17 None (drop 4 body)
+      error_code ← fitting_in 20 4 (drop 4 body)
+      rsvp_error ← fitting_in 21 12 (drop 4 body)
       Ok (Lsp (record {
         plsp = field 0 4 body / 2 ^ 12;
         delegate = has (field 0 4 body) 0x001;
@@ -74,6 +77,8 @@ lsp_body body =
         created = has (field 0 4 body) 0x080;
         name = name;
         identifiers = option_map identifiers_of identifiers;
+        error_code = option_map (field 0 4) error_code;
+        rsvp_error = rsvp_error_in rsvp_error;
       })))
 
 -- SRP (RFC 8231 section 7.2, RFC 8281 section 5.2): flags (R 0x1) and the SRP-ID, TLVs

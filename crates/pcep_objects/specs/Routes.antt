@@ -4,8 +4,8 @@ use Rattle.std.specs.Prelude.{ℕ, ◌%◌, Bool, not, ◌&&◌, ◌||◌, List,
 use Rattle.pcep_objects.specs.Steps.{field, has, pieces}
 use Rattle.pcep_objects.specs.declared.fault.BodyFault.{BodyFault}
 use Rattle.pcep_objects.specs.declared.fault.BodyFault.TheVariants.{BadLength}
-use Rattle.pcep_objects.specs.declared.object.Hop.{Hop}
-use Rattle.pcep_objects.specs.declared.object.Hop.TheVariants.{Host, Other}
+use Rattle.lsp_words.specs.declared.object.Hop.{Hop}
+use Rattle.lsp_words.specs.declared.object.Hop.TheVariants.{Host, Other}
 
 -- the length of the first subobject: a multiple of 4, from 4 on, and there
 unfoldable pub subobject_size : List ℕ → Result ℕ BodyFault

@@ -13,9 +13,9 @@ use Rattle.pcep_objects.specs.declared.kind.Kind.{Kind}
 use Rattle.pcep_objects.specs.declared.kind.Kind.TheVariants as kinds
 use Rattle.pcep_objects.specs.declared.object.BandwidthType.{BandwidthType}
 use Rattle.pcep_objects.specs.declared.object.BandwidthType.TheVariants.{Requested, Current}
-use Rattle.pcep_objects.specs.declared.object.Colours.{Colours}
-use Rattle.pcep_objects.specs.declared.object.Hop.{Hop}
-use Rattle.pcep_objects.specs.declared.object.Hop.TheVariants.{Host, Other}
+use Rattle.lsp_words.specs.declared.object.Colours.{Colours}
+use Rattle.lsp_words.specs.declared.object.Hop.{Hop}
+use Rattle.lsp_words.specs.declared.object.Hop.TheVariants.{Host, Other}
 use Rattle.pcep_objects.specs.declared.object.Identifiers.{Identifiers}
 use Rattle.pcep_objects.specs.declared.object.KeptClass.{KeptClass}
 use Rattle.pcep_objects.specs.declared.object.KeptClass.TheVariants.{Iro, Svec, LoadBalancing}
@@ -24,6 +24,7 @@ use Rattle.pcep_objects.specs.declared.object.LspObject.{LspObject}
 use Rattle.pcep_objects.specs.declared.object.Lspa.{Lspa}
 use Rattle.pcep_objects.specs.declared.object.Operational.{Operational}
 use Rattle.pcep_objects.specs.declared.object.Operational.TheVariants.{Down, Up, Active, GoingDown, GoingUp}
+use Rattle.pcep_objects.specs.declared.object.RsvpError.{RsvpError}
 use Rattle.pcep_objects.specs.declared.object.Srp.{Srp}
 use Rattle.pcep_objects.specs.declared.object.Object.{Object}
 use Rattle.pcep_objects.specs.declared.object.Object.TheVariants as objects
@@ -81,8 +82,25 @@ abbrev pub identifiers_written : Option Identifiers → List ℕ
 identifiers_written None = []
 identifiers_written (Some identifiers) = (big_bytes 2 18 ++ big_bytes 2 16) ++ identifiers_value identifiers
 
+abbrev pub error_code_written : Option ℕ → List ℕ
+error_code_written None = []
+error_code_written (Some code) = (big_bytes 2 20 ++ big_bytes 2 4) ++ big_bytes 4 code
+
+abbrev pub rsvp_error_value : RsvpError → List ℕ
+rsvp_error_value error = big_bytes 4 0x000C0601 ++ big_bytes 4 error.node ++ (error.flags ∷ error.code ∷ []) ++ big_bytes 2 error.value
+
+abbrev pub rsvp_error_written : Option RsvpError → List ℕ
+rsvp_error_written None = []
+rsvp_error_written (Some error) = (big_bytes 2 21 ++ big_bytes 2 12) ++ rsvp_error_value error
+
+-- the TLVs behind the name
+abbrev pub details_written : Option Identifiers → Option ℕ → Option RsvpError → List ℕ
+details_written identifiers error_code rsvp_error =
+    identifiers_written identifiers ++ error_code_written error_code ++ rsvp_error_written rsvp_error
+
 abbrev pub lsp_written : LspObject → List ℕ
-lsp_written lsp = big_bytes 4 (lsp_word lsp) ++ name_written lsp.name ++ identifiers_written lsp.identifiers
+lsp_written lsp =
+    big_bytes 4 (lsp_word lsp) ++ name_written lsp.name ++ details_written lsp.identifiers lsp.error_code lsp.rsvp_error
 
 abbrev pub srp_written : Srp → List ℕ
 srp_written srp = big_bytes 4 (if srp.remove then 1 else 0) ++ big_bytes 4 srp.id
@@ -198,9 +216,23 @@ abbrev pub MayBeIdentifiers : Option Identifiers → Type 0
 MayBeIdentifiers None = Unit {0}
 MayBeIdentifiers (Some identifiers) = AreIdentifiers identifiers
 
+abbrev pub MayBeWord : Option ℕ → Type 0
+MayBeWord None = Unit {0}
+MayBeWord (Some word) = word < 2 ^ 32
+
+pub record IsRsvpError (error : RsvpError) : Type 0 where
+  pub node : error.node < 2 ^ 32
+  pub value : error.value < 2 ^ 16
+
+abbrev pub MayBeRsvpError : Option RsvpError → Type 0
+MayBeRsvpError None = Unit {0}
+MayBeRsvpError (Some error) = IsRsvpError error
+
 pub record IsLsp (lsp : LspObject) : Type 0 where
   pub plsp : lsp.plsp < 2 ^ 20
   pub identifiers : MayBeIdentifiers lsp.identifiers
+  pub error_code : MayBeWord lsp.error_code
+  pub rsvp_error : MayBeRsvpError lsp.rsvp_error
 
 -- P of an object whose P flag the value carries is as it is written
 abbrev pub HasWrittenP : Object → Type 0

@@ -1,13 +1,14 @@
 -- TLVs (RFC 5440 section 7.1): a type and the length of the value, 2 bytes each, the value, and padding
 -- up to a multiple of 4 that the length doesn't count. An object's TLVs are cut from its bytes; of a type
 -- that the object names the first counts, and the others are skipped.
-use Rattle.std.specs.Prelude.{ℕ, ◌+◌, ◌*◌, ◌/◌, Bool, true, not, ◌&&◌, ◌||◌, List, [], ◌∷◌, ◌++◌, length, take, drop, Option, Some, None, Result, Ok, Err, nat_lt, ◌==◌, if◌then◌else◌}
+use Rattle.std.specs.Prelude.{ℕ, ◌+◌, ◌*◌, ◌/◌, Bool, true, not, ◌&&◌, ◌||◌, List, [], ◌∷◌, ◌++◌, length, take, drop, slice_index, Option, Some, None, Result, Ok, Err, nat_lt, ◌==◌, if◌then◌else◌}
 use Rattle.std.specs.Option.{option_map}
 use Rattle.byteorder.specs.Endian.{big_bytes}
 use Rattle.pcep_objects.specs.Steps.{◌>>=◌, field, pieces}
 use Rattle.pcep_objects.specs.declared.fault.BodyFault.{BodyFault}
 use Rattle.pcep_objects.specs.declared.fault.BodyFault.TheVariants.{BadTlv}
 use Rattle.pcep_objects.specs.declared.object.Identifiers.{Identifiers}
+use Rattle.pcep_objects.specs.declared.object.RsvpError.{RsvpError}
 
 pub record Tlv : Type 0 where
   pub number : ℕ
@@ -66,6 +67,29 @@ unfoldable pub word_in : ℕ → List ℕ → Result (Option ℕ) BodyFault
 word_in number bytes = do
   value ← value_in number (Some 4) bytes
   Ok (option_map (field 0 4) value)
+
+-- the value of the first TLV of a type that has this size: those of another size are skipped
+abbrev pub first_fitting : ℕ → ℕ → List Tlv → Option (List ℕ)
+first_fitting number size [] = None
+first_fitting number size (tlv ∷ tlvs) =
+    if tlv.number == number && length tlv.value == size then Some tlv.value else first_fitting number size tlvs
+
+unfoldable pub fitting_in : ℕ → ℕ → List ℕ → Result (Option (List ℕ)) BodyFault
+fitting_in number size bytes = do
+  tlvs ← tlvs_in bytes
+  Ok (first_fitting number size tlvs)
+
+-- RSVP-ERROR-SPEC (RFC 8231 section 7.3.4): an RSVP object ERROR_SPEC of IPv4, which is 12 bytes of class 6 and C-Type 1 (RFC 2205
+-- section A.5). Any other says nothing.
+abbrev pub rsvp_error_of : List ℕ → Option RsvpError
+rsvp_error_of value =
+    if field 0 4 value == 0x000C0601
+    then Some (record { node = field 4 4 value; flags = slice_index value 8; code = slice_index value 9; value = field 10 2 value })
+    else None
+
+abbrev pub rsvp_error_in : Option (List ℕ) → Option RsvpError
+rsvp_error_in None = None
+rsvp_error_in (Some value) = rsvp_error_of value
 
 -- IPV4-LSP-IDENTIFIERS (RFC 8231 section 7.3.1)
 abbrev pub identifiers_of : List ℕ → Identifiers

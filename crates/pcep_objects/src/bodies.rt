@@ -7,12 +7,12 @@ ghost use Rattle.pcep_objects.specs.declared.object.BandwidthType.{BandwidthType
 ghost use Rattle.pcep_objects.specs.declared.object.Object.TheVariants as objects;
 
 use crate::fault::BodyFault;
-use crate::object::{
-    BandwidthType, Colours, Hop, Kept, KeptClass, LspObject, Lspa, Object, Operational, Plsp, Srp,
-};
+use crate::lsp_errors::{fitting_in, read_error_code, read_rsvp_error};
+use crate::object::{BandwidthType, Kept, KeptClass, LspObject, Lspa, Object, Operational, Srp};
 use crate::routes::read_hops;
 use crate::tlvs::{read_identifiers, skip_tlvs, value_in};
 use byteorder::{BigEndian, ByteOrder};
+use lsp_words::{Colours, Hop, Plsp};
 use pcep_word::{Bandwidth, Priority};
 use sequence::Sequence;
 use std::alloc::{AllocError, Global};
@@ -110,6 +110,8 @@ pub fn read_lsp(alloc: Global, body: &[u8]) -> Result<LspObject, BodyFault>
     }
     let identifiers = value_in(18, Some(16), &body[4..])?;
     let name = value_in(17, None, &body[4..])?;
+    let error_code = fitting_in(20, 4, &body[4..])?;
+    let rsvp_error = fitting_in(21, 12, &body[4..])?;
     let word = BigEndian::read_u32(body);
     Ok(LspObject {
         plsp: Plsp::new(word >> 12),
@@ -121,6 +123,8 @@ pub fn read_lsp(alloc: Global, body: &[u8]) -> Result<LspObject, BodyFault>
         created: word & 0x080 != 0,
         name: copied(alloc, name)?,
         identifiers: identifiers.map(read_identifiers),
+        error_code: read_error_code(error_code),
+        rsvp_error: read_rsvp_error(rsvp_error),
     })
 }
 

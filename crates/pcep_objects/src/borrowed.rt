@@ -7,9 +7,10 @@ ghost use Rattle.pcep_objects.specs.declared.object.Object.TheVariants.{Ero, Lsp
 
 use crate::fault::WriteFault;
 use crate::kind::Kind;
-use crate::object::{Hop, LspObject};
+use crate::object::LspObject;
 use crate::paths::{put_named, put_route};
 use crate::sizes::{fitting_size, named_size};
+use lsp_words::Hop;
 
 /// Appends an ERO of these hops.
 ///

@@ -1,17 +1,9 @@
 //! Copies of objects and of their parts.
 
-use crate::object::{
-    Capabilities, Colours, Hop, Identifiers, Kept, LspObject, Lspa, Object, Operational, Plsp, Srp,
-};
+use crate::object::{Identifiers, Kept, LspObject, Lspa, Object, Operational, RsvpError, Srp};
 use crate::session_objects::PcepError;
 use sequence::PlainData;
 use std::alloc::AllocError;
-
-impl PlainData for Plsp {
-    fn copy(&self) -> Result<Plsp, AllocError> {
-        Ok(*self)
-    }
-}
 
 impl PlainData for Operational {
     fn copy(&self) -> Result<Operational, AllocError> {
@@ -25,14 +17,8 @@ impl PlainData for Identifiers {
     }
 }
 
-impl PlainData for Capabilities {
-    fn copy(&self) -> Result<Capabilities, AllocError> {
-        Ok(*self)
-    }
-}
-
-impl PlainData for Colours {
-    fn copy(&self) -> Result<Colours, AllocError> {
+impl PlainData for RsvpError {
+    fn copy(&self) -> Result<RsvpError, AllocError> {
         Ok(*self)
     }
 }
@@ -46,15 +32,6 @@ impl PlainData for Srp {
 impl PlainData for Lspa {
     fn copy(&self) -> Result<Lspa, AllocError> {
         Ok(*self)
-    }
-}
-
-impl PlainData for Hop {
-    fn copy(&self) -> Result<Hop, AllocError> {
-        match self {
-            Hop::Host(address, loose) => Ok(Hop::Host(*address, *loose)),
-            Hop::Other(kind, bytes) => Ok(Hop::Other(*kind, bytes.copy()?)),
-        }
     }
 }
 
@@ -86,6 +63,8 @@ impl PlainData for LspObject {
             created: self.created,
             name: self.name.copy()?,
             identifiers: self.identifiers.copy()?,
+            error_code: self.error_code,
+            rsvp_error: self.rsvp_error,
         })
     }
 }

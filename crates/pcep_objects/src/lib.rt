@@ -22,7 +22,7 @@
 //! ```
 //!
 //! The modules, lowest first: `object` with `session_objects`, `request_objects` and `metric`, `kind`, `copies`,
-//! `fault`, `tlvs`, `routes`, `bodies`, `header`, `reading`, `sizes`, `spelled`, `putting`,
+//! `fault`, `tlvs`, `lsp_errors`, `routes`, `bodies`, `header`, `reading`, `sizes`, `spelled`, `putting`,
 //! `paths`, `writing`, `borrowed`. A `put_` function appends one object in place.
 #![tactic(auto)]
 
@@ -32,6 +32,7 @@ mod copies;
 mod fault;
 mod header;
 mod kind;
+mod lsp_errors;
 mod metric;
 mod object;
 mod paths;
@@ -49,10 +50,11 @@ pub use bodies::{read_bandwidth, read_ero, read_lsp, read_lspa, read_srp};
 pub use borrowed::{put_ero, put_named_lsp};
 pub use fault::{BodyFault, ObjectFault, WriteFault};
 pub use kind::Kind;
+pub use lsp_words::{Capabilities, Colours, Hop, MetricType, Plsp};
 pub use metric::{put_metric, read_metric};
 pub use object::{
-    BandwidthType, Capabilities, Colours, Hop, Identifiers, Kept, KeptClass, LspObject, Lspa,
-    Metric, MetricType, MetricValue, Object, Operational, Plsp, Srp,
+    BandwidthType, Identifiers, Kept, KeptClass, LspObject, Lspa, Metric, MetricValue, Object,
+    Operational, RsvpError, Srp,
 };
 pub use paths::put_lsp;
 pub use putting::{put_bandwidth, put_lspa, put_srp};

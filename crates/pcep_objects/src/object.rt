@@ -4,55 +4,10 @@ ghost use Rattle.std.specs.Prelude.{◌≡◌, ◌<◌, ◌^◌};
 
 use crate::request_objects::{EndPoints, NoPath, Rp};
 use crate::session_objects::{Close, Notification, Open, PcepError};
+use lsp_words::{Colours, Hop, Plsp};
 use pcep_word::{Bandwidth, Ipv4, Priority};
 use sequence::Sequence;
 use std::marker::Model;
-
-/// A PLSP-ID: the number, below 2^20, by which a peer names one of its LSPs as long as its session lasts
-/// (RFC 8231 section 7.3). 0 and 0xFFFFF name none.
-#[derive(Clone, Copy, Debug, PartialEq, Eq, Hash)]
-pub struct Plsp {
-    number: u32,
-}
-
-impl Model for Plsp {
-    ghost use Rattle.std.specs.Prelude.{ℕ, ◌<◌, ◌^◌};
-
-    ghost Value = { ℕ };
-
-    ghost view = { λ p. p.number };
-
-    ghost invariant = { λ p. p.number < 2 ^ 20 };
-
-    ghost inverse = { λ n. record { number = n } };
-}
-
-impl Plsp {
-    /// The PLSP-ID of this number, which has to be below 2^20.
-    pub fn new(number: u32) -> Plsp
-        requires { number < 2 ^ 20 }
-        ensures { result ≡ number }
-    {
-        Plsp { number }
-    }
-
-    /// The number, below 2^20.
-    pub fn number(self) -> u32
-        ensures number { result ≡ self }
-        ensures small { result < 2 ^ 20 }
-    {
-        self.number
-    }
-}
-
-/// A subobject of a route (RFC 3209 section 4.3.3).
-#[derive(Debug, Drop)]
-pub enum Hop {
-    /// An IPv4 address with prefix length 32, and whether the hop is loose. In a recorded route none is.
-    Host(Ipv4, bool),
-    /// Any other subobject: its whole type byte, and the bytes after the length byte.
-    Other(u8, Sequence<u8>),
-}
 
 /// The operational state of an LSP (RFC 8231 section 7.3).
 #[derive(Clone, Copy, Debug, PartialEq, Eq)]
@@ -84,15 +39,6 @@ pub struct Identifiers {
     pub endpoint: Ipv4,
 }
 
-/// What a peer lets the PCE do: STATEFUL-PCE-CAPABILITY of its Open (RFC 8231 section 7.1.1).
-#[derive(Clone, Copy, Debug, PartialEq, Eq)]
-pub struct Capabilities {
-    /// The PCE may update LSPs that are delegated to it (flag U).
-    pub update: bool,
-    /// The PCE may create LSPs (flag I of RFC 8281 section 4.1).
-    pub create: bool,
-}
-
 /// SRP, which numbers the PCE's requests and the reports that answer them (RFC 8231 section 7.2).
 #[derive(Clone, Copy, Debug, PartialEq, Eq)]
 pub struct Srp {
@@ -100,6 +46,20 @@ pub struct Srp {
     pub remove: bool,
     /// The SRP-ID. 0 and 0xFFFFFFFF are reserved.
     pub id: u32,
+}
+
+/// RSVP-ERROR-SPEC with an ERROR_SPEC of IPv4: why RSVP couldn't set up the LSP (RFC 8231 section 7.3.4, RFC 2205 section
+/// A.5).
+#[derive(Clone, Copy, Debug, PartialEq, Eq)]
+pub struct RsvpError {
+    /// The address of the node that found the error.
+    pub node: Ipv4,
+    /// InPlace 0x01 and NotGuilty 0x02.
+    pub flags: u8,
+    /// The error code (RFC 2205 appendix B).
+    pub code: u8,
+    /// The error value.
+    pub value: u16,
 }
 
 /// LSP (RFC 8231 section 7.3).
@@ -123,17 +83,10 @@ pub struct LspObject {
     pub name: Option<Sequence<u8>>,
     /// The first IPV4-LSP-IDENTIFIERS.
     pub identifiers: Option<Identifiers>,
-}
-
-/// Which colours a link of the path may have, 32 of them, one a bit (RFC 5440 section 7.11).
-#[derive(Clone, Copy, Debug, PartialEq, Eq)]
-pub struct Colours {
-    /// No link of the path has one of these.
-    pub exclude_any: u32,
-    /// Each link of the path has one of these, unless this is 0.
-    pub include_any: u32,
-    /// Each link of the path has all of these.
-    pub include_all: u32,
+    /// The first LSP-ERROR-CODE of 4 bytes (RFC 8231 section 7.3.3).
+    pub error_code: Option<u32>,
+    /// The first RSVP-ERROR-SPEC of 12 bytes, where that is an ERROR_SPEC of IPv4.
+    pub rsvp_error: Option<RsvpError>,
 }
 
 /// LSPA, the attributes of an LSP (RFC 5440 section 7.11).
@@ -193,17 +146,6 @@ impl MetricValue {
     {
         self.value
     }
-}
-
-/// A metric that a path is to have least of (RFC 5440 section 7.8).
-#[derive(Clone, Copy, Debug, PartialEq, Eq)]
-pub enum MetricType {
-    /// The IGP metric (T 1).
-    Igp,
-    /// The TE metric (T 2).
-    Te,
-    /// The number of hops (T 3).
-    Hops,
 }
 
 /// METRIC (RFC 5440 section 7.8).

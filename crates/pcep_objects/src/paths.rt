@@ -8,10 +8,11 @@ ghost use Rattle.pcep_objects.specs.Spelling.{spelled, written, hops_fit, hops_w
 ghost use Rattle.pcep_objects.specs.declared.object.Object.TheVariants.{Lsp};
 
 use crate::kind::Kind;
-use crate::object::{Hop, LspObject};
-use crate::putting::{lsp_word, put_hops, put_identifiers, put_tlv};
+use crate::object::LspObject;
+use crate::putting::{lsp_word, put_details, put_hops, put_tlv};
 use crate::sizes::lsp_size;
 use crate::spelled::header;
+use lsp_words::Hop;
 use std::alloc::AllocError;
 
 #[tactic(auto, using(crate::proofs::Fronts::front, crate::proofs::Fronts::front_again))]
@@ -54,7 +55,7 @@ fn put_start(lsp: &LspObject, size: u16, out: &mut Vec<u8>) -> Result<(), AllocE
     out.extend_from_slice(&[a, b, c, d, e, f, g, h])
 }
 
-#[tactic(auto, using(crate::proofs::Fronts::front, crate::proofs::Fronts::front_two))]
+#[tactic(auto, using(crate::proofs::Fronts::front, crate::proofs::Fronts::front_again))]
 fn put_named_parts(
     lsp: &LspObject,
     name: &[u8],
@@ -68,7 +69,7 @@ fn put_named_parts(
 {
     put_start(lsp, size, out)?;
     put_tlv(17, name, out)?;
-    put_identifiers(&lsp.identifiers, out)
+    put_details(lsp, out)
 }
 
 /// Appends an LSP of this length, header included, with this name in place of its own.
@@ -93,14 +94,14 @@ pub fn put_named(
     }
 }
 
-#[tactic(auto, using(crate::proofs::Fronts::front, crate::proofs::Fronts::front_two))]
+#[tactic(auto, using(crate::proofs::Fronts::front, crate::proofs::Fronts::front_again))]
 fn put_unnamed_parts(lsp: &LspObject, size: u16, out: &mut Vec<u8>) -> Result<(), AllocError>
     requires whole { size ≡ length (lsp_written (record lsp.now { name = None })) + 4 }
     ensures written { OnOk result (out.new.items ≡ out.old.items ++ written (Lsp (record lsp.now { name = None }))) }
     ensures front { OnErr result (take (length out.old.items) out.new.items ≡ out.old.items) }
 {
     put_start(lsp, size, out)?;
-    put_identifiers(&lsp.identifiers, out)
+    put_details(lsp, out)
 }
 
 /// Appends an LSP of this length, header included, without a name.

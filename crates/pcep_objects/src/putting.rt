@@ -1,12 +1,14 @@
 //! The objects of paths, in place: BANDWIDTH, LSPA, SRP, and the parts of ERO, RRO and LSP.
 
 ghost use Rattle.std.specs.Prelude.{◌≡◌, ◌++◌, ◌<◌, ◌^◌, ◌≤◌, ◌+◌, length, take, replicate, true, vec_len, vec_capacity, IsOk, OnOk, OnErr};
-ghost use Rattle.pcep_objects.specs.Spelling.{bandwidth_kind, hop_written, hops_written, operational_number, lsp_word, tlv_written, identifiers_written, hops_fit, hop_fits, written};
+ghost use Rattle.pcep_objects.specs.Spelling.{bandwidth_kind, hop_written, hops_written, operational_number, lsp_word, tlv_written, identifiers_written, details_written, hops_fit, hop_fits, written};
 ghost use Rattle.pcep_objects.specs.declared.object.Object.TheVariants as objects;
 
 use crate::kind::Kind;
-use crate::object::{BandwidthType, Hop, Identifiers, LspObject, Lspa, Operational, Srp};
+use crate::lsp_errors::{put_error_code, put_rsvp_error};
+use crate::object::{BandwidthType, Identifiers, LspObject, Lspa, Operational, Srp};
 use crate::spelled::put_spelled;
+use lsp_words::Hop;
 use pcep_word::Bandwidth;
 use std::alloc::AllocError;
 
@@ -156,10 +158,7 @@ pub fn put_tlv(tlv_type: u16, value: &[u8], out: &mut Vec<u8>) -> Result<(), All
 
 /// Appends IPV4-LSP-IDENTIFIERS, where they are there. Where memory is lacking, nothing is appended.
 #[inline(always)]
-pub fn put_identifiers(
-    identifiers: &Option<Identifiers>,
-    out: &mut Vec<u8>,
-) -> Result<(), AllocError>
+fn put_identifiers(identifiers: &Option<Identifiers>, out: &mut Vec<u8>) -> Result<(), AllocError>
     ensures written { OnOk result (out.new.items ≡ out.old.items ++ identifiers_written identifiers.now) }
     ensures unchanged { OnErr result (out.new.items ≡ out.old.items) }
 {
@@ -172,4 +171,15 @@ pub fn put_identifiers(
     let [i, j, k, l] = identifiers.extended.to_be_bytes();
     let [m, n, o, p] = identifiers.endpoint.bytes();
     out.extend_from_slice(&[0, 18, 0, 16, a, b, c, d, e, f, g, h, i, j, k, l, m, n, o, p])
+}
+
+/// Appends the TLVs of an LSP behind its name. Where memory is lacking, a part of them may stand behind what was there.
+#[tactic(auto, using(crate::proofs::Fronts::front, crate::proofs::Fronts::front_two))]
+pub fn put_details(lsp: &LspObject, out: &mut Vec<u8>) -> Result<(), AllocError>
+    ensures written { OnOk result (out.new.items ≡ out.old.items ++ details_written lsp.now.identifiers lsp.now.error_code lsp.now.rsvp_error) }
+    ensures front { OnErr result (take (length out.old.items) out.new.items ≡ out.old.items) }
+{
+    put_identifiers(&lsp.identifiers, out)?;
+    put_error_code(lsp.error_code, out)?;
+    put_rsvp_error(lsp.rsvp_error, out)
 }

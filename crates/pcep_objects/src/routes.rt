@@ -5,8 +5,8 @@ ghost use Rattle.pcep_objects.specs.Steps.{Gives, pieces};
 ghost use Rattle.pcep_objects.specs.Routes.{hops_of, hop_of, subobject_size};
 
 use crate::fault::BodyFault;
-use crate::object::Hop;
 use byteorder::{BigEndian, ByteOrder};
+use lsp_words::Hop;
 use pcep_word::Ipv4;
 use sequence::Sequence;
 use std::alloc::Global;

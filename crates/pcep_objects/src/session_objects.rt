@@ -8,10 +8,10 @@ ghost use Rattle.pcep_objects.specs.declared.object.Object.TheVariants as object
 
 use crate::fault::BodyFault;
 use crate::kind::Kind;
-use crate::object::Capabilities;
 use crate::spelled::put_spelled;
 use crate::tlvs::{skip_tlvs, word_in};
 use byteorder::{BigEndian, ByteOrder};
+use lsp_words::Capabilities;
 use std::alloc::AllocError;
 
 /// OPEN (RFC 5440 section 7.3): the timers that a peer of a session asks for, and what it can do.

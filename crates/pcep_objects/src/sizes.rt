@@ -1,12 +1,13 @@
 //! The lengths of objects as they are written, before anything is.
 
-ghost use Rattle.std.specs.Prelude.{◌≡◌, ◌^◌, ◌-◌, min, length, Some, None, if◌then◌else◌};
-ghost use Rattle.pcep_objects.specs.Spelling.{hop_fits, hop_written, hops_fit, hops_written, parts_fit, fits, name_written, identifiers_written, lsp_written, body_written};
+ghost use Rattle.std.specs.Prelude.{◌≡◌, ◌^◌, ◌-◌, ◌≤◌, min, length, Some, None, if◌then◌else◌};
+ghost use Rattle.pcep_objects.specs.Spelling.{hop_fits, hop_written, hops_fit, hops_written, parts_fit, fits, name_written, identifiers_written, error_code_written, rsvp_error_written, details_written, lsp_written, body_written};
 ghost use Rattle.pcep_objects.specs.SessionObjects.{capabilities_after};
 ghost use Rattle.pcep_objects.specs.RequestObjects.{vector_after};
 
-use crate::object::{Capabilities, Hop, Identifiers, LspObject, Object};
+use crate::object::{Identifiers, LspObject, Object, RsvpError};
 use crate::request_objects::NoPathVector;
+use lsp_words::{Capabilities, Hop};
 use sequence::Sequence;
 
 fn hop_fits(hop: &Hop) -> bool
@@ -73,7 +74,8 @@ fn name_size(name: &Option<Sequence<u8>>) -> usize
 }
 
 fn identifiers_size(identifiers: Option<Identifiers>) -> usize
-    ensures { result ≡ length (identifiers_written identifiers) }
+    ensures size { result ≡ length (identifiers_written identifiers) }
+    ensures small { result ≤ 20 }
 {
     match identifiers {
         Some(_) => 20,
@@ -81,20 +83,50 @@ fn identifiers_size(identifiers: Option<Identifiers>) -> usize
     }
 }
 
+fn error_code_size(error_code: Option<u32>) -> usize
+    ensures size { result ≡ length (error_code_written error_code) }
+    ensures small { result ≤ 8 }
+{
+    match error_code {
+        Some(_) => 8,
+        None => 0,
+    }
+}
+
+fn rsvp_error_size(error: Option<RsvpError>) -> usize
+    ensures size { result ≡ length (rsvp_error_written error) }
+    ensures small { result ≤ 16 }
+{
+    match error {
+        Some(_) => 16,
+        None => 0,
+    }
+}
+
+/// The length of the TLVs behind the name.
+fn details_size(lsp: &LspObject) -> usize
+    ensures size { result ≡ length (details_written lsp.now.identifiers lsp.now.error_code lsp.now.rsvp_error) }
+    ensures small { result ≤ 44 }
+{
+    identifiers_size(lsp.identifiers)
+        + error_code_size(lsp.error_code)
+        + rsvp_error_size(lsp.rsvp_error)
+}
+
 /// The length of an LSP, or the greatest number where it is greater.
 pub fn lsp_size(lsp: &LspObject) -> usize
     ensures { result ≡ min (length (lsp_written lsp.now)) (2 ^ 64 - 1) }
 {
-    let identifiers = identifiers_size(lsp.identifiers);
-    name_size(&lsp.name).saturating_add(4 + identifiers)
+    let details = details_size(lsp);
+    name_size(&lsp.name).saturating_add(4 + details)
 }
 
 /// The length of an LSP with this name, or the greatest number where it is greater.
 pub fn named_size(lsp: &LspObject, name: &[u8]) -> usize
     ensures { result ≡ min (length (lsp_written (record lsp.now { name = Some name.now }))) (2 ^ 64 - 1) }
 {
-    let identifiers = identifiers_size(lsp.identifiers);
-    (name.len().saturating_add(3) / 4 * 4).saturating_add(8 + identifiers)
+    let details = details_size(lsp);
+    (name.len().saturating_add(3) / 4 * 4).saturating_add(8 + details)
 }
 
 /// The length of a route each of whose subobjects fits its length field, or the greatest number where it is

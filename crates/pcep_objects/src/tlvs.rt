@@ -12,11 +12,11 @@ use pcep_word::Ipv4;
 
 /// A TLV of an object.
 #[derive(Clone, Copy)]
-struct Tlv<'a> {
+pub(crate) struct Tlv<'a> {
     /// Its type.
-    number: u16,
+    pub(crate) number: u16,
     /// Its value, without the padding.
-    value: &'a [u8],
+    pub(crate) value: &'a [u8],
 }
 
 /// The length of the TLV at the front, with its padding.
@@ -40,7 +40,7 @@ fn size_of_tlv(bytes: &[u8]) -> Result<usize, BodyFault>
 }
 
 /// The TLV at the front, and the bytes behind its padding.
-fn first_tlv(bytes: &[u8]) -> Result<(Tlv<'_>, &[u8]), BodyFault>
+pub(crate) fn first_tlv(bytes: &[u8]) -> Result<(Tlv<'_>, &[u8]), BodyFault>
     ensures size { IfOk result (λ x. tlv_size bytes.now ≡ Ok (4 + padded (field 2 2 bytes.now))) }
     ensures number { IfOk result (λ x. x.0.number ≡ field 0 2 bytes.now) }
     ensures value { IfOk result (λ x. x.0.value.now ≡ take (field 2 2 bytes.now) (drop 4 bytes.now)) }

@@ -11,13 +11,14 @@ ghost use Rattle.pcep_objects.specs.declared.fault.WriteFault.TheVariants.{TooLo
 use crate::fault::WriteFault;
 use crate::kind::Kind;
 use crate::metric::put_metric;
-use crate::object::{Hop, KeptClass, Object};
+use crate::object::{KeptClass, Object};
 use crate::paths::{put_lsp, put_route};
 use crate::putting::{put_bandwidth, put_lspa, put_srp};
 use crate::request_objects::{put_end_points, put_no_path, put_rp};
 use crate::session_objects::{put_close, put_error, put_notification, put_open};
 use crate::sizes::hops_size;
 use crate::spelled::put_spelled;
+use lsp_words::Hop;
 use std::alloc::AllocError;
 
 fn kept_kind(class: KeptClass) -> Kind

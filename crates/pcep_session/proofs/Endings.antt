@@ -98,7 +98,7 @@ timer_falls KeepWait true silent quiet c e left = omega (arith, by_down_left c.d
 timer_falls KeepWait false silent quiet c e left = omega arith
 timer_falls Up waited true quiet c e left = omega (arith, by_down_left c.down_pending)
 timer_falls Up waited false true c e left =
-    let d : Contents = going_to Up (sending (One Keepalive) c) in
+    let d : Contents = going_to Up None (sending (One Keepalive) c) in
     let none : is_some (due_in d) ≡ false = not_due (is_due 60000 (c.moment_ms - c.received_ms)) (is_silent c.peer (c.moment_ms - c.received_ms)) (is_due 30000 (c.moment_ms - c.moment_ms)) e (quiet_now c.moment_ms) in
     let after : turns_left d ≡ length c.bytes + 1 = ap (λ (b : Bool). length c.bytes + cond b 2 1) none in
     omega arith

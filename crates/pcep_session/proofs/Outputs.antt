@@ -26,7 +26,7 @@ turn_with output turn = turn_of turn.input (with_output output turn.after)
 reaction_with : (r : Reaction) (o : List ℕ) (c : Contents) → turn_by r (with_output o c) ≡ turn_with o (turn_by r c)
 unfolding at_output
 reaction_with r o c =
-    ap (λ (bytes : List ℕ). turn_of (Some r.input) (at_output (going_to r.state (sending r.notices c)) bytes)) (append_assoc o c.output (notices_text r.notices))
+    ap (λ (bytes : List ℕ). turn_of (Some r.input) (at_output (going_to r.state r.end (sending r.notices c)) bytes)) (append_assoc o c.output (notices_text r.notices))
 
 arrival_with : (a : Arrival) (n : ℕ) (o : List ℕ) (c : Contents) → on_arrival a n (with_output o c) ≡ turn_with o (on_arrival a n c)
 arrival_with a n o c = reaction_with (reaction_to a c) o (received a n c)

@@ -15,6 +15,7 @@ use Rattle.pcep_session.specs.declared.table.Arrival.{Arrival}
 use Rattle.pcep_session.specs.declared.table.Arrival.TheVariants.{BadHeader}
 use Rattle.pcep_session.specs.declared.table.Input.{Input}
 use Rattle.pcep_session.specs.declared.table.Input.TheVariants as input
+use Rattle.pcep_session.specs.declared.table.EndReason.{EndReason}
 use Rattle.pcep_session.specs.declared.table.Reaction.{Reaction}
 use Rattle.pcep_session.specs.declared.table.State.{State}
 use Rattle.pcep_session.specs.declared.table.Timer.{Timer}
@@ -104,18 +105,18 @@ unfolding front_of
 bad_header bytes h = at_least (length bytes) 4 (bad_is (nat_lt (length bytes) 4) (is_bad bytes) (nat_lt (length bytes) (message_length bytes)) (message_length bytes) h)
 
 -- a turn doesn't look behind its message
-going_more : (s : State) (q : List ℕ) (c : Contents) → going_to s (more q c) ≡ more_again q (going_to s c)
-going_more OpenWait q c = refl
-going_more KeepWait q c = refl
-going_more Up q c = refl
-going_more Closed q c = refl
+going_more : (s : State) (why : Option EndReason) (q : List ℕ) (c : Contents) → going_to s why (more q c) ≡ more_again q (going_to s why c)
+going_more OpenWait why q c = refl
+going_more KeepWait why q c = refl
+going_more Up why q c = refl
+going_more Closed why q c = refl
 
 arrival_more : (a : Arrival) (n : ℕ) (q : List ℕ) (c : Contents) → n ≤ length c.bytes → on_arrival a n (more q c) ≡ then_more q (on_arrival a n c)
 arrival_more a n q c h =
     let r : Reaction = reaction_to a c in
     let d : Contents = sending r.notices (received a n c) in
-    ap (λ (bs : List ℕ). turn_of (Some r.input) (going_to r.state (with_bytes d bs))) (drop-append-le n c.bytes q h)
-    ∙ ap (λ (e : Contents). turn_of (Some r.input) e) (going_more r.state q d)
+    ap (λ (bs : List ℕ). turn_of (Some r.input) (going_to r.state r.end (with_bytes d bs))) (drop-append-le n c.bytes q h)
+    ∙ ap (λ (e : Contents). turn_of (Some r.input) e) (going_more r.state r.end q d)
 
 front_turn : (f : NextMessage) (q : List ℕ) (c : Contents) → front_of c.bytes ≡ f → f ≢ Waiting → by_front f (more q c) ≡ then_more q (by_front f c)
 front_turn Waiting q c e h = absurd (h refl)

@@ -10,6 +10,7 @@ use Rattle.pcep_session.specs.Turns.{is_closed}
 use Rattle.pcep_session.specs.declared.contents.Contents.{Contents}
 use Rattle.pcep_session.specs.declared.fault.SessionFault.{SessionFault}
 use Rattle.pcep_session.specs.declared.fault.SessionFault.TheVariants as faults
+use Rattle.pcep_session.specs.declared.table.EndReason.TheVariants.{Caller}
 use Rattle.pcep_session.specs.declared.table.State.{State}
 use Rattle.pcep_session.specs.declared.table.State.TheVariants.{OpenWait, Up, Closed}
 
@@ -32,6 +33,7 @@ begun now_ms = record {
   sent_ms = now_ms;
   unrecognized = [];
   peer = None;
+  end = None;
   down_pending = false;
   output = own_open;
 }
@@ -78,7 +80,7 @@ text_of_reason None = []
 text_of_reason (Some reason) = notice_text (Close reason)
 
 abbrev pub ended : Option PcError → Option ℕ → Contents → Contents
-ended error reason c = record c { state = Closed; bytes = []; down_pending = true; output = c.output ++ text_of_error error ++ text_of_reason reason }
+ended error reason c = record c { state = Closed; bytes = []; end = Some (Caller error reason); down_pending = true; output = c.output ++ text_of_error error ++ text_of_reason reason }
 
 abbrev pub ended_by : Option PcError → Option ℕ → Contents → Result Contents SessionFault
 ended_by error reason c = if is_closed c.state then Err faults.Closed else Ok (ended error reason c)

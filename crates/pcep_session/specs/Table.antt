@@ -2,7 +2,7 @@
 use Rattle.std.specs.Prelude.{ℕ, Bool, true, false, Option, Some, None, ◌==◌, if◌then◌else◌}
 use Rattle.pcep_objects.specs.declared.fault.ObjectFault.{ObjectFault}
 use Rattle.pcep_objects.specs.declared.fault.ObjectFault.TheVariants.{UnknownClass, UnknownType}
-use Rattle.pcep_objects.specs.declared.object.Capabilities.{Capabilities}
+use Rattle.lsp_words.specs.declared.object.Capabilities.{Capabilities}
 use Rattle.pcep_messages.specs.declared.fault.About.{About}
 use Rattle.pcep_messages.specs.declared.fault.About.TheVariants as about
 use Rattle.pcep_messages.specs.declared.fault.MessageFault.{MessageFault}
@@ -13,6 +13,8 @@ use Rattle.pcep_messages.specs.declared.notice.Notice.{Notice}
 use Rattle.pcep_messages.specs.declared.notice.Notice.TheVariants.{Keepalive, Error, Close}
 use Rattle.pcep_session.specs.declared.table.Arrival.{Arrival}
 use Rattle.pcep_session.specs.declared.table.Arrival.TheVariants.{BadHeader, Unrecognized, UnannouncedReport, Read, Faulty}
+use Rattle.pcep_session.specs.declared.table.EndReason.{EndReason}
+use Rattle.pcep_session.specs.declared.table.EndReason.TheVariants.{PeerClose, Said}
 use Rattle.pcep_session.specs.declared.table.Input.TheVariants as input
 use Rattle.pcep_session.specs.declared.table.Notices.{Notices}
 use Rattle.pcep_session.specs.declared.table.Notices.TheVariants.{Nothing, One, Two}
@@ -24,15 +26,23 @@ use Rattle.pcep_session.specs.declared.table.Timer.TheVariants as timers
 
 -- the session goes on, and its caller gets nothing
 abbrev pub goes_on : State → Notices → Reaction
-goes_on state notices = record { notices = notices; state = state; input = input.Handled }
+goes_on state notices = record { notices = notices; state = state; end = None; input = input.Handled }
 
--- the session ends
+-- the session ends, for this reason
+abbrev pub ends : Notices → EndReason → Reaction
+ends notices end = record { notices = notices; state = Closed; end = Some end; input = input.Down }
+
+-- it ends itself, and says this
 abbrev pub closes : Notices → Reaction
-closes notices = record { notices = notices; state = Closed; input = input.Down }
+closes notices = ends notices (Said notices)
+
+-- the peer closes it
+abbrev pub closed_by_peer : ℕ → Reaction
+closed_by_peer reason = ends Nothing (PeerClose reason)
 
 -- the caller gets the message
 abbrev pub gives : Message → Reaction
-gives message = record { notices = Nothing; state = Up; input = input.Message message }
+gives message = record { notices = Nothing; state = Up; end = None; input = input.Message message }
 
 -- a PCErr, by what it is about, Error-Type and Error-value (RFC 5440 section 7.15)
 abbrev pub error_about : About → ℕ → ℕ → Notice
@@ -48,9 +58,9 @@ in_open_wait arrival = closes (One (error 1 1))
 
 -- KeepWait: a Keepalive brings the session up, with the capabilities of the peer's Open
 abbrev pub in_keep_wait : Option Capabilities → Arrival → Reaction
-in_keep_wait capabilities (Read messages.Keepalive) = record { notices = Nothing; state = Up; input = input.Up capabilities }
+in_keep_wait capabilities (Read messages.Keepalive) = record { notices = Nothing; state = Up; end = None; input = input.Up capabilities }
 in_keep_wait capabilities (Read (messages.Error errors)) = closes (One (error 1 6))
-in_keep_wait capabilities (Read (messages.Close reason)) = closes Nothing
+in_keep_wait capabilities (Read (messages.Close reason)) = closed_by_peer reason
 in_keep_wait capabilities arrival = closes (One (error 1 1))
 
 -- Up: an object with a fault of its own
@@ -76,7 +86,7 @@ on_fault fault = closes (One (Close 3))
 
 -- Up: a message that is accepted
 abbrev pub on_accepted : Message → Reaction
-on_accepted (messages.Close reason) = closes Nothing
+on_accepted (messages.Close reason) = closed_by_peer reason
 on_accepted messages.Keepalive = goes_on Up Nothing
 on_accepted message = gives message
 

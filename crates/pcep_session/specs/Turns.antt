@@ -1,6 +1,6 @@
 -- One turn of a session: its next whole message, else the timer that is due, else nothing.
 use Rattle.std.specs.Prelude.{◌≡◌, ℕ, ◌-◌, ◌*◌, Bool, true, false, not, ◌&&◌, ◌||◌, List, [], ◌∷◌, ◌++◌, length, take, drop, filter, slice_index, Option, Some, None, is_some, Result, Ok, Err, nat_lt, ◌==◌, if◌then◌else◌}
-use Rattle.pcep_objects.specs.declared.object.Capabilities.{Capabilities}
+use Rattle.lsp_words.specs.declared.object.Capabilities.{Capabilities}
 use Rattle.pcep_objects.specs.declared.session_objects.Open.{Open}
 use Rattle.pcep_messages.specs.Messages.{message_in}
 use Rattle.pcep_messages.specs.Notices.{notice_text}
@@ -14,6 +14,7 @@ use Rattle.pcep_session.specs.declared.framing.NextMessage.{NextMessage}
 use Rattle.pcep_session.specs.declared.framing.NextMessage.TheVariants.{Waiting, Bad, Whole}
 use Rattle.pcep_session.specs.declared.table.Arrival.{Arrival}
 use Rattle.pcep_session.specs.declared.table.Arrival.TheVariants.{BadHeader, Unrecognized, UnannouncedReport, Read, Faulty}
+use Rattle.pcep_session.specs.declared.table.EndReason.{EndReason}
 use Rattle.pcep_session.specs.declared.table.Input.{Input}
 use Rattle.pcep_session.specs.declared.table.Input.TheVariants as input
 use Rattle.pcep_session.specs.declared.table.Notices.{Notices}
@@ -99,8 +100,8 @@ abbrev pub kept_bytes : State → List ℕ → List ℕ
 kept_bytes Closed bytes = []
 kept_bytes state bytes = bytes
 
-abbrev pub going_to : State → Contents → Contents
-going_to state c = record c { state = state; bytes = kept_bytes state c.bytes }
+abbrev pub going_to : State → Option EndReason → Contents → Contents
+going_to state end c = record c { state = state; bytes = kept_bytes state c.bytes; end = end }
 
 -- a turn: what the caller gets, and the session after it
 pub record Turn : Type 0 where
@@ -111,7 +112,7 @@ abbrev pub IsTurn : Turn → Option Input → Contents → Type 0
 IsTurn turn input after = turn ≡ record { input = input; after = after }
 
 abbrev pub turn_by : Reaction → Contents → Turn
-turn_by r c = record { input = Some r.input; after = going_to r.state (sending r.notices c) }
+turn_by r c = record { input = Some r.input; after = going_to r.state r.end (sending r.notices c) }
 
 abbrev pub reaction_to : Arrival → Contents → Reaction
 reaction_to a c = reaction c.state (capabilities_of c.peer) (is_fifth c.moment_ms c.unrecognized) a

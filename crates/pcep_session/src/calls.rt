@@ -8,7 +8,7 @@ ghost use Rattle.pcep_session.specs.Calls.{own_open, begun, ticked, fed_by, sent
 use crate::bytes::{Output, ReceivedBytes};
 use crate::contents::Contents;
 use crate::fault::SessionFault;
-use crate::table::State;
+use crate::table::{EndReason, State};
 use pcep_messages::{Message, Notice, PcError, put_notice};
 use sequence::Sequence;
 use std::alloc::{AllocError, Global};
@@ -37,6 +37,7 @@ pub fn begin(alloc: Global, now_ms: u64) -> Result<Contents, AllocError>
         sent_ms: now_ms,
         unrecognized: Sequence::from_vec(Vec::new(alloc)),
         peer: None,
+        end: None,
         down_pending: false,
         output,
     })
@@ -150,6 +151,7 @@ pub fn end(
     put_end(alloc, &mut contents.output, error, reason)?;
     contents.state = State::Closed;
     contents.bytes.clear();
+    contents.end = Some(EndReason::Caller(error, reason));
     contents.down_pending = true;
     Ok(())
 }

@@ -1,7 +1,7 @@
 //! What a session is made of.
 
 use crate::bytes::{Output, ReceivedBytes};
-use crate::table::State;
+use crate::table::{EndReason, State};
 use pcep_objects::Open;
 use sequence::Sequence;
 
@@ -21,6 +21,8 @@ pub struct Contents {
     pub unrecognized: Sequence<u64>,
     /// The peer's Open, once it came.
     pub peer: Option<Open>,
+    /// Why the session has ended; `None` while it goes on.
+    pub end: Option<EndReason>,
     /// The caller ended the session, and was not given its Down yet.
     pub down_pending: bool,
     /// Bytes to be sent that were not taken yet.

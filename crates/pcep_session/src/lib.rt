@@ -47,4 +47,4 @@ pub use contents::Contents;
 pub use fault::SessionFault;
 pub use laws::{calls_are_a_run, cut_any_way, own_open_is_a_message, turns_end, turns_run_out};
 pub use session::Session;
-pub use table::{Input, State};
+pub use table::{EndReason, Input, Notices, State};

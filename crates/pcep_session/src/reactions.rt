@@ -1,9 +1,9 @@
 //! How a session reacts to what comes, state by state.
 
 ghost use Rattle.std.specs.Prelude.{◌≡◌};
-ghost use Rattle.pcep_session.specs.Table.{goes_on, closes, error_about, error, in_open_wait, in_keep_wait, on_object, missing_value, on_fault, on_accepted, on_unrecognized, in_up, reaction, due, on_timer};
+ghost use Rattle.pcep_session.specs.Table.{goes_on, ends, closes, closed_by_peer, error_about, error, in_open_wait, in_keep_wait, on_object, missing_value, on_fault, on_accepted, on_unrecognized, in_up, reaction, due, on_timer};
 
-use crate::table::{Arrival, Input, Notices, Reaction, State, Timer};
+use crate::table::{Arrival, EndReason, Input, Notices, Reaction, State, Timer};
 use pcep_messages::{About, Message, MessageFault, Notice, PcError};
 use pcep_objects::{Capabilities, ObjectFault};
 
@@ -14,19 +14,34 @@ fn goes_on(state: State, notices: Notices) -> Reaction
     Reaction {
         notices,
         state,
+        end: None,
         input: Input::Handled,
     }
 }
 
-/// The session ends.
-fn closes(notices: Notices) -> Reaction
-    ensures { result ≡ closes notices }
+fn ends(notices: Notices, end: EndReason) -> Reaction
+    ensures { result ≡ ends notices end }
 {
     Reaction {
         notices,
         state: State::Closed,
+        end: Some(end),
         input: Input::Down,
     }
+}
+
+/// The session ends itself.
+fn closes(notices: Notices) -> Reaction
+    ensures { result ≡ closes notices }
+{
+    ends(notices, EndReason::Said(notices))
+}
+
+/// The peer ends the session.
+fn closed_by_peer(reason: u8) -> Reaction
+    ensures { result ≡ closed_by_peer reason }
+{
+    ends(Notices::Nothing, EndReason::PeerClose(reason))
 }
 
 fn error_about(about: About, kind: u8, value: u8) -> Notice
@@ -59,10 +74,11 @@ fn in_keep_wait(capabilities: Option<Capabilities>, arrival: Arrival) -> Reactio
         Arrival::Read(Message::Keepalive) => Reaction {
             notices: Notices::Nothing,
             state: State::Up,
+            end: None,
             input: Input::Up(capabilities),
         },
         Arrival::Read(Message::Error(_)) => closes(Notices::One(error(1, 6))),
-        Arrival::Read(Message::Close(_)) => closes(Notices::Nothing),
+        Arrival::Read(Message::Close(reason)) => closed_by_peer(reason),
         _ => closes(Notices::One(error(1, 1))),
     }
 }
@@ -117,11 +133,12 @@ fn on_accepted(message: Message) -> Reaction
     ensures { result ≡ on_accepted message }
 {
     match message {
-        Message::Close(_) => closes(Notices::Nothing),
+        Message::Close(reason) => closed_by_peer(reason),
         Message::Keepalive => goes_on(State::Up, Notices::Nothing),
         message => Reaction {
             notices: Notices::Nothing,
             state: State::Up,
+            end: None,
             input: Input::Message(message),
         },
     }

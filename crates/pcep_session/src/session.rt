@@ -9,9 +9,10 @@ ghost use Rattle.pcep_session.specs.declared.fault.SessionFault.TheVariants.{Out
 
 use crate::contents::Contents;
 use crate::fault::SessionFault;
-use crate::table::{Input, State};
+use crate::table::{EndReason, Input, State};
 use crate::{calls, timers, turns};
 use pcep_messages::{Message, PcError};
+use pcep_objects::Open;
 use std::alloc::Global;
 use std::marker::Model;
 
@@ -148,6 +149,20 @@ impl Session {
         ensures at_most { self.now.bytes ≡ [] → result ≤ 65536 }
     {
         self.contents.bytes.room()
+    }
+
+    /// The peer's Open, once it has come: its timers and capabilities (RFC 5440 section 7.3).
+    pub fn peer_open(&self) -> Option<Open>
+        ensures { result ≡ self.now.peer }
+    {
+        self.contents.peer
+    }
+
+    /// Why the session has ended; `None` while it goes on.
+    pub fn end_reason(&self) -> Option<EndReason>
+        ensures { result ≡ self.now.end }
+    {
+        self.contents.end
     }
 
     /// The state of the session.

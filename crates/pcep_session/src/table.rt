@@ -1,6 +1,6 @@
 //! The states of a session, what comes to it, and how it reacts.
 
-use pcep_messages::{Message, MessageFault, Notice};
+use pcep_messages::{Message, MessageFault, Notice, PcError};
 use pcep_objects::Capabilities;
 use sequence::PlainData;
 use std::alloc::AllocError;
@@ -85,11 +85,24 @@ pub enum Notices {
     Two(Notice, Notice),
 }
 
-/// How a session reacts to what comes: what it sends, the state that it goes to, and what its caller gets.
+/// Why a session has ended.
+#[derive(Clone, Copy, Debug, PartialEq, Eq)]
+pub enum EndReason {
+    /// The peer closed it, with this reason (RFC 5440 section 7.17).
+    PeerClose(u8),
+    /// It ended itself, because of what came or didn't come in time, and said this.
+    Said(Notices),
+    /// Its caller ended it, with this PCErr and a Close with this reason, each where it is given.
+    Caller(Option<PcError>, Option<u8>),
+}
+
+/// How a session reacts to what comes: what it sends, the state that it goes to, why it ends, where it does, and what its
+/// caller gets.
 #[derive(Debug, Drop)]
 pub struct Reaction {
     pub notices: Notices,
     pub state: State,
+    pub end: Option<EndReason>,
     pub input: Input,
 }
 

@@ -13,7 +13,7 @@ use crate::contents::Contents;
 use crate::fault::SessionFault;
 use crate::framing::{NextMessage, front_in};
 use crate::reactions::{due, on_timer, reaction};
-use crate::table::{Arrival, Input, Notices, Reaction, State, Timer};
+use crate::table::{Arrival, EndReason, Input, Notices, Reaction, State, Timer};
 use pcep_messages::put_notice;
 use pcep_objects::Open;
 use sequence::Sequence;
@@ -53,10 +53,11 @@ fn send_notices(alloc: Global, contents: &mut Contents, notices: Notices) -> Res
     Ok(())
 }
 
-fn go_to(contents: &mut Contents, state: State)
-    ensures { contents.new ≡ going_to state contents.old }
+fn go_to(contents: &mut Contents, state: State, end: Option<EndReason>)
+    ensures { contents.new ≡ going_to state end contents.old }
 {
     contents.state = state;
+    contents.end = end;
     if state.is_closed() {
         contents.bytes.clear();
     }
@@ -98,11 +99,12 @@ fn on_arrival(
     let Reaction {
         notices,
         state,
+        end,
         input,
     } = reaction(contents.state, capabilities, fifth, arrival);
     send_notices(alloc, contents, notices)?;
     receive(contents, size, moments, peer);
-    go_to(contents, state);
+    go_to(contents, state, end);
     Ok(input)
 }
 
@@ -151,10 +153,11 @@ fn expire(alloc: Global, contents: &mut Contents, timer: Timer) -> Result<Option
     let Reaction {
         notices,
         state,
+        end,
         input,
     } = on_timer(timer);
     send_notices(alloc, contents, notices)?;
-    go_to(contents, state);
+    go_to(contents, state, end);
     Ok(Some(input))
 }
 

@@ -1,19 +1,19 @@
 -- The lines of an operator, each of which names one event.
-use Rattle.std.specs.Prelude.{ℕ, List, [], ◌∷◌, Option, Some, None, option_map, option_and_then, codes, if◌then◌else◌}
+use Rattle.std.specs.Prelude.{ℕ, false, List, [], ◌∷◌, Option, Some, None, option_map, option_and_then, codes, if◌then◌else◌}
 use Rattle.std.specs.Str.{bytes_eq}
 use Rattle.step_core.specs.declared.event.Event.{Event}
-use Rattle.step_core.specs.declared.event.Event.TheVariants.{Expire, Return, Ask, Delete, Commit, Reload}
+use Rattle.step_core.specs.declared.event.Event.TheVariants.{Expire, Return, Ask, Delete, Commit, Refused, Reload}
 use Rattle.link_reload.specs.declared.entry.LinkReload.{LinkReload}
 use Rattle.te_base.specs.Values.{Values, checked_values}
 use Rattle.commit_core.specs.declared.ticket.Purpose.TheVariants.{Update, Initiate}
 use Rattle.lsp_base.specs.declared.lsp.Constraints.{Constraints}
-use Rattle.pcep_objects.specs.declared.object.MetricType.TheVariants.{Te}
+use Rattle.lsp_words.specs.declared.object.MetricType.TheVariants.{Te}
 use Rattle.pcep_word.specs.Address.{address_of}
 use Rattle.pcep_word.specs.Priority.{InForce, in_force}
 use Rattle.history_core.specs.declared.fault.Fault.TheVariants.{OutOfMemory, HistoryFull}
 use Rattle.script_lines.specs.declared.fault.CommandFault.{CommandFault}
 use Rattle.script_lines.specs.declared.fault.CommandFault.TheVariants.{BadLine, Store}
-use Rattle.script_lines.specs.Words.{cut_at_space, peer_in, plsp_in, long_number_in, priority_in, bandwidth_in, name_in, offer_in}
+use Rattle.script_lines.specs.Words.{cut_at_space, number_in, peer_in, plsp_in, long_number_in, priority_in, bandwidth_in, name_in, offer_in}
 
 infixl 10 ◌>>=◌
 abbrev pub ◌>>=◌ : {A B : Type 0} → Option A → (A → Option B) → Option B
@@ -65,6 +65,7 @@ plain_constraints source destination bandwidth priorities = record {
   bound = None;
   hop_bound = None;
   other_bounds = record { igp = None; te = None };
+  local_protection = false;
 }
 
 -- `FROM TO BW SETUP HOLD`
@@ -89,7 +90,15 @@ initiate_event line = do
   name ← name_in named.0
   Some (Ask peer (Initiate name constraints))
 
--- what a server's operator may ask for: `return PEER PLSP`, `update PEER PLSP`, `delete PEER PLSP` and
+-- `PEER SRP`: the peer's grant or deletion of this SRP-ID ends, as if the peer had refused it
+unfoldable pub drop_event : List ℕ → Option Event
+drop_event line = do
+  words ← cut_at_space line
+  peer ← peer_in words.0
+  srp ← number_in words.1
+  Some (Refused peer srp)
+
+-- what an operator may ask for, of a script and of a server: `return PEER PLSP`, `update PEER PLSP`, `delete PEER PLSP` and
 -- `initiate PEER NAME FROM TO BW SETUP HOLD`
 unfoldable pub operator_event_with : List ℕ → List ℕ → Option Event
 operator_event_with word rest =
@@ -98,6 +107,10 @@ operator_event_with word rest =
     else if bytes_eq word (codes "delete") then lsp_event (λ peer plsp. Delete peer plsp) (lsp_in rest)
     else if bytes_eq word (codes "initiate") then initiate_event rest
     else None
+
+-- what a server's operator may: also `drop PEER SRP`
+unfoldable pub server_event_with : List ℕ → List ℕ → Option Event
+server_event_with word rest = if bytes_eq word (codes "drop") then drop_event rest else operator_event_with word rest
 
 -- `IGP TE COLOUR RESERVABLE`, each in the range that a link text gives it
 unfoldable pub link_values_in : List ℕ → Option Values
@@ -136,7 +149,7 @@ event_with word rest =
 unfoldable pub operator_event_in : List ℕ → Option Event
 operator_event_in line = do
   words ← cut_at_space line
-  operator_event_with words.0 words.1
+  server_event_with words.0 words.1
 
 unfoldable pub event_in : List ℕ → Option Event
 event_in line = do

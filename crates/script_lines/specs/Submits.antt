@@ -4,7 +4,7 @@ use Rattle.pcep_messages.specs.declared.message.StateReport.{StateReport}
 use Rattle.step_core.specs.States.{is_up}
 use Rattle.history_core.specs.Histories.{Content, applied}
 use Rattle.history_core.specs.declared.fault.Fault.{Fault}
-use Rattle.pcep_objects.specs.declared.object.Capabilities.{Capabilities}
+use Rattle.lsp_words.specs.declared.object.Capabilities.{Capabilities}
 use Rattle.step_core.specs.declared.event.Event.{Event}
 use Rattle.step_core.specs.declared.event.Event.TheVariants as event
 use Rattle.step_core.specs.declared.event.Reply.{Reply}

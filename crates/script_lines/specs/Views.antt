@@ -2,13 +2,13 @@
 use Rattle.std.specs.Prelude.{ℕ, true, false, List, Option, Some, None, option_map, codes, if◌then◌else◌}
 use Rattle.std.specs.Str.{bytes_eq}
 use Rattle.pce_seen.specs.declared.ask.Ask.{Ask}
-use Rattle.pce_seen.specs.declared.ask.Ask.TheVariants.{Status, Better, Book, Link, LinkLine, Peers, Lsps, Lsp, Tickets, Steps, Path, Why, Without}
+use Rattle.pce_seen.specs.declared.ask.Ask.TheVariants.{Status, Better, Book, Grants, Link, LinkLine, Peers, Lsps, Lsp, Tickets, Steps, Path, Why, Without}
 use Rattle.pcep_word.specs.Address.{address_of}
 use Rattle.script_lines.specs.Commands.{◌>>=◌, lsp_in, priorities_in}
 use Rattle.script_lines.specs.Words.{bandwidth_in, cut_at_space, long_number_in, peer_in}
 use Rattle.script_lines.specs.declared.views.ViewLine.{ViewLine}
 
--- a line of one word: `status`, `links`, `peers`, `lsps`, `tickets` or `better`
+-- a line of one word: `status`, `links`, `peers`, `lsps`, `tickets`, `better` or `grants`
 unfoldable pub ask_alone : List ℕ → Option Ask
 ask_alone word =
     if bytes_eq word (codes "status") then Some Status
@@ -17,6 +17,7 @@ ask_alone word =
     else if bytes_eq word (codes "lsps") then Some (Lsps None 0)
     else if bytes_eq word (codes "tickets") then Some Tickets
     else if bytes_eq word (codes "better") then Some (Better None 0)
+    else if bytes_eq word (codes "grants") then Some (Grants None 0)
     else None
 
 -- `FROM TO BW SETUP HOLD`
@@ -32,7 +33,7 @@ path_ask line = do
   Some (Path from to bandwidth priorities)
 
 -- `lsps PEER`, `lsp PEER PLSP`, `link N`, `history N`, `path FROM TO BW SETUP HOLD`, `links N`, `why PEER PLSP`,
--- `better PEER` and `without N`
+-- `better PEER`, `without N` and `grants PEER`
 unfoldable pub ask_with : List ℕ → List ℕ → Option Ask
 ask_with word rest =
     if bytes_eq word (codes "lsps") then option_map (λ peer. Lsps (Some peer) 0) (peer_in rest)
@@ -44,6 +45,7 @@ ask_with word rest =
     else if bytes_eq word (codes "why") then option_map (λ lsp. Why lsp.0 lsp.1) (lsp_in rest)
     else if bytes_eq word (codes "better") then option_map (λ peer. Better (Some peer) 0) (peer_in rest)
     else if bytes_eq word (codes "without") then option_map (λ link. Without link) (long_number_in rest)
+    else if bytes_eq word (codes "grants") then option_map (λ peer. Grants (Some peer) 0) (peer_in rest)
     else None
 
 abbrev pub ask_of_words : List ℕ → Option (List ℕ × List ℕ) → Option Ask

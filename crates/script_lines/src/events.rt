@@ -3,11 +3,11 @@
 ghost use Rattle.std.specs.Prelude.{◌≡◌, Some, IfOk, IfErr, IsSome};
 ghost use Rattle.step_core.specs.declared.event.Event.TheVariants.{Return, Ask, Delete};
 ghost use Rattle.commit_core.specs.declared.ticket.Purpose.TheVariants.{Update};
-ghost use Rattle.script_lines.specs.Commands.{expire_event, lsp_in, lsp_event, commit_event, priorities_in, plain_constraints, constraints_in, initiate_event, link_values_in, link_reload_in, reload_event, operator_event_with, event_with, operator_event_in, event_in};
+ghost use Rattle.script_lines.specs.Commands.{expire_event, lsp_in, lsp_event, commit_event, priorities_in, plain_constraints, constraints_in, initiate_event, link_values_in, link_reload_in, reload_event, drop_event, operator_event_with, server_event_with, event_with, operator_event_in, event_in};
 
 use crate::words::{
-    bandwidth_in, cut_at_space, link_in, long_number_in, name_in, offer_in, peer_in, plsp_in,
-    priority_in,
+    bandwidth_in, cut_at_space, link_in, long_number_in, name_in, number_in, offer_in, peer_in,
+    plsp_in, priority_in,
 };
 use history_core::{Event, LinkReload, Purpose};
 use lsp_base::{Constraints, OtherBounds};
@@ -122,6 +122,7 @@ fn plain_constraints(
             igp: None,
             te: None,
         },
+        local_protection: false,
     }
 }
 
@@ -208,7 +209,18 @@ fn reload_event(alloc: Global, line: &str) -> Result<Option<Event>, AllocError>
     }))
 }
 
-/// The event that a server's operator may ask for, by a line's first word and its rest. Memory is asked for only for a
+/// A peer, and the SRP-ID of a request to it. The grant or the deletion that has it ends.
+#[tactic(auto, unfolding(crate::specs::Commands::drop_event))]
+fn drop_event(line: &str) -> Option<Event>
+    ensures { result ≡ drop_event line.now }
+{
+    let (peer, srp) = cut_at_space(line)?;
+    let peer = peer_in(peer)?;
+    let srp = number_in(srp)?;
+    Some(Event::Refused { peer, srp })
+}
+
+/// The event that an operator of a script or of a server may ask for, by a line's first word and its rest. Memory is asked for only for a
 /// line that names one.
 #[tactic(auto, unfolding(crate::specs::Commands::operator_event_with))]
 fn operator_event_with(alloc: Global, word: &str, rest: &str) -> Result<Option<Event>, AllocError>
@@ -221,6 +233,19 @@ fn operator_event_with(alloc: Global, word: &str, rest: &str) -> Result<Option<E
         "delete" => Ok(delete_event(rest)),
         "initiate" => initiate_event(alloc, rest),
         _ => Ok(None),
+    }
+}
+
+/// The event that a server's operator may ask for, by a line's first word and its rest. Memory is asked for only for a
+/// line that names one.
+#[tactic(auto, unfolding(crate::specs::Commands::server_event_with))]
+fn server_event_with(alloc: Global, word: &str, rest: &str) -> Result<Option<Event>, AllocError>
+    ensures event { IfOk result (λ event. event ≡ server_event_with word.now rest.now) }
+    ensures good { IfErr result (λ _. IsSome (server_event_with word.now rest.now)) }
+{
+    match word {
+        "drop" => Ok(drop_event(rest)),
+        _ => operator_event_with(alloc, word, rest),
     }
 }
 
@@ -247,7 +272,7 @@ pub fn operator_event_in(alloc: Global, line: &str) -> Result<Option<Event>, All
     ensures good { IfErr result (λ _. IsSome (operator_event_in line.now)) }
 {
     match cut_at_space(line) {
-        Some((word, rest)) => operator_event_with(alloc, word, rest),
+        Some((word, rest)) => server_event_with(alloc, word, rest),
         None => Ok(None),
     }
 }

@@ -1,6 +1,6 @@
 //! Lines that ask to see something. Nothing is done for them.
 ghost use Rattle.std.specs.Prelude.{◌≡◌, option_map, Some};
-ghost use Rattle.pce_seen.specs.declared.ask.Ask.TheVariants.{Better, Link, LinkLine, Lsp, Lsps, Steps, Why, Without};
+ghost use Rattle.pce_seen.specs.declared.ask.Ask.TheVariants.{Better, Grants, Link, LinkLine, Lsp, Lsps, Steps, Why, Without};
 ghost use Rattle.script_lines.specs.Commands.{lsp_in};
 ghost use Rattle.script_lines.specs.Views.{ask_alone, ask_in, ask_with, json_in, path_ask, view_line_in};
 ghost use Rattle.script_lines.specs.Words.{long_number_in, peer_in};
@@ -37,6 +37,10 @@ fn ask_alone(word: &str) -> Option<Ask>
             peer: None,
             from: 0,
         }),
+        "grants" => Some(Ask::Grants {
+            peer: None,
+            from: 0,
+        }),
         _ => None,
     }
 }
@@ -58,6 +62,18 @@ fn better_ask(rest: &str) -> Option<Ask>
 {
     match peer_in(rest) {
         Some(peer) => Some(Ask::Better {
+            peer: Some(peer),
+            from: 0,
+        }),
+        None => None,
+    }
+}
+
+fn grants_ask(rest: &str) -> Option<Ask>
+    ensures { result ≡ option_map (λ peer. Grants (Some peer) 0) (peer_in rest.now) }
+{
+    match peer_in(rest) {
+        Some(peer) => Some(Ask::Grants {
             peer: Some(peer),
             from: 0,
         }),
@@ -154,6 +170,7 @@ fn ask_with(word: &str, rest: &str) -> Option<Ask>
         "why" => why_ask(rest),
         "better" => better_ask(rest),
         "without" => without_ask(rest),
+        "grants" => grants_ask(rest),
         _ => None,
     }
 }

@@ -32,7 +32,7 @@ fn has_plus(word: &[u8]) -> bool
 }
 
 /// A decimal number below 2^32, with leading zeros or without.
-fn number_in(word: &str) -> Option<u32>
+pub(crate) fn number_in(word: &str) -> Option<u32>
     ensures { result ≡ number_in word.now }
 {
     if has_plus(word.as_bytes()) {

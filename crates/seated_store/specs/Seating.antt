@@ -1,38 +1,44 @@
 -- A seat of a shared database as a store: what calls on it do.
 use Rattle.std.specs.Prelude.{ℕ, ◌≡◌, ◌⊎◌, true, List, [], ◌∷◌, ◌++◌}
 use Rattle.std.specs.Borrow.{MutBor}
-use Rattle.history_core.specs.Histories.{Content, Replays, is_full}
+use mathlib.Core.List.{IsPrefix}
+use Rattle.te_base.specs.Ted.{Ted}
+use Rattle.history_core.specs.Histories.{is_full}
+use Rattle.history_seats.specs.Past.{database_at, with_seen}
 use Rattle.history_seats.specs.Receipts.{SeatContent, tidy}
-use Rattle.shared_pce.specs.Turns.{Received}
+use Rattle.shared_pce.specs.Turns.{Received, SeesMore, RolledUp}
+use Rattle.engine_core.specs.Deeds.{Deed, Called, Shown, calls_of}
 use Rattle.engine_core.specs.declared.store.Call.{Call}
 
--- each call is a step under the lock, of which the seat has the receipt
-abbrev pub Receives : SeatContent → List Call → SeatContent → Type 0
-Receives s [] t = t ≡ s
-Receives s (call ∷ calls) t = (mid : SeatContent) × Received s call.event mid call.reply × Receives mid calls t
+-- each call is a step under the lock, of which the seat has the receipt; then more may be seen; what is shown leaves the
+-- seat as it is
+abbrev pub Receives : Ted → SeatContent → List Deed → SeatContent → Type 0
+Receives text s [] t = SeesMore s t
+Receives text s (Shown sight ∷ deeds) t = Receives text s deeds t
+Receives text s (Called call ∷ deeds) t = (mid : SeatContent) × Received text s call.event mid call.reply × Receives text mid deeds t
 
 -- the lent seat received these calls, and they are added to the list
-pub record SeatedMoves (old : MutBor SeatContent) (listed : List Call) (made : List Call) (new : MutBor SeatContent) (list : List Call) : Type 0 where
+pub record SeatedMoves (text : Ted) (old : MutBor SeatContent) (listed : List Call) (made : List Deed) (new : MutBor SeatContent) (list : List Call) : Type 0 where
   pub same_loan : new.ghost_name ≡ old.ghost_name
-  pub received : Receives old.now made new.now
-  pub added : list ≡ listed ++ made
+  pub received : Receives text old.now made new.now
+  pub added : list ≡ listed ++ calls_of made
 
--- the history was rolled, and `steps` steps were taken before its base. The seat and the list stay as they were
-pub record SeatedRolls (old : MutBor SeatContent) (listed : List Call) (steps : ℕ) (new : MutBor SeatContent) (list : List Call) : Type 0 where
+-- The history was rolled, and `steps` steps were taken before its base. The seat has seen that, and else it and the list
+-- stay as they were
+pub record SeatedRolls (text : Ted) (old : MutBor SeatContent) (listed : List Call) (steps : ℕ) (new : MutBor SeatContent) (list : List Call) : Type 0 where
   pub same_loan : new.ghost_name ≡ old.ghost_name
-  pub same : new.now ≡ old.now
   pub same_calls : list ≡ listed
-  pub rolled : (d : Content) × Replays d × (steps ≡ d.rolled) × (d.history ≡ [])
+  pub rolled : RolledUp text old.now new.now steps
 
 -- a seat that keeps its receipts of rolled places no longer
-abbrev pub IsFolded : SeatContent → SeatContent → Type 0
-IsFolded old new = (d : Content) × Replays d × (new ≡ tidy d.rolled old)
+abbrev pub IsFolded : Ted → SeatContent → SeatContent → Type 0
+IsFolded text old new = IsPrefix old.seen new.seen × (new ≡ with_seen new.seen (tidy (database_at text new.seen).rolled old))
 
 -- the same loan of the same seat, which may keep its receipts of rolled places no longer
-pub record SameSeat (old new : MutBor SeatContent) : Type 0 where
+pub record SameSeat (text : Ted) (old new : MutBor SeatContent) : Type 0 where
   pub same_loan : new.ghost_name ≡ old.ghost_name
-  pub same : (new.now ≡ old.now) ⊎ IsFolded old.now new.now
+  pub same : (new.now ≡ old.now) ⊎ IsFolded text old.now new.now
 
--- the lock held a database whose history was full
-abbrev pub WasFull : Type 0
-WasFull = (d : Content) × Replays d × (is_full d ≡ true)
+-- the history that the seat has seen is full
+abbrev pub WasFull : Ted → MutBor SeatContent → Type 0
+WasFull text s = is_full (database_at text s.now.seen) ≡ true

@@ -3,7 +3,7 @@
 //! call of the list is that of its receipt (`specs/Seating.antt`).
 //!
 //! ```text
-//! fn answered<R: Wait, S: Ledger, G: Ledger, B: Room>(rt: &R, alloc: Global, shared: &Shared<S, G, B>, seat: &mut Seat<S, G, B>, client: &mut Client, piece: &[u8]) -> Result<Vec<u8>, Fault>
+//! fn answered<R: Wait, B: Brands>(rt: &R, alloc: Global, shared: &Shared<B>, seat: &mut Seat<B>, client: &mut Client, piece: &[u8]) -> Result<Vec<u8>, Fault>
 //! {
 //!     let mut store = Seated::new(rt, alloc, shared, seat);
 //!     serve(client, 1, piece, 0, &mut store)?;

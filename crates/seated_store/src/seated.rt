@@ -1,24 +1,28 @@
 //! A seat of a shared database as the store of a session.
 ghost use Rattle.std.specs.Prelude.{◌≡◌, [], true, IfOk};
-ghost use Rattle.history_core.specs.Histories.{Content, Replays};
 ghost use Rattle.step_core.specs.States.{is_queued};
 ghost use Rattle.te_snapshot.specs.Left.{all_left};
+ghost use Rattle.history_seats.specs.Past.{database_at};
+ghost use Rattle.seated_store.specs.Seating.{SeatedMoves};
 
 use engine_core::{Call, Desk, Store};
-use place_tokens::Room;
+use history_seats::{Brands, Receipt, receipt_bytes};
+use pcep_messages::Message;
+use pcep_objects::Open;
 use sequence::PlainData;
 use shared_pce::{Event, Fault, Seat, Shared, SharedEvent};
 use std::alloc::{AllocError, Global};
 use std::sync::Wait;
-use std::sync::ledger::Ledger;
 
 /// A seat of a shared database, with the calls that were made with it.
 #[derive(Drop)]
-pub struct Seated<'a, R: Wait, S: Ledger, G: Ledger, B: Room> {
+pub struct Seated<'a, R: Wait, B: Brands> {
     rt: &'a R,
-    shared: &'a Shared<S, G, B>,
-    seat: &'a mut Seat<S, G, B>,
+    shared: &'a Shared<B>,
+    seat: &'a mut Seat<B>,
     calls: Vec<Call>,
+    /// How many bytes the steps take of which the seat has receipts.
+    bytes: u64,
 }
 
 /// The event, to be kept twice: it stands in memory once.
@@ -35,14 +39,21 @@ fn shared_twice(alloc: Global, event: Event) -> Result<(SharedEvent, SharedEvent
     }
 }
 
-impl<'a, R: Wait, S: Ledger, G: Ledger, B: Room> Seated<'a, R, S, G, B> {
+/// Adds the bytes of the newest step to those before it. A seat that has no other receipt has dropped those.
+fn with_newest(before: u64, receipts: &[Receipt]) -> u64 {
+    let newest = receipts.len().saturating_sub(1);
+    let before = if newest == 0 { 0 } else { before };
+    before.saturating_add(receipt_bytes(&receipts[newest..]))
+}
+
+impl<'a, R: Wait, B: Brands> Seated<'a, R, B> {
     /// The seat, with no calls yet. Takes no memory.
     pub fn new(
         rt: &'a R,
         alloc: Global,
-        shared: &'a Shared<S, G, B>,
-        seat: &'a mut Seat<S, G, B>,
-    ) -> Seated<'a, R, S, G, B>
+        shared: &'a Shared<B>,
+        seat: &'a mut Seat<B>,
+    ) -> Seated<'a, R, B>
         ensures same_loan { result.seat.ghost_name ≡ seat.entry.ghost_name }
         ensures seat { result.seat.now ≡ seat.old }
         ensures calls { result.calls.items ≡ [] }
@@ -52,41 +63,45 @@ impl<'a, R: Wait, S: Ledger, G: Ledger, B: Room> Seated<'a, R, S, G, B> {
             shared,
             seat,
             calls: Vec::new(alloc),
+            bytes: 0,
         }
     }
 
-    /// Whether messages wait to be sent to the peer.
-    pub fn queued(&self, peer: u32) -> bool
-        ensures { (d : Content) × Replays d × (result ≡ is_queued d.state peer) }
+    /// Whether messages wait to be sent to the peer, in what the seat has then seen.
+    pub fn queued(&mut self, peer: u32) -> bool
+        ensures queued { result ≡ is_queued (database_at B.text self.new.seat.now.seen).state peer }
+        ensures same { SeatedMoves B.text self.old.seat self.old.calls.items [] self.new.seat self.new.calls.items }
     {
-        self.shared.queued(self.rt, peer)
+        self.shared.queued_at(self.rt, self.seat, peer)
     }
 
-    /// What is left of every link at each of the eight priorities, in bytes per second, by the number of the link.
-    pub fn left(&self) -> Result<Vec<[i64; 8]>, AllocError>
-        ensures { IfOk result (λ table. (d : Content) × Replays d × (table.items ≡ all_left d.state.te.links d.state.base.paths)) }
+    /// What is left of every link at each of the eight priorities, in bytes per second, by the number of the link, in what the
+    /// seat has then seen.
+    pub fn left(&mut self) -> Result<Vec<[i64; 8]>, AllocError>
+        ensures left { IfOk result (λ table. let d = database_at B.text self.new.seat.now.seen in table.items ≡ all_left d.state.te.links d.state.base.paths) }
+        ensures same { SeatedMoves B.text self.old.seat self.old.calls.items [] self.new.seat self.new.calls.items }
     {
-        self.shared.left(self.rt)
+        self.shared.left_at(self.rt, self.seat)
     }
 }
 
-impl<'a, R: Wait, S: Ledger, G: Ledger, B: Room> Store for Seated<'a, R, S, G, B> {
+impl<'a, R: Wait, B: Brands> Store for Seated<'a, R, B> {
     ghost use Rattle.seated_store.specs.Seating.{SeatedMoves, SeatedRolls, SameSeat, WasFull};
     ghost use Rattle.seated_store.specs.SeatingLaws.{moves_nowhere, moves_on};
 
     ghost calls = { λ s. s.calls.items };
 
-    ghost moves = { λ old made new. SeatedMoves old.seat old.calls.items made new.seat new.calls.items };
+    ghost moves = { λ old made new. SeatedMoves B.text old.seat old.calls.items made new.seat new.calls.items };
 
-    ghost same_but_calls = { λ old new. SameSeat old.seat new.seat };
+    ghost same_but_calls = { λ old new. SameSeat B.text old.seat new.seat };
 
-    ghost is_full = { λ s. WasFull };
+    ghost is_full = { λ s. WasFull B.text s.seat };
 
-    ghost rolls = { λ old steps new. SeatedRolls old.seat old.calls.items steps new.seat new.calls.items };
+    ghost rolls = { λ old steps new. SeatedRolls B.text old.seat old.calls.items steps new.seat new.calls.items };
 
-    ghost moves_nowhere = { λ s. moves_nowhere s.seat s.calls.items };
+    ghost moves_nowhere = { λ s. moves_nowhere B.text s.seat s.calls.items };
 
-    ghost moves_on = { λ a b c first second h k. moves_on a.seat b.seat c.seat a.calls.items b.calls.items c.calls.items first second h k };
+    ghost moves_on = { λ a b c first second h k. moves_on B.text a.seat b.seat c.seat a.calls.items b.calls.items c.calls.items first second h k };
 
     ghost moves_add = { λ a b made h. h.added };
 
@@ -97,6 +112,7 @@ impl<'a, R: Wait, S: Ledger, G: Ledger, B: Room> Store for Seated<'a, R, S, G, B
         match self.shared.submit_shared(self.rt, self.seat, kept) {
             Ok(reply) => {
                 self.calls.push_reserved(Call { event, reply });
+                self.bytes = with_newest(self.bytes, self.seat.receipts());
                 Ok(())
             }
             Err(fault) => {
@@ -106,14 +122,21 @@ impl<'a, R: Wait, S: Ledger, G: Ledger, B: Room> Store for Seated<'a, R, S, G, B
         }
     }
 
+    fn show_open(&mut self, _peer_open: Open) {}
+
+    fn show_message(&mut self, _message: &Message) {}
+
     fn calls(&self) -> &[Call] {
         self.calls.as_slice()
     }
 
     /// Empties the list. Where it is empty already, nothing was done since: then the seat keeps its receipts of rolled
-    /// places no longer.
+    /// places no longer. Once its steps take as much memory as those of one seat may, the history is rolled first.
     fn forget(&mut self) {
-        if self.calls.is_empty() && !self.seat.receipts().is_empty() {
+        if self.bytes >= self.shared.share_of_seat() {
+            self.bytes = 0;
+            self.shared.roll_and_fold(self.rt, self.seat);
+        } else if self.calls.is_empty() && !self.seat.receipts().is_empty() {
             self.shared.fold(self.rt, self.seat);
         }
         self.calls.clear();
@@ -124,25 +147,25 @@ impl<'a, R: Wait, S: Ledger, G: Ledger, B: Room> Store for Seated<'a, R, S, G, B
     }
 }
 
-impl<'a, R: Wait, S: Ledger, G: Ledger, B: Room> Desk for Seated<'a, R, S, G, B> {
+impl<'a, R: Wait, B: Brands> Desk for Seated<'a, R, B> {
     ghost use Rattle.std.specs.Prelude.{◌≡◌};
-    ghost use Rattle.history_core.specs.Histories.{Content, Replays};
+    ghost use Rattle.history_seats.specs.Past.{database_at};
     ghost use Rattle.step_core.specs.States.{is_queued};
     ghost use Rattle.te_snapshot.specs.Left.{all_left};
 
-    ghost queues = { λ _ peer waits. (d : Content) × Replays d × (waits ≡ is_queued d.state peer) };
+    ghost queues = { λ s peer waits. waits ≡ is_queued (database_at B.text s.seat.now.seen).state peer };
 
-    ghost is_left = { λ _ table. (d : Content) × Replays d × (table ≡ all_left d.state.te.links d.state.base.paths) };
+    ghost is_left = { λ s table. let d = database_at B.text s.seat.now.seen in table ≡ all_left d.state.te.links d.state.base.paths };
 
     fn roll_if_full(&mut self) -> Result<Option<u64>, AllocError> {
         self.shared.roll_if_full(self.rt, self.seat)
     }
 
-    fn queued(&self, peer: u32) -> bool {
+    fn queued(&mut self, peer: u32) -> bool {
         Seated::queued(self, peer)
     }
 
-    fn left(&self) -> Result<Vec<[i64; 8]>, AllocError> {
+    fn left(&mut self) -> Result<Vec<[i64; 8]>, AllocError> {
         Seated::left(self)
     }
 }

@@ -71,7 +71,11 @@ end_number end.SecondSession = 10
 end_number (end.Refused number) = 11
 end_number end.Unheard = 12
 
--- the place of a number among all that are counted; types and values of PCErr from 31 on share theirs
+-- the place of a type and value of PCErr among all of them; those from 31 on share theirs
+abbrev pub error_place : ℕ → ℕ → ℕ
+error_place kind value = 32 * min kind 31 + min value 31
+
+-- the place of a number among all that are counted
 abbrev pub place : Counted → ℕ
 place (counted.Step e r) = event_number e * 15 + reply_number r
 place (counted.Refusal number) = 195 + min number 24
@@ -80,4 +84,6 @@ place counted.Stranger = 221
 place (counted.Ended reason) = 222 + end_number reason
 place (counted.Received message) = 235 + message_number message
 place (counted.Sent message) = 246 + message_number message
-place (counted.ErrorSent kind value) = 257 + 32 * min kind 31 + min value 31
+place (counted.ErrorSent kind value) = 257 + error_place kind value
+place counted.NoAnswer = 1281
+place (counted.ErrorReceived kind value) = 1282 + error_place kind value

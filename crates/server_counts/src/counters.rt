@@ -6,7 +6,7 @@ use crate::histogram::Histogram;
 use crate::kinds::{Counted, place};
 
 /// How many numbers there are.
-const NUMBERS: usize = 1281;
+const NUMBERS: usize = 2306;
 
 /// How often each thing happened, and how long what took.
 #[derive(Clone, Copy)]

@@ -1,6 +1,6 @@
 //! What is counted.
 ghost use Rattle.std.specs.Prelude.{◌≡◌, ◌<◌, ◌+◌, ◌*◌};
-ghost use Rattle.server_counts.specs.Places.{end_number, event_number, message_number, place, reply_number};
+ghost use Rattle.server_counts.specs.Places.{end_number, error_place, event_number, message_number, place, reply_number};
 
 use pce_seen::EventKind;
 
@@ -90,6 +90,10 @@ pub enum Counted {
     Sent(MessageKind),
     /// A PCErr of this type and value was sent.
     ErrorSent(u8, u8),
+    /// A PCErr of this type and value came.
+    ErrorReceived(u8, u8),
+    /// A grant or a deletion was dropped because its router didn't answer in time.
+    NoAnswer,
 }
 
 fn event_number(event: EventKind) -> usize
@@ -184,10 +188,20 @@ fn step_place(event: EventKind, reply: ReplyKind) -> usize
     event_number(event) * 15 + reply_number(reply)
 }
 
+/// The place of a type and value of PCErr among all of them; those from 31 on share theirs.
+fn error_place(kind: u8, value: u8) -> usize
+    ensures number { result ≡ error_place kind value }
+    ensures few { result < 1024 }
+{
+    let kind = (kind as usize).min(31);
+    let value = (value as usize).min(31);
+    32 * kind + value
+}
+
 /// The place of a number among all that are counted.
 pub(crate) fn place(what: Counted) -> usize
     ensures place { result ≡ place what }
-    ensures few { result < 1281 }
+    ensures few { result < 2306 }
 {
     match what {
         Counted::Step(event, reply) => step_place(event, reply),
@@ -197,10 +211,8 @@ pub(crate) fn place(what: Counted) -> usize
         Counted::Ended(reason) => 222 + end_number(reason),
         Counted::Received(message) => 235 + message_number(message),
         Counted::Sent(message) => 246 + message_number(message),
-        Counted::ErrorSent(kind, value) => {
-            let kind = (kind as usize).min(31);
-            let value = (value as usize).min(31);
-            257 + 32 * kind + value
-        }
+        Counted::ErrorSent(kind, value) => 257 + error_place(kind, value),
+        Counted::NoAnswer => 1281,
+        Counted::ErrorReceived(kind, value) => 1282 + error_place(kind, value),
     }
 }

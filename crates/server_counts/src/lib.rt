@@ -3,6 +3,7 @@
 //!
 //! - `kinds`: what there is to count
 //! - `counters`: the table
+//! - `laws`: as many steps are counted as there were
 //! - `histogram`: times, by how long they were
 //! - `marks`: how many steps there were at which moments
 //! - `lefts`: what steps left of links
@@ -20,6 +21,7 @@
 mod counters;
 mod histogram;
 mod kinds;
+mod laws;
 mod lefts;
 mod marks;
 mod presences;
@@ -29,6 +31,7 @@ mod waits;
 pub use counters::{Counters, Timed};
 pub use histogram::{BOUNDS_US, Histogram};
 pub use kinds::{Counted, EndReason, MessageKind, ReplyKind};
+pub use laws::steps_are_counted;
 pub use lefts::{LeftRow, rows_of};
 pub use marks::{Mark, Marks, mark_before, mark_behind};
 pub use presences::{LastEnd, Presence, Presences, presence_in};

@@ -1,1 +1,13 @@
 mod Awaiting
+mod Downs
+mod Dues
+mod Listed
+mod PendingDues
+mod PendingTables
+mod Kept
+mod RetryTables
+mod RetryDues
+mod Watched
+mod Keyeds
+mod PathTables
+mod ErrorTables

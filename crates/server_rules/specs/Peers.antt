@@ -1,6 +1,8 @@
 -- When a router is forgotten, and which Down is still to be submitted, by all that happened.
-use Rattle.std.specs.Prelude.{◌≡◌, ℕ, ◌+◌, ◌-◌, max, Bool, true, false, nat_eq, nat_lt, nat_le, ◌&&◌, List, [], ◌∷◌, Option, Some, None, unwrap_or, if◌then◌else◌}
-use Rattle.indexmap.specs.IndexMap.{get}
+use Rattle.std.specs.Prelude.{◌≡◌, ◌==◌, ℕ, ◌+◌, ◌-◌, ◌≤◌, max, Bool, true, false, nat_eq, nat_lt, nat_le, ◌&&◌, ◌||◌, List, [], ◌∷◌, length, Option, Some, None, unwrap_or, if◌then◌else◌}
+use Rattle.std.specs.Option.{option_map_or}
+use Rattle.std.specs.List.{list_any}
+use Rattle.indexmap.specs.IndexMap.{get, index_of, move_index}
 use Rattle.server_rules.specs.declared.known.Happening.{Happening}
 use Rattle.server_rules.specs.declared.known.Happening.TheVariants as happening
 use Rattle.server_rules.specs.declared.known.Known.{Known}
@@ -8,6 +10,7 @@ use Rattle.server_rules.specs.declared.known.Owing.{Owing}
 use Rattle.server_rules.specs.declared.known.Owing.TheVariants.{Down, Expire}
 use Rattle.server_rules.specs.declared.expiry.Due.{Due}
 use Rattle.server_rules.specs.declared.expiry.Expiry.{Expiry}
+use Rattle.server_rules.specs.declared.expiry.Spare.{Spare}
 
 -- of a peer that never came
 abbrev pub nothing : Known
@@ -27,6 +30,8 @@ after happening.Owed k = if nat_eq k.up 0 then k else record k { up = k.up - 1; 
 after (happening.Submitted at_ms) k = if k.owes_a_down then record k { owes_a_down = false; last_down = Some (later at_ms k.last_down) } else k
 after happening.Gone k = record k { live = k.live - 1 }
 after happening.Forgotten k = record k { last_down = None }
+-- it was to be forgotten, and is up again or not known: nothing is to be forgotten before its next Down
+after happening.Kept k = record k { last_down = None }
 
 -- what is known of a peer from all that happened, the latest first
 abbrev pub known_from : List (ℕ × Happening) → ℕ → Known
@@ -43,6 +48,19 @@ is_kept_out now_ms keep_ms (Some at_ms) = nat_le at_ms now_ms && nat_le keep_ms 
 abbrev pub owing : ℕ → ℕ → Known → Option Owing
 owing now_ms keep_ms k =
     if k.owes_a_down then Some Down else if nat_eq k.up 0 && is_kept_out now_ms keep_ms k.last_down then Some Expire else None
+
+abbrev pub due_or : ℕ → Option Owing → Option Due → Option Due
+due_or peer None rest = rest
+due_or peer (Some what) rest = Some (record { peer = peer; what = what })
+
+-- what is due of the first entry of which anything is
+abbrev pub first_due : ℕ → ℕ → List (ℕ × Known) → Option Due
+first_due now_ms keep_ms [] = None
+first_due now_ms keep_ms (e ∷ es) = due_or e.0 (owing now_ms keep_ms e.1) (first_due now_ms keep_ms es)
+
+-- the entries with the peer's behind all others, where it has one
+abbrev pub put_last : Expiry → ℕ → List (ℕ × Known)
+put_last expiry peer = option_map_or (λ at. move_index expiry.peers.entries at (length expiry.peers.entries - 1)) (index_of nat_eq expiry.peers peer) expiry.peers.entries
 
 -- all but a connection that comes
 abbrev pub needs_no_room : Happening → Bool
@@ -73,3 +91,35 @@ Adds old new peer what = (past : List (ℕ × Happening)) → Knows old past →
 abbrev pub IsDue : List (ℕ × Happening) → ℕ → ℕ → Option Due → Type 0
 IsDue past now_ms keep_ms (Some due) = owing now_ms keep_ms (known_from past due.peer) ≡ Some due.what
 IsDue past now_ms keep_ms None = (peer : ℕ) → owing now_ms keep_ms (known_from past peer) ≡ None
+
+-- a peer is said to owe a Down where one does; where none is, none does
+abbrev pub IsOwed : List (ℕ × Happening) → Bool → Type 0
+IsOwed past true = (peer : ℕ) × ((known_from past peer).owes_a_down ≡ true)
+IsOwed past false = (peer : ℕ) → (known_from past peer).owes_a_down ≡ false
+
+abbrev pub is_among : List ℕ → ℕ → Bool
+is_among holders peer = list_any (λ h. h == peer) holders
+
+-- Since when a peer has been down that could make room for another one: no session of it is up, no Down of it is owed, and it
+-- isn't among the holders, the peers that hold an LSP.
+abbrev pub spare_since : List ℕ → ℕ → Known → Option ℕ
+spare_since holders peer k = if k.owes_a_down || nat_lt 0 k.up || is_among holders peer then None else k.last_down
+
+-- of the peers that could make room, none has been down longer; where none is given, there is none
+abbrev pub IsLongestDown : List (ℕ × Happening) → List ℕ → Option ℕ → Type 0
+IsLongestDown past holders (Some peer) =
+    (at_ms : ℕ) × (spare_since holders peer (known_from past peer) ≡ Some at_ms)
+    × ((other other_ms : ℕ) → spare_since holders other (known_from past other) ≡ Some other_ms → at_ms ≤ other_ms)
+IsLongestDown past holders None = (peer : ℕ) → spare_since holders peer (known_from past peer) ≡ None
+
+-- the one that has been down longer
+abbrev pub longer_down : Option Spare → Spare → Option Spare
+longer_down None other = Some other
+longer_down (Some first) other = if nat_le first.since_ms other.since_ms then Some first else Some other
+
+-- the same by what a table has of each peer
+abbrev pub IsFirstDown : Expiry → List ℕ → Option Spare → Type 0
+IsFirstDown expiry holders (Some first) =
+    (spare_since holders first.peer (known_in expiry first.peer) ≡ Some first.since_ms)
+    × ((other other_ms : ℕ) → spare_since holders other (known_in expiry other) ≡ Some other_ms → first.since_ms ≤ other_ms)
+IsFirstDown expiry holders None = (peer : ℕ) → spare_since holders peer (known_in expiry peer) ≡ None

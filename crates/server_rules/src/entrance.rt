@@ -6,6 +6,8 @@ ghost use Rattle.server_rules.specs.Places.{waiting_of, of_address, up_of, weigh
 /// A connection that has a place.
 #[derive(Clone, Copy, PartialEq, Eq, Debug)]
 pub struct Taken {
+    /// The slot of its seat, which no other connection has.
+    pub slot: usize,
     /// The address that it came from.
     pub address: u32,
     /// Its session is up.

@@ -1,10 +1,10 @@
 //! When a router is forgotten, and which Down is still to be submitted.
 ghost use Rattle.std.specs.Prelude.{◌≡◌, ℕ, List, [], ◌∷◌, Option, None, Some, IsTrue, OnOk, OnErr, ◌+◌, IfSome, IfNone};
-ghost use Rattle.server_rules.specs.Peers.{needs_no_room, Notes, IsSame, Adds, Knows, IsDue};
+ghost use Rattle.server_rules.specs.Peers.{needs_no_room, Notes, IsSame, Adds, Knows, IsDue, IsOwed, first_due, put_last, longer_down, IsFirstDown, IsLongestDown};
 ghost use Rattle.server_rules.specs.declared.known.Happening.{Happening};
-ghost use Rattle.server_rules.specs.declared.known.Happening.TheVariants.{Connected, Up, Down, Owed, Submitted, Gone, Forgotten};
+ghost use Rattle.server_rules.specs.declared.known.Happening.TheVariants.{Connected, Up, Down, Owed, Submitted, Gone, Forgotten, Kept};
 
-use crate::known::{Happening, Known, Owing, after, due_of, one_more};
+use crate::known::{Happening, Known, Owing, after, due_of, one_more, spare_since};
 use indexmap::IndexMap;
 use std::alloc::{AllocError, Global};
 
@@ -13,6 +13,23 @@ use std::alloc::{AllocError, Global};
 pub struct Due {
     pub peer: u32,
     pub what: Owing,
+}
+
+/// A peer that could make room for another one, and since when it has been down, in milliseconds.
+#[derive(Clone, Copy)]
+struct Spare {
+    peer: u32,
+    since_ms: u64,
+}
+
+/// The one that has been down longer.
+fn longer_down(first: Option<Spare>, other: Spare) -> Option<Spare>
+    ensures { result ≡ longer_down first other }
+{
+    match first {
+        Some(first) if first.since_ms <= other.since_ms => Some(first),
+        _ => Some(other),
+    }
 }
 
 /// One entry for each peer of which a connection lives, a Down is owed, or that is still to be forgotten.
@@ -83,9 +100,18 @@ impl Expiry {
         self.note(peer, Happening::Forgotten);
     }
 
-    fn note(&mut self, peer: u32, what: Happening)
+    /// The peer was due to be forgotten, and that was refused: it is up again, or isn't known.
+    pub fn kept(&mut self, peer: u32)
+        ensures { Adds self.old self.new peer Kept }
+    {
+        self.note(peer, Happening::Kept);
+    }
+
+    /// Notes what happened to a peer, but for a connection that comes.
+    pub fn note(&mut self, peer: u32, what: Happening)
         requires { IsTrue (needs_no_room what) }
-        ensures { Notes self.old self.new peer what }
+        ensures notes { Notes self.old self.new peer what }
+        ensures adds { Adds self.old self.new peer what }
     {
         let Some(known) = self.peers.get(&peer).copied() else {
             return;
@@ -100,7 +126,8 @@ impl Expiry {
 
     /// What is due of a peer at this moment, where peers are kept for this time after their last Down.
     pub fn due(&self, now_ms: u64, keep_ms: u64) -> Option<Due>
-        ensures { (past : List (ℕ × Happening)) → Knows self.now past → IsDue past now_ms keep_ms result }
+        ensures due { (past : List (ℕ × Happening)) → Knows self.now past → IsDue past now_ms keep_ms result }
+        ensures first { result ≡ first_due now_ms keep_ms self.now.peers.entries }
     {
         for at in 0..self.peers.len() {
             if let Some((peer, known)) = self.peers.get_index(at) {
@@ -114,7 +141,8 @@ impl Expiry {
 
     /// What is due of the peer couldn't be done: what is due of others comes first next time.
     pub fn put_off(&mut self, peer: u32)
-        ensures { IsSame self.old self.new }
+        ensures same { IsSame self.old self.new }
+        ensures last { self.new.peers.entries ≡ put_last self.old peer }
     {
         if let Some(at) = self.peers.get_index_of(&peer) {
             let last = self.peers.len() - 1;
@@ -123,7 +151,45 @@ impl Expiry {
     }
 
     /// Whether a peer's Down couldn't be submitted yet.
-    pub fn owes_a_down(&self) -> bool {
-        self.peers.values().any(|known| known.owes_a_down)
+    pub fn owes_a_down(&self) -> bool
+        ensures { (past : List (ℕ × Happening)) → Knows self.now past → IsOwed past result }
+    {
+        for at in 0..self.peers.len() {
+            if let Some((_peer, known)) = self.peers.get_index(at) {
+                if known.owes_a_down {
+                    return true;
+                }
+            }
+        }
+        false
+    }
+
+    /// The peer that makes room for one that isn't known, where no more may be: of those that are down and hold no LSP, the
+    /// one that has been down longest. The holders are the peers that hold one.
+    pub fn longest_down(&self, holders: &[u32]) -> Option<u32>
+        ensures { (past : List (ℕ × Happening)) → Knows self.now past → IsLongestDown past holders.now result }
+    {
+        Some(self.first_down(holders)?.peer)
+    }
+
+    /// The same, with the moment since when it has been down.
+    fn first_down(&self, holders: &[u32]) -> Option<Spare>
+        ensures { IsFirstDown self.now holders.now result }
+    {
+        let mut first = None;
+        for at in 0..self.peers.len() {
+            if let Some((peer, known)) = self.peers.get_index(at) {
+                if let Some(since_ms) = spare_since(*known, *peer, holders) {
+                    first = longer_down(
+                        first,
+                        Spare {
+                            peer: *peer,
+                            since_ms,
+                        },
+                    );
+                }
+            }
+        }
+        first
     }
 }

@@ -1,6 +1,6 @@
 //! What is known of one peer, and what each happening makes of it.
 ghost use Rattle.std.specs.Prelude.{◌≡◌, ◌+◌, ◌<◌, ◌^◌, IsTrue, IsNone, IfSome};
-ghost use Rattle.server_rules.specs.Peers.{needs_no_room, after, later, owing};
+ghost use Rattle.server_rules.specs.Peers.{needs_no_room, after, later, owing, is_among, spare_since};
 ghost use Rattle.server_rules.specs.declared.known.Happening.TheVariants.{Connected, Up, Down, Owed, Submitted};
 
 /// What happens to a peer.
@@ -20,6 +20,8 @@ pub enum Happening {
     Gone,
     /// It was forgotten.
     Forgotten,
+    /// It was due to be forgotten, and that was refused: it is up again, or isn't known.
+    Kept,
 }
 
 /// What is known of a peer.
@@ -151,7 +153,7 @@ pub(crate) fn after(what: Happening, known: Known) -> Known
             owes_a_down: known.owes_a_down,
             last_down: known.last_down,
         },
-        Happening::Forgotten => Known {
+        Happening::Forgotten | Happening::Kept => Known {
             live: known.live,
             up: known.up,
             owes_a_down: known.owes_a_down,
@@ -174,4 +176,21 @@ pub(crate) fn due_of(known: Known, now_ms: u64, keep_ms: u64) -> Option<Owing>
         Some(at_ms) if at_ms <= now_ms && now_ms - at_ms >= keep_ms => Some(Owing::Expire),
         _ => None,
     }
+}
+
+/// Whether the peer is one of these.
+fn is_among(holders: &[u32], peer: u32) -> bool
+    ensures { result ≡ is_among holders.now peer }
+{
+    holders.iter().any(|holder| *holder == peer)
+}
+
+/// Since when the peer has been down, if it could make room for another one. The holders are those that hold an LSP.
+pub(crate) fn spare_since(known: Known, peer: u32, holders: &[u32]) -> Option<u64>
+    ensures { result ≡ spare_since holders.now peer known }
+{
+    if known.owes_a_down || known.up > 0 || is_among(holders, peer) {
+        return None;
+    }
+    known.last_down
 }

@@ -4,8 +4,18 @@
 //!
 //! `Expiry` says which routers are due to be forgotten (the State Timeout of RFC 8231 section 5.6), and which Down is
 //! still to be submitted, from all that happened before (`specs/Peers`). `admit` says what becomes of a new
-//! connection (`specs/Places`). `LineRate` bounds the lines of one kind (`specs/Lines`). `Settling` says whether a
+//! connection (`specs/Places`), `PlaceTable` keeps who has a place (`specs/Placings`), and `who_goes` says which idle
+//! client makes room for another (`specs/Idles`). `LineRate` bounds the lines of one kind (`specs/Lines`). `Settling` says whether a
 //! server that has just started may grant paths (`specs/Settled`). `failed_accept` is a table (`specs/Failures`).
+//! `PendingTable` says which grants, and which deletions that are awaited, are to end though their routers don't settle
+//! them, and since when each is unanswered (`specs/Pendings`). `RetryTable` says which LSPs without a path are to be asked for again (`specs/Retries`), and
+//! `ReadPause` how long reading pauses for a router that reports LSPs as DOWN again and again (`specs/Pauses`). `PathWords` keeps
+//! what routers say of paths beyond what the state has (`specs/PathWords`), and `PeerErrors` the last error that a router sent for
+//! each LSP (`specs/PcErrs`).
+//! `Unrung` keeps whose connections a worker has yet to wake, and `SeatStates` which seats are free (`specs/Seats`).
+//! `WakerSlots` says which connections can be woken and were (`specs/Wakings`), `ConnectionNotes` is what a connection notes of its
+//! session (`specs/Notes`), `FaultsInARow` says when a worker gives up (`specs/Faults`), and `RunState` whether a run is to end and
+//! why (`specs/Runs`). `Orders` is what a run is given (`specs/Ranges`).
 //!
 //! ```
 //! let mut expiry = Expiry::new(alloc);
@@ -18,16 +28,52 @@
 //! ```
 #![tactic(auto)]
 
+mod connection_notes;
 mod entrance;
 mod expiry;
 mod failures;
+mod faults;
+mod idle;
 mod known;
 mod log_rate;
+mod orders;
+mod path_word;
+mod path_words;
+mod pausing;
+mod peer_errors;
+mod pending;
+mod pending_table;
+mod places;
+mod read_pause;
+mod retry;
+mod retry_table;
+mod run_state;
+mod seats;
 mod settling;
+mod unrung;
+mod waker_slots;
 
+pub use connection_notes::{ConnectionNotes, SessionHappening};
 pub use entrance::{Entrance, Taken, admit};
 pub use expiry::{Due, Expiry};
 pub use failures::{FailedAccept, failed_accept};
+pub use faults::{AfterFault, FaultsInARow, Turn};
+pub use idle::{PATIENCE_MS, who_goes};
 pub use known::{Happening, Known, Owing};
 pub use log_rate::{LINES, LineRate, WITHIN_MS};
+pub use orders::{AT_ONCE, Orders, Sessions};
+pub use path_word::{Operational, PathHappening, PathKey, PathWord, RsvpError, better_of};
+pub use path_words::PathWords;
+pub use pausing::PauseHappening;
+pub use peer_errors::{PcErr, PcErrHappening, PeerErrors};
+pub use pending::{Pending, PendingEnd, PendingHappening};
+pub use pending_table::{PendingDue, PendingTable};
+pub use places::{Admission, PlaceTable};
+pub use read_pause::ReadPause;
+pub use retry::{LspSight, RetryHappening, RouterLsp};
+pub use retry_table::{RETRIES_AT_ONCE, RetryTable};
+pub use run_state::{RunHappening, RunState};
+pub use seats::{SeatState, SeatStates};
 pub use settling::Settling;
+pub use unrung::Unrung;
+pub use waker_slots::{SlotHappening, SlotState, WakerSlots};

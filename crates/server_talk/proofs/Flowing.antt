@@ -2,13 +2,13 @@
 use Rattle.std.proofs.Common.{◌≡◌, ◌<◌, ℕ, ◌+◌, ◌-◌, Bool, true, false, List, [], ◌++◌, length, take, drop, Option, Some, None, sym, ◌∙◌, ap, subst, append_assoc, take-append-drop, length-append, arith}
 use Rattle.std.specs.Prelude.{◌==◌}
 use Rattle.std.proofs.lemmas.Bool.Decides.{nat_tests}
-use Rattle.std.proofs.lemmas.List.{append-nil, drop-drop, length-drop}
-use Rattle.std.proofs.Math.Seq.{take-add, take-append-add, take-append_seam, take-length}
+use Rattle.std.proofs.lemmas.List.{append-nil, drop-drop, length-drop, take-append-le}
+use Rattle.std.proofs.Math.Seq.{take-add, take-append-add, take-length}
 use Rattle.std.specs.Io.KnownBytes.{Appends, Keeps}
 use Rattle.history_core.specs.declared.fault.Fault.{Fault}
 use Rattle.server_talk.specs.declared.talk.Ended.{Ended}
 use Rattle.server_talk.specs.declared.talk.Ended.TheVariants.{PeerClosed, SessionEnded, ReadFault, WriteFault, StoreFault}
-use Rattle.server_talk.specs.Connections.{TakesSome, Takes, TakesPart, GoesOut}
+use Rattle.server_talk.specs.Connections.{TakesSome, TakesAll, TakesPart, GoesOut}
 
 pub appends_none : (a : Option (List ℕ)) → Appends a a []
 appends_none None = tt
@@ -86,29 +86,26 @@ rest_on bytes rest n k h =
 
 -- ---- bytes that are written part by part
 
--- a part behind one that was taken whole
-pub takes_behind : (r : Bool) (a b c : Option (List ℕ)) (x y : List ℕ) → Appends a b x → Takes r b c y → Takes r a c (x ++ y)
+-- a part after one that was taken whole
+pub takes_behind : (r : Bool) (a b c : Option (List ℕ)) (x y : List ℕ) → Appends a b x → TakesAll r b c y → TakesAll r a c (x ++ y)
 takes_behind true a b c x y h k = appends_on a b c x y h k
-takes_behind false a b c x y h k = some_behind a b c x y h k
+takes_behind false a b c x y h k = part_behind a b c x y h k
 
-front_of_both : (x y : List ℕ) (n : ℕ) → take (length (take n x)) (x ++ y) ≡ take n x
-front_of_both x y n =
-    ap (λ (all : List ℕ). take (length (take n x)) (all ++ y)) (sym (take-append-drop n x)) ∙ ap (λ (all : List ℕ). take (length (take n x)) all) (append_assoc (take n x) (drop n x) y) ∙ take-append_seam (take n x) (drop n x ++ y)
-
--- some of the first part, and nothing of the other
-pub some_of_both : (a b : Option (List ℕ)) (x y : List ℕ) → TakesSome a b x → TakesSome a b (x ++ y)
-some_of_both a b x y h = (length (take h.0 x), subst (λ (bytes : List ℕ). Appends a b bytes) (sym (front_of_both x y h.0)) h.1)
+-- a part of the first, and nothing of the other
+pub part_of_both : (a b : Option (List ℕ)) (x y : List ℕ) → TakesPart a b x → TakesPart a b (x ++ y)
+part_of_both a b x y h =
+    let few : h.0 < length x = h.1 in
+    let front : take h.0 (x ++ y) ≡ take h.0 x = take-append-le h.0 x y (omega (arith, few)) in (
+      h.0,
+      omega (arith, length-append x y, few),
+      subst (λ (bytes : List ℕ). Appends a b bytes) (sym front) h.2,
+    )
 
 -- the first of two parts was not taken whole, or was
-pub first_fails : (r : Bool) (a b : Option (List ℕ)) (x y : List ℕ) → r ≡ false → Takes r a b x → TakesSome a b (x ++ y)
-first_fails false a b x y is h = some_of_both a b x y h
+pub first_fails : (r : Bool) (a b : Option (List ℕ)) (x y : List ℕ) → r ≡ false → TakesAll r a b x → TakesPart a b (x ++ y)
+first_fails false a b x y is h = part_of_both a b x y h
 first_fails true a b x y is h = cc
 
-pub first_goes_out : (r second : Bool) (a b c : Option (List ℕ)) (x y : List ℕ) → r ≡ true → Takes r a b x → Takes second b c y → Takes second a c (x ++ y)
+pub first_goes_out : (r second : Bool) (a b c : Option (List ℕ)) (x y : List ℕ) → r ≡ true → TakesAll r a b x → TakesAll second b c y → TakesAll second a c (x ++ y)
 first_goes_out true second a b c x y is h k = takes_behind second a b c x y h k
 first_goes_out false second a b c x y is h k = cc
-
--- what was taken stays, whatever is given then
-pub takes_kept : (r : Bool) (a b c : Option (List ℕ)) (x : List ℕ) → Appends a b x → Keeps b c → Takes r a c x
-takes_kept true a b c x h k = appends_kept a b c x h k
-takes_kept false a b c x h k = all_are_some a c x (appends_kept a b c x h k)

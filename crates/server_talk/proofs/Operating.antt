@@ -1,5 +1,7 @@
 -- An operator, line by line.
-use Rattle.std.proofs.Common.{◌≡◌, ◌≢◌, inl, inr, ℕ, ◌+◌, ◌-◌, ◌^◌, ◌<◌, min, ℤ, Bool, true, false, List, [], ◌∷◌, ◌++◌, length, codes, string_bytes, Option, Some, None, IsSome, Result, Ok, Err, refl, sym, ◌∙◌, ap, subst, append_assoc, append-nil, take, drop, get_or, take-append-drop, drop-cons, add-one, arith}
+use Rattle.std.proofs.Common.{◌≡◌, ◌≢◌, ℕ, ◌+◌, ◌-◌, ◌^◌, ◌<◌, min, ℤ, Bool, true, false, List, [], ◌∷◌, ◌++◌, length, codes, string_bytes, Option, Some, None, IsSome, Result, Ok, Err, refl, sym, ◌∙◌, ap, subst, append_assoc, append-nil, take, drop, get_or, take-append-drop, drop-cons, add-one, arith}
+use Rattle.std.specs.Prelude.{◌==◌}
+use Rattle.std.proofs.lemmas.Bool.Decides.{nat_tests}
 use Rattle.std.proofs.lemmas.List.{length_push, take_more}
 use Rattle.std.proofs.lemmas.List.Elements.{All-nil, All-append, All-push}
 use Rattle.std.proofs.KnownBytes.{Consumes-trans}
@@ -12,37 +14,51 @@ use Rattle.step_core.specs.declared.event.Event.{Event}
 use Rattle.step_core.specs.declared.event.Event.TheVariants as event
 use Rattle.link_reload.specs.declared.entry.LinkReload.{LinkReload}
 use Rattle.engine_core.specs.Calls.{called}
-use Rattle.engine_core.specs.declared.store.Call.{Call}
+use Rattle.engine_core.specs.Deeds.{Deed}
 use Rattle.script_lines.specs.Answered.{Replied, NotTaken}
 use Rattle.script_lines.specs.Book.{table_text}
 use Rattle.script_lines.specs.declared.views.ViewLine.{ViewLine}
-use Rattle.script_lines.specs.Lines.{Cut, cut, lines_of}
+use Rattle.script_lines.specs.Lines.{Cut, cut}
 use Rattle.script_lines.specs.declared.fault.CommandFault.{CommandFault}
 use Rattle.script_lines.specs.declared.fault.CommandFault.TheVariants.{BadLine, Store}
-use Rattle.script_lines.proofs.Cutting.{break_cut, byte_cut, front_of, ended_lines, unended_lines}
+use Rattle.script_lines.proofs.Cutting.{break_cut, byte_cut, front_of}
 use Rattle.server_talk.specs.declared.commands.Answer.{Answer}
 use Rattle.server_talk.specs.declared.commands.Answer.TheVariants as answers
 use Rattle.server_talk.specs.declared.operator.OperatorEnd.{OperatorEnd}
-use Rattle.server_talk.specs.declared.operator.OperatorEnd.TheVariants.{InputEnded, EndAsked, RunEnding, ReadFault, WriteFault}
+use Rattle.server_talk.specs.declared.operator.OperatorEnd.TheVariants.{InputEnded, EndAsked, RunEnding, ReadFault, WriteFault, FlushFault}
 use Rattle.server_talk.specs.declared.pending.OpenLine.{OpenLine}
 use Rattle.server_talk.specs.declared.plan.PlanFault.{PlanFault}
 use Rattle.server_talk.specs.declared.requests.Request.{Request}
 use Rattle.server_talk.specs.declared.requests.Request.TheVariants.{Book, Check, End, Reload, Submit, View}
 use Rattle.server_talk.specs.Goings.{Goes}
 use Rattle.server_talk.specs.Goings.Goes.{Stays, Moves, Empties, Rolls}
-use Rattle.server_talk.specs.Listening.{said_of, Comes, Answered, Answers, AnswersLines, TakesLine, IsKept, SoFar, StopsAt, Stopped, HearsOn, Turns}
-use Rattle.server_talk.specs.Operators.{bad_line, unread_line, number_behind, AreOperators, IsAnswered, Listens, is_out, FailsAs, IsOver, Operated}
+use Rattle.server_talk.specs.Listening.{said_of, Comes, Answered, Answers, AnswersLines, TakesLine, IsKept, SoFar, StopsAt, Stopped, HandsOn, HearsOn, Turns}
+use Rattle.server_talk.specs.Operators.{bad_line, unread_line, number_behind, IsOperators, AreOperators, IsAnswered, Listens, is_out, FailsAs, IsOver, Operated}
 use Rattle.server_talk.specs.Operators.IsAnswered.{Obeyed, Shown, Reloaded, Unread, Checked, Viewed, Refused, Starved, StillFull}
 use Rattle.server_talk.specs.Operators.Listens.{Begins, Hears, Waits}
 use Rattle.server_talk.specs.Servers.{Server}
 use Rattle.server_talk.specs.ReloadChecks.{check_text}
 use Rattle.server_talk.specs.Requests.{asks_reading, asks_step, is_operators, request_of}
-use Rattle.server_talk.specs.Connections.{Takes}
+use Rattle.server_talk.specs.Connections.{TakesAll}
 use Rattle.server_talk.proofs.Flowing.{appends_none, takes_behind}
 use Rattle.server_talk.proofs.Requesting.{operators_alone}
 
-abbrev IsOperators : Call → Type 0
-IsOperators call = is_operators call.event ≡ true
+-- what is after the last line break has none
+abbrev HasNoBreak : List ℕ → Type 0
+HasNoBreak rest = cut rest ≡ ([], rest)
+
+rest_on : (t : Bool) (bytes : List ℕ) (b : ℕ) → (b == 10) ≡ t → HasNoBreak (cut bytes).1 → HasNoBreak (cut (bytes ++ b ∷ [])).1
+rest_on true bytes b e h = subst HasNoBreak (sym (ap (λ (c : Cut). c.1) (break_cut bytes b (grind (arith, nat_tests))))) refl
+rest_on false bytes b e h =
+    let other : b ≢ 10 = grind (arith, nat_tests) in
+    subst HasNoBreak (sym (ap (λ (c : Cut). c.1) (byte_cut bytes b other))) (byte_cut (cut bytes).1 b other ∙ ap (λ (c : Cut). (c.0, c.1 ++ b ∷ [])) h)
+
+rests : (more bytes : List ℕ) → HasNoBreak (cut bytes).1 → HasNoBreak (cut (bytes ++ more)).1
+rests [] bytes h = subst (λ (all : List ℕ). HasNoBreak (cut all).1) (sym (append-nil bytes)) h
+rests (b ∷ more) bytes h = subst (λ (all : List ℕ). HasNoBreak (cut all).1) (append_assoc bytes (b ∷ []) more) (rests more (bytes ++ b ∷ []) (rest_on (b == 10) bytes b refl h))
+
+rest_has_no_line : (bytes : List ℕ) → (cut (cut bytes).1).0 ≡ []
+rest_has_no_line bytes = ap (λ (c : Cut). c.0) (rests bytes [] refl)
 
 -- the next line has the next number
 next_number : (number : ℕ) (lines : List (List ℕ)) (line : List ℕ) → number ≡ number_behind lines → min (number + 1) (2 ^ 64 - 1) ≡ number_behind (lines ++ line ∷ [])
@@ -73,22 +89,24 @@ consumed_none a b c heard buffer count none h k =
 stops_at_more : (end : OperatorEnd) (rest more : List ℕ) → StopsAt end rest → StopsAt end (rest ++ more)
 stops_at_more EndAsked rest more h = (h.0, h.1, h.2 ++ more, ap (λ (all : List ℕ). all ++ more) h.3 ∙ append_assoc h.0 (10 ∷ h.2) more)
 stops_at_more WriteFault rest more h = tt
+stops_at_more FlushFault rest more h = tt
 stops_at_more InputEnded rest more h = absurd h
 stops_at_more RunEnding rest more h = absurd h
 stops_at_more ReadFault rest more h = absurd h
 
 cause_over : (end : OperatorEnd) (may_close : Type 0) (left : Option (List ℕ)) (rest : List ℕ) → StopsAt end rest → IsOver end may_close left rest
-cause_over EndAsked may_close left rest h = (h.0, h.1, inl (h.2, h.3))
+cause_over EndAsked may_close left rest h = h
 cause_over WriteFault may_close left rest h = tt
+cause_over FlushFault may_close left rest h = tt
 cause_over InputEnded may_close left rest h = absurd h
 cause_over RunEnding may_close left rest h = absurd h
 cause_over ReadFault may_close left rest h = absurd h
 
 module _ {S : Type 0} (server : Server S) where
-  abbrev Heard : S → List (List ℕ) → List Call → List ℕ → S → Type 0
+  abbrev Heard : S → List (List ℕ) → List Deed → List ℕ → S → Type 0
   Heard start lines calls said now = Listens server start lines calls said now
 
-  abbrev IsDone : ℕ → List ℕ → S → List Call → List ℕ → S → Type 0
+  abbrev IsDone : ℕ → List ℕ → S → List Deed → List ℕ → S → Type 0
   IsDone number line old made text new = IsAnswered server number line old made text new
 
   abbrev Came : Result Answer CommandFault → ℕ → List ℕ → S → S → Type 0
@@ -118,16 +136,16 @@ module _ {S : Type 0} (server : Server S) where
   abbrev Ends : S → Option (List ℕ) → Option (List ℕ) → OperatorEnd → Type 0 → S → Option (List ℕ) → Option (List ℕ) → Type 0
   Ends start unread blank end may_close now left written = Operated server start unread blank end may_close now left written
 
-  abbrev Goings : S → List Call → S → Type 0
+  abbrev Goings : S → List Deed → S → Type 0
   Goings start calls now = Goes server.ways start calls now
 
   -- ---- the calls of all lines
 
   -- a store that went on from where another way had come to
-  goes_behind : (start a b : S) (first more : List Call) → Goings start first a → Goings a more b → Goings start (first ++ more) b
-  goes_behind start a b first more went Stays = subst (λ (all : List Call). Goings start all a) (sym (append-nil first)) went
+  goes_behind : (start a b : S) (first more : List Deed) → Goings start first a → Goings a more b → Goings start (first ++ more) b
+  goes_behind start a b first more went Stays = subst (λ (all : List Deed). Goings start all a) (sym (append-nil first)) went
   goes_behind start a b first more went (Moves before made c d way h) =
-      subst (λ (all : List Call). Goings start all d) (append_assoc first before made) (Moves (first ++ before) made c d (goes_behind start a c first before went way) h)
+      subst (λ (all : List Deed). Goings start all d) (append_assoc first before made) (Moves (first ++ before) made c d (goes_behind start a c first before went way) h)
   goes_behind start a b first more went (Empties before c d way h) = Empties (first ++ before) c d (goes_behind start a c first before went way) h
   goes_behind start a b first more went (Rolls before steps c d way full h) = Rolls (first ++ before) steps c d (goes_behind start a c first before went way) full h
 
@@ -136,9 +154,9 @@ module _ {S : Type 0} (server : Server S) where
   rolled steps a b c h full k = Rolls [] steps b c (Moves [] [] a b Stays h) full k
 
   -- by a line's call the store goes on
-  answer_goes : (number : ℕ) (line : List ℕ) (a b : S) (made : List Call) (text : List ℕ) → IsDone number line a made text b → Goings a made b
+  answer_goes : (number : ℕ) (line : List ℕ) (a b : S) (made : List Deed) (text : List ℕ) → IsDone number line a made text b → Goings a made b
   answer_goes number line a b made text (Obeyed of reply new asks h) = Moves [] (called of reply ∷ []) a new Stays h
-  answer_goes number line a b made text (Shown table asks left) = Stays
+  answer_goes number line a b made text (Shown table new asks h left) = Moves [] [] a new Stays h
   answer_goes number line a b made text (Reloaded links reply new asks given h) = Moves [] (called (event.Reload links) reply ∷ []) a new Stays h
   answer_goes number line a b made text (Unread fault asks given) = Stays
   answer_goes number line a b made text (Checked links values left asks given has) = Stays
@@ -147,9 +165,9 @@ module _ {S : Type 0} (server : Server S) where
   answer_goes number line a b made text (Starved new asks h) = Moves [] [] a new Stays h
   answer_goes number line a b made text (StillFull steps c d new asks h full k m again) = Moves [] [] d new (rolled steps a c d h full k) m
 
-  answer_operators : (number : ℕ) (line : List ℕ) (a b : S) (made : List Call) (text : List ℕ) → IsDone number line a made text b → AreOperators made
+  answer_operators : (number : ℕ) (line : List ℕ) (a b : S) (made : List Deed) (text : List ℕ) → IsDone number line a made text b → AreOperators made
   answer_operators number line a b made text (Obeyed of reply new asks h) = All-push IsOperators [] (called of reply) (All-nil IsOperators) (operators_alone line of asks)
-  answer_operators number line a b made text (Shown table asks left) = All-nil IsOperators
+  answer_operators number line a b made text (Shown table new asks h left) = All-nil IsOperators
   answer_operators number line a b made text (Reloaded links reply new asks given h) = All-push IsOperators [] (called (event.Reload links) reply) (All-nil IsOperators) refl
   answer_operators number line a b made text (Unread fault asks given) = All-nil IsOperators
   answer_operators number line a b made text (Checked links values left asks given has) = All-nil IsOperators
@@ -159,15 +177,15 @@ module _ {S : Type 0} (server : Server S) where
   answer_operators number line a b made text (StillFull steps c d new asks h full k m again) = All-nil IsOperators
 
   -- by the calls of all lines the store goes on
-  pub listens_goes : (start now : S) (lines : List (List ℕ)) (calls : List Call) (said : List ℕ) → Heard start lines calls said now → Goings start calls now
+  pub listens_goes : (start now : S) (lines : List (List ℕ)) (calls : List Deed) (said : List ℕ) → Heard start lines calls said now → Goings start calls now
   listens_goes start now lines calls said Begins = Stays
   listens_goes start now lines calls said (Hears before first made answers text line a b h answer) =
       goes_behind start a b first made (listens_goes start a before first answers h) (answer_goes (number_behind before) line a b made text answer)
   listens_goes start now lines calls said (Waits before first answers a b h way) =
-      subst (λ (all : List Call). Goings start all b) (append-nil first) (goes_behind start a b first [] (listens_goes start a before first answers h) way)
+      subst (λ (all : List Deed). Goings start all b) (append-nil first) (goes_behind start a b first [] (listens_goes start a before first answers h) way)
 
   -- and each is an operator's event
-  pub listens_operators : (start now : S) (lines : List (List ℕ)) (calls : List Call) (said : List ℕ) → Heard start lines calls said now → AreOperators calls
+  pub listens_operators : (start now : S) (lines : List (List ℕ)) (calls : List Deed) (said : List ℕ) → Heard start lines calls said now → AreOperators calls
   listens_operators start now lines calls said Begins = All-nil IsOperators
   listens_operators start now lines calls said (Hears before first made answers text line a b h answer) =
       All-append IsOperators first made (listens_operators start a before first answers h) (answer_operators (number_behind before) line a b made text answer)
@@ -175,32 +193,32 @@ module _ {S : Type 0} (server : Server S) where
 
   -- ---- what a line comes to
 
-  pub came_reply : (number : ℕ) (line : List ℕ) (a b : S) (of : Event) (text : List ℕ) → request_of line ≡ Some (Submit of) → Replied server.ways.moves of text a b → (calls : List Call) × IsDone number line a calls (text ++ codes "\n") b
+  pub came_reply : (number : ℕ) (line : List ℕ) (a b : S) (of : Event) (text : List ℕ) → request_of line ≡ Some (Submit of) → Replied server.ways.moves of text a b → (calls : List Deed) × IsDone number line a calls (text ++ codes "\n") b
   came_reply number line a b of text asks h = (
     called of h.0 ∷ [],
     subst (λ (t : List ℕ). IsDone number line a (called of h.0 ∷ []) (t ++ codes "\n") b) (sym h.2) (Obeyed of h.0 b asks h.1),
   )
 
-  pub came_table : (number : ℕ) (line : List ℕ) (a : S) (text : List ℕ) (table : List (List ℤ)) → request_of line ≡ Some Book → server.is_left a table → text ≡ table_text 0 table → (calls : List Call) × IsDone number line a calls text a
-  came_table number line a text table asks left is = ([], subst (λ (t : List ℕ). IsDone number line a [] t a) (sym is) (Shown table asks left))
+  pub came_table : (number : ℕ) (line : List ℕ) (a b : S) (text : List ℕ) (table : List (List ℤ)) → request_of line ≡ Some Book → server.ways.moves a [] b → server.is_left b table → text ≡ table_text 0 table → (calls : List Deed) × IsDone number line a calls text b
+  came_table number line a b text table asks h left is = ([], subst (λ (t : List ℕ). IsDone number line a [] t b) (sym is) (Shown table b asks h left))
 
   pub came_check : (number : ℕ) (line : List ℕ) (a : S) (text : List ℕ) (links : List LinkReload) (values : List Values) (left : List (List ℤ)) → request_of line ≡ Some Check → server.reads (Ok links) → server.has_links values left → text ≡ check_text values left links
-      → (calls : List Call) × IsDone number line a calls text a
+      → (calls : List Deed) × IsDone number line a calls text a
   came_check number line a text links values left asks given has is = ([], subst (λ (t : List ℕ). IsDone number line a [] t a) (sym is) (Checked links values left asks given has))
 
-  pub came_view : (number : ℕ) (line : List ℕ) (a : S) (view : ViewLine) (text : List ℕ) → request_of line ≡ Some (View view) → server.shows view text → (calls : List Call) × IsDone number line a calls text a
+  pub came_view : (number : ℕ) (line : List ℕ) (a : S) (view : ViewLine) (text : List ℕ) → request_of line ≡ Some (View view) → server.shows view text → (calls : List Deed) × IsDone number line a calls text a
   came_view number line a view text asks h = ([], Viewed view text asks h)
 
   pub came_starved : (number : ℕ) (line : List ℕ) (a b : S) → IsSome (request_of line) → server.ways.moves a [] b → Came (Err (Store OutOfMemory)) number line a b
   came_starved number line a b asks h = ([], Starved b asks h)
 
-  pub came_reloaded : (number : ℕ) (line : List ℕ) (a b : S) (links : List LinkReload) (text : List ℕ) → request_of line ≡ Some Reload → server.reads (Ok links) → Replied server.ways.moves (event.Reload links) text a b → (calls : List Call) × IsDone number line a calls (text ++ codes "\n") b
+  pub came_reloaded : (number : ℕ) (line : List ℕ) (a b : S) (links : List LinkReload) (text : List ℕ) → request_of line ≡ Some Reload → server.reads (Ok links) → Replied server.ways.moves (event.Reload links) text a b → (calls : List Deed) × IsDone number line a calls (text ++ codes "\n") b
   came_reloaded number line a b links text asks given h = (
     called (event.Reload links) h.0 ∷ [],
     subst (λ (t : List ℕ). IsDone number line a (called (event.Reload links) h.0 ∷ []) (t ++ codes "\n") b) (sym h.2) (Reloaded links h.0 b asks given h.1),
   )
 
-  pub came_unread : (number : ℕ) (line : List ℕ) (a : S) (fault : PlanFault) → asks_reading (request_of line) ≡ true → server.reads (Err fault) → (calls : List Call) × IsDone number line a calls (unread_line fault) a
+  pub came_unread : (number : ℕ) (line : List ℕ) (a : S) (fault : PlanFault) → asks_reading (request_of line) ≡ true → server.reads (Err fault) → (calls : List Deed) × IsDone number line a calls (unread_line fault) a
   came_unread number line a fault asks given = ([], Unread fault asks given)
 
   pub came_fault : (fault : CommandFault) (number : ℕ) (line : List ℕ) (a b : S) → asks_step (request_of line) ≡ true → NotTaken server.ways.moves server.ways.is_full fault a b → Came (Err fault) number line a b
@@ -219,7 +237,7 @@ module _ {S : Type 0} (server : Server S) where
   waited start a b lines said went s = record { calls = s.calls; listens = Waits lines s.calls said a b s.listens went }
 
   -- one line more
-  heard_line : (start a b : S) (lines : List (List ℕ)) (said text line : List ℕ) (made : List Call) → IsDone (number_behind lines) line a made text b → Stands start lines said a → Stands start (lines ++ line ∷ []) (said ++ text) b
+  heard_line : (start a b : S) (lines : List (List ℕ)) (said text line : List ℕ) (made : List Deed) → IsDone (number_behind lines) line a made text b → Stands start lines said a → Stands start (lines ++ line ∷ []) (said ++ text) b
   heard_line start a b lines said text line made done s = record { calls = s.calls ++ made; listens = Hears lines s.calls made said text line a b s.listens done }
 
   -- it came to its answer at once
@@ -256,8 +274,8 @@ module _ {S : Type 0} (server : Server S) where
   -- ---- what is written
 
   -- the line was answered, and that was written
-  pub said_of_line : (r : Result Answer CommandFault) (goes_out : Bool) (start now : S) (lines : List (List ℕ)) (blank old new : Option (List ℕ)) (said line : List ℕ) → r ≢ Ok answers.End → Answering r start lines said line now → Takes true blank old said
-      → Takes goes_out old new (said_of (number_behind lines) r) → AnswersThem start (lines ++ line ∷ []) blank goes_out now new
+  pub said_of_line : (r : Result Answer CommandFault) (goes_out : Bool) (start now : S) (lines : List (List ℕ)) (blank old new : Option (List ℕ)) (said line : List ℕ) → r ≢ Ok answers.End → Answering r start lines said line now → TakesAll true blank old said
+      → TakesAll goes_out old new (said_of (number_behind lines) r) → AnswersThem start (lines ++ line ∷ []) blank goes_out now new
   said_of_line (Ok (answers.Reply text)) goes_out start now lines blank old new said line other a was out = record { said = said ++ said_of (number_behind lines) (Ok (answers.Reply text)); answered = a; out = takes_behind goes_out blank old new said (said_of (number_behind lines) (Ok (answers.Reply text))) was out }
   said_of_line (Ok (answers.Table text)) goes_out start now lines blank old new said line other a was out = record { said = said ++ said_of (number_behind lines) (Ok (answers.Table text)); answered = a; out = takes_behind goes_out blank old new said (said_of (number_behind lines) (Ok (answers.Table text))) was out }
   said_of_line (Ok (answers.Viewed text)) goes_out start now lines blank old new said line other a was out = record { said = said ++ said_of (number_behind lines) (Ok (answers.Viewed text)); answered = a; out = takes_behind goes_out blank old new said (said_of (number_behind lines) (Ok (answers.Viewed text))) was out }
@@ -267,7 +285,7 @@ module _ {S : Type 0} (server : Server S) where
   said_of_line (Err (Store fault)) goes_out start now lines blank old new said line other a was out = record { said = said ++ said_of (number_behind lines) (Err (Store fault)); answered = a; out = takes_behind goes_out blank old new said (said_of (number_behind lines) (Err (Store fault))) was out }
 
   -- the line asks for the end
-  pub end_of_line : (r : Result Answer CommandFault) (start now : S) (lines : List (List ℕ)) (blank old : Option (List ℕ)) (said line : List ℕ) → r ≡ Ok answers.End → Answering r start lines said line now → Takes true blank old said
+  pub end_of_line : (r : Result Answer CommandFault) (start now : S) (lines : List (List ℕ)) (blank old : Option (List ℕ)) (said line : List ℕ) → r ≡ Ok answers.End → Answering r start lines said line now → TakesAll true blank old said
       → (request_of line ≡ Some End) × AnswersThem start lines blank true now old
   end_of_line (Ok answers.End) start now lines blank old said line is a was = (a.0, record { said = said; answered = a.1; out = was })
   end_of_line (Ok (answers.Reply text)) start now lines blank old said line is a was = cc
@@ -288,10 +306,21 @@ module _ {S : Type 0} (server : Server S) where
 
   -- both of a line that was answered, and of one that asks for the end
   pub line_taken : (r : Result Answer CommandFault) (goes_out : Bool) (number : ℕ) (start now a b : S) (lines : List (List ℕ)) (blank old new : Option (List ℕ)) (line : List ℕ) → r ≢ Ok answers.End → number ≡ number_behind lines
-      → ((said : List ℕ) → Stands start lines said now → Answering r start lines said line a) → server.ways.same_but_calls a b → Takes goes_out old new (said_of number r) → AnswersThem start lines blank true now old → AnswersThem start (lines ++ line ∷ []) blank goes_out b new
+      → ((said : List ℕ) → Stands start lines said now → Answering r start lines said line a) → server.ways.same_but_calls a b → TakesAll goes_out old new (said_of number r) → AnswersThem start lines blank true now old → AnswersThem start (lines ++ line ∷ []) blank goes_out b new
   line_taken r goes_out number start now a b lines blank old new line other counted answer same out t =
       said_of_line r goes_out start b lines blank old new t.said line other (answer_emptied r start a b lines t.said line same (answer t.said t.answered)) t.out
-      (subst (λ (n : ℕ). Takes goes_out old new (said_of n r)) counted out)
+      (subst (λ (n : ℕ). TakesAll goes_out old new (said_of n r)) counted out)
+
+  -- whatever becomes of what is said
+  pub line_said : (r : Result Answer CommandFault) (end : Option OperatorEnd) (number : ℕ) (start now a b : S) (lines : List (List ℕ)) (blank old new : Option (List ℕ)) (line : List ℕ) → r ≢ Ok answers.End → number ≡ number_behind lines
+      → ((said : List ℕ) → Stands start lines said now → Answering r start lines said line a) → server.ways.same_but_calls a b → HandsOn end old new (said_of number r) → AnswersThem start lines blank true now old → Line end start lines blank line b new
+  line_said r None number start now a b lines blank old new line other counted answer same out t = line_taken r true number start now a b lines blank old new line other counted answer same out t
+  line_said r (Some WriteFault) number start now a b lines blank old new line other counted answer same out t = line_taken r false number start now a b lines blank old new line other counted answer same out t
+  line_said r (Some FlushFault) number start now a b lines blank old new line other counted answer same out t = line_taken r true number start now a b lines blank old new line other counted answer same out t
+  line_said r (Some InputEnded) number start now a b lines blank old new line other counted answer same out t = absurd out
+  line_said r (Some EndAsked) number start now a b lines blank old new line other counted answer same out t = absurd out
+  line_said r (Some RunEnding) number start now a b lines blank old new line other counted answer same out t = absurd out
+  line_said r (Some ReadFault) number start now a b lines blank old new line other counted answer same out t = absurd out
 
   pub end_taken : (r : Result Answer CommandFault) (start now a b : S) (lines : List (List ℕ)) (blank old : Option (List ℕ)) (line : List ℕ) → r ≡ Ok answers.End
       → ((said : List ℕ) → Stands start lines said now → Answering r start lines said line a) → server.ways.same_but_calls a b → AnswersThem start lines blank true now old → (request_of line ≡ Some End) × AnswersThem start lines blank true b old
@@ -360,6 +389,16 @@ module _ {S : Type 0} (server : Server S) where
         answers = subst (λ (c : Cut). AnswersThem start c.0 blank false now written) (sym more) t;
         cause = tt;
       }
+  break_stops FlushFault start now blank written heard byte ends t =
+      let more = break_cut heard byte ends in
+      record {
+        front = heard ++ byte ∷ [];
+        rest = [];
+        whole = sym (append-nil (heard ++ byte ∷ []));
+        ended = ap (λ (c : Cut). c.1) more;
+        answers = subst (λ (c : Cut). AnswersThem start c.0 blank true now written) (sym more) t;
+        cause = tt;
+      }
   break_stops InputEnded start now blank written heard byte ends t = absurd t
   break_stops RunEnding start now blank written heard byte ends t = absurd t
   break_stops ReadFault start now blank written heard byte ends t = absurd t
@@ -385,42 +424,49 @@ module _ {S : Type 0} (server : Server S) where
     calls = s.answers.answered.calls;
     said = s.answers.said;
     read = subst (λ (all : List ℕ). Consumes unread left all) s.whole read;
-    whole = inl s.ended;
-    listens = subst (λ (lines : List (List ℕ)). Heard start lines s.answers.answered.calls s.answers.said now) (sym (ended_lines s.front s.ended)) s.answers.answered.listens;
+    whole = s.ended;
+    listens = s.answers.answered.listens;
     out = s.answers.out;
     over = cause_over end may_close left s.rest s.cause;
   }
 
-  -- what is behind the last line break is left, and more that was read
-  pub left_there : (end : OperatorEnd) (start now : S) (unread blank left written : Option (List ℕ)) (may_close : Type 0) (heard more : List ℕ) (pending : OpenLine) → is_out end ≡ true → Consumes unread left (heard ++ more) → ((rest : List ℕ) → IsOver end may_close left rest)
+  -- what is after the last line break is left, and more that was read
+  pub left_there : (end : OperatorEnd) (start now : S) (unread blank left written : Option (List ℕ)) (may_close : Type 0) (heard more : List ℕ) (pending : OpenLine) → is_out end ≡ true → Consumes unread left (heard ++ more) → IsOver end may_close left ((cut heard).1 ++ more)
       → Keeps start blank heard pending now written → Ends start unread blank end may_close now left written
   left_there end start now unread blank left written may_close heard more pending out read over s =
       let f = front_of heard in
-      let ended : (cut f.front).1 ≡ [] = ap (λ (c : Cut). c.1) f.ended in
-      let lines : (cut heard).0 ≡ lines_of f.front = sym (ended_lines f.front ended ∙ ap (λ (c : Cut). c.0) f.ended) in
+      let lines : (cut heard).0 ≡ (cut f.front).0 = sym (ap (λ (c : Cut). c.0) f.ended) in
       record {
         front = f.front;
         rest = (cut heard).1 ++ more;
         calls = s.answers.answered.calls;
         said = s.answers.said;
         read = subst (λ (all : List ℕ). Consumes unread left all) (ap (λ (all : List ℕ). all ++ more) f.whole ∙ append_assoc f.front (cut heard).1 more) read;
-        whole = inl ended;
+        whole = ap (λ (c : Cut). c.1) f.ended;
         listens = subst (λ (lines : List (List ℕ)). Heard start lines s.answers.answered.calls s.answers.said now) lines s.answers.answered.listens;
-        out = subst (λ (goes_out : Bool). Takes goes_out blank written s.answers.said) (sym out) s.answers.out;
-        over = over ((cut heard).1 ++ more);
+        out = subst (λ (goes_out : Bool). TakesAll goes_out blank written s.answers.said) (sym out) s.answers.out;
+        over = over;
       }
+
+  -- the reader has no more
+  pub input_ended : (start now : S) (unread blank left written : Option (List ℕ)) (may_close : Type 0) (heard : List ℕ) (pending : OpenLine) → Consumes unread left heard → IsAtEnd left → Keeps start blank heard pending now written
+      → Ends start unread blank InputEnded may_close now left written
+  input_ended start now unread blank left written may_close heard pending read at_end s =
+      left_there InputEnded start now unread blank left written may_close heard [] pending refl (subst (λ (all : List ℕ). Consumes unread left all) (sym (append-nil heard)) read)
+      (at_end, subst (λ (rest : List ℕ). (cut rest).0 ≡ []) (sym (append-nil (cut heard).1)) (rest_has_no_line heard)) s
 
   -- a read failed
   pub failed : (r : Option OperatorEnd) (kind : ErrorKind) (start now : S) (unread blank left written : Option (List ℕ)) (may_close : Type 0) (heard : List ℕ) (pending : OpenLine) → FailsAs r kind may_close → Consumes unread left heard
       → Keeps start blank heard pending now written → Turns server r start unread blank may_close pending now left written
   failed None kind start now unread blank left written may_close heard pending why read s = (heard, read, s)
   failed (Some ReadFault) kind start now unread blank left written may_close heard pending why read s =
-      left_there ReadFault start now unread blank left written may_close heard [] pending refl (subst (λ (all : List ℕ). Consumes unread left all) (sym (append-nil heard)) read) (λ rest. tt) s
+      left_there ReadFault start now unread blank left written may_close heard [] pending refl (subst (λ (all : List ℕ). Consumes unread left all) (sym (append-nil heard)) read) tt s
   failed (Some RunEnding) kind start now unread blank left written may_close heard pending why read s =
-      left_there RunEnding start now unread blank left written may_close heard [] pending refl (subst (λ (all : List ℕ). Consumes unread left all) (sym (append-nil heard)) read) (λ rest. why) s
+      left_there RunEnding start now unread blank left written may_close heard [] pending refl (subst (λ (all : List ℕ). Consumes unread left all) (sym (append-nil heard)) read) why s
   failed (Some InputEnded) kind start now unread blank left written may_close heard pending why read s = absurd why
   failed (Some EndAsked) kind start now unread blank left written may_close heard pending why read s = absurd why
   failed (Some WriteFault) kind start now unread blank left written may_close heard pending why read s = absurd why
+  failed (Some FlushFault) kind start now unread blank left written may_close heard pending why read s = absurd why
 
   -- bytes were taken up to the end, or all of them
   pub taken : (r : Option OperatorEnd) (start now : S) (unread blank left written : Option (List ℕ)) (may_close : Type 0) (heard : List ℕ) (pending : OpenLine) → Consumes unread left heard → Hearing r start blank heard pending now written
@@ -428,57 +474,7 @@ module _ {S : Type 0} (server : Server S) where
   taken None start now unread blank left written may_close heard pending read s = (heard, read, s)
   taken (Some end) start now unread blank left written may_close heard pending read s = stopped end start now unread blank left written may_close heard read s
 
-  -- all lines of what the reader gave are answered
-  all_lines : (end : OperatorEnd) (start now : S) (unread blank left written : Option (List ℕ)) (may_close : Type 0) (heard : List ℕ) → Consumes unread left heard → IsAtEnd left → IsOver end may_close left [] → AnswersThem start (lines_of heard) blank (is_out end) now written
-      → Ends start unread blank end may_close now left written
-  all_lines end start now unread blank left written may_close heard read at_end over t = record {
-    front = heard;
-    rest = [];
-    calls = t.answered.calls;
-    said = t.said;
-    read = subst (λ (all : List ℕ). Consumes unread left all) (sym (append-nil heard)) read;
-    whole = inr (at_end, refl);
-    listens = t.answered.listens;
-    out = t.out;
-    over = over;
-  }
-
-  -- no line is left behind the last line break
-  pub none_left : (start now : S) (unread blank left written : Option (List ℕ)) (may_close : Type 0) (heard : List ℕ) (pending : OpenLine) → Consumes unread left heard → IsAtEnd left → (cut heard).1 ≡ [] → Keeps start blank heard pending now written
-      → Ends start unread blank InputEnded may_close now left written
-  none_left start now unread blank left written may_close heard pending read at_end none s =
-      all_lines InputEnded start now unread blank left written may_close heard read at_end (at_end, refl) (subst (λ (lines : List (List ℕ)). AnswersThem start lines blank true now written) (sym (ended_lines heard none)) s.answers)
-
-  -- or it is answered too
-  pub last_answered : (start now : S) (unread blank left written : Option (List ℕ)) (may_close : Type 0) (heard : List ℕ) → Consumes unread left heard → IsAtEnd left → (cut heard).1 ≢ [] → Line None start (cut heard).0 blank (cut heard).1 now written
-      → Ends start unread blank InputEnded may_close now left written
-  last_answered start now unread blank left written may_close heard read at_end some t =
-      all_lines InputEnded start now unread blank left written may_close heard read at_end (at_end, refl) (subst (λ (lines : List (List ℕ)). AnswersThem start lines blank true now written) (sym (unended_lines heard some)) t)
-
-  pub last_stops : (end : OperatorEnd) (start now : S) (unread blank left written : Option (List ℕ)) (may_close : Type 0) (heard : List ℕ) → Consumes unread left heard → IsAtEnd left → (cut heard).1 ≢ [] → Line (Some end) start (cut heard).0 blank (cut heard).1 now written
-      → Ends start unread blank end may_close now left written
-  last_stops EndAsked start now unread blank left written may_close heard read at_end some t =
-      let f = front_of heard in
-      let ended : (cut f.front).1 ≡ [] = ap (λ (c : Cut). c.1) f.ended in
-      let lines : (cut heard).0 ≡ lines_of f.front = sym (ended_lines f.front ended ∙ ap (λ (c : Cut). c.0) f.ended) in
-      record {
-        front = f.front;
-        rest = (cut heard).1;
-        calls = t.1.answered.calls;
-        said = t.1.said;
-        read = subst (λ (all : List ℕ). Consumes unread left all) f.whole read;
-        whole = inl ended;
-        listens = subst (λ (lines : List (List ℕ)). Heard start lines t.1.answered.calls t.1.said now) lines t.1.answered.listens;
-        out = t.1.out;
-        over = ((cut heard).1, t.0, inr (at_end, refl));
-      }
-  last_stops WriteFault start now unread blank left written may_close heard read at_end some t =
-      all_lines WriteFault start now unread blank left written may_close heard read at_end tt (subst (λ (lines : List (List ℕ)). AnswersThem start lines blank false now written) (sym (unended_lines heard some)) t)
-  last_stops InputEnded start now unread blank left written may_close heard read at_end some t = absurd t
-  last_stops RunEnding start now unread blank left written may_close heard read at_end some t = absurd t
-  last_stops ReadFault start now unread blank left written may_close heard read at_end some t = absurd t
-
   -- the calls of an operator that ended
-  pub calls_of : (start now : S) (unread blank left written : Option (List ℕ)) (end : OperatorEnd) (may_close : Type 0) → Ends start unread blank end may_close now left written → (calls : List Call) × AreOperators calls × Goings start calls now
+  pub calls_of : (start now : S) (unread blank left written : Option (List ℕ)) (end : OperatorEnd) (may_close : Type 0) → Ends start unread blank end may_close now left written → (calls : List Deed) × AreOperators calls × Goings start calls now
   calls_of start now unread blank left written end may_close o =
-      (o.calls, listens_operators start now (lines_of o.front) o.calls o.said o.listens, listens_goes start now (lines_of o.front) o.calls o.said o.listens)
+      (o.calls, listens_operators start now (cut o.front).0 o.calls o.said o.listens, listens_goes start now (cut o.front).0 o.calls o.said o.listens)

@@ -3,12 +3,12 @@ use Rattle.std.proofs.Common.{◌≡◌, ℕ, Bool, true, false, List, Option, S
 use Rattle.std.proofs.lemmas.Bool.Decides.{nat_tests}
 use Rattle.std.specs.Str.{bytes_eq, is_utf8}
 use Rattle.step_core.specs.declared.event.Event.{Event}
-use Rattle.step_core.specs.declared.event.Event.TheVariants.{Ask, Return, Delete}
+use Rattle.step_core.specs.declared.event.Event.TheVariants.{Ask, Return, Delete, Refused}
 use Rattle.commit_core.specs.declared.ticket.Purpose.TheVariants.{Update, Initiate}
-use Rattle.script_lines.specs.Commands.{constraints_in, lsp_in, lsp_event, initiate_event, operator_event_with, operator_event_in}
+use Rattle.script_lines.specs.Commands.{constraints_in, lsp_in, lsp_event, initiate_event, drop_event, operator_event_with, server_event_with, operator_event_in}
 use Rattle.script_lines.specs.Views.{view_line_in}
 use Rattle.script_lines.specs.declared.views.ViewLine.{ViewLine}
-use Rattle.script_lines.specs.Words.{cut_at_space, peer_in, name_in}
+use Rattle.script_lines.specs.Words.{cut_at_space, number_in, peer_in, name_in}
 use Rattle.server_talk.specs.declared.requests.Request.{Request}
 use Rattle.server_talk.specs.declared.requests.Request.TheVariants.{Submit}
 use Rattle.server_talk.specs.Listening.{AreKept, Asks as AnswersLines}
@@ -53,9 +53,20 @@ fits_word word rest =
     (fits_either (bytes_eq word (codes "delete")) _ _ (fits_lsp (λ peer plsp. Delete peer plsp) (lsp_in rest) (λ peer plsp. refl))
     (fits_either (bytes_eq word (codes "initiate")) _ _ (fits_initiate rest) fits_none)))
 
+fits_drop : (rest : List ℕ) → Fits (drop_event rest)
+unfolding drop_event
+fits_drop rest =
+    fits_then (cut_at_space rest) _ (λ words.
+    fits_then (peer_in words.0) _ (λ peer.
+    fits_then (number_in words.1) _ (λ srp. fits_some (Refused peer srp) refl)))
+
+fits_server : (word rest : List ℕ) → Fits (server_event_with word rest)
+unfolding server_event_with
+fits_server word rest = fits_either (bytes_eq word (codes "drop")) _ _ (fits_drop rest) (fits_word word rest)
+
 fits_line : (line : List ℕ) → Fits (operator_event_in line)
 unfolding operator_event_in
-fits_line line = fits_then (cut_at_space line) _ (λ words. fits_word words.0 words.1)
+fits_line line = fits_then (cut_at_space line) _ (λ words. fits_server words.0 words.1)
 
 -- the same of what a line asks for
 abbrev Asks : Option Request → Type 0

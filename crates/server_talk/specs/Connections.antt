@@ -7,11 +7,12 @@ use Rattle.step_core.specs.declared.event.Event.TheVariants.{Down}
 use Rattle.step_core.specs.declared.event.Reply.{Reply}
 use Rattle.history_core.specs.declared.fault.Fault.{Fault}
 use Rattle.engine_core.specs.Calls.{called}
+use Rattle.engine_core.specs.Deeds.{Deed, calls_of}
 use Rattle.engine_core.specs.Engine.{new_client, client_with, ending, served}
 use Rattle.engine_core.specs.Joining.{joined_after}
 use Rattle.engine_core.specs.Plans.{Plan, Returns, Reaches, LeadsTo}
 use Rattle.engine_core.specs.declared.client.Client.{Client}
-use Rattle.engine_core.specs.declared.store.Call.{Call}
+use Rattle.server_talk.specs.declared.talk.Departure.{Departure}
 use Rattle.server_talk.specs.declared.talk.Ended.{Ended}
 use Rattle.server_talk.specs.declared.talk.Ended.TheVariants.{PeerClosed, SessionEnded, ReadFault, WriteFault, StoreFault}
 use Rattle.server_talk.specs.Goings.{Goes, Ways}
@@ -27,24 +28,24 @@ spoken c = client_with (output_taken c.session) c
 abbrev pub IsUnexplained : Option ℕ → Type 0
 IsUnexplained reason = (reason ≡ Some 1) ⊎ (reason ≡ None)
 
--- A session of a peer so far: the bytes that it heard, the calls that it led to, the bytes that it said, and what it has
+-- A session of a peer so far: the bytes that it heard, the deeds that it led to, the bytes that it said, and what it has
 -- come to, with the moment at which it was served last. Of the watch it is known which moments it shows, and whether the
 -- run may be asked to end.
-pub data Talks (watch : WatchNow) (peer : ℕ) : List ℕ → List Call → List ℕ → ℕ → Client → Type 0 where
+pub data Talks (watch : WatchNow) (peer : ℕ) : List ℕ → List Deed → List ℕ → ℕ → Client → Type 0 where
   -- it begins at a moment that the watch shows
   Begins : (now_ms : ℕ) → watch.may_show now_ms → Talks watch peer [] [] [] now_ms (new_client now_ms)
   -- it is served with bytes, as the engine's table says, at a moment that the watch shows and that isn't before the last
-  Serves : (heard said piece : List ℕ) (before made : List Call) (at_ms now_ms : ℕ) (c d : Client) → watch.may_show now_ms → at_ms ≤ now_ms
+  Serves : (heard said piece : List ℕ) (before made : List Deed) (at_ms now_ms : ℕ) (c d : Client) → watch.may_show now_ms → at_ms ≤ now_ms
       → Talks watch peer heard before said at_ms c → LeadsTo (served peer piece now_ms c) made (Returns d) → Talks watch peer (heard ++ piece) (before ++ made) said now_ms d
   -- the same up to a fault, which ends it
-  Breaks : (heard said piece : List ℕ) (before made : List Call) (at_ms now_ms : ℕ) (c d : Client) (rest : Plan Client) → watch.may_show now_ms → at_ms ≤ now_ms
+  Breaks : (heard said piece : List ℕ) (before made : List Deed) (at_ms now_ms : ℕ) (c d : Client) (rest : Plan Client) → watch.may_show now_ms → at_ms ≤ now_ms
       → Talks watch peer heard before said at_ms c → LeadsTo (served peer piece now_ms c) made (Reaches d rest) → Talks watch peer (heard ++ piece) (before ++ made) said now_ms (ending None None d)
   -- it says what it has to say
-  Says : (heard said : List ℕ) (before : List Call) (at_ms : ℕ) (c : Client)
+  Says : (heard said : List ℕ) (before : List Deed) (at_ms : ℕ) (c : Client)
       → Talks watch peer heard before said at_ms c → Talks watch peer heard before (said ++ c.session.output) at_ms (spoken c)
   -- it is closed from this side where the run may be asked to end: with a Close that explains nothing (RFC 5440 section 7.17), or
   -- without one
-  Closes : (heard said : List ℕ) (before : List Call) (at_ms : ℕ) (c : Client) (reason : Option ℕ) → watch.may_close → IsUnexplained reason
+  Closes : (heard said : List ℕ) (before : List Deed) (at_ms : ℕ) (c : Client) (reason : Option ℕ) → watch.may_close → IsUnexplained reason
       → Talks watch peer heard before said at_ms c → Talks watch peer heard before said at_ms (ending None reason c)
 
 -- ---- what is read and written
@@ -53,16 +54,11 @@ pub data Talks (watch : WatchNow) (peer : ℕ) : List ℕ → List Call → List
 abbrev pub TakesSome : Option (List ℕ) → Option (List ℕ) → List ℕ → Type 0
 TakesSome old new bytes = (count : ℕ) × Appends old new (take count bytes)
 
--- what a write leaves that was to take all of these bytes
-abbrev pub Takes : Bool → Option (List ℕ) → Option (List ℕ) → List ℕ → Type 0
-Takes true old new bytes = Appends old new bytes
-Takes false old new bytes = TakesSome old new bytes
-
 -- the peer took some of these bytes, from the first on, and not all
 abbrev pub TakesPart : Option (List ℕ) → Option (List ℕ) → List ℕ → Type 0
 TakesPart old new bytes = (count : ℕ) × (count < length bytes) × Appends old new (take count bytes)
 
--- what a peer took that was sent all of these bytes
+-- what was taken of all of these bytes
 abbrev pub TakesAll : Bool → Option (List ℕ) → Option (List ℕ) → List ℕ → Type 0
 TakesAll true old new bytes = Appends old new bytes
 TakesAll false old new bytes = TakesPart old new bytes
@@ -98,11 +94,11 @@ MayEndSo (Some ended) left c = EndsSo ended left c × (owes_down ended ≡ false
 pub record SoFar {S : Type 0} (w : Ways S) (watch : WatchNow) (peer : ℕ) (start : S) (unread blank : Option (List ℕ)) (end : Option Ended) (now : S) (left written : Option (List ℕ)) (at_ms : ℕ) (client : Client) : Type 0 where
   pub heard : List ℕ
   pub said : List ℕ
-  pub calls : List Call
-  pub talks : Talks watch peer heard calls said at_ms client
+  pub deeds : List Deed
+  pub talks : Talks watch peer heard deeds said at_ms client
   pub shown_at : watch.may_show at_ms
-  pub joined : client.joined ≡ joined_after false calls
-  pub goes : Goes w start calls now
+  pub joined : client.joined ≡ joined_after false (calls_of deeds)
+  pub goes : Goes w start deeds now
   pub read : Consumes unread left heard
   pub out : GoesOut end blank written said
   pub ends_so : MayEndSo end left client
@@ -110,40 +106,42 @@ pub record SoFar {S : Type 0} (w : Ways S) (watch : WatchNow) (peer : ℕ) (star
 -- ---- its end
 
 -- one Down of a peer that is joined, else nothing
-abbrev pub IsDown : ℕ → Bool → List Call → Type 0
-IsDown peer true calls = (reply : Reply) × (calls ≡ called (Down peer) reply ∷ [])
-IsDown peer false calls = calls ≡ []
+abbrev pub IsDown : ℕ → Bool → List Deed → Type 0
+IsDown peer true deeds = (reply : Reply) × (deeds ≡ called (Down peer) reply ∷ [])
+IsDown peer false deeds = deeds ≡ []
 
 -- What the end of a connection leaves: the Down is submitted and the list has it alone, or it could not be submitted.
-abbrev pub Leaves : {X S : Type 0} → Result X Fault → Ways S → ℕ → Bool → S → List Call → S → Type 0
-Leaves (Ok x) w peer joined start calls new =
-    (last : List Call) × IsDown peer joined last × Goes w start (calls ++ last) new × (w.calls new ≡ last)
-Leaves (Err fault) w peer joined start calls new = (joined ≡ true) × Goes w start calls new
+abbrev pub Leaves : {X S : Type 0} → Result X Fault → Ways S → ℕ → Bool → S → List Deed → S → Type 0
+Leaves (Ok x) w peer joined start deeds new =
+    (last : List Deed) × IsDown peer joined last × Goes w start (deeds ++ last) new × (w.calls new ≡ calls_of last)
+Leaves (Err fault) w peer joined start deeds new = (joined ≡ true) × Goes w start deeds new
 
 -- the last calls: the Down of a peer that is joined, and the list of the store has nothing else; none after a fault of
 -- the store
-abbrev pub Lasts : {S : Type 0} → Ended → Ways S → ℕ → Bool → S → List Call → Type 0
+abbrev pub Lasts : {S : Type 0} → Ended → Ways S → ℕ → Bool → S → List Deed → Type 0
 Lasts (StoreFault fault) w peer joined new last = last ≡ []
-Lasts ended w peer joined new last = IsDown peer joined last × (w.calls new ≡ last)
+Lasts ended w peer joined new last = IsDown peer joined last × (w.calls new ≡ calls_of last)
 
--- A whole connection, and what is said to have ended it. Its calls are those of its session and the last ones, and the
--- peer is left joined only where its Down could not be submitted.
-pub record IsServed {S : Type 0} (w : Ways S) (watch : WatchNow) (peer : ℕ) (start : S) (unread blank : Option (List ℕ)) (ended : Ended) (now : S) (left written : Option (List ℕ)) : Type 0 where
+-- A whole connection, and what is said to have ended it. Its deeds are those of its session and the last ones, and the
+-- peer is left joined only where its Down could not be submitted. The reason is that of the session as it then was, if it
+-- had ended.
+pub record IsServed {S : Type 0} (w : Ways S) (watch : WatchNow) (peer : ℕ) (start : S) (unread blank : Option (List ℕ)) (left_by : Departure) (now : S) (left written : Option (List ℕ)) : Type 0 where
   pub heard : List ℕ
   pub said : List ℕ
-  pub calls : List Call
-  pub last : List Call
+  pub deeds : List Deed
+  pub last : List Deed
   pub at_ms : ℕ
   pub client : Client
-  pub talks : Talks watch peer heard calls said at_ms client
+  pub talks : Talks watch peer heard deeds said at_ms client
   pub silent : client.session.output ≡ []
-  pub goes : Goes w start (calls ++ last) now
-  pub down : joined_after false (calls ++ last) ≡ owes_down ended
-  pub lasts : Lasts ended w peer (joined_after false calls) now last
+  pub reason : left_by.reason ≡ client.session.end
+  pub goes : Goes w start (deeds ++ last) now
+  pub down : joined_after false (calls_of (deeds ++ last)) ≡ owes_down left_by.ended
+  pub lasts : Lasts left_by.ended w peer (joined_after false (calls_of deeds)) now last
   pub read : Consumes unread left heard
-  pub out : GoesOut (Some ended) blank written said
-  pub ends_so : EndsSo ended left client
+  pub out : GoesOut (Some left_by.ended) blank written said
+  pub ends_so : EndsSo left_by.ended left client
 
 -- there was no memory for a session: nothing was done
-abbrev pub IsUnserved : {S I O : Type 0} → Ended → S → S → I → I → O → O → Type 0
-IsUnserved ended old new was left blank written = (ended ≡ SessionEnded) × (new ≡ old) × (left ≡ was) × (written ≡ blank)
+abbrev pub IsUnserved : {S I O : Type 0} → Departure → S → S → I → I → O → O → Type 0
+IsUnserved left_by old new was left blank written = (left_by ≡ record { ended = SessionEnded; reason = None }) × (new ≡ old) × (left ≡ was) × (written ≡ blank)

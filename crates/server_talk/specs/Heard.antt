@@ -3,7 +3,7 @@ use Rattle.std.specs.Prelude.{◌≡◌, ℕ, ◌≤◌, ◌-◌, min, Bool, ◌
 use Rattle.std.specs.declared.io.ErrorKind.{ErrorKind}
 use Rattle.std.specs.declared.io.ErrorKind.TheVariants.{WouldBlock, TimedOut, Interrupted}
 use Rattle.std.specs.Io.KnownBytes.{Consumes, Keeps, IsAtEnd}
-use Rattle.pcep_session.specs.Timers.{is_due_at}
+use Rattle.pcep_session.specs.Timers.{is_due_at, IsNextDue}
 use Rattle.pcep_session.specs.declared.contents.Contents.{Contents}
 use Rattle.server_talk.specs.declared.talk.Heard.{Heard}
 use Rattle.server_talk.specs.declared.talk.Heard.TheVariants.{Bytes, Nothing, Ended}
@@ -31,6 +31,10 @@ longest_wait_ms = 10000
 abbrev pub wait_until : Option ℕ → ℕ → ℕ
 wait_until None now_ms = longest_wait_ms
 wait_until (Some due_ms) now_ms = min (due_ms - now_ms) longest_wait_ms
+
+-- the reader waits until the session's next timer is due, by a moment that is shown, and no longer
+abbrev pub WaitsUntilDue : (ℕ → Type 0) → (ℕ → Type 0) → Contents → Type 0
+WaitsUntilDue may_wait may_show c = (next : Option ℕ) × (now_ms : ℕ) × IsNextDue next c × may_show now_ms × may_wait (wait_until next now_ms)
 
 -- a read that failed for want of bytes, or that was interrupted, is tried again
 abbrev pub heard_of_fault : ErrorKind → Heard

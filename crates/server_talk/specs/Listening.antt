@@ -1,23 +1,23 @@
 -- An operator's lines, step by step.
 use Rattle.std.specs.Prelude.{◌≡◌, ℕ, ◌<◌, ◌≤◌, Bool, true, false, List, [], ◌∷◌, ◌++◌, length, codes, string_bytes, vec_capacity, Option, Some, None, Result, Ok, Err, ⊤}
-use Rattle.std.specs.Io.KnownBytes.{Consumes}
+use Rattle.std.specs.Io.KnownBytes.{Appends, Consumes}
 use Rattle.history_core.specs.Faults.{fault_text}
 use Rattle.history_core.specs.declared.fault.Fault.TheVariants.{HistoryFull}
-use Rattle.engine_core.specs.declared.store.Call.{Call}
+use Rattle.engine_core.specs.Deeds.{Deed}
 use Rattle.script_lines.specs.Lines.{cut}
 use Rattle.script_lines.specs.declared.fault.CommandFault.{CommandFault}
 use Rattle.script_lines.specs.declared.fault.CommandFault.TheVariants.{BadLine, Store}
 use Rattle.server_talk.specs.declared.commands.Answer.{Answer}
 use Rattle.server_talk.specs.declared.commands.Answer.TheVariants as answers
 use Rattle.server_talk.specs.declared.operator.OperatorEnd.{OperatorEnd}
-use Rattle.server_talk.specs.declared.operator.OperatorEnd.TheVariants.{EndAsked, WriteFault}
+use Rattle.server_talk.specs.declared.operator.OperatorEnd.TheVariants.{EndAsked, WriteFault, FlushFault}
 use Rattle.server_talk.specs.declared.pending.OpenLine.{OpenLine}
 use Rattle.server_talk.specs.declared.requests.Request.{Request}
 use Rattle.server_talk.specs.declared.requests.Request.TheVariants.{End}
 use Rattle.server_talk.specs.Servers.{Server}
 use Rattle.server_talk.specs.Operators.{IsAnswered, Listens, Operated, bad_line, is_out, number_behind, unread_line}
 use Rattle.server_talk.specs.Requests.{asks_step, line_limit, request_of}
-use Rattle.server_talk.specs.Connections.{Takes}
+use Rattle.server_talk.specs.Connections.{TakesAll, TakesPart}
 
 -- ---- a line that has ended
 
@@ -51,25 +51,33 @@ said_of number (Err (Store fault)) = fault_text fault ++ codes "\n"
 abbrev pub StopsAt : OperatorEnd → List ℕ → Type 0
 StopsAt EndAsked rest = (line : List ℕ) × (request_of line ≡ Some End) × (more : List ℕ) × (rest ≡ line ++ 10 ∷ more)
 StopsAt WriteFault rest = ⊤
+StopsAt FlushFault rest = ⊤
 StopsAt end rest = ⊥
+
+-- What a writer took that was to take these bytes and hand them on: all of them; a part; or all, and it failed to hand them on.
+abbrev pub HandsOn : Option OperatorEnd → Option (List ℕ) → Option (List ℕ) → List ℕ → Type 0
+HandsOn None old new bytes = Appends old new bytes
+HandsOn (Some WriteFault) old new bytes = TakesPart old new bytes
+HandsOn (Some FlushFault) old new bytes = Appends old new bytes
+HandsOn (Some end) old new bytes = ⊥
 
 module _ {S : Type 0} (server : Server S) where
   -- What a line comes to at once: it is answered, it asks for the end, or a full history takes nothing.
   abbrev pub Comes : Result Answer CommandFault → ℕ → List ℕ → S → S → Type 0
   Comes (Ok answers.End) number line old new = (request_of line ≡ Some End) × (new ≡ old)
   Comes (Err (Store HistoryFull)) number line old new = (asks_step (request_of line) ≡ true) × server.ways.moves old [] new × server.ways.is_full new
-  Comes answer number line old new = (calls : List Call) × IsAnswered server number line old calls (said_of number answer) new
+  Comes answer number line old new = (calls : List Deed) × IsAnswered server number line old calls (said_of number answer) new
 
   -- these lines were answered so far, and this is said to them
   pub record Answered (start : S) (lines : List (List ℕ)) (said : List ℕ) (now : S) : Type 0 where
-    pub calls : List Call
+    pub calls : List Deed
     pub listens : Listens server start lines calls said now
 
   -- and it went out, or some of it did
   pub record AnswersLines (start : S) (lines : List (List ℕ)) (blank : Option (List ℕ)) (goes_out : Bool) (now : S) (written : Option (List ℕ)) : Type 0 where
     pub said : List ℕ
     pub answered : Answered start lines said now
-    pub out : Takes goes_out blank written said
+    pub out : TakesAll goes_out blank written said
 
   -- one line more is answered, or it asks for the end
   abbrev pub Answers : Result Answer CommandFault → S → List (List ℕ) → List ℕ → List ℕ → S → Type 0
@@ -81,6 +89,7 @@ module _ {S : Type 0} (server : Server S) where
   TakesLine None start lines blank line now written = AnswersLines start (lines ++ line ∷ []) blank true now written
   TakesLine (Some EndAsked) start lines blank line now written = (request_of line ≡ Some End) × AnswersLines start lines blank true now written
   TakesLine (Some WriteFault) start lines blank line now written = AnswersLines start (lines ++ line ∷ []) blank false now written
+  TakesLine (Some FlushFault) start lines blank line now written = AnswersLines start (lines ++ line ∷ []) blank true now written
   TakesLine (Some end) start lines blank line now written = ⊥
 
   -- ---- bytes

@@ -15,13 +15,14 @@ use Rattle.step_core.specs.declared.event.Reply.{Reply}
 use Rattle.history_core.specs.Faults.{fault_text}
 use Rattle.history_core.specs.declared.fault.Fault.TheVariants.{OutOfMemory, HistoryFull}
 use Rattle.engine_core.specs.Calls.{called}
-use Rattle.engine_core.specs.declared.store.Call.{Call}
+use Rattle.engine_core.specs.Deeds.{Deed}
+use Rattle.engine_core.specs.Deeds as deeds
 use Rattle.script_lines.specs.Book.{table_text}
 use Rattle.script_lines.specs.declared.views.ViewLine.{ViewLine}
-use Rattle.script_lines.specs.Lines.{cut, lines_of}
+use Rattle.script_lines.specs.Lines.{cut}
 use Rattle.script_lines.specs.Texts.{reply_text}
 use Rattle.server_talk.specs.declared.operator.OperatorEnd.{OperatorEnd}
-use Rattle.server_talk.specs.declared.operator.OperatorEnd.TheVariants.{InputEnded, EndAsked, RunEnding, ReadFault, WriteFault}
+use Rattle.server_talk.specs.declared.operator.OperatorEnd.TheVariants.{InputEnded, EndAsked, RunEnding, ReadFault, WriteFault, FlushFault}
 use Rattle.server_talk.specs.declared.plan.PlanFault.{PlanFault}
 use Rattle.server_talk.specs.declared.plan.PlanFault.TheVariants.{Device, Te}
 use Rattle.server_talk.specs.declared.requests.Request.TheVariants.{Book, Check, End, Reload, Submit, View}
@@ -29,7 +30,7 @@ use Rattle.server_talk.specs.Goings.{Goes}
 use Rattle.server_talk.specs.Servers.{Server}
 use Rattle.server_talk.specs.ReloadChecks.{check_text}
 use Rattle.server_talk.specs.Requests.{asks_reading, asks_step, is_operators, request_of}
-use Rattle.server_talk.specs.Connections.{Takes}
+use Rattle.server_talk.specs.Connections.{TakesAll}
 
 -- what is said to a bad line, by its number
 abbrev pub bad_line : ℕ → List ℕ
@@ -49,19 +50,23 @@ unread_line (Te fault) = te_line fault
 abbrev pub number_behind : List (List ℕ) → ℕ
 number_behind lines = min (length lines + 1) (2 ^ 64 - 1)
 
--- each is an operator's event
-abbrev pub AreOperators : List Call → Type 0
-AreOperators calls = All (λ call. is_operators call.event ≡ true) calls
+-- an operator's event is submitted; an operator shows nothing
+abbrev pub IsOperators : Deed → Type 0
+IsOperators (deeds.Called call) = is_operators call.event ≡ true
+IsOperators (deeds.Shown sight) = ⊥
+
+abbrev pub AreOperators : List Deed → Type 0
+AreOperators made = All IsOperators made
 
 -- ---- what a line leads to
 
--- The line with this number leads from `old` to these calls, to these bytes that are said, and to a store.
-pub data IsAnswered {S : Type 0} (server : Server S) (number : ℕ) (line : List ℕ) (old : S) : List Call → List ℕ → S → Type 0 where
+-- The line with this number leads from `old` to these deeds, to these bytes that are said, and to a store.
+pub data IsAnswered {S : Type 0} (server : Server S) (number : ℕ) (line : List ℕ) (old : S) : List Deed → List ℕ → S → Type 0 where
   -- the event that it asks for is submitted, once, and the text of its reply is said
   Obeyed : (of : Event) (reply : Reply) (new : S) → request_of line ≡ Some (Submit of) → server.ways.moves old (called of reply ∷ []) new
       → IsAnswered server number line old (called of reply ∷ []) (reply_text reply ++ codes "\n") new
   -- it asks for the book: what is left of each link is said
-  Shown : (table : List (List ℤ)) → request_of line ≡ Some Book → server.is_left old table → IsAnswered server number line old [] (table_text 0 table) old
+  Shown : (table : List (List ℤ)) (new : S) → request_of line ≡ Some Book → server.ways.moves old [] new → server.is_left new table → IsAnswered server number line old [] (table_text 0 table) new
   -- it asks for a reload: the values that the link text gives are submitted, once, or it is said why there are none
   Reloaded : (links : List LinkReload) (reply : Reply) (new : S) → request_of line ≡ Some Reload → server.reads (Ok links) → server.ways.moves old (called (event.Reload links) reply ∷ []) new
       → IsAnswered server number line old (called (event.Reload links) reply ∷ []) (reply_text reply ++ codes "\n") new
@@ -79,16 +84,16 @@ pub data IsAnswered {S : Type 0} (server : Server S) (number : ℕ) (line : List
   StillFull : (steps : ℕ) (a b new : S) → asks_step (request_of line) ≡ true → server.ways.moves old [] a → server.ways.is_full a → server.ways.rolls a steps b → server.ways.moves b [] new → server.ways.is_full new
       → IsAnswered server number line old [] (fault_text HistoryFull ++ codes "\n") new
 
--- From `start` on an operator's lines were heard so far. Here are the lines, the calls that they led to, the bytes that
+-- From `start` on an operator's lines were heard so far. Here are the lines, the deeds that they led to, the bytes that
 -- were said, each in their order, and the store as it stands.
-pub data Listens {S : Type 0} (server : Server S) (start : S) : List (List ℕ) → List Call → List ℕ → S → Type 0 where
+pub data Listens {S : Type 0} (server : Server S) (start : S) : List (List ℕ) → List Deed → List ℕ → S → Type 0 where
   Begins : Listens server start [] [] [] start
   -- one line more
-  Hears : (lines : List (List ℕ)) (calls made : List Call) (said text line : List ℕ) (a b : S)
+  Hears : (lines : List (List ℕ)) (calls made : List Deed) (said text line : List ℕ) (a b : S)
       → Listens server start lines calls said a → IsAnswered server (number_behind lines) line a made text b
       → Listens server start (lines ++ line ∷ []) (calls ++ made) (said ++ text) b
   -- in between the store goes on without a call: its list is emptied, its history rolled
-  Waits : (lines : List (List ℕ)) (calls : List Call) (said : List ℕ) (a b : S)
+  Waits : (lines : List (List ℕ)) (calls : List Deed) (said : List ℕ) (a b : S)
       → Listens server start lines calls said a → Goes server.ways a [] b → Listens server start lines calls said b
 
 -- ---- how it ends
@@ -107,32 +112,33 @@ FailsAs (Some ReadFault) kind may_close = is_quiet kind ≡ false
 FailsAs (Some RunEnding) kind may_close = may_close
 FailsAs (Some end) kind may_close = ⊥
 
--- all that was said went out
+-- the writer took all that was said
 abbrev pub is_out : OperatorEnd → Bool
 is_out WriteFault = false
 is_out end = true
 
--- Why no more is heard of what was read behind the lines that were answered. The reader has no more; the first line
--- there asks for the end; or the run may be closing.
+-- Why no more is heard of what was read after the lines that were answered. The reader has no more, and there is no whole
+-- line; the first line there asks for the end; or the run may be closing.
 abbrev pub IsOver : OperatorEnd → Type 0 → Option (List ℕ) → List ℕ → Type 0
-IsOver InputEnded may_close left rest = IsAtEnd left × (rest ≡ [])
-IsOver EndAsked may_close left rest = (line : List ℕ) × (request_of line ≡ Some End) × (((more : List ℕ) × (rest ≡ line ++ 10 ∷ more)) ⊎ (IsAtEnd left × (rest ≡ line)))
+IsOver InputEnded may_close left rest = IsAtEnd left × ((cut rest).0 ≡ [])
+IsOver EndAsked may_close left rest = (line : List ℕ) × (request_of line ≡ Some End) × (more : List ℕ) × (rest ≡ line ++ 10 ∷ more)
 IsOver RunEnding may_close left rest = may_close
 IsOver ReadFault may_close left rest = ⊤
 IsOver WriteFault may_close left rest = ⊤
+IsOver FlushFault may_close left rest = ⊤
 
 -- An operator from `start` on, until nothing more is heard. Of the reader and the writer the known bytes are meant, at
--- the start and now. The lines of `front` were answered, each ended by a line break, but the last of all that the reader
--- gave; what was said to them went out, or some of it where the writer failed.
+-- the start and now. The lines of `front` were answered, each ended by a line break: a line without one does nothing. What
+-- was said to them went out, or a part of it if the writer failed.
 pub record Operated {S : Type 0} (server : Server S) (start : S) (unread blank : Option (List ℕ)) (end : OperatorEnd) (may_close : Type 0) (now : S) (left written : Option (List ℕ)) : Type 0 where
   pub front : List ℕ
   pub rest : List ℕ
-  pub calls : List Call
+  pub calls : List Deed
   pub said : List ℕ
   pub read : Consumes unread left (front ++ rest)
-  pub whole : ((cut front).1 ≡ []) ⊎ (IsAtEnd left × (rest ≡ []))
-  pub listens : Listens server start (lines_of front) calls said now
-  pub out : Takes (is_out end) blank written said
+  pub whole : (cut front).1 ≡ []
+  pub listens : Listens server start (cut front).0 calls said now
+  pub out : TakesAll (is_out end) blank written said
   pub over : IsOver end may_close left rest
 
 -- How a call ends: this way, or for want of memory before anything was done.

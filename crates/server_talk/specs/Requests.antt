@@ -14,6 +14,7 @@ abbrev pub is_operators : Event → Bool
 is_operators (event.Ask peer purpose) = true
 is_operators (event.Return peer plsp) = true
 is_operators (event.Delete peer plsp) = true
+is_operators (event.Refused peer srp) = true
 is_operators (event.Reload links) = true
 is_operators other = false
 

@@ -1,8 +1,10 @@
 //! Standard input: its waits.
+use crate::terminal::is_in_front;
 use crate::traits::Patient;
 use mio::unix::SourceFd;
 use mio::{Events, Interest, Poll, Token};
 use std::alloc::Global;
+use std::fs::Files;
 use std::io;
 use std::io::{ErrorKind, Read};
 use std::net::Net;
@@ -15,20 +17,39 @@ const STANDARD_INPUT: RawFd = 0;
 /// What a wait found it by.
 const INPUT: Token = Token(0);
 
+/// The fault of a descriptor that isn't open for reading (errno(3), EBADF).
+const BAD_DESCRIPTOR: i32 = 9;
+
+/// Whether a read failed because the descriptor isn't open for reading.
+fn is_not_open(read: &io::Result<usize>) -> bool {
+    match read {
+        Ok(_) => false,
+        Err(error) => error.raw_os_error() == Some(BAD_DESCRIPTOR),
+    }
+}
+
 /// Standard input that is waited for no longer than it is asked. A regular file, which can't be waited for, is read at
-/// once.
+/// once. A terminal is read only while this process is in front there. One that isn't open for reading has ended.
 #[derive(Drop)]
-pub struct PolledInput<'a, I: Read> {
+pub struct PolledInput<'a, I: Read, F: Files> {
     reader: &'a mut I,
+    files: &'a F,
+    is_terminal: bool,
     poll: Poll,
     can_wait: bool,
     found: Events,
-    most: Duration,
+    most_ms: u64,
 }
 
-impl<'a, I: Read> PolledInput<'a, I> {
+impl<'a, I: Read, F: Files + AllocGlobal> PolledInput<'a, I, F> {
     /// The reader is one of standard input that reads nothing ahead.
-    pub fn new<R: Net>(rt: &R, alloc: Global, reader: &'a mut I) -> io::Result<PolledInput<'a, I>> {
+    pub fn new<R: Net>(
+        rt: &R,
+        alloc: Global,
+        reader: &'a mut I,
+        files: &'a F,
+        is_terminal: bool,
+    ) -> io::Result<PolledInput<'a, I, F>> {
         let poll = Poll::new(rt)?;
         let registry = poll.registry();
         let can_wait = registry
@@ -36,34 +57,60 @@ impl<'a, I: Read> PolledInput<'a, I> {
             .is_ok();
         Ok(PolledInput {
             reader,
+            files,
+            is_terminal,
             poll,
             can_wait,
             found: Events::with_capacity(alloc, 1)?,
-            most: Duration::from_millis(0),
+            most_ms: 0,
         })
     }
 
-    /// Waits, and gives whether there is something to read, or the end. What came before the wait is found anew, since
-    /// standard input is noted anew.
-    fn is_ready(&mut self) -> io::Result<bool> {
+    /// Notes standard input anew, so that what came before the wait is found by it.
+    fn note_input(&mut self) -> io::Result<()> {
         let registry = self.poll.registry();
-        registry.reregister(&mut SourceFd(&STANDARD_INPUT), INPUT, Interest::READABLE)?;
-        self.poll.poll(&mut self.found, Some(self.most))?;
+        let noted = registry.reregister(&mut SourceFd(&STANDARD_INPUT), INPUT, Interest::READABLE);
+        if noted.is_ok() {
+            return Ok(());
+        }
+        registry.register(&mut SourceFd(&STANDARD_INPUT), INPUT, Interest::READABLE)
+    }
+
+    /// Waits, and gives whether there is something to read, or the end.
+    fn is_ready(&mut self) -> io::Result<bool> {
+        if self.is_terminal && !is_in_front(self.files) {
+            let _was_noted = self
+                .poll
+                .registry()
+                .deregister(&mut SourceFd(&STANDARD_INPUT));
+        } else {
+            self.note_input()?;
+        }
+        let most = Duration::from_millis(self.most_ms);
+        self.poll.poll(&mut self.found, Some(most))?;
         Ok(self.found.iter().any(|event| event.token() == INPUT))
     }
 }
 
-impl<'a, I: Read> Read for PolledInput<'a, I> {
+impl<'a, I: Read, F: Files + AllocGlobal> Read for PolledInput<'a, I, F> {
     fn read(&mut self, buf: &mut [u8]) -> io::Result<usize> {
         if self.can_wait && !self.is_ready()? {
             return Err(io::Error::from(ErrorKind::WouldBlock));
         }
-        self.reader.read(buf)
+        let read = self.reader.read(buf);
+        if is_not_open(&read) {
+            return Ok(0);
+        }
+        read
     }
 }
 
-impl<'a, I: Read> Patient for PolledInput<'a, I> {
-    fn set_patience(&mut self, most: Duration) {
-        self.most = most;
+impl<'a, I: Read, F: Files + AllocGlobal> Patient for PolledInput<'a, I, F> {
+    ghost use Rattle.std.specs.Prelude.{◌≡◌};
+
+    ghost may_wait = { λ s ms. s.most_ms ≡ ms };
+
+    fn set_patience(&mut self, most_ms: u64) {
+        self.most_ms = most_ms;
     }
 }

@@ -1,14 +1,14 @@
 //! The operator: lines from a reader, each answered on a writer: `book` by a line for each link, others by one.
 ghost use Rattle.std.specs.Prelude.{◌≡◌, ◌<◌, ◌∷◌, ◌++◌, [], ℕ, List, Option, true, length, codes};
 ghost use Rattle.std.specs.Fmt.{decimal};
-ghost use Rattle.std.specs.Io.KnownBytes.{Consumes, IsAtEnd};
+ghost use Rattle.std.specs.Io.KnownBytes.{Consumes};
 ghost use Rattle.history_core.specs.Faults.{fault_text};
-ghost use Rattle.engine_core.specs.declared.store.Call.{Call};
+ghost use Rattle.engine_core.specs.Deeds.{Deed};
 ghost use Rattle.server_talk.specs.Goings.{Goes};
-ghost use Rattle.server_talk.specs.Listening.{AnswersLines, TakesLine, IsKept, SoFar, HearsOn, Turns, said_of};
+ghost use Rattle.server_talk.specs.Listening.{AnswersLines, HandsOn, TakesLine, IsKept, SoFar, HearsOn, Turns, said_of};
 ghost use Rattle.server_talk.specs.Servers.{server_of};
 ghost use Rattle.server_talk.specs.Operators.{AreOperators, FailsAs, Operated, EndsAs, is_quiet, te_line, unread_line, number_behind};
-ghost use Rattle.server_talk.specs.Connections.{Takes};
+ghost use Rattle.server_talk.specs.Connections.{TakesAll};
 
 use crate::commands::{Answer, answer_line, asks_end};
 use crate::pending::OpenLine;
@@ -23,7 +23,6 @@ use script_lines::CommandFault;
 use std::alloc::{AllocError, Global};
 use std::io::{ErrorKind, Write};
 use std::sync::Wait;
-use std::time::Duration;
 use te_base::TeFault;
 
 /// The number of bytes that are read at once, at most.
@@ -43,14 +42,16 @@ pub enum OperatorEnd {
     RunEnding,
     /// A read failed.
     ReadFault,
-    /// The writer didn't take what was said. The run goes on without an operator.
+    /// The writer didn't take all of what was said. The run goes on without an operator.
     WriteFault,
+    /// The writer took what was said, and failed to hand it on.
+    FlushFault,
 }
 
 /// Writes all of the bytes, in one call but where a write takes a part of them alone. Gives whether the writer took
 /// all.
 fn write<O: Write>(writer: &mut O, bytes: &[u8]) -> bool
-    ensures { Takes result (O.contents writer.old) (O.contents writer.new) bytes.now }
+    ensures { TakesAll result (O.contents writer.old) (O.contents writer.new) bytes.now }
 {
     if bytes.is_empty() {
         return true;
@@ -70,7 +71,7 @@ fn write<O: Write>(writer: &mut O, bytes: &[u8]) -> bool
 
 /// Writes a text with a line break.
 fn write_line<O: Write>(writer: &mut O, text: &str) -> bool
-    ensures { Takes result (O.contents writer.old) (O.contents writer.new) (text.now ++ codes "\n") }
+    ensures { TakesAll result (O.contents writer.old) (O.contents writer.new) (text.now ++ codes "\n") }
 {
     if !write(writer, text.as_bytes()) {
         return false;
@@ -80,7 +81,7 @@ fn write_line<O: Write>(writer: &mut O, text: &str) -> bool
 
 /// Writes a word, and a number with a line break.
 fn write_numbered<O: Write>(writer: &mut O, word: &str, number: u64) -> bool
-    ensures { Takes result (O.contents writer.old) (O.contents writer.new) (word.now ++ (decimal number ++ codes "\n")) }
+    ensures { TakesAll result (O.contents writer.old) (O.contents writer.new) (word.now ++ (decimal number ++ codes "\n")) }
 {
     let mut buffer = Buffer::new();
     let digits = buffer.format(number);
@@ -92,7 +93,7 @@ fn write_numbered<O: Write>(writer: &mut O, word: &str, number: u64) -> bool
 
 /// Writes the fault of a link text.
 fn write_te_fault<O: Write>(writer: &mut O, fault: TeFault) -> bool
-    ensures { Takes result (O.contents writer.old) (O.contents writer.new) (te_line fault) }
+    ensures { TakesAll result (O.contents writer.old) (O.contents writer.new) (te_line fault) }
 {
     match fault {
         TeFault::OutOfMemory => write(writer, b"out of memory\n"),
@@ -102,7 +103,7 @@ fn write_te_fault<O: Write>(writer: &mut O, fault: TeFault) -> bool
 
 /// Writes why a link text gave no values.
 fn write_unread<O: Write>(writer: &mut O, fault: PlanFault) -> bool
-    ensures { Takes result (O.contents writer.old) (O.contents writer.new) (unread_line fault) }
+    ensures { TakesAll result (O.contents writer.old) (O.contents writer.new) (unread_line fault) }
 {
     match fault {
         PlanFault::Device => write(writer, b"device fault\n"),
@@ -121,7 +122,7 @@ fn fault_text(fault: Fault) -> &'static str
 
 /// Writes what came of the line with this number.
 fn say<O: Write>(writer: &mut O, number: u64, answer: &Result<Answer, CommandFault>) -> bool
-    ensures { Takes result (O.contents writer.old) (O.contents writer.new) (said_of number answer.now) }
+    ensures { TakesAll result (O.contents writer.old) (O.contents writer.new) (said_of number answer.now) }
 {
     match answer {
         Ok(Answer::Reply(text)) => write_line(writer, text.as_str()),
@@ -134,14 +135,21 @@ fn say<O: Write>(writer: &mut O, number: u64, answer: &Result<Answer, CommandFau
     }
 }
 
-/// The same, and hands on what was written.
-fn say_at_once<O: Write>(writer: &mut O, number: u64, answer: &Result<Answer, CommandFault>) -> bool
-    ensures { Takes result (O.contents writer.old) (O.contents writer.new) (said_of number answer.now) }
+/// The same, and hands on what was written. Gives the end if the writer fails.
+fn say_at_once<O: Write>(
+    writer: &mut O,
+    number: u64,
+    answer: &Result<Answer, CommandFault>,
+) -> Option<OperatorEnd>
+    ensures { HandsOn result (O.contents writer.old) (O.contents writer.new) (said_of number answer.now) }
 {
     if !say(writer, number, answer) {
-        return false;
+        return Some(OperatorEnd::WriteFault);
     }
-    writer.flush().is_ok()
+    match writer.flush() {
+        Ok(()) => None,
+        Err(_) => Some(OperatorEnd::FlushFault),
+    }
 }
 
 /// Answers a line that has ended. The store's list is emptied. Gives the end, where that has come.
@@ -163,10 +171,7 @@ fn take_line<D: Desk, O: Write, W: Watch, P: Show>(
     if asks_end(&came) {
         return Some(OperatorEnd::EndAsked);
     }
-    if say_at_once(writer, line.number, &came) {
-        return None;
-    }
-    Some(OperatorEnd::WriteFault)
+    say_at_once(writer, line.number, &came)
 }
 
 /// Takes a byte: a line break ends a line, which is answered. Gives the end, where that has come.
@@ -221,29 +226,6 @@ fn take_piece<D: Desk, O: Write, W: Watch, P: Show>(
     None
 }
 
-/// Answers the last line, where no line break ends it.
-fn finish<D: Desk, O: Write, W: Watch, P: Show>(
-    alloc: Global,
-    pending: &OpenLine,
-    watch: &W,
-    plan: &P,
-    store: &mut D,
-    writer: &mut O,
-) -> OperatorEnd
-    ensures empty { D.calls store.old ≡ [] → D.calls store.new ≡ [] }
-    ensures finished { (start : D) (unread blank left : Option (List ℕ)) (heard : List ℕ) → Consumes unread left heard → IsAtEnd left
-        → SoFar (server_of D.Store D.is_left P.Show plan.now) start blank heard pending.now store.old (O.contents writer.old)
-        → Operated (server_of D.Store D.is_left P.Show plan.now) start unread blank result (W.may_close watch.now) store.new left (O.contents writer.new) }
-{
-    if pending.is_empty() {
-        return OperatorEnd::InputEnded;
-    }
-    match take_line(alloc, pending, watch, plan, store, writer) {
-        Some(end) => end,
-        None => OperatorEnd::InputEnded,
-    }
-}
-
 /// Whether a read that failed so gave nothing, and may be made again.
 fn is_quiet(kind: ErrorKind) -> bool
     ensures { result ≡ is_quiet kind }
@@ -267,8 +249,7 @@ fn after_fault<W: Watch>(kind: ErrorKind, watch: &W) -> Option<OperatorEnd>
     None
 }
 
-/// Reads once, and answers the lines that came; where the reader has ended, the last line. Gives the end, where that
-/// has come.
+/// Reads once, and answers the whole lines that came. Gives the end, if that has come.
 fn turn<D: Desk, I: Patient, O: Write, W: Watch, P: Show>(
     alloc: Global,
     pending: &mut OpenLine,
@@ -293,7 +274,7 @@ fn turn<D: Desk, I: Patient, O: Write, W: Watch, P: Show>(
         }
     };
     if count == 0 {
-        return Some(finish(alloc, pending, watch, plan, store, writer));
+        return Some(OperatorEnd::InputEnded);
     }
     if watch.is_closing() {
         return Some(OperatorEnd::RunEnding);
@@ -304,7 +285,8 @@ fn turn<D: Desk, I: Patient, O: Write, W: Watch, P: Show>(
 /// Answers an operator's lines until no more is to be heard, and gives why. A line that asks for an event submits it,
 /// once, and is answered by the reply; `book` by what is left of each link at each priority, in bytes per second; `end`
 /// asks for the end of the run. A bad line is answered `bad line N`, want of memory `out of memory`, and the next line
-/// is read. Where the run is to end, what was read last is left. The only fault is want of memory before the first
+/// is read. What no line break ends does nothing: it may be half of another line. If the run is to end, what was read last is
+/// left. The only fault is want of memory before the first
 /// read.
 pub fn operate<R: Wait, D: Desk, I: Patient, O: Write, W: Watch, P: Show>(
     rt: &R,
@@ -315,7 +297,7 @@ pub fn operate<R: Wait, D: Desk, I: Patient, O: Write, W: Watch, P: Show>(
     plan: &P,
     store: &mut D,
 ) -> Result<OperatorEnd, AllocError>
-    ensures by_operators { (calls : List Call) × AreOperators calls × Goes D.Store store.old calls store.new }
+    ensures by_operators { (deeds : List Deed) × AreOperators deeds × Goes D.Store store.old deeds store.new }
     ensures empty { D.calls store.old ≡ [] → D.calls store.new ≡ [] }
     ensures operated { EndsAs result
         (λ end. Operated (server_of D.Store D.is_left P.Show plan.now) store.old (I.remaining reader.old) (O.contents writer.old) end (W.may_close watch.now) store.new (I.remaining reader.new) (O.contents writer.new))
@@ -327,7 +309,7 @@ pub fn operate<R: Wait, D: Desk, I: Patient, O: Write, W: Watch, P: Show>(
         is_long: false,
     };
     let mut piece = [0u8; PIECE];
-    reader.set_patience(Duration::from_millis(PATIENCE_MS));
+    reader.set_patience(PATIENCE_MS);
     for _ in rt.forever() {
         match turn(
             alloc,

@@ -1,5 +1,5 @@
 //! A line that hasn't ended.
-ghost use Rattle.std.specs.Prelude.{◌≡◌, ◌≢◌, ◌+◌, ◌-◌, ◌^◌, min, ◌∷◌, ◌++◌, [], ℕ, List, true, false};
+ghost use Rattle.std.specs.Prelude.{◌≡◌, ◌+◌, ◌-◌, ◌^◌, min, ◌∷◌, ◌++◌, [], ℕ, List};
 ghost use Rattle.server_talk.specs.Listening.{Asks, IsKept};
 ghost use Rattle.server_talk.specs.Requests.{request_of};
 
@@ -34,13 +34,6 @@ impl OpenLine {
         self.bytes.clear();
         self.is_long = false;
         self.number = self.number.saturating_add(1);
-    }
-
-    pub fn is_empty(&self) -> bool
-        ensures empty { result ≡ true → (line : List ℕ) → IsKept self.now line → line ≡ [] }
-        ensures begun { result ≡ false → (line : List ℕ) → IsKept self.now line → line ≢ [] }
-    {
-        self.bytes.is_empty() && !self.is_long
     }
 
     /// What the line asks for. One that is too long is bad.

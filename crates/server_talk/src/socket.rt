@@ -42,7 +42,7 @@ pub struct PolledSocket<'a> {
     descriptor: RawFd,
     poll: Poll,
     found: Events,
-    most: Duration,
+    most_ms: u64,
 }
 
 impl<'a> PolledSocket<'a> {
@@ -60,7 +60,7 @@ impl<'a> PolledSocket<'a> {
             descriptor,
             poll,
             found: Events::with_capacity(alloc, FOUND)?,
-            most: Duration::from_millis(0),
+            most_ms: 0,
         })
     }
 
@@ -69,12 +69,24 @@ impl<'a> PolledSocket<'a> {
         Waker::new(self.poll.registry(), BELL)
     }
 
+    /// Waits for a ring, and so long at most. What comes meanwhile ends no wait, and is found by the next read.
+    pub fn await_ring(&mut self, most_ms: u64) -> io::Result<()> {
+        let registry = self.poll.registry();
+        registry.deregister(&mut SourceFd(&self.descriptor))?;
+        let most = Duration::from_millis(self.most_ms.min(most_ms));
+        let waited = self.poll.poll(&mut self.found, Some(most));
+        let registry = self.poll.registry();
+        registry.register(&mut SourceFd(&self.descriptor), SOCKET, Interest::READABLE)?;
+        waited
+    }
+
     /// Waits, and says whether bytes came, or the end. What came before the wait is found anew, since the socket
     /// is noted anew.
     fn is_spoken_to(&mut self) -> io::Result<bool> {
         let registry = self.poll.registry();
         registry.reregister(&mut SourceFd(&self.descriptor), SOCKET, Interest::READABLE)?;
-        self.poll.poll(&mut self.found, Some(self.most))?;
+        let most = Duration::from_millis(self.most_ms);
+        self.poll.poll(&mut self.found, Some(most))?;
         Ok(self.found.iter().any(|event| event.token() == SOCKET))
     }
 }
@@ -90,8 +102,12 @@ impl<'a> Read for PolledSocket<'a> {
 }
 
 impl<'a> Patient for PolledSocket<'a> {
-    fn set_patience(&mut self, most: Duration) {
-        self.most = most;
+    ghost use Rattle.std.specs.Prelude.{◌≡◌};
+
+    ghost may_wait = { λ s ms. s.most_ms ≡ ms };
+
+    fn set_patience(&mut self, most_ms: u64) {
+        self.most_ms = most_ms;
     }
 }
 

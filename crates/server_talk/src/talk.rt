@@ -1,22 +1,22 @@
 //! One connection: its reads, its writes and its end, over any reader, writer and store.
 ghost use Rattle.std.specs.Prelude.{◌≡◌, ◌<◌, ◌≤◌, ◌⊎◌, ℕ, max, true, false, [], List, length, take, ⊤, Option, None, Some, MatchOption};
 ghost use Rattle.std.specs.Io.KnownBytes.{Consumes, Appends, Keeps};
-ghost use Rattle.pcep_session.specs.Timers.{IsNextDue, is_due_at};
+ghost use Rattle.pcep_session.specs.Timers.{is_due_at};
 ghost use Rattle.pcep_session.specs.Turns.{is_closed};
+ghost use Rattle.engine_core.specs.Deeds.{Deed, calls_of};
 ghost use Rattle.engine_core.specs.Engine.{ending};
 ghost use Rattle.engine_core.specs.Joining.{joined_after};
-ghost use Rattle.engine_core.specs.declared.store.Call.{Call};
 ghost use Rattle.server_talk.specs.Goings.{Goes};
-ghost use Rattle.server_talk.specs.Heard.{IsWithin, Hears, IsDue, wait_until, heard_of_fault, taken_of_fault};
+ghost use Rattle.server_talk.specs.Heard.{IsWithin, Hears, IsDue, WaitsUntilDue, wait_until, heard_of_fault, taken_of_fault};
 ghost use Rattle.server_talk.specs.Watches.{watch_of};
 ghost use Rattle.server_talk.specs.Connections.{SoFar, TakesAll, GoesOut, MayEndSo, IsUnexplained, spoken, Leaves, owes_down, IsServed, IsUnserved};
 
 use crate::traits::{Patient, Watch};
 use engine_core::{Client, Desk, Fault, hang_up, serve};
+use pcep_session::EndReason;
 use std::alloc::Global;
 use std::io::{ErrorKind, Write};
 use std::sync::Wait;
-use std::time::Duration;
 
 /// The number of bytes that a turn reads, at most.
 pub const PIECE: usize = 4096;
@@ -51,6 +51,15 @@ pub enum Ended {
     StoreFault(Fault),
 }
 
+/// How a connection ended, and why its session had ended by then.
+#[derive(Clone, Copy, PartialEq, Eq, Debug)]
+pub struct Departure {
+    pub ended: Ended,
+    /// What the session itself says, before the end of the connection ends it. `None` if it hadn't ended, or there was no
+    /// memory for it.
+    pub reason: Option<EndReason>,
+}
+
 /// What a turn's read gave.
 #[derive(Clone, Copy)]
 enum Heard {
@@ -70,8 +79,8 @@ struct Talk {
 
 /// Serves one peer until its end. Every call that the store gets is one that the engine's table names for this peer and
 /// the bytes that the reader gave, or the Down of its end; the store's list has that alone, or nothing where the peer
-/// wasn't joined. All that the session says goes to the writer. Where there is no memory for a session, nothing is
-/// done, and that is answered as `SessionEnded`.
+/// wasn't joined. The store is shown the peer's Open and each message that the session delivers. All that the session says
+/// goes to the writer. Where there is no memory for a session, nothing is done, and that is answered as `SessionEnded`.
 pub fn connection<R: Wait, I: Patient, O: Write, W: Watch, D: Desk>(
     rt: &R,
     alloc: Global,
@@ -80,14 +89,17 @@ pub fn connection<R: Wait, I: Patient, O: Write, W: Watch, D: Desk>(
     writer: &mut O,
     watch: &W,
     store: &mut D,
-) -> Ended
-    ensures down { (calls : List Call) × Goes D.Store store.old calls store.new × (joined_after false calls ≡ owes_down result) }
+) -> Departure
+    ensures down { (deeds : List Deed) × Goes D.Store store.old deeds store.new × (joined_after false (calls_of deeds) ≡ owes_down result.ended) }
     ensures is_served { IsUnserved result store.old store.new reader.old reader.new writer.old writer.new
         ⊎ IsServed D.Store (watch_of W.Watch watch.now) peer store.old (I.remaining reader.old) (O.contents writer.old) result store.new (I.remaining reader.new) (O.contents writer.new) }
 {
     let served_ms = watch.now_ms();
     let Ok(client) = Client::new(alloc, served_ms) else {
-        return Ended::SessionEnded;
+        return Departure {
+            ended: Ended::SessionEnded,
+            reason: None,
+        };
     };
     let mut talk = Talk {
         peer,
@@ -95,25 +107,28 @@ pub fn connection<R: Wait, I: Patient, O: Write, W: Watch, D: Desk>(
         served_ms,
     };
     let ended = talk_on(rt, &mut talk, reader, writer, watch, store);
+    let reason = talk.client.session.end_reason();
     match leave(&mut talk, store) {
-        Ok(()) => ended,
-        Err(fault) => Ended::StoreFault(fault),
+        Ok(()) => Departure { ended, reason },
+        Err(fault) => Departure {
+            ended: Ended::StoreFault(fault),
+            reason,
+        },
     }
 }
 
-/// A history that is full is rolled, unless another thread has rolled it, so that the next call finds room.
-pub(crate) fn make_room<D: Desk>(fault: Fault, store: &mut D)
-    ensures { (start : D) (calls : List Call) → Goes D.Store start calls store.old → Goes D.Store start calls store.new }
+/// Makes room after a fault, so that the next call finds some: a history that is full is rolled, unless another thread has
+/// rolled it. If it isn't full, memory was refused, and the store is asked all the same: it may know who sees to that.
+pub(crate) fn make_room<D: Desk>(store: &mut D)
+    ensures { (start : D) (deeds : List Deed) → Goes D.Store start deeds store.old → Goes D.Store start deeds store.new }
 {
-    if fault == Fault::HistoryFull {
-        let _rolled = store.roll_if_full();
-    }
+    let _rolled = store.roll_if_full();
 }
 
 /// Hangs up, and again after a fault. The list of the store has the calls of that alone.
 fn leave<D: Desk>(talk: &mut Talk, store: &mut D) -> Result<(), Fault>
-    ensures { (start : D) (calls : List Call) → Goes D.Store start calls store.old
-        → Leaves result D.Store talk.old.peer talk.old.client.joined start calls store.new }
+    ensures { (start : D) (deeds : List Deed) → Goes D.Store start deeds store.old
+        → Leaves result D.Store talk.old.peer talk.old.client.joined start deeds store.new }
 {
     let mut last = Fault::OutOfMemory;
     for _try in 0..HANG_UPS {
@@ -121,7 +136,7 @@ fn leave<D: Desk>(talk: &mut Talk, store: &mut D) -> Result<(), Fault>
         match hang_up(&mut talk.client, talk.peer, store) {
             Ok(()) => return Ok(()),
             Err(fault) => {
-                make_room(fault, store);
+                make_room(store);
                 last = fault;
             }
         }
@@ -178,25 +193,61 @@ fn turn<I: Patient, O: Write, W: Watch, D: Desk>(
         close(talk);
         return say(talk, writer, watch);
     }
-    let most = Duration::from_millis(patience_ms(talk, watch.now_ms()));
-    reader.set_patience(most);
+    wait_for_timer(talk, reader, watch);
     let heard = hear(reader, buffer);
     match heard {
         Heard::Ended(ended) => Some(ended),
         Heard::Bytes(count) => answer(talk, &buffer[..count], writer, watch, store),
-        Heard::Nothing if is_due(talk, watch, store) => answer(talk, &[], writer, watch, store),
         Heard::Nothing => {
+            if is_due(talk, watch, store) {
+                return answer_due(talk, reader, writer, watch, store);
+            }
             store.forget();
             None
         }
     }
 }
 
-/// How long the session may wait for bytes, in milliseconds: until its next timer is due.
-fn patience_ms(talk: &Talk, now_ms: u64) -> u64
-    ensures { (next : Option ℕ) × IsNextDue next talk.now.client.session × (result ≡ wait_until next now_ms) }
+/// Serves the session because something is due: messages wait for the peer, or a timer. What is there to be read is served
+/// first, since the wait may have been interrupted: a timer acts only if nothing came.
+fn answer_due<I: Patient, O: Write, W: Watch, D: Desk>(
+    talk: &mut Talk,
+    reader: &mut I,
+    writer: &mut O,
+    watch: &W,
+    store: &mut D,
+) -> Option<Ended>
+    requires open { is_closed talk.old.client.session.state ≡ false }
+    ensures open { result ≡ None → is_closed talk.new.client.session.state ≡ false }
+    ensures silent { talk.old.client.session.output ≡ [] → talk.new.client.session.output ≡ [] }
+    ensures peer { talk.new.peer ≡ talk.old.peer }
+    ensures turned { (start : D) (unread blank : Option (List ℕ))
+        → SoFar D.Store (watch_of W.Watch watch.now) talk.old.peer start unread blank None store.old (I.remaining reader.old) (O.contents writer.old) talk.old.served_ms talk.old.client
+        → SoFar D.Store (watch_of W.Watch watch.now) talk.old.peer start unread blank result store.new (I.remaining reader.new) (O.contents writer.new) talk.new.served_ms talk.new.client }
 {
-    match talk.client.session.next_due_ms() {
+    let mut buffer = [0u8; PIECE];
+    match hear_at_once(reader, &mut buffer) {
+        Heard::Ended(ended) => Some(ended),
+        Heard::Bytes(count) => answer(talk, &buffer[..count], writer, watch, store),
+        Heard::Nothing => answer(talk, &[], writer, watch, store),
+    }
+}
+
+/// Has the reader wait until the session's next timer is due, and no longer.
+fn wait_for_timer<I: Patient, W: Watch>(talk: &Talk, reader: &mut I, watch: &W)
+    ensures kept { Keeps (I.remaining reader.old) (I.remaining reader.new) }
+    ensures waits { WaitsUntilDue (I.may_wait reader.new) (W.may_show watch.now) talk.now.client.session }
+{
+    let next = talk.client.session.next_due_ms();
+    let now_ms = watch.now_ms();
+    reader.set_patience(wait_until(next, now_ms));
+}
+
+/// How long the session may wait for bytes, in milliseconds, if its next timer is due at a moment.
+fn wait_until(next: Option<u64>, now_ms: u64) -> u64
+    ensures { result ≡ wait_until next now_ms }
+{
+    match next {
         Some(due_ms) => due_ms.saturating_sub(now_ms).min(LONGEST_WAIT_MS),
         None => LONGEST_WAIT_MS,
     }
@@ -213,8 +264,9 @@ fn is_timer_due(talk: &Talk, now_ms: u64) -> bool
 }
 
 /// Whether the session is to be served though no bytes came: messages wait for the peer, or a timer is due.
-fn is_due<W: Watch, D: Desk>(talk: &Talk, watch: &W, store: &D) -> bool
-    ensures { IsDue (D.queues store.now talk.now.peer) (W.may_show watch.now) talk.now.client.session result }
+fn is_due<W: Watch, D: Desk>(talk: &Talk, watch: &W, store: &mut D) -> bool
+    ensures due { IsDue (D.queues store.new talk.now.peer) (W.may_show watch.now) talk.now.client.session result }
+    ensures same { D.moves store.old [] store.new }
 {
     let is_queued = store.queued(talk.peer);
     let now_ms = watch.now_ms();
@@ -246,6 +298,16 @@ fn hear<I: Patient>(reader: &mut I, buffer: &mut [u8]) -> Heard
     }
 }
 
+/// Reads what is there, and waits for nothing.
+fn hear_at_once<I: Patient>(reader: &mut I, buffer: &mut [u8]) -> Heard
+    requires room { 0 < length buffer.old }
+    ensures within { IsWithin result buffer.new }
+    ensures heard { Hears result (I.remaining reader.old) (I.remaining reader.new) buffer.new }
+{
+    reader.set_patience(0);
+    hear(reader, buffer)
+}
+
 /// The moment that it is, or the last one at which the session was served, where that is later.
 fn moment_ms<W: Watch>(talk: &Talk, watch: &W) -> u64
     ensures rises { talk.now.served_ms ≤ result }
@@ -270,8 +332,8 @@ fn serve_piece<W: Watch, D: Desk>(talk: &mut Talk, piece: &[u8], watch: &W, stor
     talk.served_ms = now_ms;
     let served = serve(&mut talk.client, talk.peer, piece, now_ms, store);
     store.forget();
-    if let Err(fault) = served {
-        make_room(fault, store);
+    if let Err(_fault) = served {
+        make_room(store);
     }
 }
 

@@ -2,14 +2,19 @@
 ghost use Rattle.std.specs.Io.KnownBytes.{Keeps};
 
 use std::io::Read;
-use std::time::Duration;
 
-/// A reader that waits for bytes, but no longer than it is asked, and only until it is rung for. Where none came, it
-/// answers `WouldBlock` or `TimedOut`.
+/// A reader that waits for bytes, but no longer than it is asked, and only until it is rung for. If none came, it answers
+/// `WouldBlock` or `TimedOut`.
 pub trait Patient: Read {
-    /// The reads from now on wait for this time at most. What they give stays the same.
-    fn set_patience(&mut self, most: Duration)
-        ensures { Keeps (Self.remaining self.old) (Self.remaining self.new) };
+    ghost use Rattle.std.specs.Prelude.{ℕ, ⊤};
+
+    /// Its reads wait for so many milliseconds at most.
+    ghost may_wait: { Self → ℕ → Type 0 } = { λ _ _. ⊤ };
+
+    /// The reads from now on wait for so many milliseconds at most. What they give stays the same.
+    fn set_patience(&mut self, most_ms: u64)
+        ensures kept { Keeps (Self.remaining self.old) (Self.remaining self.new) }
+        ensures waits { may_wait self.new most_ms };
 }
 
 /// What a connection knows of the run that it is part of.

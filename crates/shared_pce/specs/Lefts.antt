@@ -2,7 +2,7 @@
 use Rattle.std.specs.Prelude.{ℕ, ℤ, ◌≡◌, ◌++◌, nat_lt, Bool, true, false, List, [], length, drop, Some, Contains, if◌then◌else◌}
 use Rattle.lsp_base.specs.Shares.{unreserved}
 use Rattle.te_base.specs.Ted.{Ted}
-use Rattle.delegate_rules.specs.Reports.{links_of}
+use Rattle.delegate_rules.specs.Reports.{hops_of, links_of}
 use Rattle.server_counts.specs.declared.lefts.LeftRow.{LeftRow}
 use Rattle.step_core.specs.declared.event.Event.{Event}
 use Rattle.step_core.specs.declared.event.Event.TheVariants.{Report, Commit}
@@ -17,6 +17,11 @@ abbrev pub links_in : Ted → Event → List ℕ
 links_in te (Report peer r) = links_of te r
 links_in te (Commit ticket (Some links)) = links
 links_in te e = []
+
+-- a report's route has so many hops that its links aren't looked at
+abbrev pub is_long : Event → Bool
+is_long (Report peer r) = nat_lt 256 (length (hops_of r))
+is_long e = false
 
 -- the path was booked or granted
 abbrev pub brings : Reply → Bool

@@ -1,11 +1,13 @@
 //! What a step leaves of the links of the path that it brings: numbers of one hold of the lock, before the step and after it.
-ghost use Rattle.std.specs.Prelude.{ℕ, ◌≡◌, true, [], All, map, IfOk, IfSome};
+ghost use Rattle.std.specs.Prelude.{ℕ, ◌≡◌, true, [], All, None, length, map, IfOk, IfSome};
+ghost use Rattle.delegate_rules.specs.Reports.{hops_of};
 ghost use Rattle.history_core.specs.Histories.{Content, Replays};
 ghost use Rattle.step_core.specs.Steps.{step};
-ghost use Rattle.shared_pce.specs.Lefts.{brings, links_in, row_after, row_before, IsBefore, IsLookedAt, WasLeft};
+ghost use Rattle.shared_pce.specs.Lefts.{brings, is_long, links_in, row_after, row_before, IsBefore, IsLookedAt, WasLeft};
 
 use delegate_rules::report_links;
 use history_core::{Database, Event, Reply};
+use pcep_messages::StateReport;
 use pcep_word::Priority;
 use sequence::PlainData;
 use server_counts::LeftRow;
@@ -14,6 +16,30 @@ use te_base::{LinkNumber, TeBase};
 
 /// The greatest number of links of a path that are looked at.
 const LINK_LIMIT: usize = 64;
+
+/// The greatest number of hops of a report whose links are looked at: four for each of the links that are looked at at most.
+/// A longer route is walked by the step alone, so that no router makes the lock last by a walk that shows nothing.
+const HOP_LIMIT: usize = 256;
+
+/// Counts the hops of the route that a report gives its path.
+fn hop_count(report: &StateReport) -> usize
+    ensures { result ≡ length (hops_of report.now) }
+{
+    match &report.rro {
+        Some(hops) => hops.as_slice().len(),
+        None => report.ero.as_slice().len(),
+    }
+}
+
+/// Tests whether an event's route is so long that its links aren't looked at.
+fn is_long(event: &Event) -> bool
+    ensures { result ≡ is_long event.now }
+{
+    match event {
+        Event::Report { report, .. } => hop_count(report) > HOP_LIMIT,
+        _ => false,
+    }
+}
 
 /// Lists the links of the path that an event brings.
 fn links_in(alloc: Global, te: &TeBase, event: &Event) -> Result<Vec<LinkNumber>, AllocError>
@@ -62,27 +88,32 @@ fn rows_before(
     Some(rows)
 }
 
-/// Reads what is left of each link of an event, where it can be read.
+/// Reads what is left of each link of an event, where it can be read and the route isn't too long.
 fn rows_of_event(
     alloc: Global,
     database: &Database,
     event: &Event,
     priority: Priority,
 ) -> Option<Vec<LeftRow>>
-    ensures { IfSome result (λ rows. rows.items ≡ map (row_before database.now priority) (links_in database.now.state.te event.now)) }
+    ensures rows { IfSome result (λ rows. rows.items ≡ map (row_before database.now priority) (links_in database.now.state.te event.now)) }
+    ensures long { is_long event.now ≡ true → result ≡ None }
 {
+    if is_long(event) {
+        return None;
+    }
     let links = links_in(alloc, database.te_base(), event).ok()?;
     rows_before(alloc, database, &links, priority)
 }
 
-/// Reads what is left of each link of an event, or nothing.
+/// Reads what is left of each link of an event, or nothing. The walk of a long route is spared.
 pub(crate) fn see_before(
     alloc: Global,
     database: &Database,
     event: &Event,
     priority: Priority,
 ) -> Vec<LeftRow>
-    ensures { All (IsBefore database.now event.now priority) result.items }
+    ensures before { All (IsBefore database.now event.now priority) result.items }
+    ensures long { is_long event.now ≡ true → result.items ≡ [] }
 {
     match rows_of_event(alloc, database, event, priority) {
         Some(rows) => rows,

@@ -1,60 +1,76 @@
 //! The lock, and what is done under it.
-ghost use Rattle.std.specs.Prelude.{◌≡◌, ◌≤◌, ◌==◌, [], true, not, nat_lt, filter, length, All, IfOk, IfErr, OnErr, replicate};
+ghost use Rattle.std.specs.Prelude.{◌≡◌, ◌≤◌, ◌==◌, [], true, filter, length, List, All, IfOk, IfErr, OnErr, replicate};
+ghost use mathlib.Core.List.{IsPrefix};
 ghost use Rattle.step_core.specs.States.{has_waiting, is_queued};
 ghost use Rattle.te_base.specs.Values.{values_in};
 ghost use Rattle.te_snapshot.specs.Left.{all_left};
-ghost use Rattle.history_core.specs.Histories.{Content, Replays, IsSound, is_full, steps_of, grants_of};
-ghost use Rattle.history_seats.specs.Receipts.{new_seat, tidy};
+ghost use Rattle.history_core.specs.Histories.{Replays, IsSound, is_full, steps_of, grants_of};
+ghost use Rattle.history_tokens.specs.declared.rule.Happening.{Happening};
+ghost use Rattle.step_core.specs.declared.event.Event.{Event};
+ghost use Rattle.history_seats.specs.Past.{database_at};
+ghost use Rattle.history_seats.specs.Seeing.{HasSeenOf};
+ghost use Rattle.history_seats.specs.Receipts.{new_seat};
 ghost use Rattle.history_seats.specs.Audits.{IsAudited, Fails};
 ghost use Rattle.shared_pce.specs.Lefts.{WasLeft};
-ghost use Rattle.shared_pce.specs.Turns.{Received, RollsIf};
+ghost use Rattle.shared_pce.specs.Turns.{Received, SeesMore};
 
 use crate::audit::{Audit, AuditRefused};
 use crate::bell::Bell;
+use crate::due::RollAt;
 use crate::left_table::LeftTable;
-use crate::locks::acquire;
 use crate::looks::{links_of, lsp_count};
-use crate::stepped::{Stepped, priority_of, step_seen};
+use crate::stepped::{Stepped, priority_of};
+use crate::unfolded::Unfolded;
 use database_looks::{LeftLook, Look};
 use history_core::{Database, Event, Fault, Reply, SharedEvent};
-use history_seats::{Held, Seat};
-use place_tokens::{Room, Unopened};
+use history_seats::{Brands, Front, Held, Seat, Unnamed};
+use place_tokens::Unopened;
 use sequence::PlainData;
 use server_counts::LeftRow;
+use short_lock::acquire;
 use std::alloc::{AllocError, Global};
-use std::sync::ledger::{Blank, Ledger};
+use std::sync::ledger::Blank;
 use std::sync::{Mutex, Wait};
 use te_base::LinkValues;
 
+mod drops;
+mod rolls;
 mod turns;
 
 /// One database for all threads, behind one lock.
-pub struct Shared<S: Ledger, G: Ledger, B: Room> {
+pub struct Shared<B: Brands> {
     alloc: Global,
-    held: Mutex<Held<S, G, B>>,
+    held: Mutex<Held<B>>,
     bell: Bell,
     /// What steps left of links. Its lock is taken with that of the database free.
     lefts: Mutex<LeftTable>,
+    /// What the receipts of rolled steps take. Its lock is taken within that of the database, or alone.
+    unfolded: Mutex<Unfolded>,
+    /// When the history is rolled before a step, if no receipts of rolled steps are left.
+    roll_at: RollAt,
 }
 
 /// Drops each part. A derived drop would be proved anew for each owner.
-impl<S: Ledger, G: Ledger, B: Room> Drop for Shared<S, G, B> {
+impl<B: Brands> Drop for Shared<B> {
     fn drop(self) {
         let Shared {
             alloc: _,
             held,
             bell,
             lefts,
+            unfolded,
+            roll_at: _,
         } = self;
         drop(held);
         drop(bell);
         drop(lefts);
+        drop(unfolded);
     }
 }
 
-impl<S: Ledger, G: Ledger, B: Room> Shared<S, G, B> {
-    /// Puts a database of which no step was taken behind a lock, with 1 to 256 seats. All is dropped
-    /// where memory is refused.
+impl<B: Brands> Shared<B> {
+    /// Puts a database of which no step was taken behind a lock, with 1 to 256 seats. From `roll_at` on each step rolls the
+    /// history first. All is dropped where memory is refused.
     pub fn new(
         alloc: Global,
         database: Database,
@@ -62,57 +78,95 @@ impl<S: Ledger, G: Ledger, B: Room> Shared<S, G, B> {
         steps: Blank,
         grants: Blank,
         room: Unopened,
-    ) -> Result<(Shared<S, G, B>, Vec<Seat<S, G, B>>), AllocError>
+        history: Unnamed<Event>,
+        roll_at: RollAt,
+    ) -> Result<(Shared<B>, Vec<Seat<B>>), AllocError>
         requires none_taken { steps_of database ≡ 0 }
+        requires text { database.text ≡ B.text }
+        requires history { history ≡ B.log }
         requires seats { (1 ≤ seats) × (seats ≤ 256) }
-        requires steps { (steps.name ≡ S.name) × (steps.parts ≡ S.parts) × (steps.parts ≡ seats) }
-        requires grants { (grants.name ≡ G.name) × (grants.parts ≡ G.parts) × (grants.parts ≡ seats) }
+        requires steps { (steps.name ≡ B.steps) × (steps.parts ≡ B.seats) × (steps.parts ≡ seats) }
+        requires grants { (grants.name ≡ B.grants) × (grants.parts ≡ B.seats) × (grants.parts ≡ seats) }
         requires room { (room.table ≡ B.table) × (room.seats ≡ B.seats) × (room.seats ≡ seats) }
         ensures { IfOk result (λ made. made.1.items ≡ replicate seats new_seat) }
     {
-        let (held, seats) = Held::new(alloc, database, seats, steps, grants, room)?;
+        let (held, seats) = Held::new(alloc, database, seats, steps, grants, room, history)?;
         let shared = Shared {
             alloc,
             held: Mutex::new(held),
             bell: Bell::new(),
             lefts: Mutex::new(LeftTable::new(alloc)),
+            unfolded: Mutex::new(Unfolded::new()),
+            roll_at,
         };
         Ok((shared, seats))
     }
 
-    /// One event, as one step under the lock, with its receipt to the seat. After a fault the seat is as before,
-    /// and no step was taken. `HistoryFull` where no further step could be kept.
-    pub fn submit<R: Wait>(
-        &self,
-        rt: &R,
-        seat: &mut Seat<S, G, B>,
-        event: Event,
-    ) -> Result<Reply, Fault>
-        ensures received { IfOk result (Received seat.old event seat.new) }
-        ensures unchanged_on_fault { OnErr result (seat.new ≡ seat.old) }
-        ensures full { result ≡ Err Fault.HistoryFull → (d : Content) × Replays d × (is_full d ≡ true) }
+    /// One event, as one step under the lock, with its receipt to the seat. If the history takes as much memory as it may beside
+    /// the receipts of rolled steps, it is rolled first. After a fault the seat is as before, and no step was taken. `HistoryFull`
+    /// where no further step could be kept.
+    pub fn submit<R: Wait>(&self, rt: &R, seat: &mut Seat<B>, event: Event) -> Result<Reply, Fault>
+        ensures received { IfOk result (Received B.text seat.old event seat.new) }
+        ensures unchanged_on_fault { OnErr result (SeesMore seat.old seat.new) }
+        ensures full { result ≡ Err Fault.HistoryFull → is_full (database_at B.text seat.new.seen) ≡ true }
     {
         let event = SharedEvent::new(self.alloc, event)?;
         self.submit_shared(rt, seat, event)
     }
 
     /// The same of an event that the caller keeps too. It stands in memory once, for the history, the receipt
-    /// and the caller.
+    /// and the caller. If memory is refused and the history holds a megabyte or more, it is rolled and the event is tried once more.
     pub fn submit_shared<R: Wait>(
         &self,
         rt: &R,
-        seat: &mut Seat<S, G, B>,
+        seat: &mut Seat<B>,
         event: SharedEvent,
     ) -> Result<Reply, Fault>
-        ensures received { IfOk result (Received seat.old event seat.new) }
-        ensures unchanged_on_fault { OnErr result (seat.new ≡ seat.old) }
-        ensures full { result ≡ Err Fault.HistoryFull → (d : Content) × Replays d × (is_full d ≡ true) }
+        ensures received { IfOk result (Received B.text seat.old event seat.new) }
+        ensures unchanged_on_fault { OnErr result (SeesMore seat.old seat.new) }
+        ensures full { result ≡ Err Fault.HistoryFull → is_full (database_at B.text seat.new.seen) ≡ true }
+    {
+        let again = event.copy()?;
+        match self.submit_once(rt, seat, event) {
+            Err(Fault::OutOfMemory) => self.submit_again(rt, seat, again),
+            done => done,
+        }
+    }
+
+    /// The same after memory was refused: the history is rolled first. `OutOfMemory` if there is nothing to roll.
+    fn submit_again<R: Wait>(
+        &self,
+        rt: &R,
+        seat: &mut Seat<B>,
+        event: SharedEvent,
+    ) -> Result<Reply, Fault>
+        ensures received { IfOk result (Received B.text seat.old event seat.new) }
+        ensures unchanged_on_fault { OnErr result (SeesMore seat.old seat.new) }
+        ensures full { result ≡ Err Fault.HistoryFull → is_full (database_at B.text seat.new.seen) ≡ true }
+    {
+        if !self.spare(rt, seat) {
+            return Err(Fault::OutOfMemory);
+        }
+        self.submit_once(rt, seat, event)
+    }
+
+    /// The same, tried once.
+    fn submit_once<R: Wait>(
+        &self,
+        rt: &R,
+        seat: &mut Seat<B>,
+        event: SharedEvent,
+    ) -> Result<Reply, Fault>
+        ensures received { IfOk result (Received B.text seat.old event seat.new) }
+        ensures unchanged_on_fault { OnErr result (SeesMore seat.old seat.new) }
+        ensures full { result ≡ Err Fault.HistoryFull → is_full (database_at B.text seat.new.seen) ≡ true }
     {
         seat.reserve(1)?;
         let priority = priority_of(event.event());
         let mut held = acquire(rt, &self.held);
-        let stepped = step_seen(self.alloc, &mut held, seat, event, priority)?;
+        let (stepped, rolled) = self.roll_and_step(rt, &mut held, seat, event, priority)?;
         drop(held);
+        drop(rolled);
         if matches!(stepped.reply, Reply::Asked(_) | Reply::Again) {
             self.bell.ring();
         }
@@ -133,7 +187,7 @@ impl<S: Ledger, G: Ledger, B: Room> Shared<S, G, B> {
             let _noted = acquire(rt, &self.lefts).note(&rows);
         }
         drop(rows);
-        drop(unkept);
+        self.drop_folded(rt, unkept);
         reply
     }
 
@@ -145,135 +199,127 @@ impl<S: Ledger, G: Ledger, B: Room> Shared<S, G, B> {
         acquire(rt, &self.lefts).copies(self.alloc)
     }
 
+    /// A front that has seen all that has happened until now. It has no bytes.
+    pub fn front<R: Wait>(&self, rt: &R) -> Front<Event, B> {
+        acquire(rt, &self.held).front()
+    }
+
     /// Whether a ticket waits to be searched for.
-    pub fn waiting<R: Wait>(&self, rt: &R) -> bool
-        ensures { (d : Content) × Replays d × (result ≡ has_waiting d.state) }
+    pub fn waiting<R: Wait>(&self, rt: &R, me: &mut Front<Event, B>) -> bool
+        ensures begins { IsPrefix me.old me.new }
+        ensures waiting { result ≡ has_waiting (database_at B.text me.new).state }
     {
-        acquire(rt, &self.held).database().waiting()
+        let mut held = acquire(rt, &self.held);
+        held.show(me);
+        held.database().waiting()
     }
 
     /// Whether messages wait to be sent to the peer.
-    pub fn queued<R: Wait>(&self, rt: &R, peer: u32) -> bool
-        ensures { (d : Content) × Replays d × (result ≡ is_queued d.state peer) }
+    pub fn queued<R: Wait>(&self, rt: &R, me: &mut Front<Event, B>, peer: u32) -> bool
+        ensures begins { IsPrefix me.old me.new }
+        ensures queued { result ≡ is_queued (database_at B.text me.new).state peer }
     {
-        acquire(rt, &self.held).database().queued(peer)
+        let mut held = acquire(rt, &self.held);
+        held.show(me);
+        held.database().queued(peer)
+    }
+
+    /// The same, of a seat.
+    pub fn queued_at<R: Wait>(&self, rt: &R, seat: &mut Seat<B>, peer: u32) -> bool
+        ensures sees { SeesMore seat.old seat.new }
+        ensures queued { result ≡ is_queued (database_at B.text seat.new.seen).state peer }
+    {
+        let mut held = acquire(rt, &self.held);
+        held.show_seat(seat);
+        held.database().queued(peer)
     }
 
     /// How many steps are kept, of those that were taken.
-    pub fn kept<R: Wait>(&self, rt: &R) -> u64
-        ensures { (d : Content) × Replays d × (result ≡ length d.history) }
+    pub fn kept<R: Wait>(&self, rt: &R, me: &mut Front<Event, B>) -> u64
+        ensures begins { IsPrefix me.old me.new }
+        ensures kept { result ≡ length (database_at B.text me.new).history }
     {
-        acquire(rt, &self.held).database().history().len() as u64
+        let mut held = acquire(rt, &self.held);
+        held.show(me);
+        held.database().history().len() as u64
     }
 
     /// What is left of every link at each of the eight priorities, in bytes per second, by the number of the link:
     /// what may be reserved on it, minus what is reserved, all at one moment. It is below zero where more is reported
     /// than the link bears. Of the lock it takes as long as reading eight numbers for each link.
-    pub fn left<R: Wait>(&self, rt: &R) -> Result<Vec<[i64; 8]>, AllocError>
-        ensures { IfOk result (λ table. (d : Content) × Replays d × (table.items ≡ all_left d.state.te.links d.state.base.paths)) }
+    pub fn left<R: Wait>(
+        &self,
+        rt: &R,
+        me: &mut Front<Event, B>,
+    ) -> Result<Vec<[i64; 8]>, AllocError>
+        ensures begins { IsPrefix me.old me.new }
+        ensures left { IfOk result (λ table. let d = database_at B.text me.new in table.items ≡ all_left d.state.te.links d.state.base.paths) }
     {
-        self.look(rt, &LeftLook)
+        self.look(rt, me, &LeftLook)
+    }
+
+    /// The same, of a seat.
+    pub fn left_at<R: Wait>(&self, rt: &R, seat: &mut Seat<B>) -> Result<Vec<[i64; 8]>, AllocError>
+        ensures sees { SeesMore seat.old seat.new }
+        ensures left { IfOk result (λ table. let d = database_at B.text seat.new.seen in table.items ≡ all_left d.state.te.links d.state.base.paths) }
+    {
+        self.look_at(rt, seat, &LeftLook)
     }
 
     /// The values of every link, and what is left of it at each of the eight priorities, all at one moment.
-    pub fn links<R: Wait>(&self, rt: &R) -> Result<(Vec<LinkValues>, Vec<[i64; 8]>), AllocError>
-        ensures { IfOk result (λ table. (d : Content) × Replays d × (table.0.items ≡ values_in d.state.te)
-            × (table.1.items ≡ all_left d.state.te.links d.state.base.paths)) }
+    pub fn links<R: Wait>(
+        &self,
+        rt: &R,
+        me: &mut Front<Event, B>,
+    ) -> Result<(Vec<LinkValues>, Vec<[i64; 8]>), AllocError>
+        ensures begins { IsPrefix me.old me.new }
+        ensures values { IfOk result (λ table. table.0.items ≡ values_in (database_at B.text me.new).state.te) }
+        ensures left { IfOk result (λ table. let d = database_at B.text me.new in table.1.items ≡ all_left d.state.te.links d.state.base.paths) }
     {
-        let held = acquire(rt, &self.held);
-        // for the proof alone: the history replays
-        let _replays = held.database().history();
+        let mut held = acquire(rt, &self.held);
+        held.show(me);
         links_of(self.alloc, held.database())
     }
 
     /// How many LSPs of the peer are known.
-    pub fn lsp_count<R: Wait>(&self, rt: &R, peer: u32) -> usize
-        ensures { (d : Content) × Replays d × (result ≡ length (filter (λ r. r.peer == peer) d.state.base.records)) }
+    pub fn lsp_count<R: Wait>(&self, rt: &R, me: &mut Front<Event, B>, peer: u32) -> usize
+        ensures begins { IsPrefix me.old me.new }
+        ensures count { result ≡ length (filter (λ r. r.peer == peer) (database_at B.text me.new).state.base.records) }
     {
-        let held = acquire(rt, &self.held);
-        // for the proof alone: the history replays
-        let _replays = held.database().history();
+        let mut held = acquire(rt, &self.held);
+        held.show(me);
         lsp_count(held.database(), peer)
     }
 
     /// Looks at the database: what is seen, all of one moment, is copied out. It is no step. Of the lock it takes as long
     /// as the look.
-    pub fn look<R: Wait, L: Look>(&self, rt: &R, look: &L) -> Result<L::Seen, AllocError>
-        ensures { IfOk result (λ seen. (d : Content) × Replays d × L.sees look.now d seen) }
+    pub fn look<R: Wait, L: Look>(
+        &self,
+        rt: &R,
+        me: &mut Front<Event, B>,
+        look: &L,
+    ) -> Result<L::Seen, AllocError>
+        ensures begins { IsPrefix me.old me.new }
+        ensures sees { IfOk result (L.sees look.now (database_at B.text me.new)) }
     {
-        let held = acquire(rt, &self.held);
-        // for the proof alone: the history replays
-        let _replays = held.database().history();
+        let mut held = acquire(rt, &self.held);
+        held.show(me);
         look.see(self.alloc, held.database())
     }
 
-    /// Rolls the history: the state becomes its base, and the steps that were kept are dropped once the lock is
-    /// free. Gives how many steps were taken before the base. Whoever rolls shows a seat. Where memory is refused nothing has
-    /// changed.
-    pub fn roll<R: Wait>(&self, rt: &R, seat: &Seat<S, G, B>) -> Result<u64, AllocError>
-        ensures { IfOk result (λ steps. (d : Content) × Replays d × (steps ≡ d.rolled) × (d.history ≡ [])) }
-    {
-        let mut held = acquire(rt, &self.held);
-        let unkept = held.take_rolled(seat)?;
-        let steps = held.database().rolled();
-        drop(held);
-        drop(unkept);
-        Ok(steps)
-    }
-
-    /// Rolls the history where at least this number of steps is kept, and gives how many were taken before its new base. `None`
-    /// where fewer are kept, as where another thread has rolled it: the test and the roll are under one lock. Where
-    /// memory is refused nothing has changed.
-    pub fn roll_if<R: Wait>(
+    /// The same, of a seat.
+    pub fn look_at<R: Wait, L: Look>(
         &self,
         rt: &R,
-        seat: &Seat<S, G, B>,
-        at_least: u64,
-    ) -> Result<Option<u64>, AllocError>
-        ensures { IfOk result (λ rolled. (d : Content) × Replays d × RollsIf (not (nat_lt (length d.history) at_least)) d rolled) }
+        seat: &mut Seat<B>,
+        look: &L,
+    ) -> Result<L::Seen, AllocError>
+        ensures shown { SeesMore seat.old seat.new }
+        ensures sees { IfOk result (L.sees look.now (database_at B.text seat.new.seen)) }
     {
         let mut held = acquire(rt, &self.held);
-        if (held.database().history().len() as u64) < at_least {
-            return Ok(None);
-        }
-        let unkept = held.take_rolled(seat)?;
-        let steps = held.database().rolled();
-        drop(held);
-        drop(unkept);
-        Ok(Some(steps))
-    }
-
-    /// The same where no further step can be kept.
-    pub fn roll_if_full<R: Wait>(
-        &self,
-        rt: &R,
-        seat: &Seat<S, G, B>,
-    ) -> Result<Option<u64>, AllocError>
-        ensures { IfOk result (λ rolled. (d : Content) × Replays d × RollsIf (is_full d) d rolled) }
-    {
-        let mut held = acquire(rt, &self.held);
-        // for the proof alone: the history replays
-        let _replays = held.database().history();
-        if !held.database().is_full() {
-            return Ok(None);
-        }
-        let unkept = held.take_rolled(seat)?;
-        let steps = held.database().rolled();
-        drop(held);
-        drop(unkept);
-        Ok(Some(steps))
-    }
-
-    /// Lets a seat that waits keep its receipts of rolled places no longer; they stay counted. It is no step.
-    pub fn fold<R: Wait>(&self, rt: &R, seat: &mut Seat<S, G, B>)
-        ensures { (d : Content) × Replays d × (seat.new ≡ tidy d.rolled seat.old) }
-    {
-        let held = acquire(rt, &self.held);
-        // for the proof alone: the history replays
-        let _replays = held.database().history();
-        let unkept = held.fold(seat);
-        drop(held);
-        drop(unkept);
+        held.show_seat(seat);
+        look.see(self.alloc, held.database())
     }
 
     /// Wakes the workers, since the end has come.
@@ -290,23 +336,24 @@ impl<S: Ledger, G: Ledger, B: Room> Shared<S, G, B> {
 
     /// Takes the database from behind the lock and audits all of its seats. Where the audit fails everything is
     /// handed back.
-    pub fn close(self, seats: Vec<Seat<S, G, B>>) -> Result<Audit, AuditRefused<S, G, B>>
-        ensures audited { IfOk result (λ audit. IsAudited S.parts audit.database seats.items) }
+    pub fn close(self, seats: Vec<Seat<B>>) -> Result<Audit, AuditRefused<B>>
+        ensures audited { IfOk result (λ audit. IsAudited B.seats audit.database seats.items) }
+        ensures one_history { IfOk result (λ audit. (past : List (Happening Event)) × (audit.database ≡ database_at B.text past) × All (HasSeenOf past) seats.items) }
         ensures replays { IfOk result (λ audit. Replays audit.database) }
         ensures sound { IfOk result (λ audit. IsSound audit.database) }
         ensures sums { IfOk result (λ audit. (audit.steps ≡ steps_of audit.database) × (audit.grants ≡ grants_of audit.database)) }
         ensures handed_back { IfErr result (λ refused. refused.seats.items ≡ seats.items) }
-        ensures refused { IfErr result (λ refused. (d : Content) × Replays d × Fails S.parts d seats.items refused.fault) }
+        ensures refused { IfErr result (λ refused. (past : List (Happening Event)) × All (HasSeenOf past) seats.items × Fails B.seats (database_at B.text past) seats.items refused.fault) }
     {
         let Shared {
             alloc,
             held,
             bell,
             lefts,
+            unfolded,
+            roll_at,
         } = self;
         let mut held = held.into_inner();
-        // for the proof alone: the history replays
-        let _replays = held.database().history();
         let mut seats = seats;
         if let Err(fault) = held.audit(&mut seats) {
             return Err(AuditRefused {
@@ -315,6 +362,8 @@ impl<S: Ledger, G: Ledger, B: Room> Shared<S, G, B> {
                     held: Mutex::new(held),
                     bell,
                     lefts,
+                    unfolded,
+                    roll_at,
                 },
                 seats,
                 fault,

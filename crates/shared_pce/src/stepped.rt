@@ -1,17 +1,16 @@
 //! One step under the lock, and what it leaves.
 ghost use Rattle.std.specs.Prelude.{ℕ, ◌≡◌, true, All, IfOk, OnErr};
-ghost use Rattle.history_core.specs.Histories.{Content, Replays, is_full};
+ghost use Rattle.history_core.specs.Histories.{is_full};
+ghost use Rattle.history_seats.specs.Past.{database_at};
 ghost use Rattle.shared_pce.specs.Lefts.{IsBefore, IsLookedAt, WasLeft};
-ghost use Rattle.shared_pce.specs.Turns.{Received};
+ghost use Rattle.shared_pce.specs.Turns.{Received, SeesMore};
 
 use crate::left::{see_after, see_before};
 use history_core::{Event, Fault, Reply, SharedEvent};
-use history_seats::{Held, Receipt, Seat};
+use history_seats::{Brands, Held, Receipt, Seat};
 use pcep_word::Priority;
-use place_tokens::Room;
 use server_counts::LeftRow;
 use std::alloc::Global;
-use std::sync::ledger::Ledger;
 
 /// What a step came to.
 #[derive(Drop)]
@@ -34,17 +33,17 @@ pub(crate) fn priority_of(event: &Event) -> Priority
 }
 
 /// Takes a step, and reads what it left of these links.
-fn step_beside<S: Ledger, G: Ledger, B: Room>(
+fn step_beside<B: Brands>(
     alloc: Global,
-    held: &mut Held<S, G, B>,
-    seat: &mut Seat<S, G, B>,
+    held: &mut Held<B>,
+    seat: &mut Seat<B>,
     event: SharedEvent,
     before: &[LeftRow],
 ) -> Result<Stepped, Fault>
-    ensures received { IfOk result (λ s. Received seat.old event seat.new s.reply) }
-    ensures left { IfOk result (λ s. (priority : ℕ) → IsLookedAt event priority → All (IsBefore held.old event priority) before.now → All WasLeft s.rows.items) }
-    ensures unchanged_on_fault { OnErr result (seat.new ≡ seat.old) }
-    ensures full { result ≡ Err Fault.HistoryFull → (d : Content) × Replays d × (is_full d ≡ true) }
+    ensures received { IfOk result (λ s. Received B.text seat.old event seat.new s.reply) }
+    ensures left { IfOk result (λ s. (priority : ℕ) → IsLookedAt event priority → All (IsBefore (database_at B.text held.old) event priority) before.now → All WasLeft s.rows.items) }
+    ensures unchanged_on_fault { OnErr result (SeesMore seat.old seat.new) }
+    ensures full { result ≡ Err Fault.HistoryFull → is_full (database_at B.text seat.new.seen) ≡ true }
 {
     let (reply, unkept) = held.step_and_fold(seat, event)?;
     let rows = see_after(alloc, held.database(), &reply, before);
@@ -56,18 +55,18 @@ fn step_beside<S: Ledger, G: Ledger, B: Room>(
 }
 
 /// Takes a step, and reads what was left of the links of the event's path before it and after it, at a priority.
-pub(crate) fn step_seen<S: Ledger, G: Ledger, B: Room>(
+pub(crate) fn step_seen<B: Brands>(
     alloc: Global,
-    held: &mut Held<S, G, B>,
-    seat: &mut Seat<S, G, B>,
+    held: &mut Held<B>,
+    seat: &mut Seat<B>,
     event: SharedEvent,
     priority: Priority,
 ) -> Result<Stepped, Fault>
     requires { IsLookedAt event priority }
-    ensures received { IfOk result (λ s. Received seat.old event seat.new s.reply) }
+    ensures received { IfOk result (λ s. Received B.text seat.old event seat.new s.reply) }
     ensures left { IfOk result (λ s. All WasLeft s.rows.items) }
-    ensures unchanged_on_fault { OnErr result (seat.new ≡ seat.old) }
-    ensures full { result ≡ Err Fault.HistoryFull → (d : Content) × Replays d × (is_full d ≡ true) }
+    ensures unchanged_on_fault { OnErr result (SeesMore seat.old seat.new) }
+    ensures full { result ≡ Err Fault.HistoryFull → is_full (database_at B.text seat.new.seen) ≡ true }
 {
     let before = see_before(alloc, held.database(), event.event(), priority);
     step_beside(alloc, held, seat, event, &before)

@@ -1,7 +1,7 @@
 -- Each effect drops and adds paths of its own peer alone.
 use Rattle.std.proofs.Common.{◌≡◌, ◌==◌, ◌&&◌, ◌||◌, ℕ, Bool, true, false, List, [], ◌∷◌, refl, map, subst}
 use Rattle.std.specs.Prelude.{filter, not, Option, Some, None, Ok, Err, if◌then◌else◌}
-use Rattle.pcep_objects.specs.declared.object.Capabilities.{Capabilities}
+use Rattle.lsp_words.specs.declared.object.Capabilities.{Capabilities}
 use Rattle.pcep_messages.specs.declared.message.StateReport.{StateReport}
 use Rattle.te_base.specs.Ted.{Ted}
 use Rattle.lsp_base.specs.Lsps.{Lsps, dropping, is_path_of}

@@ -3,7 +3,7 @@ use Rattle.std.proofs.Common.{◌≡◌, ◌≤◌, ◌==◌, ◌&&◌, ◌||◌
 use Rattle.std.specs.Prelude.{Option, Some, None, is_some}
 use Rattle.std.specs.List.{list_any}
 use Rattle.std.proofs.lemmas.Bool.{and_from, and_parts, eqb-true, eq-eqb}
-use Rattle.pcep_objects.specs.declared.object.Capabilities.{Capabilities}
+use Rattle.lsp_words.specs.declared.object.Capabilities.{Capabilities}
 use Rattle.lsp_base.specs.Lsps.{Lsps, AreDistinct, changed, effect_of, dropping, has_none_left, is_path_of, is_record_of, lsp_at, no_effect, put, set_record, set_records, taking, without}
 use Rattle.lsp_base.specs.Grants.{is_grant_of}
 use Rattle.lsp_base.specs.declared.lsp.Lsp.{Lsp}

@@ -1,5 +1,5 @@
 -- Names as a map holds them, under the keys of their grants.
-use Rattle.std.proofs.Common.{◌≡◌, ℕ, suc, ◌+◌, ◌-◌, ◌<◌, ◌&&◌, ◌||◌, Bool, true, false, true≢false, cond, not, List, [], ◌∷◌, ◌++◌, length, take, drop, get_or, swap_remove, position, Option, None, Some, IsPermutation, is_some, refl, sym, ap, subst, ◌∙◌, arith}
+use Rattle.std.proofs.Common.{◌≡◌, ℕ, suc, ◌+◌, ◌-◌, ◌<◌, ◌&&◌, ◌||◌, Bool, true, false, true≢false, cond, not, List, [], ◌∷◌, ◌++◌, length, take, drop, get_or, swap_remove, position, find, Option, None, Some, IsPermutation, is_some, refl, sym, ap, subst, ◌∙◌, arith}
 use Rattle.std.specs.Cmp.{nat_eq_equiv}
 use Rattle.std.specs.List.{list_any, position_or_len}
 use Rattle.std.specs.Map.{keys_of, lookup, values_of}
@@ -27,6 +27,11 @@ is_there k (e ∷ es) h = by (same_key k e.0) (is_there k es h.1) ∙ ap (λ b. 
         → is_some (cond b (Some e.1) (lookup (same_key k) es)) ≡ (b || list_any (is_of_grant k.peer k.srp) (values_of es))
     by true rest = refl
     by false rest = rest
+
+-- the name under a grant's key is the first that is its own
+pub found : (k : GrantKey) (es : List (GrantKey × AwaitedName)) → AreKeyed es → lookup (same_key k) es ≡ find (is_of_grant k.peer k.srp) (values_of es)
+found k [] h = refl
+found k (e ∷ es) h = λ j. cond (same_test k e h.0 j) (Some e.1) (found k es h.1 j)
 
 -- ---- a name that is put
 

@@ -3,7 +3,7 @@ use Rattle.std.proofs.Common.{◌≡◌, ◌∙◌, ℕ, ◌+◌, ◌≤◌, Boo
 use Rattle.std.specs.Prelude.{◌==◌, [], Option, Some, None, IfSome, Result, Ok, Err, OnOk, OnErr, find, unwrap_or}
 use Rattle.std.proofs.lemmas.List.Sorted.{IsPermutation-refl}
 use Rattle.std.specs.declared.alloc.AllocError.{AllocError}
-use Rattle.pcep_objects.specs.declared.object.Capabilities.{Capabilities}
+use Rattle.lsp_words.specs.declared.object.Capabilities.{Capabilities}
 use Rattle.te_base.specs.Values.{IsSameNetwork}
 use Rattle.te_base.proofs.Values.{same-refl}
 use Rattle.lsp_base.specs.Lsps.{Lsps, AreDistinct, changed, lsp_at}

@@ -1,6 +1,6 @@
 -- What the database knows: the network, peers, the paths and records of their LSPs, and what is asked for.
 use Rattle.std.specs.Prelude.{ℕ, ◌+◌, Bool, true, false, ◌==◌, ◌&&◌, not, List, [], ◌∷◌, ◌++◌, find, unwrap_or, Option, Some, is_some, if◌then◌else◌}
-use Rattle.pcep_objects.specs.declared.object.Capabilities.{Capabilities}
+use Rattle.lsp_words.specs.declared.object.Capabilities.{Capabilities}
 use Rattle.pcep_messages.specs.declared.message.Message.{Message}
 use Rattle.te_base.specs.Ted.{Ted}
 use Rattle.lsp_base.specs.Lsps.{Lsps, no_lsps, changed, without_first}

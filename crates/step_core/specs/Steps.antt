@@ -1,6 +1,6 @@
 -- One event: its tests in their order, and what it does where all of them pass.
 use Rattle.std.specs.Prelude.{ℕ, ◌+◌, Bool, false, ◌&&◌, ◌||◌, not, List, [], length, filter, Option, Some, None, Result, Ok, Err, nat_lt}
-use Rattle.pcep_objects.specs.declared.object.Capabilities.{Capabilities}
+use Rattle.lsp_words.specs.declared.object.Capabilities.{Capabilities}
 use Rattle.pcep_messages.specs.declared.message.StateReport.{StateReport}
 use Rattle.lsp_base.specs.Lsps.{with_stale, lsp_at, effect_of, no_effect}
 use Rattle.lsp_base.specs.Refusals.{unless, ◌⨟◌}

@@ -1,5 +1,5 @@
 //! The names of granted initiations, found by their grants.
-ghost use Rattle.std.specs.Prelude.{◌≡◌, ◌<◌, ◌++◌, ◌∷◌, [], false, OnOk};
+ghost use Rattle.std.specs.Prelude.{◌≡◌, ◌<◌, ◌++◌, ◌∷◌, [], false, find, OnOk, option_copied};
 ghost use Rattle.std.specs.List.{list_any};
 ghost use Rattle.lsp_base.specs.Lsps.{without_first};
 ghost use Rattle.step_core.specs.Names.{is_of_grant};
@@ -45,6 +45,13 @@ impl NameTable {
         ensures { result.now ≡ self.now.names }
     {
         self.map.values().as_slice()
+    }
+
+    /// Finds the name of the peer's grant of an SRP-ID.
+    pub fn of_grant(&self, peer: u32, srp: u32) -> Option<&AwaitedName>
+        ensures { option_copied result ≡ find (is_of_grant peer srp) self.now.names }
+    {
+        self.map.get(&GrantKey { peer, srp })
     }
 
     /// Makes room for a name.

@@ -1,5 +1,5 @@
 //! A network with the LSPs over it, and the book of what their paths reserve.
-ghost use Rattle.std.specs.Prelude.{◌≡◌, ◌↔◌, ◌<◌, ◌≤◌, ◌+◌, ◌^◌, ◌++◌, ◌∷◌, [], Some, None, false, List, length, OnOk, OnErr, IsNone, IfOk, IfErr, IfSome, option_copied};
+ghost use Rattle.std.specs.Prelude.{◌≡◌, ◌↔◌, ◌<◌, ◌≤◌, ◌+◌, ◌^◌, ◌++◌, ◌∷◌, [], Some, None, false, List, length, find, OnOk, OnErr, IsNone, IfOk, IfErr, IfSome, option_copied};
 ghost use Rattle.std.specs.List.{list_any};
 ghost use Rattle.lsp_base.specs.Lsps.{HasAll, no_lsps, changed, with_stale, without};
 ghost use Rattle.lsp_base.specs.Rooms.{IsWithinLimit, HasRoom};
@@ -256,6 +256,13 @@ impl Network {
         ensures { result ≡ list_any (is_awaited_as peer name.now) self.now.names }
     {
         self.names.is_awaited(peer, name)
+    }
+
+    /// Finds the name of the peer's grant of an SRP-ID.
+    pub fn name_of_grant(&self, peer: u32, srp: u32) -> Option<&AwaitedName>
+        ensures { option_copied result ≡ find (is_of_grant peer srp) self.now.names }
+    {
+        self.names.of_grant(peer, srp)
     }
 
     /// The names of granted initiations that no report named yet.

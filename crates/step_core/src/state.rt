@@ -1,5 +1,5 @@
 //! The whole state, looks at it, and one step of it.
-ghost use Rattle.std.specs.Prelude.{ℕ, Ok, true, ◌≡◌, ◌&&◌, ◌<◌, ◌≤◌, ◌^◌, ◌↔◌, length, IfOk, OnOk, OnErr, IsNone, IfSome};
+ghost use Rattle.std.specs.Prelude.{ℕ, Ok, true, ◌≡◌, ◌&&◌, ◌<◌, ◌≤◌, ◌^◌, ◌↔◌, length, find, IfOk, OnOk, OnErr, IsNone, IfSome, option_copied};
 ghost use Rattle.std.specs.List.{list_all};
 ghost use Rattle.lsp_base.specs.Shares.{unreserved};
 ghost use Rattle.step_core.specs.States.{empty, is_up, is_queued, has_waiting};
@@ -8,15 +8,19 @@ ghost use Rattle.step_core.specs.Bases.{known_in};
 ghost use Rattle.step_core.specs.Steps.{step};
 ghost use Rattle.step_core.specs.Laws.{peer_of, OthersStay, CountsRise};
 ghost use Rattle.step_core.specs.Sound.{IsSoundGrant};
+ghost use Rattle.step_core.specs.Names.{is_of_grant};
 ghost use Rattle.te_snapshot.specs.Own.{own_shares};
+ghost use Rattle.ticket_table.specs.Tickets.{is_update_asked};
 
 use crate::base::{Base, copies};
 use crate::event::{Event, Reply};
+use crate::names::AwaitedName;
 use crate::network::Network;
 use crate::peer::Peer;
 use crate::peer_list::PeerList;
 use commit_core::Ticket;
 use lsp_base::{LspBase, Tunnel};
+use pcep_objects::Plsp;
 use pcep_word::Priority;
 use sequence::Sequence;
 use std::alloc::{AllocError, Global};
@@ -172,6 +176,18 @@ impl Tables {
         self.network.lsps()
     }
 
+    fn name_of_grant(&self, peer: u32, srp: u32) -> Option<&AwaitedName>
+        ensures { option_copied result ≡ find (is_of_grant peer srp) self.now.names }
+    {
+        self.network.name_of_grant(peer, srp)
+    }
+
+    fn is_update_asked(&self, peer: u32, plsp: Plsp) -> bool
+        ensures { result ≡ is_update_asked self.now.tickets peer plsp }
+    {
+        self.tickets.is_update_asked(peer, plsp)
+    }
+
     fn shares_of(&self, tunnel: &Tunnel) -> Result<OwnShares, AllocError>
         ensures { IfOk result (λ own. own ≡ own_shares self.now.base.paths tunnel.now (length self.now.te.links)) }
     {
@@ -299,6 +315,20 @@ impl State {
         ensures { result.now.content ≡ self.now.base }
     {
         self.tables.lsps()
+    }
+
+    /// The name that the LSP of the peer's grant of an SRP-ID is to have, until a report binds the grant.
+    pub fn name_of_grant(&self, peer: u32, srp: u32) -> Option<&AwaitedName>
+        ensures { option_copied result ≡ find (is_of_grant peer srp) self.now.names }
+    {
+        self.tables.name_of_grant(peer, srp)
+    }
+
+    /// Whether a ticket of an update of the LSP stands.
+    pub fn is_update_asked(&self, peer: u32, plsp: Plsp) -> bool
+        ensures { result ≡ is_update_asked self.now.tickets peer plsp }
+    {
+        self.tables.is_update_asked(peer, plsp)
     }
 
     /// What a tunnel reserves already on each link, as the search of an update of its LSP is given it.

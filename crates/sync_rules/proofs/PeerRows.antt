@@ -6,7 +6,7 @@ use Rattle.lsp_base.specs.declared.tunnel.Tunnel.TheVariants.{Signalled, Asked}
 use Rattle.lsp_base.specs.declared.tunnel.Part.TheVariants.{Reported, Granted}
 use Rattle.lsp_base.specs.declared.path.Path.{Path}
 use Rattle.lsp_base.specs.declared.lsp.Lsp.{Lsp}
-use Rattle.pcep_objects.specs.declared.object.MetricType.TheVariants.{Te}
+use Rattle.lsp_words.specs.declared.object.MetricType.TheVariants.{Te}
 use Rattle.lsp_base.specs.declared.effect.Record.{Record}
 use Rattle.sync_rules.specs.Peers.{marker_effect, up_effect, down_effect, expire_effect}
 
@@ -22,7 +22,7 @@ lsp peer n = record {
   name = [];
   delegated = true;
   created = true;
-  constraints = record { source = None; destination = None; bandwidth = 500000; priorities = record { setup = 7; hold = 0 }; colours = record { exclude_any = 0; include_any = 0; include_all = 0 }; minimise = Te; bound = None; hop_bound = None; other_bounds = record { igp = None; te = None } };
+  constraints = record { source = None; destination = None; bandwidth = 500000; priorities = record { setup = 7; hold = 0 }; colours = record { exclude_any = 0; include_any = 0; include_all = 0 }; minimise = Te; bound = None; hop_bound = None; other_bounds = record { igp = None; te = None }; local_protection = false };
   tunnel = Signalled peer 4 n 1;
   removing = Some 9;
 }

@@ -5,7 +5,7 @@ ghost use Rattle.sync_rules.specs.Peers.{is_stale_of, is_of_peer, left_alone, ma
 
 use keyed_list::Test;
 use lsp_base::{Effect, LspBase, Path, Record, RecordChange, RecordRule, dropping_of_peer};
-use pcep_objects::Capabilities;
+use lsp_words::Capabilities;
 use sequence::PlainData;
 use std::alloc::{AllocError, Global};
 

@@ -2,8 +2,8 @@
 use Rattle.std.proofs.Common.{◌≡◌, ℕ, codes, false, true, List, [], ◌∷◌, Ok, Err, refl}
 use Rattle.toml.proofs.OnLiterals.{toml_on_literals}
 use Rattle.pcep_word.specs.Address.{address_of, octet_of, cut}
-use Rattle.pcep_objects.specs.declared.object.Hop.{Hop}
-use Rattle.pcep_objects.specs.declared.object.Hop.TheVariants.{Host, Other}
+use Rattle.lsp_words.specs.declared.object.Hop.{Hop}
+use Rattle.lsp_words.specs.declared.object.Hop.TheVariants.{Host, Other}
 use Rattle.te_base.specs.declared.fault.TeFault.TheVariants.{AddressTwice, NameTwice, OtherLinks}
 use Rattle.te_base.specs.declared.network.Node.{Node}
 use Rattle.te_base.specs.declared.network.Link.{Link}

@@ -5,8 +5,8 @@ use Rattle.std.proofs.lemmas.List.Quantifiers.{all_pairs_push}
 use Rattle.std.proofs.lemmas.List.Folds.{list_any_at}
 use Rattle.std.specs.List.{list_any}
 use Rattle.std.specs.Option.{option_or}
-use Rattle.pcep_objects.specs.declared.object.Hop.{Hop}
-use Rattle.pcep_objects.specs.declared.object.Hop.TheVariants.{Host, Other}
+use Rattle.lsp_words.specs.declared.object.Hop.{Hop}
+use Rattle.lsp_words.specs.declared.object.Hop.TheVariants.{Host, Other}
 use Rattle.te_base.specs.declared.network.Link.{Link}
 use Rattle.te_base.specs.Ted.{Ted}
 use Rattle.te_base.specs.Owners.{owner_of}
@@ -18,7 +18,7 @@ pub record AreSome (n : ℕ) (links : List ℕ) : Type 0 where
   pub below : All (λ l. l < n) links
   pub once : AllPairs (λ l k. l ≢ k) links
 
-chosen_within : (links : List Link) (from to address : ℕ) (remembered : Option ℕ) → IfSome (chosen_link links from to address remembered) (λ l. l < length links)
+pub chosen_within : (links : List Link) (from to address : ℕ) (remembered : Option ℕ) → IfSome (chosen_link links from to address remembered) (λ l. l < length links)
 chosen_within links from to address None =
     let Within : ℕ → Type 0 = λ l. l < length links in
     either (position (λ l. joins from to l && l.remote == address) links) (position (joins from to) links) Within (position_within (λ l. joins from to l && l.remote == address) links) (position_within (joins from to) links)

@@ -2,11 +2,11 @@
 -- route (RFC 3209 section 4.3.3) or of a recorded one (section 4.4). An address of the current node, as that
 -- of the interface that the route leaves it by, is remembered; one of another node leads there. Loose hops
 -- are walked like strict ones, so a hop that passes several links uses none.
-use Rattle.std.specs.Prelude.{ℕ, Bool, ◌==◌, ◌&&◌, List, [], ◌∷◌, ◌++◌, Option, Some, None, if◌then◌else◌, position, fold}
+use Rattle.std.specs.Prelude.{ℕ, Bool, ◌==◌, ◌&&◌, List, [], ◌∷◌, ◌++◌, Option, Some, None, if◌then◌else◌, position, fold, length, slice_index_or, false, ◌≡◌, ◌<◌}
 use Rattle.std.specs.List.{list_any}
 use Rattle.std.specs.Option.{option_or}
-use Rattle.pcep_objects.specs.declared.object.Hop.{Hop}
-use Rattle.pcep_objects.specs.declared.object.Hop.TheVariants.{Host, Other}
+use Rattle.lsp_words.specs.declared.object.Hop.{Hop}
+use Rattle.lsp_words.specs.declared.object.Hop.TheVariants.{Host, Other}
 use Rattle.te_base.specs.declared.network.Link.{Link}
 use Rattle.te_base.specs.declared.walk.Walker.{Walker}
 use Rattle.te_base.specs.Ted.{Ted}
@@ -38,6 +38,10 @@ chosen_link links from to address remembered =
 abbrev pub with_link_once : List ℕ → Option ℕ → List ℕ
 with_link_once links None = links
 with_link_once links (Some link) = if list_any (λ l. l == link) links then links else links ++ link ∷ []
+
+-- for each link, whether the walk has it
+abbrev pub AreMarks : List Bool → List ℕ → Type 0
+AreMarks marks links = (l : ℕ) → l < length marks → slice_index_or marks l false ≡ list_any (λ k. k == l) links
 
 -- An address that no node owns does nothing. One of the current node is remembered in place of an
 -- earlier one. One of another node leads there, where nothing is remembered.

@@ -24,7 +24,7 @@ use crate::reload::{all_values, is_same, set_listed_values};
 use crate::tables::add_tables;
 use crate::walk::walk_parts;
 use keyed_list::KeyedList;
-use pcep_objects::Hop;
+use lsp_words::Hop;
 use pcep_word::Ipv4;
 use std::alloc::{AllocError, Global};
 use std::marker::Model;

@@ -1,9 +1,9 @@
 -- The paths that a network in a state admits, and those of least cost.
 use Rattle.std.specs.Prelude.{ℕ, ℤ, ◌≡◌, ◌≤◌, ◌+◌, ◌==◌, ◌&&◌, ◌||◌, not, nat_le, bit_and, List, [], ◌∷◌, length, Option, Some, None, IfSome, Bool, true, slice_get}
 use Rattle.std.specs.List.{list_any}
-use Rattle.pcep_objects.specs.declared.object.Colours.{Colours}
-use Rattle.pcep_objects.specs.declared.object.MetricType.{MetricType}
-use Rattle.pcep_objects.specs.declared.object.MetricType.TheVariants.{Igp, Te, Hops}
+use Rattle.lsp_words.specs.declared.object.Colours.{Colours}
+use Rattle.lsp_words.specs.declared.object.MetricType.{MetricType}
+use Rattle.lsp_words.specs.declared.object.MetricType.TheVariants.{Igp, Te, Hops}
 use Rattle.te_base.specs.declared.network.Link.{Link}
 use Rattle.te_base.specs.declared.network.Owner.{Owner}
 use Rattle.te_base.specs.Owners.{owner_of}

@@ -3,7 +3,7 @@ ghost use Rattle.std.specs.Prelude.{◌≡◌, ◌<◌, ◌≤◌, ◌^◌, leng
 ghost use Rattle.te_snapshot.specs.Admissible.{colours_pass, cost_of, is_within, keeps_other_bounds, metric, metric_of, node_of};
 
 use lsp_base::Constraints;
-use pcep_objects::{Colours, MetricType};
+use lsp_words::{Colours, MetricType};
 use pcep_word::Ipv4;
 use te_base::{Link, LinkNumber, NodeNumber, OwnerTable};
 

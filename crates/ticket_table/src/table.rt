@@ -6,7 +6,7 @@ use crate::standing::StandingTicket;
 use commit_core::{Purpose, Ticket};
 use indexmap::IndexMap;
 use lsp_base::is_same_name;
-use pcep_objects::Plsp;
+use lsp_words::Plsp;
 use sequence::PlainData;
 use std::alloc::{AllocError, Global};
 use std::marker::Model;

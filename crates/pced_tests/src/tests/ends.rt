@@ -2,7 +2,9 @@
 use super::fakes::{Beat, Beats, Failing, Faulty, Noon, Slow, Tap};
 use super::*;
 use engine_core::Fault;
-use server_talk::{Ended, connection};
+use pcep_messages::Notice;
+use pcep_session::{EndReason, Notices};
+use server_talk::{Departure, Ended, connection};
 use std::cell::Cell;
 use std::collections::VecDeque;
 use std::process::Abort;
@@ -20,10 +22,18 @@ struct Case {
     faults: u32,
     is_closing: bool,
     ended: Ended,
+    /// What the session says itself.
+    reason: Option<EndReason>,
     /// The number of Downs that are in, and of rolls.
     downs: u32,
     rolls: u32,
 }
+
+/// The Close of the peer's.
+const BY_PEER: Option<EndReason> = Some(EndReason::PeerClose(1));
+
+/// A Close of this side's: malformed (RFC 5440 section 7.17, reason 3).
+const MALFORMED: Option<EndReason> = Some(EndReason::Said(Notices::One(Notice::Close(3))));
 
 /// The peer has closed.
 const CLOSED: Case = Case {
@@ -34,6 +44,7 @@ const CLOSED: Case = Case {
     faults: 0,
     is_closing: false,
     ended: Ended::PeerClosed,
+    reason: None,
     downs: 1,
     rolls: 0,
 };
@@ -48,12 +59,15 @@ const CASES: [Case; 10] = [
     Case {
         last: Beat::Bytes(CLOSE),
         ended: Ended::SessionEnded,
+        reason: BY_PEER,
         ..CLOSED
     },
     Case {
         last: Beat::Bytes(CLOSE),
         faults: 3,
         ended: Ended::SessionEnded,
+        reason: BY_PEER,
+        rolls: 3,
         ..CLOSED
     },
     Case {
@@ -61,6 +75,7 @@ const CASES: [Case; 10] = [
         faults: 4,
         ended: Ended::StoreFault(Fault::OutOfMemory),
         downs: 0,
+        rolls: 4,
         ..CLOSED
     },
     Case {
@@ -78,6 +93,7 @@ const CASES: [Case; 10] = [
         fault: Fault::HistoryFull,
         faults: 1,
         ended: Ended::SessionEnded,
+        reason: Some(EndReason::Caller(None, None)),
         downs: 0,
         rolls: 1,
         ..CLOSED
@@ -86,6 +102,7 @@ const CASES: [Case; 10] = [
     Case {
         last: Beat::Bytes(b"\x00\x00\x00\x00"),
         ended: Ended::SessionEnded,
+        reason: MALFORMED,
         ..CLOSED
     },
     // the bytes of its end can't be written
@@ -93,6 +110,7 @@ const CASES: [Case; 10] = [
         last: Beat::Bytes(b"\x00\x00\x00\x00"),
         writes: 2,
         ended: Ended::WriteFault,
+        reason: MALFORMED,
         ..CLOSED
     },
     // its first bytes can't be written, so the session isn't up
@@ -133,8 +151,8 @@ fn ends<R: Wait + Abort>(rt: &R, alloc: Global, case: Case) -> Result<(), Fail> 
     let watch = Noon {
         is_closing: case.is_closing,
     };
-    let ended = connection(rt, alloc, 7, &mut reader, &mut writer, &watch, &mut store);
-    assert_eq!(rt; ended, case.ended);
+    let left = connection(rt, alloc, 7, &mut reader, &mut writer, &watch, &mut store);
+    assert_eq!(rt; (left.ended, left.reason), (case.ended, case.reason));
     assert_eq!(rt; store.downs, case.downs);
     assert_eq!(rt; store.rolls, case.rolls);
     Ok(())
@@ -176,8 +194,12 @@ fn a_closing_run_closes_its_sessions(rt: HostRuntime) -> Result<(), Fail> {
         };
         let watch = Noon { is_closing: true };
         let mut store = done(alloc);
-        let ended = connection(&rt, alloc, 7, &mut reader, &mut writer, &watch, &mut store);
-        assert_eq!(rt; ended, Ended::SessionEnded);
+        let left = connection(&rt, alloc, 7, &mut reader, &mut writer, &watch, &mut store);
+        let want = Departure {
+            ended: Ended::SessionEnded,
+            reason: Some(EndReason::Caller(None, Some(1))),
+        };
+        assert_eq!(rt; left, want);
         let Some(close) = writer.bytes.as_slice().strip_prefix(OPEN) else {
             return Err(Fail::new("no Open was sent"));
         };
@@ -202,8 +224,8 @@ fn a_part_taken_late_ends_the_connection(rt: HostRuntime) -> Result<(), Fail> {
         now_ms: Cell::new(0),
     };
     let mut store = done(alloc);
-    let ended = connection(&rt, alloc, 7, &mut reader, &mut writer, &watch, &mut store);
-    assert_eq!(rt; ended, Ended::WriteFault);
+    let left = connection(&rt, alloc, 7, &mut reader, &mut writer, &watch, &mut store);
+    assert_eq!(rt; left.ended, Ended::WriteFault);
     assert_eq!(rt; writer.bytes.len(), 1);
     Ok(())
 }
@@ -213,7 +235,14 @@ fn a_part_taken_late_ends_the_connection(rt: HostRuntime) -> Result<(), Fail> {
 fn a_keepalive_is_sent_when_it_is_due(rt: HostRuntime) -> Result<(), Fail> {
     let alloc = rt.alloc();
     let mut beats = VecDeque::new(alloc);
-    for beat in [Beat::Bytes(OPEN), Beat::Bytes(KEEPALIVE), Beat::Nothing] {
+    // (once the timer is due, what is there is read first, which is nothing)
+    let beats_given = [
+        Beat::Bytes(OPEN),
+        Beat::Bytes(KEEPALIVE),
+        Beat::Nothing,
+        Beat::Nothing,
+    ];
+    for beat in beats_given {
         beats.push_back(beat)?;
     }
     let mut reader = Beats { beats };
@@ -226,12 +255,47 @@ fn a_keepalive_is_sent_when_it_is_due(rt: HostRuntime) -> Result<(), Fail> {
         now_ms: Cell::new(0),
     };
     let mut store = done(alloc);
-    let ended = connection(&rt, alloc, 7, &mut reader, &mut writer, &watch, &mut store);
-    assert_eq!(rt; ended, Ended::PeerClosed);
+    let left = connection(&rt, alloc, 7, &mut reader, &mut writer, &watch, &mut store);
+    assert_eq!(rt; left.ended, Ended::PeerClosed);
     let said = b"\x20\x02\x00\x04\x20\x02\x00\x04\x20\x02\x00\x04";
     assert_eq!(rt;
         writer.bytes.as_slice().strip_prefix(OPEN),
         Some(said.as_slice())
     );
+    Ok(())
+}
+
+/// The first `reads` bytes of a session that comes up, one a read. The read after them fails.
+fn beats_until(alloc: Global, reads: usize) -> Result<Beats, Fail> {
+    let mut beats = VecDeque::new(alloc);
+    for piece in [OPEN, KEEPALIVE] {
+        for byte in piece.chunks(1) {
+            if beats.len() < reads {
+                beats.push_back(Beat::Bytes(byte))?;
+            }
+        }
+    }
+    beats.push_back(Beat::Fault)?;
+    Ok(Beats { beats })
+}
+
+/// Whichever read fails, the connection ends by that, and its Down is submitted if the session is up by then.
+#[test]
+fn each_read_may_fail(rt: HostRuntime) -> Result<(), Fail> {
+    let alloc = rt.alloc();
+    let all = OPEN.len() + KEEPALIVE.len();
+    for reads in 0..=all {
+        let mut reader = beats_until(alloc, reads)?;
+        let mut writer = Tap {
+            left: 99,
+            most: usize::MAX,
+            bytes: Vec::new(alloc),
+        };
+        let watch = Noon { is_closing: false };
+        let mut store = done(alloc);
+        let left = connection(&rt, alloc, 7, &mut reader, &mut writer, &watch, &mut store);
+        assert_eq!(rt; left.ended, Ended::ReadFault);
+        assert_eq!(rt; store.downs, u32::from(reads == all));
+    }
     Ok(())
 }

@@ -1,6 +1,8 @@
 //! Readers, writers, watches and stores that do what a test wants.
 use engine_core::{Call, Desk, Event, Fault, Reply, Store};
 use history_core::{LinkReload, SharedEvent};
+use pcep_messages::Message;
+use pcep_objects::Open;
 use script_lines::ViewLine;
 use sequence::Sequence;
 use server_talk::{Network, Patient, Plan, PlanFault, Show, TAKEN_WITHIN_MS, Watch};
@@ -9,7 +11,6 @@ use std::cell::Cell;
 use std::collections::VecDeque;
 use std::io;
 use std::io::{ErrorKind, Read, Write};
-use std::time::Duration;
 use te_base::{LinkValues, TeFault};
 
 /// What a read gives. At the end of the list the peer has closed.
@@ -42,7 +43,7 @@ impl Read for Beats {
 }
 
 impl Patient for Beats {
-    fn set_patience(&mut self, _most: Duration) {}
+    fn set_patience(&mut self, _most_ms: u64) {}
 }
 
 /// A reader of bytes that are there.
@@ -58,7 +59,7 @@ impl<'a> Read for Given<'a> {
 }
 
 impl<'a> Patient for Given<'a> {
-    fn set_patience(&mut self, _most: Duration) {}
+    fn set_patience(&mut self, _most_ms: u64) {}
 }
 
 /// A link text that gives two links, or has a fault: the first link the values that it has, the second other ones.
@@ -213,14 +214,15 @@ pub struct Faulty {
 }
 
 impl Store for Faulty {
-    ghost use Rattle.std.specs.Prelude.{◌≡◌, ◌++◌, List, ⊤};
-    ghost use Rattle.std.proofs.Common.{sym, ◌∙◌, ap, append_assoc};
+    ghost use Rattle.std.specs.Prelude.{◌≡◌, ◌++◌, ⊤};
+    ghost use Rattle.std.proofs.Common.{sym};
     ghost use Rattle.std.proofs.lemmas.List.{append-nil};
-    ghost use Rattle.engine_core.specs.declared.store.Call.{Call};
+    ghost use Rattle.engine_core.specs.DeedLaws.{added_on};
+    ghost use Rattle.engine_core.specs.Deeds.{calls_of};
 
     ghost calls = { λ s. s.calls.items };
 
-    ghost moves = { λ old made new. new.calls.items ≡ old.calls.items ++ made };
+    ghost moves = { λ old made new. new.calls.items ≡ old.calls.items ++ calls_of made };
 
     ghost same_but_calls = { λ old new. new.faults ≡ old.faults };
 
@@ -230,7 +232,7 @@ impl Store for Faulty {
 
     ghost moves_nowhere = { λ s. sym (append-nil s.calls.items) };
 
-    ghost moves_on = { λ a b c first second h k. k ∙ ap (λ (calls : List Call). calls ++ second) h ∙ append_assoc a.calls.items first second };
+    ghost moves_on = { λ a b c first second h k. added_on a.calls.items b.calls.items c.calls.items first second h k };
 
     ghost moves_add = { λ a b made h. h };
 
@@ -248,6 +250,10 @@ impl Store for Faulty {
         self.downs = self.downs.wrapping_add(u32::from(is_down));
         Ok(())
     }
+
+    fn show_open(&mut self, _peer_open: Open) {}
+
+    fn show_message(&mut self, _message: &Message) {}
 
     fn calls(&self) -> &[Call] {
         self.calls.as_slice()
@@ -275,12 +281,12 @@ impl Desk for Faulty {
         Ok(Some(steps))
     }
 
-    fn queued(&self, _peer: u32) -> bool {
+    fn queued(&mut self, _peer: u32) -> bool {
         false
     }
 
     /// Of two links, the second of which bears less than is reported.
-    fn left(&self) -> Result<Vec<[i64; 8]>, AllocError> {
+    fn left(&mut self) -> Result<Vec<[i64; 8]>, AllocError> {
         let mut table = Vec::new(*self.calls.allocator());
         table.push([1, 2, 3, 4, 5, 6, 7, 8])?;
         table.push([-1; 8])?;

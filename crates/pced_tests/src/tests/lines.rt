@@ -49,12 +49,15 @@ fn answered<R: Wait>(rt: &R, alloc: Global, input: &[u8], writes: u64) -> (End, 
 
 #[test]
 fn lines_are_answered_and_bad_ones_by_number(rt: HostRuntime) -> Result<(), Fail> {
-    let table: [(&[u8], &[u8]); 8] = [
+    let table: [(&[u8], &[u8]); 10] = [
         (b"", b""),
+        // half a line may be of another
+        (b"update 1 1\nreturn 1 1", b"done\n"),
+        (b"update 1 1\nend", b"done\n"),
         (b"\n", b"bad line 1\n"),
         (b"books\nupdate 1 1\n", b"bad line 1\ndone\n"),
         (
-            b"update 1 1\n\xff\xfe\nreturn 1 1",
+            b"update 1 1\n\xff\xfe\nreturn 1 1\n",
             b"done\nbad line 2\ndone\n",
         ),
         // tickets are the workers', and peers are forgotten by the clock
@@ -134,7 +137,7 @@ fn a_writer_that_fails_ends_the_operators_part(rt: HostRuntime) -> Result<(), Fa
 fn nothing_is_heard_behind_the_line_end(rt: HostRuntime) -> Result<(), Fail> {
     let table: [(&[u8], &[u8]); 3] = [
         (b"end\nupdate 1 1\n", b""),
-        (b"update 1 1\nends\nend", b"done\nbad line 2\n"),
+        (b"update 1 1\nends\nend\n", b"done\nbad line 2\n"),
         (b"end \nend\n", b"bad line 1\n"),
     ];
     for (input, want) in table {

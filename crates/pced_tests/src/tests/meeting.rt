@@ -1,15 +1,15 @@
 //! Two workers that are between taking a ticket and committing it at once, and a seat that is missing at the audit.
 use super::*;
 use history_core::{Event, Reply};
+use history_seats::Brands;
 use pcep_objects::Capabilities;
 use pcep_word::Priority;
-use place_tokens::Room;
 use script_lines::operator_event_in;
-use shared_pce::{AuditFault, Fault, Gate, Quiet, Seat, Shared, Worked};
+use shared_pce::{AuditFault, Fault, Front, Gate, Quiet, RollAt, Seat, Shared, Worked};
+use std::alloc::AllocError;
 use std::process::Abort;
 use std::sync::Wait;
 use std::sync::atomic::{AtomicBool, AtomicU32, Ordering};
-use std::sync::ledger::Ledger;
 use std::thread;
 use std::thread::Threads;
 use std::time::{Clock, Duration};
@@ -75,10 +75,10 @@ pub fn came_to(worked: &Worked) -> Came {
     }
 }
 
-fn turn<R: Wait + Clock, S: Ledger, G: Ledger, B: Room>(
+fn turn<R: Wait + Clock, B: Brands>(
     rt: &R,
-    shared: &Shared<S, G, B>,
-    seat: &mut Seat<S, G, B>,
+    shared: &Shared<B>,
+    seat: &mut Seat<B>,
     meeting: &Meeting,
     is_late: bool,
 ) -> Result<Came, Fault> {
@@ -98,16 +98,11 @@ fn turn<R: Wait + Clock, S: Ledger, G: Ledger, B: Room>(
 }
 
 /// The turns of both workers at once, of the late one and of the early one.
-fn work_at_once<
-    R: Threads + Wait + Clock + Sync,
-    S: Ledger + Send + Sync,
-    G: Ledger + Send + Sync,
-    B: Room + Send + Sync,
->(
+fn work_at_once<R: Threads + Wait + Clock + Sync, B: Brands + Send + Sync>(
     rt: &R,
-    shared: &Shared<S, G, B>,
-    late: &mut Seat<S, G, B>,
-    early: &mut Seat<S, G, B>,
+    shared: &Shared<B>,
+    late: &mut Seat<B>,
+    early: &mut Seat<B>,
 ) -> Result<(Came, Came), Fault> {
     let meeting = Meeting {
         called: AtomicU32::new(0),
@@ -130,11 +125,11 @@ fn event_of(alloc: Global, line: &str) -> Result<Event, Fail> {
 }
 
 /// Submits the event of an operator's line.
-pub fn ask<R: Wait, S: Ledger, G: Ledger, B: Room>(
+pub fn ask<R: Wait, B: Brands>(
     rt: &R,
     alloc: Global,
-    shared: &Shared<S, G, B>,
-    seat: &mut Seat<S, G, B>,
+    shared: &Shared<B>,
+    seat: &mut Seat<B>,
     line: &str,
 ) -> Result<(), Fail> {
     let _asked = shared.submit(rt, seat, event_of(alloc, line)?)?;
@@ -142,10 +137,10 @@ pub fn ask<R: Wait, S: Ledger, G: Ledger, B: Room>(
 }
 
 /// The peer comes up, and is in sync at once.
-pub fn come_up<R: Wait, S: Ledger, G: Ledger, B: Room>(
+pub fn come_up<R: Wait, B: Brands>(
     rt: &R,
-    shared: &Shared<S, G, B>,
-    seat: &mut Seat<S, G, B>,
+    shared: &Shared<B>,
+    seat: &mut Seat<B>,
     peer: u32,
 ) -> Result<(), Fail> {
     let capabilities = Some(Capabilities {
@@ -158,11 +153,11 @@ pub fn come_up<R: Wait, S: Ledger, G: Ledger, B: Room>(
 }
 
 /// Asks for two initiations of which the links over B bear one.
-fn ask_twice<R: Wait, S: Ledger, G: Ledger, B: Room>(
+fn ask_twice<R: Wait, B: Brands>(
     rt: &R,
     alloc: Global,
-    shared: &Shared<S, G, B>,
-    seat: &mut Seat<S, G, B>,
+    shared: &Shared<B>,
+    seat: &mut Seat<B>,
 ) -> Result<(), Fail> {
     come_up(rt, shared, seat, 1)?;
     ask(
@@ -181,60 +176,91 @@ fn ask_twice<R: Wait, S: Ledger, G: Ledger, B: Room>(
     )
 }
 
-/// The history is rolled where nine steps are kept, and once: who comes second finds it rolled.
-fn roll_once<R: Wait + Abort, S: Ledger, G: Ledger, B: Room>(
+/// Rolls the history if this number of steps is kept, or of bytes.
+fn roll_at<R: Wait, B: Brands>(
     rt: &R,
-    shared: &Shared<S, G, B>,
-    seat: &Seat<S, G, B>,
+    shared: &Shared<B>,
+    seat: &mut Seat<B>,
+    steps: u64,
+    bytes: u64,
+) -> Result<Option<u64>, AllocError> {
+    shared.roll_if(rt, seat, RollAt { steps, bytes })
+}
+
+/// The history is rolled where nine steps are kept, and once: who comes second finds it rolled.
+fn roll_once<R: Wait + Abort, B: Brands>(
+    rt: &R,
+    shared: &Shared<B>,
+    seat: &mut Seat<B>,
 ) -> Result<(), Fail> {
-    let early = shared.roll_if(rt, seat, 10)?;
+    let early = roll_at(rt, shared, seat, 10, 100_000)?;
     let full = shared.roll_if_full(rt, seat)?;
-    let rolled = shared.roll_if(rt, seat, 9)?;
-    let again = shared.roll_if(rt, seat, 9)?;
+    let rolled = roll_at(rt, shared, seat, 9, 100_000)?;
+    let again = roll_at(rt, shared, seat, 9, 1)?;
     assert_eq!(rt; [early, full, rolled, again], [None, None, Some(9), None]);
     Ok(())
 }
 
-/// The ticket that is searched for again is in the worker's hand, and granted over C, behind a roll.
-fn grant_the_other<R: Wait + Abort, S: Ledger, G: Ledger, B: Room>(
+/// Whether a ticket waits, and whether messages wait to be sent to peer 1.
+fn waits<R: Wait, B: Brands>(
     rt: &R,
-    shared: &Shared<S, G, B>,
-    seat: &mut Seat<S, G, B>,
+    shared: &Shared<B>,
+    front: &mut Front<Event, B>,
+) -> (bool, bool) {
+    let waiting = shared.waiting(rt, front);
+    (waiting, shared.queued(rt, front, 1))
+}
+
+/// The messages of both grants wait until they are sent.
+fn send_all<R: Wait + Abort, B: Brands>(
+    rt: &R,
+    shared: &Shared<B>,
+    seat: &mut Seat<B>,
+    front: &mut Front<Event, B>,
 ) -> Result<(), Fail> {
-    let waiting = shared.waiting(rt);
-    let kept = shared.kept(rt);
+    let before = waits(rt, shared, front);
+    let _sent = shared.submit(rt, seat, Event::Drain { peer: 1 })?;
+    let after = waits(rt, shared, front);
+    assert_eq!(rt; [before, after], [(false, true), (false, false)]);
+    Ok(())
+}
+
+/// The ticket that is searched for again is in the worker's hand, and granted over C, after a roll.
+fn grant_the_other<R: Wait + Abort, B: Brands>(
+    rt: &R,
+    shared: &Shared<B>,
+    seat: &mut Seat<B>,
+    front: &mut Front<Event, B>,
+) -> Result<(), Fail> {
+    let waiting = shared.waiting(rt, front);
+    let kept = shared.kept(rt, front);
     roll_once(rt, shared, seat)?;
-    let left = shared.kept(rt);
+    let left = shared.kept(rt, front);
     let came = came_to(&shared.work_one(rt, seat, &mut Quiet)?);
-    let seen = (
-        waiting,
-        kept,
-        left,
-        came,
-        shared.waiting(rt),
-        shared.queued(rt, 1),
+    assert_eq!(rt;
+        (waiting, kept, left, came),
+        (false, 9, 0, Came::Granted(2))
     );
-    assert_eq!(rt; seen, (false, 9, 0, Came::Granted(2), false, true));
     Ok(())
 }
 
 /// Both tickets are searched for at once: one is granted, and the other is taken again.
-pub fn ask_and_meet<
-    R: Threads + Wait + Clock + Abort + Sync,
-    S: Ledger + Send + Sync,
-    G: Ledger + Send + Sync,
-    B: Room + Send + Sync,
->(
+pub fn ask_and_meet<R: Threads + Wait + Clock + Abort + Sync, B: Brands + Send + Sync>(
     rt: &R,
     alloc: Global,
-    shared: &Shared<S, G, B>,
-    first: &mut Seat<S, G, B>,
-    second: &mut Seat<S, G, B>,
+    shared: &Shared<B>,
+    first: &mut Seat<B>,
+    second: &mut Seat<B>,
 ) -> Result<(), Fail> {
+    let mut front = shared.front(rt);
+    let none = waits(rt, shared, &mut front);
     ask_twice(rt, alloc, shared, first)?;
+    let asked = waits(rt, shared, &mut front);
+    assert_eq!(rt; [none, asked], [(false, false), (true, false)]);
     let came = work_at_once(rt, shared, first, second)?;
     assert_eq!(rt; came, (Came::Again, Came::Granted(1)));
-    grant_the_other(rt, shared, first)
+    grant_the_other(rt, shared, first, &mut front)?;
+    send_all(rt, shared, first, &mut front)
 }
 
 /// What is left of each link at the best priority.
@@ -249,10 +275,10 @@ fn left_of_each(database: &Database) -> [Option<i64>; 4] {
 }
 
 /// The seats' sums are all steps and grants, and 400,000 are left on each link.
-pub fn both_are_granted<R: Abort, S: Ledger, G: Ledger, B: Room>(
+pub fn both_are_granted<R: Abort, B: Brands>(
     rt: &R,
-    shared: Shared<S, G, B>,
-    seats: Vec<Seat<S, G, B>>,
+    shared: Shared<B>,
+    seats: Vec<Seat<B>>,
 ) -> Result<(), Fail> {
     let Ok(audit) = shared.close(seats) else {
         return Err(Fail::new("the audit failed"));
@@ -264,16 +290,12 @@ pub fn both_are_granted<R: Abort, S: Ledger, G: Ledger, B: Room>(
         audit.database.rolled(),
         audit.database.history().len(),
     );
-    assert_eq!(rt; (left, counts), ([Some(400_000); 4], (10, 2, 9, 1)));
+    assert_eq!(rt; (left, counts), ([Some(400_000); 4], (11, 2, 9, 2)));
     Ok(())
 }
 
 /// All seats are here, and two steps were made through them.
-fn passes<R: Abort, S: Ledger, G: Ledger, B: Room>(
-    rt: &R,
-    shared: Shared<S, G, B>,
-    seats: Vec<Seat<S, G, B>>,
-) -> Result<(), Fail> {
+fn passes<R: Abort, B: Brands>(rt: &R, shared: Shared<B>, seats: Vec<Seat<B>>) -> Result<(), Fail> {
     let Ok(audit) = shared.close(seats) else {
         return Err(Fail::new("all seats are here"));
     };
@@ -282,10 +304,10 @@ fn passes<R: Abort, S: Ledger, G: Ledger, B: Room>(
 }
 
 /// The audit without a seat hands the others back, and with it passes.
-pub fn is_refused_without_a_seat<R: Abort, S: Ledger, G: Ledger, B: Room>(
+pub fn is_refused_without_a_seat<R: Abort, B: Brands>(
     rt: &R,
-    shared: Shared<S, G, B>,
-    seats: Vec<Seat<S, G, B>>,
+    shared: Shared<B>,
+    seats: Vec<Seat<B>>,
 ) -> Result<(), Fail> {
     let mut seats = seats;
     let Some(missing) = seats.pop() else {

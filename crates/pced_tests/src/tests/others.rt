@@ -2,14 +2,13 @@
 use super::fakes::{Beat, Beats, Noon, Tap};
 use super::*;
 use engine_core::Event;
-use place_tokens::Room;
+use history_seats::Brands;
 use seated_store::Seated;
 use server_talk::{Ended, connection};
 use shared_pce::{Audit, Seat, Shared};
 use std::collections::VecDeque;
 use std::process::Abort;
 use std::sync::Wait;
-use std::sync::ledger::Ledger;
 use std::time::Clock;
 
 /// How a peer's connection behaves behind its Open and Keepalive, and how it is to end.
@@ -55,11 +54,11 @@ fn beats_of(alloc: Global, router: Router) -> Result<Beats, Fail> {
 }
 
 /// One connection, and what was written to it.
-fn served<R: Wait + Clock + Abort, S: Ledger, G: Ledger, B: Room>(
+fn served<R: Wait + Clock + Abort, B: Brands>(
     rt: &R,
     alloc: Global,
-    shared: &Shared<S, G, B>,
-    seat: &mut Seat<S, G, B>,
+    shared: &Shared<B>,
+    seat: &mut Seat<B>,
     router: Router,
 ) -> Result<Vec<u8>, Fail> {
     let mut reader = beats_of(alloc, router)?;
@@ -71,7 +70,7 @@ fn served<R: Wait + Clock + Abort, S: Ledger, G: Ledger, B: Room>(
     let watch = Noon { is_closing: false };
     let mut store = Seated::new(rt, alloc, shared, seat);
     let peer = router.peer;
-    let ended = connection(
+    let left = connection(
         rt,
         alloc,
         peer,
@@ -80,7 +79,7 @@ fn served<R: Wait + Clock + Abort, S: Ledger, G: Ledger, B: Room>(
         &watch,
         &mut store,
     );
-    assert_eq!(rt; ended, router.ended);
+    assert_eq!(rt; left.ended, router.ended);
     Ok(writer.bytes)
 }
 
@@ -100,10 +99,10 @@ fn all_are_down(rt: &impl Abort, audit: &Audit) {
 }
 
 /// The audit passes, and all peers are down.
-pub fn are_down<R: Abort, S: Ledger, G: Ledger, B: Room>(
+pub fn are_down<R: Abort, B: Brands>(
     rt: &R,
-    shared: Shared<S, G, B>,
-    seats: Vec<Seat<S, G, B>>,
+    shared: Shared<B>,
+    seats: Vec<Seat<B>>,
 ) -> Result<(), Fail> {
     let Ok(audit) = shared.close(seats) else {
         return Err(Fail::new("the audit failed"));
@@ -113,11 +112,11 @@ pub fn are_down<R: Abort, S: Ledger, G: Ledger, B: Room>(
 }
 
 /// Two connections fail, and the one behind them is answered.
-pub fn serve_all<R: Wait + Clock + Abort, S: Ledger, G: Ledger, B: Room>(
+pub fn serve_all<R: Wait + Clock + Abort, B: Brands>(
     rt: &R,
     alloc: Global,
-    shared: &Shared<S, G, B>,
-    seat: &mut Seat<S, G, B>,
+    shared: &Shared<B>,
+    seat: &mut Seat<B>,
 ) -> Result<(), Fail> {
     for router in [DEAF, GONE] {
         let _written = served(rt, alloc, shared, seat, router)?;

@@ -3,14 +3,13 @@ use super::ends::done;
 use super::fakes::{Beat, Beats, Noon, Tap};
 use super::*;
 use engine_core::{Event, Store};
-use place_tokens::Room;
+use history_seats::Brands;
 use seated_store::Seated;
 use server_talk::connection;
 use shared_pce::{Seat, Shared};
 use std::collections::VecDeque;
 use std::process::Abort;
 use std::sync::Wait;
-use std::sync::ledger::Ledger;
 
 /// A session that is up, and then reads nothing `quiet` times.
 fn beats_of(alloc: Global, quiet: u32) -> Result<Beats, Fail> {
@@ -33,7 +32,7 @@ fn forgets<R: Wait>(rt: &R, alloc: Global, quiet: u32) -> Result<u32, Fail> {
     };
     let mut store = done(alloc);
     let watch = Noon { is_closing: false };
-    let _ended = connection(rt, alloc, 7, &mut reader, &mut writer, &watch, &mut store);
+    let _left = connection(rt, alloc, 7, &mut reader, &mut writer, &watch, &mut store);
     Ok(store.forgets)
 }
 
@@ -47,11 +46,11 @@ fn a_quiet_turn_empties_the_list(rt: HostRuntime) -> Result<(), Fail> {
 }
 
 /// Empties the list of a seat's store, which is empty already, and says how many receipts the seat keeps.
-fn receipts_after<R: Wait, S: Ledger, G: Ledger, B: Room>(
+fn receipts_after<R: Wait, B: Brands>(
     rt: &R,
     alloc: Global,
-    shared: &Shared<S, G, B>,
-    seat: &mut Seat<S, G, B>,
+    shared: &Shared<B>,
+    seat: &mut Seat<B>,
 ) -> usize {
     Seated::new(rt, alloc, shared, seat).forget();
     seat.receipts().len()
@@ -59,11 +58,11 @@ fn receipts_after<R: Wait, S: Ledger, G: Ledger, B: Room>(
 
 /// A seat keeps its receipts while their steps are kept, and drops them in a quiet turn once those are rolled. They stay
 /// counted.
-pub fn fold_when_quiet<R: Wait + Abort, S: Ledger, G: Ledger, B: Room>(
+pub fn fold_when_quiet<R: Wait + Abort, B: Brands>(
     rt: &R,
     alloc: Global,
-    shared: &Shared<S, G, B>,
-    seat: &mut Seat<S, G, B>,
+    shared: &Shared<B>,
+    seat: &mut Seat<B>,
 ) -> Result<(), Fail> {
     for peer in [1, 2] {
         let _reply = shared.submit(rt, seat, Event::Down { peer })?;
@@ -76,10 +75,10 @@ pub fn fold_when_quiet<R: Wait + Abort, S: Ledger, G: Ledger, B: Room>(
 }
 
 /// The audit passes, with the two steps that the quiet seat received.
-pub fn counts_all<R: Abort, S: Ledger, G: Ledger, B: Room>(
+pub fn counts_all<R: Abort, B: Brands>(
     rt: &R,
-    shared: Shared<S, G, B>,
-    seats: Vec<Seat<S, G, B>>,
+    shared: Shared<B>,
+    seats: Vec<Seat<B>>,
 ) -> Result<(), Fail> {
     let Ok(audit) = shared.close(seats) else {
         return Err(Fail::new("the audit failed"));

@@ -3,18 +3,17 @@
 use super::*;
 use engine_core::{Client, hang_up, serve};
 use history_core::{Brief, Event, LinkReload};
+use history_seats::Brands;
 use pcep_messages::{Message, StateReport, read_message};
 use pcep_objects::Capabilities;
 use pcep_session::State;
-use place_tokens::Room;
 use script_lines::operator_event_in;
 use seated_store::Seated;
 use sequence::Sequence;
-use shared_pce::{Fault, Quiet, Seat, Shared};
+use shared_pce::{Fault, Front, Quiet, Seat, Shared};
 use std::alloc::AllocError;
 use std::process::Abort;
 use std::sync::Wait;
-use std::sync::ledger::Ledger;
 use te_base::LinkValues;
 
 /// The router whose events are submitted, and the one that has a session by bytes.
@@ -24,7 +23,7 @@ const OTHER: u32 = 2;
 
 /// What is asked of a seat.
 #[derive(Clone, Copy)]
-enum Ask {
+pub enum Ask {
     Up,
     Marker,
     /// The LSP 1, which was initiated and is delegated, is up over B.
@@ -125,7 +124,7 @@ fn reload_event(alloc: Global) -> Option<Event> {
 }
 
 /// The event that is asked for: none where there is no memory for it.
-fn event_of(alloc: Global, ask: Ask) -> Option<Event> {
+pub fn event_of(alloc: Global, ask: Ask) -> Option<Event> {
     let peer = PEER;
     match ask {
         Ask::Report => report_event(alloc),
@@ -151,11 +150,11 @@ fn event_of(alloc: Global, ask: Ask) -> Option<Event> {
     }
 }
 
-fn submit<R: Wait, S: Ledger, G: Ledger, B: Room>(
+fn submit<R: Wait, B: Brands>(
     rt: &R,
     alloc: Global,
-    shared: &Shared<S, G, B>,
-    seat: &mut Seat<S, G, B>,
+    shared: &Shared<B>,
+    seat: &mut Seat<B>,
     ask: Ask,
 ) -> Result<(), Fault> {
     let Some(event) = event_of(alloc, ask) else {
@@ -166,11 +165,11 @@ fn submit<R: Wait, S: Ledger, G: Ledger, B: Room>(
 }
 
 /// Does what is asked for, once.
-fn perform<R: Wait, S: Ledger, G: Ledger, B: Room>(
+fn perform<R: Wait, B: Brands>(
     rt: &R,
     alloc: Global,
-    shared: &Shared<S, G, B>,
-    seat: &mut Seat<S, G, B>,
+    shared: &Shared<B>,
+    seat: &mut Seat<B>,
     ask: Ask,
 ) -> Result<(), Fault> {
     match ask {
@@ -210,31 +209,33 @@ fn number_of_each(table: &[[i64; 8]]) -> [Option<[i64; 8]>; 4] {
     ]
 }
 
-fn left<R: Wait, S: Ledger, G: Ledger, B: Room>(
+fn left<R: Wait, B: Brands>(
     rt: &R,
-    shared: &Shared<S, G, B>,
+    shared: &Shared<B>,
+    front: &mut Front<Event, B>,
 ) -> Result<[Option<[i64; 8]>; 4], AllocError> {
-    let table = shared.left(rt)?;
+    let table = shared.left(rt, front)?;
     Ok(number_of_each(table.as_slice()))
 }
 
-fn look<R: Wait, S: Ledger, G: Ledger, B: Room>(
+fn look<R: Wait, B: Brands>(
     rt: &R,
-    shared: &Shared<S, G, B>,
-    seat: &mut Seat<S, G, B>,
+    shared: &Shared<B>,
+    seat: &mut Seat<B>,
 ) -> Result<Seen, AllocError> {
-    let left = match left(rt, shared) {
+    let front = &mut shared.front(rt);
+    let left = match left(rt, shared, front) {
         Ok(left) => left,
-        Err(_) => left(rt, shared)?,
+        Err(_) => left(rt, shared, front)?,
     };
     Ok(Seen {
         left,
-        kept: shared.kept(rt),
+        kept: shared.kept(rt, front),
         steps: seat.steps(),
         grants: seat.grants(),
         receipts: seat.receipts().len(),
-        waiting: shared.waiting(rt),
-        queued: shared.queued(rt, PEER),
+        waiting: shared.waiting(rt, front),
+        queued: shared.queued(rt, front, PEER),
         has_job: seat.hand().is_some(),
     })
 }
@@ -257,11 +258,11 @@ fn is_borne(ask: Ask, before: Seen, after: Seen) -> bool {
 }
 
 /// Does what is asked for: again, where memory was refused.
-fn obtain<R: Wait + Abort, S: Ledger, G: Ledger, B: Room>(
+fn obtain<R: Wait + Abort, B: Brands>(
     rt: &R,
     alloc: Global,
-    shared: &Shared<S, G, B>,
-    seat: &mut Seat<S, G, B>,
+    shared: &Shared<B>,
+    seat: &mut Seat<B>,
     ask: Ask,
 ) -> Result<(), Fail> {
     let before = look(rt, shared, seat)?;
@@ -274,18 +275,18 @@ fn obtain<R: Wait + Abort, S: Ledger, G: Ledger, B: Room>(
     Ok(())
 }
 
-fn newest_brief<S: Ledger, G: Ledger, B: Room>(seat: &Seat<S, G, B>) -> Option<Brief> {
+fn newest_brief<B: Brands>(seat: &Seat<B>) -> Option<Brief> {
     match seat.receipts() {
         [.., newest] => Some(newest.brief()),
         [] => None,
     }
 }
 
-fn obtain_all<R: Wait + Abort, S: Ledger, G: Ledger, B: Room>(
+fn obtain_all<R: Wait + Abort, B: Brands>(
     rt: &R,
     alloc: Global,
-    shared: &Shared<S, G, B>,
-    seat: &mut Seat<S, G, B>,
+    shared: &Shared<B>,
+    seat: &mut Seat<B>,
 ) -> Result<(), Fail> {
     for (ask, wanted) in ASKS {
         obtain(rt, alloc, shared, seat, ask)?;
@@ -294,22 +295,22 @@ fn obtain_all<R: Wait + Abort, S: Ledger, G: Ledger, B: Room>(
     Ok(())
 }
 
-fn serve_once<R: Wait, S: Ledger, G: Ledger, B: Room>(
+fn serve_once<R: Wait, B: Brands>(
     rt: &R,
     alloc: Global,
-    shared: &Shared<S, G, B>,
-    seat: &mut Seat<S, G, B>,
+    shared: &Shared<B>,
+    seat: &mut Seat<B>,
     client: &mut Client,
 ) -> Result<(), Fault> {
     let mut store = Seated::new(rt, alloc, shared, seat);
     serve(client, OTHER, SESSION, 0, &mut store)
 }
 
-fn hang_up_once<R: Wait, S: Ledger, G: Ledger, B: Room>(
+fn hang_up_once<R: Wait, B: Brands>(
     rt: &R,
     alloc: Global,
-    shared: &Shared<S, G, B>,
-    seat: &mut Seat<S, G, B>,
+    shared: &Shared<B>,
+    seat: &mut Seat<B>,
     client: &mut Client,
 ) -> Result<(), Fault> {
     let mut store = Seated::new(rt, alloc, shared, seat);
@@ -318,11 +319,11 @@ fn hang_up_once<R: Wait, S: Ledger, G: Ledger, B: Room>(
 
 /// Serves a whole session, and ends it: whether memory was enough. Where it wasn't, the session is closed, and its events
 /// up to then stay.
-fn has_served<R: Wait + Abort, S: Ledger, G: Ledger, B: Room>(
+fn has_served<R: Wait + Abort, B: Brands>(
     rt: &R,
     alloc: Global,
-    shared: &Shared<S, G, B>,
-    seat: &mut Seat<S, G, B>,
+    shared: &Shared<B>,
+    seat: &mut Seat<B>,
     client: &mut Client,
 ) -> Result<bool, Fail> {
     let before = seat.steps();
@@ -336,11 +337,11 @@ fn has_served<R: Wait + Abort, S: Ledger, G: Ledger, B: Room>(
     Ok(served)
 }
 
-fn connect_once<R: Wait + Abort, S: Ledger, G: Ledger, B: Room>(
+fn connect_once<R: Wait + Abort, B: Brands>(
     rt: &R,
     alloc: Global,
-    shared: &Shared<S, G, B>,
-    seat: &mut Seat<S, G, B>,
+    shared: &Shared<B>,
+    seat: &mut Seat<B>,
 ) -> Result<bool, Fail> {
     let mut client = match Client::new(alloc, 0) {
         Ok(client) => client,
@@ -350,11 +351,11 @@ fn connect_once<R: Wait + Abort, S: Ledger, G: Ledger, B: Room>(
 }
 
 /// Makes each call of a seat, again where it was refused memory, and serves a router by bytes.
-pub fn call_all<R: Wait + Abort, S: Ledger, G: Ledger, B: Room>(
+pub fn call_all<R: Wait + Abort, B: Brands>(
     rt: &R,
     alloc: Global,
-    shared: &Shared<S, G, B>,
-    seat: &mut Seat<S, G, B>,
+    shared: &Shared<B>,
+    seat: &mut Seat<B>,
 ) -> Result<(), Fail> {
     obtain_all(rt, alloc, shared, seat)?;
     let served = connect_once(rt, alloc, shared, seat)? || connect_once(rt, alloc, shared, seat)?;
@@ -363,10 +364,10 @@ pub fn call_all<R: Wait + Abort, S: Ledger, G: Ledger, B: Room>(
 }
 
 /// The audit passes, with three grants. It takes no memory.
-pub fn are_audited<R: Abort, S: Ledger, G: Ledger, B: Room>(
+pub fn are_audited<R: Abort, B: Brands>(
     rt: &R,
-    shared: Shared<S, G, B>,
-    seats: Vec<Seat<S, G, B>>,
+    shared: Shared<B>,
+    seats: Vec<Seat<B>>,
 ) -> Result<(), Fail> {
     let Ok(audit) = shared.close(seats) else {
         return Err(Fail::new("the audit failed"));

@@ -2,20 +2,19 @@
 use super::meeting::{Came, ask, came_to, come_up};
 use super::*;
 use history_core::{Event, LinkReload, Reply};
-use place_tokens::Room;
+use history_seats::Brands;
 use sequence::Sequence;
 use shared_pce::{Fault, Gate, Quiet, Seat, Shared};
 use std::process::Abort;
 use std::sync::Wait;
-use std::sync::ledger::Ledger;
 use te_base::LinkValues;
 
 /// Submits a reload of one link, and says whether it was made.
-fn is_reloaded<R: Wait, S: Ledger, G: Ledger, B: Room>(
+fn is_reloaded<R: Wait, B: Brands>(
     rt: &R,
     alloc: Global,
-    shared: &Shared<S, G, B>,
-    seat: &mut Seat<S, G, B>,
+    shared: &Shared<B>,
+    seat: &mut Seat<B>,
     entry: LinkReload,
 ) -> Result<bool, Fault> {
     let mut links = Vec::new(alloc);
@@ -27,16 +26,16 @@ fn is_reloaded<R: Wait, S: Ledger, G: Ledger, B: Room>(
 
 /// Reloads a link once a ticket was taken, and before its path is sought.
 #[derive(Drop)]
-struct Reloading<'a, R: Wait, S: Ledger, G: Ledger, B: Room> {
+struct Reloading<'a, R: Wait, B: Brands> {
     rt: &'a R,
     alloc: Global,
-    shared: &'a Shared<S, G, B>,
-    seat: &'a mut Seat<S, G, B>,
+    shared: &'a Shared<B>,
+    seat: &'a mut Seat<B>,
     entry: LinkReload,
     is_done: bool,
 }
 
-impl<'a, R: Wait, S: Ledger, G: Ledger, B: Room> Gate for Reloading<'a, R, S, G, B> {
+impl<'a, R: Wait, B: Brands> Gate for Reloading<'a, R, B> {
     fn computing(&mut self, _ticket: u64) {
         let made = is_reloaded(self.rt, self.alloc, self.shared, self.seat, self.entry);
         self.is_done = matches!(made, Ok(true));
@@ -44,12 +43,12 @@ impl<'a, R: Wait, S: Ledger, G: Ledger, B: Room> Gate for Reloading<'a, R, S, G,
 }
 
 /// What a search comes to during which this link is given these values.
-fn came_beside<R: Wait, S: Ledger, G: Ledger, B: Room>(
+fn came_beside<R: Wait, B: Brands>(
     rt: &R,
     alloc: Global,
-    shared: &Shared<S, G, B>,
-    worker: &mut Seat<S, G, B>,
-    seat: &mut Seat<S, G, B>,
+    shared: &Shared<B>,
+    worker: &mut Seat<B>,
+    seat: &mut Seat<B>,
     link: usize,
     values: Option<LinkValues>,
 ) -> Result<Came, Fail> {
@@ -73,12 +72,9 @@ fn came_beside<R: Wait, S: Ledger, G: Ledger, B: Room>(
 }
 
 /// What is left of each link at the best priority.
-fn left_now<R: Wait, S: Ledger, G: Ledger, B: Room>(
-    rt: &R,
-    shared: &Shared<S, G, B>,
-) -> Result<[i64; 4], Fail> {
+fn left_now<R: Wait, B: Brands>(rt: &R, shared: &Shared<B>) -> Result<[i64; 4], Fail> {
     let mut best = [0i64; 4];
-    let table = shared.left(rt)?;
+    let table = shared.left(rt, &mut shared.front(rt))?;
     for (link, amounts) in table.iter().enumerate().take(4) {
         best[link] = amounts[0];
     }
@@ -88,12 +84,12 @@ fn left_now<R: Wait, S: Ledger, G: Ledger, B: Room>(
 /// A search goes by the links of the moment when its ticket was taken: the way over B is granted, though it costs more by
 /// then. The next search goes by those of now, over C; of that way a link bears too little at the commit, so it is sought
 /// again, and found over B.
-pub fn reload_beside_searches<R: Wait + Abort, S: Ledger, G: Ledger, B: Room>(
+pub fn reload_beside_searches<R: Wait + Abort, B: Brands>(
     rt: &R,
     alloc: Global,
-    shared: &Shared<S, G, B>,
-    worker: &mut Seat<S, G, B>,
-    seat: &mut Seat<S, G, B>,
+    shared: &Shared<B>,
+    worker: &mut Seat<B>,
+    seat: &mut Seat<B>,
 ) -> Result<(), Fail> {
     come_up(rt, shared, worker, 1)?;
     let first = "initiate 1 t1 10.0.0.1 10.0.0.4 600000 7 0";
@@ -120,10 +116,10 @@ pub fn reload_beside_searches<R: Wait + Abort, S: Ledger, G: Ledger, B: Room>(
 }
 
 /// The audit, with both reloads in the history.
-pub fn replays<R: Abort, S: Ledger, G: Ledger, B: Room>(
+pub fn replays<R: Abort, B: Brands>(
     rt: &R,
-    shared: Shared<S, G, B>,
-    seats: Vec<Seat<S, G, B>>,
+    shared: Shared<B>,
+    seats: Vec<Seat<B>>,
 ) -> Result<(), Fail> {
     let Ok(audit) = shared.close(seats) else {
         return Err(Fail::new("the audit failed"));

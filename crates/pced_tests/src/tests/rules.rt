@@ -65,7 +65,11 @@ fn an_owed_down_comes_first(rt: HostRuntime) -> Result<(), Fail> {
 }
 
 const fn taken(address: u32, is_up: bool) -> Taken {
-    Taken { address, is_up }
+    Taken {
+        slot: 0,
+        address,
+        is_up,
+    }
 }
 
 /// Whoever comes to four places, of which one session is up.

@@ -8,12 +8,13 @@ use super::quiet::{counts_all, fold_when_quiet};
 use super::refused::{are_audited, call_all};
 use super::reloads::{reload_beside_searches, replays};
 use super::*;
-use place_tokens::{Room, Unopened};
-use shared_pce::{Seat, Shared};
+use history_seats::Brands;
+use place_tokens::Unopened;
+use shared_pce::{Event, RollAt, Seat, Shared, Unnamed};
 use std::marker::Brand;
 use std::process::Abort;
 use std::sync::Wait;
-use std::sync::ledger::{Blank, Ledger};
+use std::sync::ledger::Blank;
 use std::thread::Threads;
 use std::time::Clock;
 
@@ -34,17 +35,12 @@ enum Case {
 }
 
 /// What is done before the audit.
-fn act<
-    R: Threads + Wait + Clock + Abort + Sync,
-    S: Ledger + Send + Sync,
-    G: Ledger + Send + Sync,
-    B: Room + Send + Sync,
->(
+fn act<R: Threads + Wait + Clock + Abort + Sync, B: Brands + Send + Sync>(
     rt: &R,
     alloc: Global,
     case: Case,
-    shared: &Shared<S, G, B>,
-    seats: &mut [Seat<S, G, B>],
+    shared: &Shared<B>,
+    seats: &mut [Seat<B>],
 ) -> Result<(), Fail> {
     let Some((first, rest)) = seats.split_first_mut() else {
         return Err(Fail::new("two seats"));
@@ -76,14 +72,14 @@ fn quiet_database(alloc: Global) -> Option<Database>
 }
 
 /// Drops them.
-fn release<S: Ledger, G: Ledger, B: Room>(_shared: Shared<S, G, B>, _seats: Vec<Seat<S, G, B>>) {}
+fn release<B: Brands>(_shared: Shared<B>, _seats: Vec<Seat<B>>) {}
 
 /// The audit. True: there was memory for the seats.
-fn closed<R: Abort, S: Ledger, G: Ledger, B: Room>(
+fn closed<R: Abort, B: Brands>(
     rt: &R,
     case: Case,
-    shared: Shared<S, G, B>,
-    seats: Vec<Seat<S, G, B>>,
+    shared: Shared<B>,
+    seats: Vec<Seat<B>>,
 ) -> Result<bool, Fail> {
     match case {
         Case::WorkersMeet => both_are_granted(rt, shared, seats)?,
@@ -96,28 +92,25 @@ fn closed<R: Abort, S: Ledger, G: Ledger, B: Room>(
     Ok(true)
 }
 
-fn on_shared<
-    S: Ledger + Send + Sync,
-    G: Ledger + Send + Sync,
-    B: Room + Send + Sync,
-    R: Threads + Wait + Clock + Abort + Sync,
->(
+fn on_shared<B: Brands + Send + Sync, R: Threads + Wait + Clock + Abort + Sync>(
     rt: &R,
     alloc: Global,
     case: Case,
+    database: Database,
     steps: Blank,
     grants: Blank,
     room: Unopened,
+    history: Unnamed<Event>,
 ) -> Result<bool, Fail>
-    requires steps { (steps.name ≡ S.name) × (steps.parts ≡ S.parts) × (steps.parts ≡ 2) }
-    requires grants { (grants.name ≡ G.name) × (grants.parts ≡ G.parts) × (grants.parts ≡ 2) }
+    requires database { (steps_of database ≡ 0) × (database.text ≡ B.text) }
+    requires history { history ≡ B.log }
+    requires steps { (steps.name ≡ B.steps) × (steps.parts ≡ B.seats) × (steps.parts ≡ 2) }
+    requires grants { (grants.name ≡ B.grants) × (grants.parts ≡ B.seats) × (grants.parts ≡ 2) }
     requires room { (room.table ≡ B.table) × (room.seats ≡ B.seats) × (room.seats ≡ 2) }
 {
-    let Some(database) = quiet_database(alloc) else {
-        return Ok(false);
-    };
-    let Ok((shared, mut seats)) = Shared::<S, G, B>::new(alloc, database, 2, steps, grants, room)
-    else {
+    let never = RollAt::NEVER;
+    let made = Shared::<B>::new(alloc, database, 2, steps, grants, room, history, never);
+    let Ok((shared, mut seats)) = made else {
         return Ok(false);
     };
     match act(rt, alloc, case, &shared, seats.as_mut_slice()) {
@@ -135,10 +128,25 @@ fn run_once<R: Threads + Wait + Clock + Abort + Sync>(
     alloc: Global,
     case: Case,
 ) -> Result<bool, Fail> {
+    let Some(database) = quiet_database(alloc) else {
+        return Ok(false);
+    };
     let Ok(room) = Unopened::new(alloc, 2) else {
         return Ok(false);
     };
-    on_shared::<Brand, Brand, Brand, _>(rt, alloc, case, Blank::new(2), Blank::new(2), room)
+    let Ok(history) = Unnamed::new(alloc) else {
+        return Ok(false);
+    };
+    on_shared::<Brand, _>(
+        rt,
+        alloc,
+        case,
+        database,
+        Blank::new(2),
+        Blank::new(2),
+        room,
+        history,
+    )
 }
 
 /// Runs a case over two seats, which are made again where memory was refused.

@@ -1,7 +1,11 @@
 //! Sessions over a store that has no room for more steps, and two sessions of one peer.
+ghost use Rattle.std.specs.Prelude.{◌≡◌};
+
 use super::*;
 use engine_core::{Call, Client, Event, Fault, Lent, Reply, Store, hang_up, serve};
 use history_core::SharedEvent;
+use pcep_messages::Message;
+use pcep_objects::Open;
 use pcep_session::State;
 use std::alloc::AllocError;
 use std::process::Abort;
@@ -11,17 +15,28 @@ use std::process::Abort;
 struct Small {
     calls: Vec<Call>,
     room: u32,
+    /// A digit for each deed, the first one foremost: that of an event, 6 for an Open, 7 for a PCRpt.
+    deeds: u64,
+}
+
+impl Small {
+    fn note(&mut self, digit: u32)
+        ensures { self.new.calls ≡ self.old.calls }
+    {
+        self.deeds = self.deeds.wrapping_mul(10).wrapping_add(u64::from(digit));
+    }
 }
 
 impl Store for Small {
-    ghost use Rattle.std.specs.Prelude.{◌≡◌, ◌++◌, List};
-    ghost use Rattle.std.proofs.Common.{sym, ◌∙◌, ap, append_assoc};
+    ghost use Rattle.std.specs.Prelude.{◌≡◌, ◌++◌};
+    ghost use Rattle.std.proofs.Common.{sym};
     ghost use Rattle.std.proofs.lemmas.List.{append-nil};
-    ghost use Rattle.engine_core.specs.declared.store.Call.{Call};
+    ghost use Rattle.engine_core.specs.DeedLaws.{added_on};
+    ghost use Rattle.engine_core.specs.Deeds.{calls_of};
 
     ghost calls = { λ s. s.calls.items };
 
-    ghost moves = { λ old made new. new.calls.items ≡ old.calls.items ++ made };
+    ghost moves = { λ old made new. new.calls.items ≡ old.calls.items ++ calls_of made };
 
     ghost same_but_calls = { λ old new. new.room ≡ old.room };
 
@@ -31,7 +46,7 @@ impl Store for Small {
 
     ghost moves_nowhere = { λ s. sym (append-nil s.calls.items) };
 
-    ghost moves_on = { λ a b c first second h k. k ∙ ap (λ (calls : List Call). calls ++ second) h ∙ append_assoc a.calls.items first second };
+    ghost moves_on = { λ a b c first second h k. added_on a.calls.items b.calls.items c.calls.items first second h k };
 
     ghost moves_add = { λ a b made h. h };
 
@@ -39,13 +54,27 @@ impl Store for Small {
         if self.room == 0 {
             return Err(Fault::HistoryFull);
         }
+        let noted = digit(&event);
         let event = SharedEvent::new(*self.calls.allocator(), event)?;
         self.calls.push(Call {
             event,
             reply: Reply::Done,
         })?;
         self.room -= 1;
+        self.note(noted);
         Ok(())
+    }
+
+    fn show_open(&mut self, peer_open: Open) {
+        if peer_open.dead_timer == 120 {
+            self.note(6);
+        }
+    }
+
+    fn show_message(&mut self, message: &Message) {
+        if matches!(message, Message::Report(_)) {
+            self.note(7);
+        }
     }
 
     fn calls(&self) -> &[Call] {
@@ -143,6 +172,7 @@ fn outcome_in(alloc: Global, room: u32) -> Result<Outcome, Fault> {
     let mut store = Small {
         calls: Vec::new(alloc),
         room,
+        deeds: 0,
     };
     Ok(outcome_over(&mut client, &mut store))
 }
@@ -184,6 +214,30 @@ fn a_full_store_ends_the_session(rt: HostRuntime) -> Result<(), Fail> {
         outcomes,
         [FULL, full_behind(1), full_behind(12), full_behind(123)]
     );
+    Ok(())
+}
+
+/// What a session shows a store with room for `room` events, and submits to it, in order.
+fn deeds_in(alloc: Global, room: u32) -> Result<u64, Fault> {
+    let mut client = Client::new(alloc, 0)?;
+    let mut store = Small {
+        calls: Vec::new(alloc),
+        room,
+        deeds: 0,
+    };
+    let _served = serve(&mut client, 1, SESSION, 0, &mut store);
+    Ok(store.deeds)
+}
+
+/// The peer's Open is shown before its Up is submitted, and each message before its events, up to a fault too.
+#[test]
+fn what_a_session_delivers_is_shown_first(rt: HostRuntime) -> Result<(), Fail> {
+    let deeds = [
+        deeds_in(rt.alloc(), 0)?,
+        deeds_in(rt.alloc(), 2)?,
+        deeds_in(rt.alloc(), 9)?,
+    ];
+    assert_eq!(rt; deeds, [6, 61727, 6_172_734]);
     Ok(())
 }
 

@@ -1,33 +1,28 @@
 //! The turns of a worker: it takes a ticket, searches with the lock free, and commits what it found.
 ghost use Rattle.std.specs.Prelude.{◌≡◌, true, IfOk, OnErr};
 ghost use Rattle.step_core.specs.States.{has_waiting};
-ghost use Rattle.history_core.specs.Histories.{Content, Replays, is_full};
+ghost use mathlib.Core.List.{IsPrefix};
+ghost use Rattle.history_core.specs.Histories.{is_full};
+ghost use Rattle.history_seats.specs.Past.{database_at};
 ghost use Rattle.history_seats.specs.Receipts.{SeatContent};
 ghost use Rattle.shared_pce.specs.Lefts.{IsLookedAt};
-ghost use Rattle.shared_pce.specs.Turns.{Takes, TakesNext, MayTake, Received, Commits, Works};
+ghost use Rattle.shared_pce.specs.Turns.{Takes, TakesNext, MayTake, Received, SeesMore, Commits, Works};
 
 use super::Shared;
-use crate::locks::acquire;
-use crate::stepped::step_seen;
 use crate::work::{Gate, Worked};
 use history_core::{Event, Fault, Job, Reply, SharedEvent};
-use history_seats::{Held, Seat};
+use history_seats::{Brands, Front, Held, Seat};
 use pcep_word::Priority;
-use place_tokens::Room;
 use sequence::PlainData;
-use std::sync::ledger::Ledger;
+use short_lock::acquire;
 use std::sync::{CondvarTimeouts, Wait};
 use std::time::{Clock, Duration};
 
 /// Takes the next ticket while the lock is held, where one waits. `None` too where no further step can be kept, or memory is
 /// refused: then it waits as before.
-fn take_next<S: Ledger, G: Ledger, B: Room>(
-    held: &mut Held<S, G, B>,
-    seat: &mut Seat<S, G, B>,
-    take: &SharedEvent,
-) -> Option<Job>
+fn take_next<B: Brands>(held: &mut Held<B>, seat: &mut Seat<B>, take: &SharedEvent) -> Option<Job>
     requires { take.now ≡ Event.Take }
-    ensures { TakesNext seat.old seat.new result }
+    ensures { TakesNext B.text seat.old seat.new result }
 {
     if !held.database().waiting() {
         return None;
@@ -44,12 +39,12 @@ fn take_next<S: Ledger, G: Ledger, B: Room>(
     }
 }
 
-impl<S: Ledger, G: Ledger, B: Room> Shared<S, G, B> {
+impl<B: Brands> Shared<B> {
     /// Takes a ticket, if one waits.
-    fn take<R: Wait>(&self, rt: &R, seat: &mut Seat<S, G, B>) -> Result<Option<Job>, Fault>
-        ensures took { IfOk result (Takes seat.old seat.new) }
-        ensures unchanged_on_fault { OnErr result (seat.new ≡ seat.old) }
-        ensures full { result ≡ Err Fault.HistoryFull → (d : Content) × Replays d × (is_full d ≡ true) }
+    fn take<R: Wait>(&self, rt: &R, seat: &mut Seat<B>) -> Result<Option<Job>, Fault>
+        ensures took { IfOk result (Takes B.text seat.old seat.new) }
+        ensures unchanged_on_fault { OnErr result (SeesMore seat.old seat.new) }
+        ensures full { result ≡ Err Fault.HistoryFull → is_full (database_at B.text seat.new.seen) ≡ true }
     {
         match self.submit(rt, seat, Event::Take)? {
             Reply::Job(job) => Ok(Some(job)),
@@ -62,22 +57,23 @@ impl<S: Ledger, G: Ledger, B: Room> Shared<S, G, B> {
     fn commit_and_take<R: Wait>(
         &self,
         rt: &R,
-        seat: &mut Seat<S, G, B>,
+        seat: &mut Seat<B>,
         commit: SharedEvent,
         setup: Priority,
         take: &SharedEvent,
     ) -> Result<(Reply, Option<Job>), Fault>
         requires take { take.now ≡ Event.Take }
         requires setup { IsLookedAt commit setup }
-        ensures received { IfOk result (λ r. (mid : SeatContent) × Received seat.old commit mid r.0 × TakesNext mid seat.new r.1) }
-        ensures unchanged_on_fault { OnErr result (seat.new ≡ seat.old) }
-        ensures full { result ≡ Err Fault.HistoryFull → (d : Content) × Replays d × (is_full d ≡ true) }
+        ensures received { IfOk result (λ r. (mid : SeatContent) × Received B.text seat.old commit mid r.0 × TakesNext B.text mid seat.new r.1) }
+        ensures unchanged_on_fault { OnErr result (SeesMore seat.old seat.new) }
+        ensures full { result ≡ Err Fault.HistoryFull → is_full (database_at B.text seat.new.seen) ≡ true }
     {
         seat.reserve(2)?;
         let mut held = acquire(rt, &self.held);
-        let stepped = step_seen(self.alloc, &mut held, seat, commit, setup)?;
+        let (stepped, rolled) = self.roll_and_step(rt, &mut held, seat, commit, setup)?;
         let next = take_next(&mut held, seat, take);
         drop(held);
+        drop(rolled);
         Ok((self.note_step(rt, stepped), next))
     }
 
@@ -85,12 +81,12 @@ impl<S: Ledger, G: Ledger, B: Room> Shared<S, G, B> {
     fn finish_job<R: Wait>(
         &self,
         rt: &R,
-        seat: &mut Seat<S, G, B>,
+        seat: &mut Seat<B>,
         job: &Job,
     ) -> Result<(Reply, Option<Job>), Fault>
-        ensures committed { IfOk result (λ r. (mid : SeatContent) × Commits seat.old job.now mid r.0 × TakesNext mid seat.new r.1) }
-        ensures unchanged_on_fault { OnErr result (seat.new ≡ seat.old) }
-        ensures full { result ≡ Err Fault.HistoryFull → (d : Content) × Replays d × (is_full d ≡ true) }
+        ensures committed { IfOk result (λ r. (mid : SeatContent) × Commits B.text seat.old job.now mid r.0 × TakesNext B.text mid seat.new r.1) }
+        ensures unchanged_on_fault { OnErr result (SeesMore seat.old seat.new) }
+        ensures full { result ≡ Err Fault.HistoryFull → is_full (database_at B.text seat.new.seen) ≡ true }
     {
         let take = SharedEvent::new(self.alloc, Event::Take)?;
         let offer = job.search(self.alloc)?;
@@ -110,12 +106,12 @@ impl<S: Ledger, G: Ledger, B: Room> Shared<S, G, B> {
     pub fn work_one<R: Wait, A: Gate>(
         &self,
         rt: &R,
-        seat: &mut Seat<S, G, B>,
+        seat: &mut Seat<B>,
         gate: &mut A,
     ) -> Result<Worked, Fault>
-        ensures worked { IfOk result (Works seat.old seat.new) }
-        ensures paused { OnErr result (MayTake seat.old seat.new) }
-        ensures full { result ≡ Err Fault.HistoryFull → (d : Content) × Replays d × (is_full d ≡ true) }
+        ensures worked { IfOk result (Works B.text seat.old seat.new) }
+        ensures paused { OnErr result (MayTake B.text seat.old seat.new) }
+        ensures full { result ≡ Err Fault.HistoryFull → is_full (database_at B.text seat.new.seen) ≡ true }
     {
         let in_hand = seat.hand().take();
         let job = match in_hand {
@@ -138,15 +134,23 @@ impl<S: Ledger, G: Ledger, B: Room> Shared<S, G, B> {
         }
     }
 
-    /// Waits until a ticket waits, the end was announced or the time is up, and says whether a ticket waits.
-    pub fn await_work<R: Wait + Clock>(&self, rt: &R, most: Duration) -> bool
-        ensures { (d : Content) × Replays d × (result ≡ has_waiting d.state) }
+    /// Waits until a ticket waits, the end was announced or the time is up, and says whether a ticket waits in what was
+    /// seen then.
+    pub fn await_work<R: Wait + Clock>(
+        &self,
+        rt: &R,
+        me: &mut Front<Event, B>,
+        most: Duration,
+    ) -> bool
+        ensures begins { IsPrefix me.old me.new }
+        ensures waiting { result ≡ has_waiting (database_at B.text me.new).state }
     {
         let bell = &self.bell;
         let held = acquire(rt, &self.held);
-        let (held, _timeout) = bell.work.wait_timeout_while(rt, held, most, |held| {
+        let (mut held, _timeout) = bell.work.wait_timeout_while(rt, held, most, |held| {
             !held.database().waiting() && !bell.is_over()
         });
+        held.show(me);
         held.database().waiting()
     }
 }

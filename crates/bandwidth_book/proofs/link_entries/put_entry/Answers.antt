@@ -1,9 +1,9 @@
 use Rattle.std.proofs.Common.{◌≡◌, ◌≤◌, ◌==◌, ℕ, Bool, true, false, [], ◌∷◌, Option, Some, None, insert, length, ap, ◌∙◌, arith, if◌then◌else◌}
 use Rattle.bandwidth_book.specs.Holdings.{Holdings}
 use Rattle.bandwidth_book.specs.Reservation.{moved_one, promised_after}
-use Rattle.bandwidth_book.specs.Entries.{IsMoved, entry_on, place_on, promised_in}
+use Rattle.bandwidth_book.specs.Entries.{IsBusy, IsShifted, entry_on, place_on, promised_in}
 use Rattle.bandwidth_book.proofs.LinkLists.{insert_entry_of}
-use Rattle.bandwidth_book.proofs.Moved.{comes, unmoved, unmoved_room}
+use Rattle.bandwidth_book.proofs.Moved.{comes, comes_busy, unmoved_room, unshifted}
 use Rattle.bandwidth_book.proofs.Rising.{rising_insert}
 use Rattle.bandwidth_book.proofs.link_entries.put_entry.Goals as goal
 
@@ -20,12 +20,17 @@ returns-clause-rising c = rw (put c) (rising_insert (record { link = c.args.link
 
 pub returns-clause-moved : goal.returns-clause-moved
 returns-clause-moved c = λ l.
-    entries (λ b o u. IsMoved c.args.motion (if b then c.args.held ∷ [] else []) o u) c
+    entries (λ b o u. IsShifted c.args.motion (if b then c.args.held ∷ [] else []) o u) c
     (comes c.args.motion c.args.held c.move_one.new.self c.requires.promise (c.in_ok-move_one.ensures.held ∙ ap (moved_one c.args.motion c.args.held) c.new-entry.ensures.held) (c.in_ok-move_one.ensures.ok ∙ ap (promised_after c.args.motion 1) c.new-entry.ensures.promised))
-    (λ o. unmoved c.args.motion o) l
+    (λ o. unshifted c.args.motion o) l
 
 pub returns-clause-ok : goal.returns-clause-ok
 returns-clause-ok c = λ l.
     let promised = c.in_ok-move_one.ensures.ok ∙ ap (promised_after c.args.motion 1) c.new-entry.ensures.promised in
     entries (λ b o u. promised_after c.args.motion (length (if b then c.args.held ∷ [] else [])) (promised_in o) ≤ promised_in u) c
     (omega (arith, promised)) (λ o. unmoved_room c.args.motion o) l
+
+pub returns-clause-busy : goal.returns-clause-busy
+returns-clause-busy c = λ l.
+    entries (λ b o u. IsBusy o → IsBusy u) c
+    (λ was. comes_busy c.args.motion c.move_one.new.self c.requires.promise (c.in_ok-move_one.ensures.ok ∙ ap (promised_after c.args.motion 1) c.new-entry.ensures.promised)) (λ o was. was) l

@@ -1,5 +1,9 @@
-use Rattle.engine_core.proofs.Cases.{other_message}
+use Rattle.engine_core.specs.Deeds.{Delivered}
+use Rattle.engine_core.specs.Engine.{taking}
+use Rattle.engine_core.proofs.Carrying.{shown_first}
 use Rattle.engine_core.proofs.inputs.on_message.Goals as goal
 
 pub returns : goal.returns
-returns g c = λ go_on. other_message g.S.Store.moves c.args.store.now c.args.client.now c.args.peer c.args.message go_on c.in_default.not-Report c.in_default.not-Request c.in_default.not-Error (g.met.S.Store.moves_nowhere c.args.store.now)
+returns g c = λ go_on.
+    shown_first g.S.Store.moves g.S.Store.is_full g.met.S.Store.moves_on c.take_message.result c.args.store.now c.show_message.new.self c.take_message.new.store c.args.client.now c.take_message.new.client (Delivered c.args.message)
+    (taking c.args.peer c.args.message c.args.client.now go_on) go_on c.show_message.ensures (c.take_message.ensures go_on)

@@ -6,8 +6,8 @@ use Rattle.pce_view.proofs.lsps.lsp_text.Goals as goal
 
 pub returns : goal.returns
 returns c =
-    let whole = lsp_or_null c.args.seen.now in
+    let whole = lsp_or_null c.args.heard.now c.args.seen.now in
     c.closed.ensures whole
     (c.in_ok-put_lsp_or.ensures.before ∙ c.new-writer.ensures.before ∙ c.new.ensures.items)
     (c.in_ok-put_lsp_or.ensures.written ∙ ap (λ front. front ++ json_tokens whole) c.new-writer.ensures.tokens)
-    (lsp_or_shallow c.args.seen.now)
+    (lsp_or_shallow c.args.heard.now c.args.seen.now)

@@ -6,8 +6,8 @@ use Rattle.pce_view.proofs.lsps.page_text.Goals as goal
 
 pub returns : goal.returns
 returns c =
-    let whole = page_json c.args.from c.args.page.now in
+    let whole = page_json c.args.from c.args.heard.now c.args.placed.now in
     c.closed.ensures whole
     (c.in_ok-put_page.ensures.before ∙ c.new-writer.ensures.before ∙ c.new.ensures.items)
     (c.in_ok-put_page.ensures.written ∙ ap (λ front. front ++ json_tokens whole) c.new-writer.ensures.tokens)
-    (page_shallow c.args.from c.args.page.now)
+    (page_shallow c.args.from c.args.heard.now c.args.placed.now)

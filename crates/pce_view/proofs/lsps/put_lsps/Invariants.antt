@@ -5,7 +5,7 @@ use Rattle.pce_view.specs.Views.{lsp_items}
 use Rattle.pce_view.proofs.lsps.put_lsps.Given as goal
 
 -- the tokens so far and those of what is left make the whole
-abbrev pub invariant-loop-seen : goal.invariant-loop-seen
-invariant-loop-seen l =
+abbrev pub invariant-loop-place : goal.invariant-loop-place
+invariant-loop-place l =
     (l.writer.before ≡ l.fn.writer.before)
-    × (l.writer.tokens ++ items_tokens (lsp_items (drop l.seen-index l.lsps)) ≡ l.fn.writer.tokens ++ json_tokens (array (lsp_items l.lsps)))
+    × (l.writer.tokens ++ items_tokens (lsp_items l.heard l.gaps l.place (drop l.place l.lsps)) ≡ l.fn.writer.tokens ++ json_tokens (array (lsp_items l.heard l.gaps 0 l.lsps)))

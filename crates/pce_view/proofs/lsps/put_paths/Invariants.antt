@@ -5,7 +5,7 @@ use Rattle.pce_view.specs.Views.{path_items}
 use Rattle.pce_view.proofs.lsps.put_paths.Given as goal
 
 -- the tokens so far and those of what is left make the whole
-abbrev pub invariant-loop-path : goal.invariant-loop-path
-invariant-loop-path l =
+abbrev pub invariant-loop-place : goal.invariant-loop-place
+invariant-loop-place l =
     (l.writer.before ≡ l.fn.writer.before)
-    × (l.writer.tokens ++ items_tokens (path_items (drop l.path-index l.paths)) ≡ l.fn.writer.tokens ++ json_tokens (array (path_items l.paths)))
+    × (l.writer.tokens ++ items_tokens (path_items l.words l.gaps l.place (drop l.place l.paths)) ≡ l.fn.writer.tokens ++ json_tokens (array (path_items l.words l.gaps 0 l.paths)))

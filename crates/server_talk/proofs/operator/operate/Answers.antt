@@ -1,23 +1,22 @@
 use Rattle.std.proofs.Common.{◌≡◌, true, [], refl, arith}
 use Rattle.std.proofs.lemmas.List.Elements.{All-nil}
 use Rattle.std.proofs.KnownBytes.{Consumes-nil, Consumes-kept}
-use Rattle.engine_core.specs.declared.store.Call.{Call}
 use Rattle.server_talk.specs.Goings.Goes.{Stays}
-use Rattle.server_talk.specs.Requests.{is_operators}
+use Rattle.server_talk.specs.Operators.{IsOperators}
 use Rattle.server_talk.specs.Servers.{server_of}
 use Rattle.server_talk.proofs.Operating.{begun, calls_of}
 use Rattle.server_talk.proofs.operator.operate.Goals as goal
 
 pub returns-in_err-with_capacity-clause-by_operators : goal.returns-in_err-with_capacity-clause-by_operators
 returns-in_err-with_capacity-clause-by_operators g c =
-    ([], All-nil (λ (call : Call). is_operators call.event ≡ true), Stays)
+    ([], All-nil IsOperators, Stays)
 
 pub loop-init : goal.loop-init
 loop-init g c = record {
   empty = λ none. none;
   so_far = (
     [],
-    Consumes-kept (g.I.Read.remaining c.args.reader.now) (g.I.Read.remaining c.args.reader.now) (g.I.Read.remaining c.set_patience.new.self) [] (Consumes-nil (g.I.Read.remaining c.args.reader.now)) c.set_patience.ensures,
+    Consumes-kept (g.I.Read.remaining c.args.reader.now) (g.I.Read.remaining c.args.reader.now) (g.I.Read.remaining c.set_patience.new.self) [] (Consumes-nil (g.I.Read.remaining c.args.reader.now)) c.set_patience.ensures.kept,
     begun (server_of g.D.Store g.D.Desk.is_left (record { reads = g.P.Plan.reads; has_links = g.P.Network.has_links; shows = g.P.Show.shows }) c.args.plan.now) c.args.store.now (g.O.Write.contents c.args.writer.now) _ record { room = omega (arith, c.in_ok-with_capacity.ensures.capacity); kept = (c.in_ok-with_capacity.ensures.items, omega arith) } refl,
   );
 }

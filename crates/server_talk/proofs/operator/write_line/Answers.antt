@@ -1,14 +1,14 @@
 use Rattle.std.proofs.Common.{ℕ, List, codes, subst}
-use Rattle.server_talk.specs.Connections.{Takes}
+use Rattle.server_talk.specs.Connections.{TakesAll}
 use Rattle.server_talk.proofs.Flowing.{first_fails, first_goes_out}
 use Rattle.server_talk.proofs.operator.write_line.Goals as goal
 
 pub returns-then-not-write : goal.returns-then-not-write
 returns-then-not-write g c =
     first_fails c.write.result (g.O.Write.contents c.args.writer.now) (g.O.Write.contents c.write.new.writer) c.args.text.now (codes "\n") c.if-not-write.true
-    (subst (λ (bytes : List ℕ). Takes c.write.result (g.O.Write.contents c.args.writer.now) (g.O.Write.contents c.write.new.writer) bytes) c.as_bytes.ensures.value c.write.ensures)
+    (subst (λ (bytes : List ℕ). TakesAll c.write.result (g.O.Write.contents c.args.writer.now) (g.O.Write.contents c.write.new.writer) bytes) c.as_bytes.ensures.value c.write.ensures)
 
 pub returns : goal.returns
 returns g c =
     first_goes_out c.write.result c.write-2.result (g.O.Write.contents c.args.writer.now) (g.O.Write.contents c.write.new.writer) (g.O.Write.contents c.write-2.new.writer) c.args.text.now (codes "\n") c.if-not-write.false
-    (subst (λ (bytes : List ℕ). Takes c.write.result (g.O.Write.contents c.args.writer.now) (g.O.Write.contents c.write.new.writer) bytes) c.as_bytes.ensures.value c.write.ensures) c.write-2.ensures
+    (subst (λ (bytes : List ℕ). TakesAll c.write.result (g.O.Write.contents c.args.writer.now) (g.O.Write.contents c.write.new.writer) bytes) c.as_bytes.ensures.value c.write.ensures) c.write-2.ensures

@@ -1,0 +1,53 @@
+//! The lock of a path: that of its folder (flock(2)).
+ghost use Rattle.std.specs.Prelude.{◌≡◌, IfOk, string_bytes};
+ghost use Rattle.control_socket.specs.Paths.{folder_at};
+
+use std::alloc::{AllocError, Global};
+use std::fs::{File, Files, TryLockError};
+use std::io::ErrorKind;
+use std::path::Path;
+use std::time::{Clock, Duration};
+use std::{io, thread};
+
+/// How often the lock is asked for, and the wait in between in milliseconds: five seconds in all.
+const LOCK_LOOKS: u32 = 100;
+
+const LOCK_WAIT_MS: u64 = 50;
+
+/// The folder of the path. It ends in `/.`, so that nothing but a folder can be opened by it.
+fn folder_at(alloc: Global, path: &str) -> Result<String, AllocError>
+    ensures { IfOk result (λ folder. string_bytes folder ≡ folder_at path.now) }
+{
+    match Path::new(path).parent().and_then(Path::to_str) {
+        Some(folder) if !folder.is_empty() => format!(in alloc; "{folder}/."),
+        _ => String::from_str(alloc, "."),
+    }
+}
+
+/// Waits for the lock of an open folder, five seconds at most (`TimedOut`).
+fn await_lock<R: Clock>(rt: &R, folder: &File) -> io::Result<()> {
+    for _look in 0..LOCK_LOOKS {
+        match folder.try_lock() {
+            Ok(()) => return Ok(()),
+            Err(TryLockError::WouldBlock) => thread::sleep(rt, Duration::from_millis(LOCK_WAIT_MS)),
+            Err(TryLockError::Error(error)) => return Err(error),
+        }
+    }
+    Err(io::Error::new(
+        ErrorKind::TimedOut,
+        "another program holds the lock of its folder",
+    ))
+}
+
+/// The lock of the path. It is let go with the file that is given. Servers take a path and leave it by this lock only,
+/// so that of several which come at once each sees what the one before it did.
+pub(crate) fn lock_path<R: Files<File = File> + Clock>(
+    rt: &R,
+    alloc: Global,
+    path: &str,
+) -> io::Result<File> {
+    let place = folder_at(alloc, path)?;
+    let folder = File::open(rt, place.as_str())?;
+    await_lock(rt, &folder)?;
+    Ok(folder)
+}

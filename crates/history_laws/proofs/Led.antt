@@ -1,0 +1,32 @@
+-- What each step keeps holds of the state to which a history leads.
+use Rattle.std.proofs.Common.{◌≡◌, List, [], ◌∷◌, subst}
+use Rattle.te_base.specs.Ted.{Ted}
+use Rattle.step_core.specs.Consistent.{IsConsistent}
+use Rattle.step_core.specs.Laws.{AreAlike}
+use Rattle.step_core.specs.States.{State, empty}
+use Rattle.step_core.specs.Steps.{step}
+use Rattle.step_core.specs.declared.event.Event.{Event}
+use Rattle.step_core.proofs.AlikeSteps.{step_alike}
+use Rattle.step_core.proofs.ConsistentSteps.{empty_consistent, step_keeps}
+use Rattle.history_core.specs.Histories.{Content, Replays, replay}
+use Rattle.history_core.specs.declared.step.Step.{Step}
+
+after : (P : State → Type 0) → ((s : State) (event : Event) → P s → P (step s event).state) → (s : State) (steps : List Step) → P s → P (replay s steps)
+after P keeps s [] here = here
+after P keeps s (x ∷ xs) here = after P keeps (step s x.event).state xs (keeps s x.event here)
+
+-- what holds if nothing was reported, and is kept by each step
+pub led : (P : State → Type 0) → ((te : Ted) → P (empty te)) → ((s : State) (event : Event) → P s → P (step s event).state) → (d : Content) → Replays d → P d.state
+led P first keeps d whole =
+    let past = whole.past.1 in
+    let base : P d.base = subst P past.replays.leads (after P keeps (empty d.text) whole.past.0 (first d.text)) in
+    subst P whole.kept.leads (after P keeps d.base d.history base)
+
+pub consistent : (d : Content) → Replays d → IsConsistent d.state
+consistent d whole = led IsConsistent empty_consistent (λ s event c. (step_keeps s event c).consistent) d whole
+
+pub same_reply : (d e : Content) (event : Event) → Replays d → AreAlike d.state e.state → (step d.state event).reply ≡ (step e.state event).reply
+same_reply d e event whole alike = (step_alike d.state e.state event (consistent d whole) alike).0
+
+pub same_state : (d e : Content) (event : Event) → Replays d → AreAlike d.state e.state → AreAlike (step d.state event).state (step e.state event).state
+same_state d e event whole alike = (step_alike d.state e.state event (consistent d whole) alike).1

@@ -1,0 +1,13 @@
+pub mod Led
+pub mod Known
+pub mod KnownSteps
+pub mod KnownLaw
+pub mod Quiet
+pub mod Paths
+pub mod Numbered
+pub mod Routes
+pub mod LinksOnce
+pub mod Mapped
+pub mod PlainLsps
+pub mod PlainAsks
+pub mod PlainSteps

@@ -1,6 +1,0 @@
-use Rattle.std.proofs.Common.{◌≡◌, drop}
-use Rattle.pce_server.specs.Counting.{all_counted}
-use Rattle.pce_server.proofs.counting.count_calls.Given as goal
-
-abbrev pub invariant-loop-call : goal.invariant-loop-call
-invariant-loop-call l = all_counted (drop l.call-index l.calls) l.counters ≡ all_counted l.calls l.fn.counters

@@ -1,0 +1,13 @@
+use Rattle.std.proofs.Common.{◌++◌, ◌∙◌, ap}
+use Rattle.json.specs.Tree.{json_tokens}
+use Rattle.pce_view.specs.Views.{grants_json}
+use Rattle.pce_view.proofs.Depths.{grants_shallow}
+use Rattle.pce_view.proofs.grants.grants_text.Goals as goal
+
+pub returns : goal.returns
+returns c =
+    let whole = grants_json c.args.from c.args.now_ms c.args.heard.now c.args.page.now in
+    c.closed.ensures whole
+    (c.in_ok-put_page.ensures.before ∙ c.new-writer.ensures.before ∙ c.new.ensures.items)
+    (c.in_ok-put_page.ensures.written ∙ ap (λ front. front ++ json_tokens whole) c.new-writer.ensures.tokens)
+    (grants_shallow c.args.from c.args.now_ms c.args.heard.now c.args.page.now)

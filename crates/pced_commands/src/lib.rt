@@ -1,0 +1,26 @@
+//! What `pced tell` and `pced check` do, and the exit status and the text of each fault of theirs and of `pced serve`
+//! (docs/FORMAT.md lists all of them).
+//!
+//! - `descriptors`, `stamped`: what `serve` needs of the system, and the time in front of a log line
+//! - `fault`: why `serve` ends with a fault (`specs/Texts`)
+//! - `tell`: lines for a running server (`specs/Tells`)
+//! - `statuses`: exit statuses (`specs/Statuses`)
+//! - `checked`: what is said of a link text
+//! - `version`: which program this is
+#![tactic(auto)]
+
+mod checked;
+mod descriptors;
+mod fault;
+mod stamped;
+mod statuses;
+mod tell;
+mod version;
+
+pub use checked::{add_checked, check};
+pub use descriptors::descriptor_limit;
+pub use fault::ServeFault;
+pub use stamped::Stamped;
+pub use statuses::{lines_status, refused, serve_status, tell_status};
+pub use tell::{LinesEnd, TellFault, tell_all};
+pub use version::print_version;

@@ -1,0 +1,206 @@
+//! `pced tell`: lines for a running server, each on a connection of its own, and what it answers.
+ghost use Rattle.std.specs.Prelude.{◌≡◌, ◌++◌, IfOk, codes, string_bytes};
+ghost use Rattle.pced_commands.specs.Statuses.{tell_fault};
+ghost use Rattle.pced_commands.specs.Tells.{first_word, sent, shows};
+
+use control_socket::{Outcome, await_end, is_line, outcome_of, tell};
+use pced_words::TellWords;
+use std::alloc::{AllocError, Global};
+use std::io;
+use std::io::{ErrorKind, Write};
+use std::net::Net;
+use std::rt::Runtime;
+use std::time::Clock;
+use thiserror::Error;
+
+/// Why lines weren't all answered. `Display` gives the text for standard error.
+#[derive(Clone, Copy, Debug, PartialEq, Eq, Error)]
+pub enum TellFault {
+    /// A line break stands in a line.
+    #[error("bad argument")]
+    BadArgument,
+    /// No server listens at the path.
+    #[error("nobody listens")]
+    Nobody,
+    /// The answer breaks off, or doesn't come.
+    #[error("answer broken off")]
+    BrokenOff,
+    /// Standard input or standard output fails.
+    #[error("device fault")]
+    Device,
+    #[error("out of memory")]
+    OutOfMemory,
+}
+
+/// What came of the lines that were sent.
+#[derive(Clone, Copy, Debug, PartialEq, Eq)]
+pub enum LinesEnd {
+    AllHeard,
+    /// A line was bad.
+    SomeRefused,
+}
+
+/// The fault of an exchange with the server that failed by this kind.
+fn tell_fault(kind: ErrorKind) -> TellFault
+    ensures { result ≡ tell_fault kind }
+{
+    match kind {
+        ErrorKind::OutOfMemory => TellFault::OutOfMemory,
+        ErrorKind::BrokenPipe
+        | ErrorKind::ConnectionReset
+        | ErrorKind::TimedOut
+        | ErrorKind::WouldBlock => TellFault::BrokenOff,
+        _ => TellFault::Nobody,
+    }
+}
+
+/// The first word of a line.
+fn first_word(line: &str) -> &str
+    ensures { result.now ≡ first_word line.now }
+{
+    match line.split_once(' ') {
+        Some((word, _rest)) => word,
+        None => line,
+    }
+}
+
+/// Whether a line asks to see something, by its first word. Only such lines are answered as JSON.
+fn shows(line: &str) -> bool
+    ensures { result ≡ shows line.now }
+{
+    matches!(
+        first_word(line),
+        "status"
+            | "links"
+            | "link"
+            | "peers"
+            | "lsps"
+            | "lsp"
+            | "tickets"
+            | "history"
+            | "path"
+            | "why"
+            | "better"
+            | "without"
+            | "grants"
+    )
+}
+
+/// What is sent for a line. One that shows nothing is sent as it is.
+fn sent(alloc: Global, is_json: bool, line: &str) -> Result<String, AllocError>
+    ensures { IfOk result (λ text. string_bytes text ≡ sent is_json line.now) }
+{
+    if is_json && shows(line) {
+        format!(in alloc; "json {line}")
+    } else {
+        String::from_str(alloc, line)
+    }
+}
+
+/// What came of a line that was heard. One that asked for the end has come to it once the server is gone.
+fn heard<R: Net + Clock>(rt: &R, path: &str, line: &str) -> Result<LinesEnd, TellFault> {
+    if line == "end" && !await_end(rt, path) {
+        return Err(TellFault::BrokenOff);
+    }
+    Ok(LinesEnd::AllHeard)
+}
+
+/// Sends a line, and writes its answer.
+fn tell_line<R: Net + Clock, O: Write>(
+    rt: &R,
+    alloc: Global,
+    path: &str,
+    line: &str,
+    writer: &mut O,
+) -> Result<LinesEnd, TellFault> {
+    let answer = match tell(rt, alloc, path, line) {
+        Ok(answer) => answer,
+        Err(error) => return Err(tell_fault(error.kind())),
+    };
+    if writer.write_all(&answer).is_err() || writer.flush().is_err() {
+        return Err(TellFault::Device);
+    }
+    match outcome_of(line, &answer) {
+        Outcome::Answered => heard(rt, path, line),
+        Outcome::Refused => Ok(LinesEnd::SomeRefused),
+        Outcome::BrokenOff => Err(TellFault::BrokenOff),
+    }
+}
+
+/// Sends a line, as the words ask for it.
+fn tell_one<R: Net + Clock, O: Write>(
+    rt: &R,
+    alloc: Global,
+    words: &TellWords<'_>,
+    line: &str,
+    writer: &mut O,
+) -> Result<LinesEnd, TellFault> {
+    if !is_line(line) {
+        return Err(TellFault::BadArgument);
+    }
+    match sent(alloc, words.is_json, line) {
+        Ok(text) => tell_line(rt, alloc, words.path, &text, writer),
+        Err(_) => Err(TellFault::OutOfMemory),
+    }
+}
+
+/// What came of these lines and of one more.
+fn worse_end(all: LinesEnd, one: LinesEnd) -> LinesEnd {
+    match one {
+        LinesEnd::AllHeard => all,
+        LinesEnd::SomeRefused => LinesEnd::SomeRefused,
+    }
+}
+
+/// Sends the lines of the words, in their order.
+fn tell_words<R: Net + Clock, O: Write>(
+    rt: &R,
+    alloc: Global,
+    words: &TellWords<'_>,
+    writer: &mut O,
+) -> Result<LinesEnd, TellFault> {
+    let mut all = LinesEnd::AllHeard;
+    for line in words.lines.iter() {
+        let one = tell_one(rt, alloc, words, line, writer)?;
+        all = worse_end(all, one);
+    }
+    Ok(all)
+}
+
+/// The fault of standard input that failed by this kind.
+fn input_fault(error: &io::Error) -> TellFault {
+    match error.kind() {
+        ErrorKind::OutOfMemory => TellFault::OutOfMemory,
+        _ => TellFault::Device,
+    }
+}
+
+/// Sends each line of standard input once it has come, up to its end.
+fn tell_input<R: Runtime<A = Global> + Net, O: Write>(
+    rt: &R,
+    words: &TellWords<'_>,
+    writer: &mut O,
+) -> Result<LinesEnd, TellFault> {
+    let mut all = LinesEnd::AllHeard;
+    for line in rt.lines(rt.alloc()) {
+        let one = match line {
+            Ok(line) => tell_one(rt, rt.alloc(), words, &line, writer)?,
+            Err(error) => return Err(input_fault(&error)),
+        };
+        all = worse_end(all, one);
+    }
+    Ok(all)
+}
+
+/// Sends the lines of the words; where there are none, those of standard input. The first fault ends it.
+pub fn tell_all<R: Runtime<A = Global> + Net>(
+    rt: &R,
+    words: &TellWords<'_>,
+) -> Result<LinesEnd, TellFault> {
+    let mut writer = io::writer(rt);
+    if words.lines.is_empty() {
+        tell_input(rt, words, &mut writer)
+    } else {
+        tell_words(rt, rt.alloc(), words, &mut writer)
+    }
+}

@@ -1,0 +1,6 @@
+//! What the words of `pced`'s command line ask for.
+#![tactic(auto)]
+
+mod arguments;
+
+pub use arguments::{ServeWords, Task, TellWords, parse};

@@ -1,0 +1,45 @@
+//! What each thread of a run is lent: the shared database, the pool of seats, and what is noted and counted beside the
+//! steps. Connections, operators, viewers and workers stand on it, each in a crate of its own.
+//!
+//! - `seat_pool`: where seats rest
+//! - `link_ends`: the ends of each link
+//! - `counting`: what is counted of steps and of connections that end (`specs/Counting`)
+//! - `standing`: whether the session of a connection is up
+//! - `holders`: who holds LSPs, if one router is too many (`specs/Holders`)
+//! - `ticket_share`: how many tickets one router may have (`specs/Shares`)
+//! - `expiry`: what happens to peers, and when they are forgotten (`specs/Expiries`)
+//! - `routers`, `grant_of`, `upkeep`: grants and deletions that their routers don't settle (`specs/Routers`)
+//! - `replaced`: paths that go since another of their LSP was reported
+//! - `linkless`, `down_paths`, `retries`, `retrying`: LSPs that are down, and are asked for again (`specs/Linkless`, `specs/DownPaths`)
+//! - `timed_look`, `outlook`: what those who are shown a run see of it
+//! - `context`: what each thread is lent
+#![tactic(auto)]
+
+mod context;
+mod counting;
+mod down_paths;
+mod expiry;
+mod grant_of;
+mod holders;
+mod link_ends;
+mod linkless;
+mod outlook;
+mod replaced;
+mod retries;
+mod retrying;
+mod routers;
+mod seat_pool;
+mod standing;
+mod ticket_share;
+mod timed_look;
+mod upkeep;
+
+pub use context::{Context, Moments, RunState};
+pub use counting::{count_worked, forget_counted};
+pub use expiry::{Peers, Settled};
+pub use link_ends::{LinkEnds, ends_of};
+pub use linkless::StandsLook;
+pub use outlook::Outlook;
+pub use seat_pool::SeatPool;
+pub use standing::Standing;
+pub use upkeep::{Seen, Upkeep};

@@ -1,0 +1,107 @@
+//! What those who are shown a run see of it: looks at its database, and what is noted of its peers and steps. Every step and
+//! every roll wants to be shown a seat (`Held` of `history_seats`), and no seat is in reach from here.
+ghost use Rattle.std.specs.Prelude.{IfOk};
+ghost use mathlib.Core.List.{IsPrefix};
+ghost use Rattle.history_seats.specs.Past.{database_at};
+
+use crate::context::Moments;
+use crate::timed_look::TimedLook;
+use history_seats::Brands;
+use pce_seen::{Ask, Seen};
+use server_counts::{Counters, Mark, Marks, Presence, Presences, Timed};
+use server_rules::{PathWords, PeerErrors, PendingTable};
+use server_talk::Watch;
+use shared_pce::{Event, Front, Look, Shared};
+use std::alloc::{AllocError, Global};
+use std::cell::Cell;
+use std::sync::{Mutex, Wait};
+use std::thread;
+use std::time::{Clock, Duration};
+
+/// How often it is looked whether the history was rolled for want of memory.
+const MEMORY_LOOKS: u32 = 25;
+
+/// The pause between two of these looks, in milliseconds.
+const MEMORY_PAUSE_MS: u64 = 10;
+
+/// What is seen of a run.
+#[derive(Drop)]
+pub struct Outlook<'a, R: Clock, B: Brands> {
+    pub rt: &'a R,
+    pub alloc: Global,
+    pub shared: &'a Shared<B>,
+    pub moments: Moments<'a, R>,
+    pub counters: &'a Mutex<Counters>,
+    pub presences: &'a Mutex<Presences>,
+    pub marks: &'a Mutex<Marks>,
+    /// What reports say of paths beside the state.
+    pub words: &'a Mutex<PathWords>,
+    /// By which PCErr routers refused what was asked of an LSP.
+    pub errors: &'a Mutex<PeerErrors>,
+    /// Since when grants and deletions that stand are unanswered.
+    pub pending: &'a Mutex<PendingTable>,
+}
+
+impl<'a, R: Wait + Clock, B: Brands> Outlook<'a, R, B> {
+    /// A front that has seen all that has happened until now.
+    pub fn front(&self) -> Front<Event, B> {
+        self.shared.front(self.rt)
+    }
+
+    /// Looks at the database, shows a front what has happened until then, and times for how long that held the lock.
+    pub fn look<L: Look>(
+        &self,
+        front: &mut Front<Event, B>,
+        look: &L,
+    ) -> Result<L::Seen, AllocError>
+        ensures begins { IsPrefix front.old front.new }
+        ensures sees { IfOk result (L.sees look.now (database_at B.text front.new)) }
+    {
+        let timed = TimedLook {
+            moments: &self.moments,
+            look,
+            held_us: Cell::new(0),
+        };
+        let seen = self.shared.look(self.rt, front, &timed);
+        let held_us = timed.held_us.get();
+        self.counters.lock(self.rt).observe(Timed::Look, held_us);
+        seen
+    }
+
+    /// Has the keeper of time roll the history for want of memory, and waits for it: for a quarter of a second at most. What is
+    /// shown makes no roll itself.
+    pub fn await_memory(&self) {
+        let run = self.moments.run;
+        run.note_short_memory(self.rt);
+        for _look in 0..MEMORY_LOOKS {
+            if !run.is_memory_short() {
+                return;
+            }
+            thread::sleep(self.rt, Duration::from_millis(MEMORY_PAUSE_MS));
+        }
+    }
+
+    /// The number of connections of routers that have a place.
+    pub fn connections(&self) -> usize {
+        self.moments.wakers.count(self.rt)
+    }
+
+    /// Since when each peer is up or down.
+    pub fn all_presences(&self) -> Result<Vec<(u32, Presence)>, AllocError> {
+        self.presences.lock(self.rt).copies(self.alloc)
+    }
+
+    /// Notes how many steps there are at this moment. Where memory is refused nothing is noted.
+    pub fn mark_steps(&self, front: &mut Front<Event, B>) {
+        let now_ms = self.moments.now_ms();
+        if let Ok(Seen::Counts(counts)) = self.shared.look(self.rt, front, &Ask::Status) {
+            let _noted = self.marks.lock(self.rt).note(counts.steps, now_ms);
+        }
+    }
+
+    /// How many steps there were at which moments, this one too.
+    pub fn all_marks(&self, front: &mut Front<Event, B>) -> Result<Vec<Mark>, AllocError> {
+        self.mark_steps(front);
+        self.marks.lock(self.rt).copies(self.alloc)
+    }
+}

@@ -1,0 +1,195 @@
+//! The thread of one connection.
+use crate::noted::Noted;
+use crate::notes::Notes;
+use crate::overheard::{Heard, Said};
+use crate::reading::Reading;
+use engine_core::Store;
+use history_seats::Brands;
+use seated_store::Seated;
+use server_base::{Context, Standing};
+use server_log::{ConnectionEnd, LogLine, PeerTimers, Reason};
+use server_rules::{ConnectionNotes, ReadPause};
+use server_talk::{Departure, Ended, PolledSocket, Watch, connection, part, prepare};
+use shared_pce::Seat;
+use std::io;
+use std::net::{Net, TcpListener, TcpStream};
+use std::sync::Wait;
+use std::time::Clock;
+
+/// The timers of a peer whose Open hasn't come.
+const NO_TIMERS: PeerTimers = PeerTimers {
+    keepalive: 0,
+    dead: 0,
+};
+
+/// How a connection was left: how it ended, how its session stands, and why it ended.
+#[derive(Clone, Copy)]
+struct Left {
+    ended: Ended,
+    standing: Standing,
+    reason: Reason,
+}
+
+/// Why the connection of this slot ended, whose session was refused by this number or wasn't.
+fn reason_of<R: Wait + Clock, B: Brands>(
+    context: &Context<'_, R, B>,
+    slot: usize,
+    departure: Departure,
+    refused: Option<u8>,
+) -> Reason {
+    let end = ConnectionEnd {
+        ended: departure.ended,
+        session: departure.reason,
+        refused,
+        gives_place: context.wakers.is_ended(context.rt, slot),
+        run_ends: context.run.is_closing(),
+    };
+    end.reason()
+}
+
+/// Serves the peer from this seat until the end of its connection.
+fn receive<R: Wait + Clock, B: Brands>(
+    context: &Context<'_, R, B>,
+    socket: PolledSocket<'_>,
+    stream: &TcpStream,
+    peer: u32,
+    slot: usize,
+    seat: &mut Seat<B>,
+    trials: &mut ReadPause,
+) -> Left {
+    let moments = context.moments_at(slot);
+    let reading = Reading::new(moments.now_ms());
+    let mut heard = Heard::new(
+        context.rt,
+        context.counters,
+        socket,
+        context.wakers,
+        slot,
+        &moments,
+        &reading,
+    );
+    let mut said = Said::new(context.rt, context.counters, stream);
+    let mut store = Noted {
+        notes: Notes {
+            context,
+            slot,
+            peer,
+            timers: NO_TIMERS,
+            session: ConnectionNotes::new(),
+            standing: Standing::new(),
+            trials,
+            reading: &reading,
+            front: context.shared.front(context.rt),
+        },
+        store: Seated::new(context.rt, context.alloc, context.shared, seat),
+    };
+    let departure = connection(
+        context.rt,
+        context.alloc,
+        peer,
+        &mut heard,
+        &mut said,
+        &moments,
+        &mut store,
+    );
+    store.forget();
+    Left {
+        ended: departure.ended,
+        standing: store.notes.standing,
+        reason: reason_of(context, slot, departure, store.notes.session.refused()),
+    }
+}
+
+/// The prepared socket, whose waits others may end.
+fn connected<'a, R: Wait + Clock + Net<Listener = TcpListener, Stream = TcpStream>, B: Brands>(
+    context: &Context<'_, R, B>,
+    stream: &'a TcpStream,
+    slot: usize,
+) -> io::Result<PolledSocket<'a>> {
+    prepare(stream)?;
+    let socket = PolledSocket::new(context.rt, context.alloc, stream)?;
+    context.wakers.set(context.rt, slot, socket.waker()?);
+    Ok(socket)
+}
+
+/// Whether the end of the session is to reach the peer: then it is waited for the peer to close.
+fn may_part<R: Wait + Clock, B: Brands>(
+    context: &Context<'_, R, B>,
+    ended: Ended,
+    slot: usize,
+) -> bool {
+    ended == Ended::SessionEnded
+        && (context.run.is_closing() || context.wakers.may_part(context.rt, slot))
+}
+
+/// Notes that a connection is closed unheard.
+fn release<R: Wait + Clock, B: Brands>(
+    context: &Context<'_, R, B>,
+    peer: u32,
+    slot: usize,
+) -> Reason {
+    context.note_end(peer, slot, Reason::Unheard);
+    Reason::Unheard
+}
+
+/// Serves a peer by its prepared socket, sees to its being forgotten, and parts from it; says why its connection ended. Where
+/// there is no room for the entry of its end, nothing is said to it.
+fn serve<R: Wait + Clock, B: Brands>(
+    context: &Context<'_, R, B>,
+    socket: PolledSocket<'_>,
+    stream: &TcpStream,
+    peer: u32,
+    slot: usize,
+    seat: &mut Seat<B>,
+    trials: &mut ReadPause,
+) -> Reason {
+    if context.peers.connected(context.rt, peer).is_err() {
+        context.run.note_short_memory(context.rt);
+        return release(context, peer, slot);
+    }
+    let left = receive(context, socket, stream, peer, slot, seat, trials);
+    context.peers.ended(context.rt, peer, left.standing);
+    context.note_end(peer, slot, left.reason);
+    if may_part(context, left.ended, slot) {
+        part(stream, &context.moments());
+    }
+    left.reason
+}
+
+/// Serves a peer. Where its socket can't be prepared, or there is no memory for what is noted of it, nothing is said to it.
+fn host<R: Wait + Clock + Net<Listener = TcpListener, Stream = TcpStream>, B: Brands>(
+    context: &Context<'_, R, B>,
+    stream: &TcpStream,
+    peer: u32,
+    slot: usize,
+    seat: &mut Seat<B>,
+) -> Reason {
+    let Ok(socket) = connected(context, stream, slot) else {
+        return release(context, peer, slot);
+    };
+    let Ok(mut trials) = ReadPause::new(context.alloc) else {
+        context.run.note_short_memory(context.rt);
+        drop(socket);
+        return release(context, peer, slot);
+    };
+    serve(context, socket, stream, peer, slot, seat, &mut trials)
+}
+
+/// The thread of one connection, for which the seat of a slot is promised. Its place and its seat are free again once
+/// nothing else is left to do.
+pub(crate) fn attend<R: Wait + Clock + Net<Listener = TcpListener, Stream = TcpStream>, B: Brands>(
+    context: &Context<'_, R, B>,
+    stream: TcpStream,
+    peer: u32,
+    slot: usize,
+) {
+    let Some(mut seat) = context.pool.take(context.rt, slot) else {
+        return;
+    };
+    let reason = host(context, &stream, peer, slot, &mut seat);
+    drop(stream);
+    context.say(LogLine::Ended { peer, reason });
+    context.shared.fold(context.rt, &mut seat);
+    context.wakers.leave(context.rt, slot);
+    context.pool.put(context.rt, slot, seat);
+}

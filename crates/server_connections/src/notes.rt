@@ -1,0 +1,333 @@
+//! What a connection's thread notes of its session, and says of it.
+use crate::asked::{AskedLook, AskedLsp};
+use crate::reading::Reading;
+use crate::sayings::{lsp_of, path_happening, replaced_lsp, session_happening, trial_happening};
+use engine_core::{Call, Event, Reply};
+use history_seats::Brands;
+use pcep_messages::{Errors, Message, StateReport};
+use pcep_objects::{Capabilities, Open};
+use server_base::{Context, Standing, StandsLook};
+use server_counts::Counted;
+use server_log::{LogLine, PeerTimers, ShownName};
+use server_rules::{
+    ConnectionNotes, PathHappening, PauseHappening, PcErr, PcErrHappening, ReadPause, RouterLsp,
+    SessionHappening,
+};
+use server_talk::Watch;
+use shared_pce::Front;
+use short_lock::acquire;
+use std::alloc::AllocError;
+use std::sync::Wait;
+use std::thread;
+use std::time::{Clock, Duration};
+
+/// The pause of a session whose router has as many tickets as are free, in milliseconds. It waits meanwhile: its Keepalives too.
+const SHARE_PAUSE_MS: u64 = 5;
+
+/// The number of these pauses in one turn, at most.
+const SHARE_PAUSES: u32 = 100;
+
+/// A second, in milliseconds.
+const SECOND_MS: u64 = 1000;
+
+/// What a connection's thread notes of its session.
+#[derive(Drop)]
+pub(crate) struct Notes<'a, 'c, 't, R: Clock, B: Brands> {
+    pub context: &'a Context<'c, R, B>,
+    /// The slot of the connection's seat.
+    pub slot: usize,
+    pub peer: u32,
+    /// Those of the peer's Open.
+    pub timers: PeerTimers,
+    pub session: ConnectionNotes,
+    /// Whether the session is up.
+    pub standing: Standing,
+    /// The LSPs that were granted paths and went down of late.
+    pub trials: &'t mut ReadPause,
+    pub reading: &'t Reading,
+    /// What the connection's thread has seen of the history.
+    pub front: Front<Event, B>,
+}
+
+impl<'a, 'c, 't, R: Wait + Clock, B: Brands> Notes<'a, 'c, 't, R, B> {
+    fn now_ms(&self) -> u64 {
+        self.context.moments().now_ms()
+    }
+
+    /// Marks the session of the peer as one that comes up, so that its connection isn't ended for another, and has one that is
+    /// down make room for it if that has to be. If its connection was ended already, the session is closed at its next turn.
+    pub fn come_up(&self, peer: u32) {
+        let context = self.context;
+        let _has_place = context.wakers.mark(context.rt, self.slot, true);
+        context.make_room_for(peer);
+    }
+
+    /// Pauses while the router has as many tickets as are free.
+    pub fn await_share(&mut self) {
+        let context = self.context;
+        for _pause in 0..SHARE_PAUSES {
+            if !self.session.may_pause()
+                || context.run.is_closing()
+                || context.has_share(&mut self.front, self.peer)
+            {
+                return;
+            }
+            self.session.note(SessionHappening::Paused);
+            thread::sleep(context.rt, Duration::from_millis(SHARE_PAUSE_MS));
+        }
+    }
+
+    /// The session hasn't come up.
+    fn stay_down(&mut self) {
+        let context = self.context;
+        let _has_place = context.wakers.mark(context.rt, self.slot, false);
+    }
+
+    fn rise(&mut self, capabilities: Option<Capabilities>) {
+        let context = self.context;
+        let up_ms = self.session.up_ms();
+        context.note_earlier_grants(&mut self.front, self.peer, up_ms);
+        let noted = context
+            .presences
+            .lock(context.rt)
+            .came_up(self.peer, self.slot, up_ms);
+        if noted.is_err() {
+            context.say(LogLine::MemoryRefused);
+        }
+        context.say(LogLine::Up {
+            peer: self.peer,
+            timers: self.timers,
+            capabilities,
+        });
+    }
+
+    /// The peer has reported all of its LSPs. What it reports later in the same bytes isn't among those that are counted.
+    fn sync(&mut self) {
+        let context = self.context;
+        let lsps = context
+            .shared
+            .lsp_count(context.rt, &mut self.front, self.peer);
+        context.grants.note(context.rt, self.peer, true);
+        context.say(LogLine::InSync {
+            peer: self.peer,
+            lsps,
+            after_ms: self.now_ms().saturating_sub(self.session.up_ms()),
+        });
+    }
+
+    /// What the peer holds isn't known any more.
+    pub fn lose_sync(&self) {
+        self.context.grants.note(self.context.rt, self.peer, false);
+    }
+
+    /// Notes that the history was to be rolled. If it wasn't full, memory was refused to the session, and the keeper of time
+    /// rolls it for that: the session has ended, but its router finds memory when it connects again.
+    pub fn note_rolled(&self, rolled: &Result<Option<u64>, AllocError>) {
+        if !matches!(rolled, Ok(Some(_))) {
+            self.context.run.note_short_memory(self.context.rt);
+        }
+    }
+
+    /// The state refused an event of the session.
+    fn refuse(&mut self, event: &Event, number: u8) {
+        if matches!(event, Event::Up { .. }) {
+            self.stay_down();
+        }
+        self.context.say(LogLine::Refused {
+            peer: self.peer,
+            number,
+        });
+    }
+
+    /// Notes and logs what a call says.
+    fn note(&mut self, call: &Call) {
+        match (call.event.event(), &call.reply) {
+            (event, Reply::Refused(why)) => self.refuse(event, why.number()),
+            (Event::Up { capabilities, .. }, Reply::Done) => self.rise(*capabilities),
+            (Event::Up { .. }, _) => self.stay_down(),
+            (Event::Marker { .. }, _) => self.sync(),
+            (Event::Report { report, .. }, _) => self.note_report(report),
+            (_, Reply::Out(messages)) => self.note_sent(messages.as_slice()),
+            _ => {}
+        }
+    }
+
+    /// A report was accepted.
+    fn note_report(&mut self, report: &StateReport) {
+        let context = self.context;
+        if report.remove {
+            self.note_removal(report);
+        } else {
+            context.end_unsignalled(&mut self.front, self.peer, report);
+            context.end_covered(&mut self.front, self.peer, report.plsp);
+        }
+    }
+
+    /// Notes the last of these calls, which was just made: first whether the peer's session is up.
+    pub fn note_last(&mut self, calls: &[Call]) {
+        let Some(call) = calls.last() else {
+            return;
+        };
+        self.standing = self.standing.after(call);
+        let now_ms = self.now_ms();
+        if let Some(what) = session_happening(call, now_ms) {
+            self.session.note(what);
+        }
+        self.context.peers.note_call(self.context.rt, call, now_ms);
+        self.context.upkeep.note_call(self.context.rt, call, now_ms);
+        self.note_words(call);
+        if let Some(what) = trial_happening(call, now_ms) {
+            self.note_trial(what, now_ms);
+        }
+        self.note(call);
+    }
+
+    /// Notes what a call says of the router's paths beyond what the state keeps.
+    fn note_words(&self, call: &Call) {
+        let Some(what) = path_happening(call) else {
+            return;
+        };
+        if let Some(of) = replaced_lsp(call) {
+            self.note_word(PathHappening::LspRemoved { of });
+        }
+        self.note_word(what);
+        if let PathHappening::Up { peer } = what {
+            self.note_error(PcErrHappening::Up { peer });
+        }
+    }
+
+    /// Notes what happened to the router's paths.
+    fn note_word(&self, what: PathHappening) {
+        let context = self.context;
+        if acquire(context.rt, context.words).note(what).is_err() {
+            context.say(LogLine::MemoryRefused);
+        }
+    }
+
+    /// Notes what happened to refusals of the router.
+    fn note_error(&self, what: PcErrHappening) {
+        let context = self.context;
+        if acquire(context.rt, context.errors).note(what).is_err() {
+            context.say(LogLine::MemoryRefused);
+        }
+    }
+
+    /// A removal was accepted: if no path of its LSP is left, no refusal is known of it.
+    fn note_removal(&mut self, report: &StateReport) {
+        let context = self.context;
+        let of = lsp_of(self.peer, report);
+        if acquire(context.rt, context.errors).of(of).is_none() {
+            return;
+        }
+        let look = StandsLook {
+            peer: self.peer,
+            plsp: report.plsp,
+        };
+        let stands = context.shared.look(context.rt, &mut self.front, &look);
+        if matches!(stands, Ok(false)) {
+            self.note_error(PcErrHappening::LspRemoved { of });
+        }
+    }
+
+    /// Messages are on their way to the router: each PCUpd grants its LSP a path.
+    fn note_sent(&mut self, messages: &[Message]) {
+        let now_ms = self.now_ms();
+        for message in messages {
+            if let Message::Update(update) = message {
+                let plsp = update.plsp.number();
+                self.note_trial(PauseHappening::Granted { plsp, now_ms }, now_ms);
+            }
+        }
+    }
+
+    /// When the peer's DeadTimer is due, if it has one (RFC 5440 section 7.3).
+    fn dead_ms(&self) -> Option<u64> {
+        match self.timers.dead {
+            0 => None,
+            seconds => Some(
+                self.reading
+                    .heard_ms()
+                    .saturating_add(SECOND_MS * seconds as u64),
+            ),
+        }
+    }
+
+    /// Notes what happened to an LSP that was granted a path, and until when no more is read for that.
+    fn note_trial(&mut self, what: PauseHappening, now_ms: u64) {
+        let dead_ms = self.dead_ms();
+        let is_line_due = self.trials.note(what);
+        let pause_ms = self.trials.wait_ms(now_ms, dead_ms);
+        self.reading.pause_until(now_ms.saturating_add(pause_ms));
+        if is_line_due {
+            self.context.say(LogLine::Slowed {
+                peer: self.peer,
+                pause_ms,
+            });
+        }
+    }
+
+    /// The peer's Open, as the session comes up.
+    pub fn hear_open(&mut self, peer_open: Open) {
+        self.timers = PeerTimers {
+            keepalive: peer_open.keepalive,
+            dead: peer_open.dead_timer,
+        };
+    }
+
+    /// A message of the peer, before its events are submitted.
+    pub fn hear(&mut self, message: &Message) {
+        if let Message::Error(errors) = message {
+            self.hear_errors(errors);
+        }
+    }
+
+    /// The router sent a PCErr, by whose first error it refuses what these SRP-IDs asked for.
+    fn hear_errors(&mut self, errors: &Errors) {
+        for error in errors.errors.as_slice() {
+            self.context
+                .count(Counted::ErrorReceived(error.error_type, error.value));
+        }
+        let Some(first) = errors.errors.as_slice().first() else {
+            return;
+        };
+        let error = PcErr {
+            kind: first.error_type,
+            value: first.value,
+        };
+        if errors.srps.as_slice().is_empty() {
+            self.say_refused(0, ShownName::UNKNOWN, error);
+        }
+        for srp in errors.srps.as_slice() {
+            self.hear_refusal(*srp, error);
+        }
+    }
+
+    fn say_refused(&self, srp: u32, lsp: ShownName, error: PcErr) {
+        self.context.say(LogLine::RouterRefused {
+            peer: self.peer,
+            srp,
+            lsp,
+            error,
+        });
+    }
+
+    /// The router refused what an SRP-ID asked for.
+    fn hear_refusal(&mut self, srp: u32, error: PcErr) {
+        let context = self.context;
+        let peer = self.peer;
+        let look = AskedLook { peer, srp };
+        let Ok(Some(AskedLsp { plsp, name })) = context
+            .shared
+            .look(context.rt, &mut self.front, &look)
+        else {
+            self.say_refused(srp, ShownName::UNKNOWN, error);
+            return;
+        };
+        let plsp = plsp.number();
+        if plsp != 0 {
+            let of = RouterLsp { peer, plsp };
+            self.note_error(PcErrHappening::Sent { of, error });
+        }
+        self.say_refused(srp, name, error);
+    }
+}

@@ -1,0 +1,3 @@
+mod Rooms
+mod Showing
+pub mod Tails

@@ -1,0 +1,28 @@
+-- What is shown page by page.
+use Rattle.std.proofs.Common.{ℕ, List, ◌++◌, Some, None, append_assoc, subst, sym}
+use Rattle.te_base.specs.Ted.{Ted}
+use Rattle.step_core.specs.declared.event.Event.{Event}
+use Rattle.history_tokens.specs.declared.rule.Happening.{Happening}
+use Rattle.pce_seen.specs.declared.ask.Ask.{Ask}
+use Rattle.pce_view.specs.declared.answer.Form.{Form}
+use Rattle.pce_view.specs.declared.answer.Surroundings.{Surroundings}
+use Rattle.server_operators.specs.Shows.{line_end, AddsPage, IsShown}
+use Rattle.server_operators.specs.Shows.IsShown.{Ends, Goes_on}
+
+module _ (text : Ted) (form : Form) (around : Surroundings) (begun : List (Happening Event)) (first : Ask) where
+  -- after this past and these pages comes what is shown to an ask
+  abbrev pub Awaits : List (Happening Event) → Ask → List ℕ → Type 0
+  Awaits past a pages = (rest : List ℕ) (last : List (Happening Event)) → IsShown text form around past a rest last → IsShown text form around begun first (pages ++ rest) last
+
+  -- the last page
+  pub shown_last : (past last : List (Happening Event)) (a : Ask) (old new : List ℕ) → Awaits past a old → AddsPage text form around a None past old last new → IsShown text form around begun first new last
+  shown_last past last a old new on h =
+      subst (λ (pages : List ℕ). IsShown text form around begun first pages last) (sym h.3)
+      (on (h.0 ++ line_end form) last (Ends past last a h.0 h.1 h.2))
+
+  -- a page that others follow
+  pub shown_more : (past then : List (Happening Event)) (a next : Ask) (old new : List ℕ) → Awaits past a old → AddsPage text form around a (Some next) past old then new → Awaits then next new
+  shown_more past then a next old new on h = λ rest last k.
+      subst (λ (pages : List ℕ). IsShown text form around begun first (pages ++ rest) last) (sym h.3)
+      (subst (λ (pages : List ℕ). IsShown text form around begun first pages last) (sym (append_assoc old (h.0 ++ line_end form) rest))
+      (on ((h.0 ++ line_end form) ++ rest) last (Goes_on past then last a next h.0 rest h.1 h.2 k)))

@@ -1,0 +1,22 @@
+//! The operators of a run: the one at standard input, and those who connect to the control socket. What their lines mean
+//! and what is answered is proved in `server_talk`; what they are shown stands in `specs/Shows`.
+//!
+//! - `network`, `plan`: the network, and the file that its link text stands in
+//! - `reload_notes`: a store that notes which links a reload leaves below zero
+//! - `shown`: what an operator is shown
+//! - `answering`: an operator's lines
+//! - `control`: operators who connect
+//! - `operator`: the one at standard input (`specs/Faults`)
+#![tactic(auto)]
+
+mod answering;
+mod control;
+mod network;
+mod operator;
+mod plan;
+mod reload_notes;
+mod shown;
+
+pub use control::{Operators, control_seats, hear_controls};
+pub use operator::{end_with, hear_operator};
+pub use plan::FilePlan;

@@ -1,0 +1,250 @@
+//! What operators are shown: one look after another at the database, each as a table or as JSON.
+ghost use Rattle.std.specs.Prelude.{◌≡◌, ◌++◌, ℕ, List, All, IfOk, OnOk};
+ghost use Rattle.pce_seen.specs.Asks.{next_ask};
+ghost use Rattle.pce_view.specs.Answers.{AnswersAs};
+ghost use Rattle.pce_view.specs.declared.heard.Heard.{Heard};
+ghost use Rattle.shared_pce.specs.Lefts.{WasLeft};
+ghost use Rattle.server_operators.specs.Shows.{bounded, form_of, line_end, AddsPage, IsShown};
+
+use crate::network::ServedNetwork;
+use history_seats::Brands;
+use pce_seen::{Ask, Seen};
+use pce_view::{Form, Heard, Surroundings, answer_text};
+use pced_build::{LOGIC, VERSION};
+use script_lines::ViewLine;
+use server_base::Outlook;
+use server_counts::{LeftRow, Mark, Presence};
+use server_talk::{Plan, Show, Watch};
+use shared_pce::{Event, Front};
+use std::alloc::{AllocError, Global};
+use std::sync::Wait;
+use std::time::Clock;
+
+/// The form that a line asks for.
+fn form_of(is_json: bool) -> Form
+    ensures { result ≡ form_of is_json }
+{
+    if is_json { Form::Json } else { Form::Table }
+}
+
+/// The most steps that a line shows.
+const MOST_STEPS: u64 = 4096;
+
+/// The same question, of the last 4,096 steps at most.
+fn bounded(ask: Ask) -> Ask
+    ensures { result ≡ bounded ask }
+{
+    match ask {
+        Ask::Steps { last } => Ask::Steps {
+            last: last.min(MOST_STEPS),
+        },
+        ask => ask,
+    }
+}
+
+/// Ends the line of a document of JSON.
+fn end_line(form: Form, text: &mut Vec<u8>) -> Result<(), AllocError>
+    ensures { OnOk result (text.new.items ≡ text.old.items ++ line_end form) }
+{
+    if form == Form::Json {
+        text.push(b'\n')?;
+    }
+    Ok(())
+}
+
+/// Adds a page, with the end of its line.
+fn add_text(form: Form, page: Vec<u8>, text: &mut Vec<u8>) -> Result<(), AllocError>
+    ensures { OnOk result (text.new.items ≡ text.old.items ++ (page.items ++ line_end form)) }
+{
+    text.extend_from_slice(&page)?;
+    end_line(form, text)
+}
+
+/// Takes over what routers said of the LSPs that were seen, and since when they haven't answered.
+fn hear<R: Wait + Clock, B: Brands>(
+    outlook: &Outlook<'_, R, B>,
+    seen: &Seen,
+    heard: &mut Heard,
+) -> Result<(), AllocError> {
+    heard.hear_words(&outlook.words.lock(outlook.rt), seen)?;
+    heard.hear_errors(&outlook.errors.lock(outlook.rt), seen)?;
+    heard.hear_unanswered(&outlook.pending.lock(outlook.rt), seen)
+}
+
+/// Adds the page of what was seen, with what routers said of it.
+fn add_answer(
+    alloc: Global,
+    form: Form,
+    around: &Surroundings<'_>,
+    heard: &Heard,
+    ask: &Ask,
+    seen: &Seen,
+    text: &mut Vec<u8>,
+) -> Result<(), AllocError>
+    ensures { OnOk result ((page : List ℕ) × AnswersAs form around.now heard.now ask.now seen.now page × (text.new.items ≡ text.old.items ++ (page ++ line_end form))) }
+{
+    let page = answer_text(alloc, form, around, heard, ask, seen)?;
+    add_text(form, page, text)
+}
+
+/// Adds the page of what was seen.
+fn add_seen<R: Wait + Clock, B: Brands>(
+    outlook: &Outlook<'_, R, B>,
+    form: Form,
+    around: &Surroundings<'_>,
+    ask: &Ask,
+    seen: &Seen,
+    text: &mut Vec<u8>,
+) -> Result<(), AllocError>
+    ensures { OnOk result ((heard : Heard) × (page : List ℕ) × AnswersAs form around.now heard ask.now seen.now page × (text.new.items ≡ text.old.items ++ (page ++ line_end form))) }
+{
+    let mut heard = Heard::nothing(outlook.alloc);
+    hear(outlook, seen, &mut heard)?;
+    add_answer(outlook.alloc, form, around, &heard, ask, seen, text)
+}
+
+/// Adds the page of what was seen, and gives what the next look asks for.
+fn add_next<R: Wait + Clock, B: Brands>(
+    outlook: &Outlook<'_, R, B>,
+    form: Form,
+    around: &Surroundings<'_>,
+    ask: &Ask,
+    seen: &Seen,
+    text: &mut Vec<u8>,
+) -> Result<Option<Ask>, AllocError>
+    ensures page { OnOk result ((heard : Heard) × (page : List ℕ) × AnswersAs form around.now heard ask.now seen.now page × (text.new.items ≡ text.old.items ++ (page ++ line_end form))) }
+    ensures next { IfOk result (λ next. next ≡ next_ask ask.now seen.now) }
+{
+    add_seen(outlook, form, around, ask, seen, text)?;
+    Ok(ask.next(seen))
+}
+
+/// Adds what one look shows, and gives what the next one asks for.
+fn add_page<R: Wait + Clock, B: Brands>(
+    outlook: &Outlook<'_, R, B>,
+    front: &mut Front<Event, B>,
+    form: Form,
+    around: &Surroundings<'_>,
+    ask: &Ask,
+    text: &mut Vec<u8>,
+) -> Result<Option<Ask>, AllocError>
+    ensures { IfOk result (λ next. AddsPage B.text form around.now ask.now next front.old text.old.items front.new text.new.items) }
+{
+    let seen = outlook.look(front, ask)?;
+    add_next(outlook, form, around, ask, &seen, text)
+}
+
+/// What is shown from this ask on, up to the last page. Each page is of a look that saw no less than the one before.
+fn show_pages<R: Wait + Clock, B: Brands>(
+    outlook: &Outlook<'_, R, B>,
+    front: &mut Front<Event, B>,
+    form: Form,
+    around: &Surroundings<'_>,
+    first: Ask,
+) -> Result<Vec<u8>, AllocError>
+    ensures { IfOk result (λ text. IsShown B.text form around.now front.old first text.items front.new) }
+{
+    let mut text = Vec::new(outlook.alloc);
+    let mut ask = first;
+    for _page in 0..u64::MAX {
+        match add_page(outlook, front, form, around, &ask, &mut text)? {
+            Some(next) => ask = next,
+            None => return Ok(text),
+        }
+    }
+    Err(AllocError)
+}
+
+/// How many steps there were at which moments, for a question that wants to know.
+fn marks_for<R: Wait + Clock, B: Brands>(
+    outlook: &Outlook<'_, R, B>,
+    front: &mut Front<Event, B>,
+    ask: &Ask,
+) -> Result<Vec<Mark>, AllocError> {
+    match ask {
+        Ask::Why { .. } => outlook.all_marks(front),
+        _ => Ok(Vec::new(outlook.alloc)),
+    }
+}
+
+/// What the last steps that brought paths left of their links, for a question that wants to know.
+fn lefts_for<R: Wait + Clock, B: Brands>(
+    outlook: &Outlook<'_, R, B>,
+    ask: &Ask,
+) -> Result<Vec<LeftRow>, AllocError>
+    ensures { IfOk result (λ rows. All WasLeft rows.items) }
+{
+    match ask {
+        Ask::Why { .. } => outlook.shared.lefts(outlook.rt),
+        _ => Ok(Vec::new(outlook.alloc)),
+    }
+}
+
+/// What the server noted beside the steps.
+#[derive(Drop)]
+struct ServerNotes {
+    presences: Vec<(u32, Presence)>,
+    marks: Vec<Mark>,
+    lefts: Vec<LeftRow>,
+}
+
+/// What the server noted that a question wants to know.
+fn notes_for<R: Wait + Clock, B: Brands>(
+    outlook: &Outlook<'_, R, B>,
+    front: &mut Front<Event, B>,
+    ask: &Ask,
+) -> Result<ServerNotes, AllocError>
+    ensures { IfOk result (λ notes. All WasLeft notes.lefts.items) }
+{
+    Ok(ServerNotes {
+        presences: outlook.all_presences()?,
+        marks: marks_for(outlook, front, ask)?,
+        lefts: lefts_for(outlook, ask)?,
+    })
+}
+
+impl<'a, 'c, 'p, R: Wait + Clock, B: Brands, P: Plan> Show for ServedNetwork<'a, 'c, 'p, R, P, B> {
+    ghost use Rattle.std.specs.Prelude.{All, List};
+    ghost use Rattle.history_tokens.specs.declared.rule.Happening.{Happening};
+    ghost use Rattle.step_core.specs.declared.event.Event.{Event};
+    ghost use Rattle.pce_view.specs.declared.answer.Surroundings.{Surroundings};
+    ghost use Rattle.server_operators.specs.Shows.{bounded, form_of, IsShown};
+    ghost use Rattle.shared_pce.specs.Lefts.{WasLeft};
+
+    ghost shows = { λ _ line text. (around : Surroundings) × (begun last : List (Happening Event)) × All WasLeft around.lefts.now × IsShown B.text (form_of line.is_json) around begun (bounded line.ask) text last };
+
+    /// If memory is refused, it is tried once more after the history was rolled for that.
+    fn show(&self, _alloc: Global, line: &ViewLine) -> Result<Vec<u8>, AllocError> {
+        let mut front = self.outlook.front();
+        let notes = notes_for(self.outlook, &mut front, &line.ask)?;
+        let around = Surroundings {
+            version: VERSION,
+            logic: LOGIC,
+            commit: "",
+            uptime_ms: self.outlook.moments.now_ms(),
+            presences: &notes.presences,
+            marks: &notes.marks,
+            lefts: &notes.lefts,
+        };
+        let shown = show_pages(
+            self.outlook,
+            &mut front,
+            form_of(line.is_json),
+            &around,
+            bounded(line.ask),
+        );
+        match shown {
+            Ok(text) => Ok(text),
+            Err(AllocError) => {
+                self.outlook.await_memory();
+                show_pages(
+                    self.outlook,
+                    &mut front,
+                    form_of(line.is_json),
+                    &around,
+                    bounded(line.ask),
+                )
+            }
+        }
+    }
+}

@@ -1,0 +1,15 @@
+use Rattle.std.proofs.Common.{false, refl, sym, ◌∙◌}
+use Rattle.server_rules.specs.declared.pending.RouterKnown.{RouterKnown}
+use Rattle.server_rules.specs.declared.pending.PendingHappening.TheVariants.{Down}
+use Rattle.server_rules.proofs.PendingTables.{goes_down, few_routers, known_router, unknown_router}
+use Rattle.server_rules.proofs.pending_table.PendingTable.down.Goals as goal
+use Rattle.server_rules.specs.Pendings.{nobody}
+
+pub returns-in-Some : goal.returns-in-Some
+returns-in-Some c =
+    known_router c.args.self.now c.write_router.new.self (λ few. few_routers c.args.self.now c.write_router.new.self few c.write_router.ensures.few c.write_router.ensures.pending) (Down c.args.peer) c.args.peer (λ (r : RouterKnown). record r { is_up = false }) c.in-Some.router c.downed.result (λ p. refl) (λ r. refl) (goes_down c.args.peer)
+    (sym c.get.ensures.value ∙ sym c.copied.ensures ∙ c.in-Some.is) c.downed.ensures c.write_router.ensures.written c.write_router.ensures.pending
+
+pub returns-in_default : goal.returns-in_default
+returns-in_default c =
+    unknown_router c.args.self.now (Down c.args.peer) c.args.peer (λ p. refl) (sym c.get.ensures.value ∙ sym c.copied.ensures ∙ c.in_default.is) (goes_down c.args.peer nobody)

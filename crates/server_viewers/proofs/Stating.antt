@@ -1,0 +1,47 @@
+-- The states of LSPs, page by page.
+use Rattle.std.proofs.Common.{ℕ, ◌≡◌, List, ◌++◌, Option, Some, None, append_assoc, refl, subst, sym}
+use mathlib.Core.List.{IsPrefix}
+use Rattle.te_base.specs.Ted.{Ted}
+use Rattle.step_core.specs.declared.event.Event.{Event}
+use Rattle.history_tokens.specs.declared.rule.Happening.{Happening}
+use Rattle.history_seats.specs.Past.{database_at}
+use Rattle.pce_seen.specs.declared.ask.Ask.TheVariants as ask
+use Rattle.pce_seen.specs.declared.seen.Seen.{Seen}
+use Rattle.pce_seen.specs.declared.seen.Seen.TheVariants as seen
+use Rattle.database_looks.specs.Looks.{Sees}
+use Rattle.pce_view.specs.declared.state_metrics.ShownState.{ShownState}
+use Rattle.server_viewers.specs.States.{AddsStates, AreStates, IsStatesOf}
+use Rattle.server_viewers.specs.States.AreStates.{Ends, Goes_on}
+
+module _ (text : Ted) (begun : List (Happening Event)) where
+  -- what was seen of a page of LSPs
+  pub page_of : (past : List (Happening Event)) (from : ℕ) (next : Option ℕ) (old new : List ShownState) (s : Seen) → IsPrefix begun past → Sees (ask.Lsps None from) (database_at text past) s → IsStatesOf s next old new → AddsStates text from next begun old past new
+  page_of past from next old new (seen.Lsps placed) more sees h = (_, more, record { placed = placed; heard = h.0; sees = sees; states = refl; next_is = h.2 }, h.1)
+  page_of past from next old new (seen.Counts s) more sees h = absurd sees
+  page_of past from next old new (seen.Book s) more sees h = absurd sees
+  page_of past from next old new (seen.Peers s) more sees h = absurd sees
+  page_of past from next old new (seen.Tickets s) more sees h = absurd sees
+  page_of past from next old new (seen.Lsp s) more sees h = absurd sees
+  page_of past from next old new (seen.Link s) more sees h = absurd sees
+  page_of past from next old new (seen.Steps s) more sees h = absurd sees
+  page_of past from next old new (seen.Origins s) more sees h = absurd sees
+  page_of past from next old new (seen.Movable s) more sees h = absurd sees
+  page_of past from next old new (seen.Displaced s) more sees h = absurd sees
+  page_of past from next old new (seen.Network s) more sees h = absurd sees
+  page_of past from next old new (seen.Grants s) more sees h = absurd sees
+
+  -- after this past and these states come those of the LSPs from a place on
+  abbrev pub Awaits : List (Happening Event) → ℕ → List ShownState → Type 0
+  Awaits past from states = (rest : List ShownState) (last : List (Happening Event)) → AreStates text past from rest last → AreStates text begun 0 (states ++ rest) last
+
+  -- the last page
+  pub states_last : (past last : List (Happening Event)) (from : ℕ) (old new : List ShownState) → Awaits past from old → AddsStates text from None past old last new → AreStates text begun 0 new last
+  states_last past last from old new on h =
+      subst (λ (states : List ShownState). AreStates text begun 0 states last) (sym h.3) (on h.0 last (Ends past last from h.0 h.1 h.2))
+
+  -- a page that others follow
+  pub states_more : (past then : List (Happening Event)) (from next : ℕ) (old new : List ShownState) → Awaits past from old → AddsStates text from (Some next) past old then new → Awaits then next new
+  states_more past then from next old new on h = λ rest last k.
+      subst (λ (states : List ShownState). AreStates text begun 0 (states ++ rest) last) (sym h.3)
+      (subst (λ (states : List ShownState). AreStates text begun 0 states last) (sym (append_assoc old h.0 rest))
+      (on (h.0 ++ rest) last (Goes_on past then last from next h.0 rest h.1 h.2 k)))

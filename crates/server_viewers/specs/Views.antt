@@ -1,0 +1,46 @@
+-- What viewers are shown.
+use Rattle.std.specs.Prelude.{◌≡◌, ℕ, List}
+use mathlib.Core.List.{IsPrefix}
+use Rattle.te_base.specs.Ted.{Ted}
+use Rattle.step_core.specs.declared.event.Event.{Event}
+use Rattle.history_tokens.specs.declared.rule.Happening.{Happening}
+use Rattle.history_seats.specs.Past.{database_at}
+use Rattle.pce_seen.specs.declared.ask.Ask.{Ask}
+use Rattle.pce_seen.specs.declared.seen.Book.{Book}
+use Rattle.pce_seen.specs.declared.seen.Seen.{Seen}
+use Rattle.database_looks.specs.Looks.{counts_in, Sees, SeesBook}
+use Rattle.pce_view.specs.Answers.{IsJsonOf}
+use Rattle.pce_view.specs.Metrics.{metrics}
+use Rattle.pce_view.specs.declared.answer.Surroundings.{Surroundings}
+use Rattle.pce_view.specs.declared.heard.Heard.{Heard}
+use Rattle.pce_view.specs.declared.metrics.Process.{Process}
+use Rattle.pce_view.specs.declared.state_metrics.ShownState.{ShownState}
+use Rattle.server_counts.specs.declared.counters.Counters.{Counters}
+use Rattle.server_viewers.specs.States.{AreStates}
+
+-- a document of JSON: what one look saw of the database to which this past led from the network of the link text, with what
+-- routers said
+pub record IsDocument (text : Ted) (past : List (Happening Event)) (a : Ask) (document : List ℕ) : Type 0 where
+  pub around : Surroundings
+  pub seen : Seen
+  pub heard : Heard
+  pub sees : Sees a (database_at text past) seen
+  pub reads : IsJsonOf around heard a seen document
+
+-- metrics with these states of LSPs: what one look saw of the database to which this past led, and some counts
+pub record IsNumbers (text : Ted) (past : List (Happening Event)) (states : List ShownState) (document : List ℕ) : Type 0 where
+  pub around : Surroundings
+  pub book : Book
+  pub counters : Counters
+  pub process : Process
+  pub sees : SeesBook (database_at text past) book
+  pub says : document ≡ metrics around (counts_in (database_at text past)) book counters process states
+
+-- the metrics: the states of all LSPs, and then what one look saw of the database to which this past led
+pub record IsMetrics (text : Ted) (past : List (Happening Event)) (document : List ℕ) : Type 0 where
+  pub begun : List (Happening Event)
+  pub before : List (Happening Event)
+  pub states : List ShownState
+  pub are_states : AreStates text begun 0 states before
+  pub later : IsPrefix before past
+  pub numbers : IsNumbers text past states document

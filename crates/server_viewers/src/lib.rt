@@ -1,0 +1,12 @@
+//! The viewers of a run, who see documents and metrics by HTTP (`specs/Views`). They change nothing.
+//!
+//! - `process`: what the system says of the process
+//! - `states`: the states in which LSPs are shown, of all of them
+//! - `viewers`: what viewers see, and the thread that serves them
+#![tactic(auto)]
+
+mod process;
+mod states;
+mod viewers;
+
+pub use viewers::{ViewerListener, show_views};

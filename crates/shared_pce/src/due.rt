@@ -1,0 +1,60 @@
+//! When a history is rolled.
+ghost use Rattle.std.specs.Prelude.{◌≡◌};
+ghost use Rattle.history_seats.specs.Past.{database_at};
+ghost use Rattle.shared_pce.specs.Rolls.{beside, is_due, of_seat};
+
+use history_seats::{Brands, Held};
+
+/// The least number of bytes of kept steps for which memory is gained by a roll: a roll takes memory too.
+const LEAST_BYTES: u64 = 1_048_576;
+
+/// When a history is rolled for want of memory.
+pub const SPARE_AT: RollAt = RollAt {
+    steps: u64::MAX,
+    bytes: LEAST_BYTES,
+};
+
+/// At how many kept steps a history is rolled, and at how many bytes of kept steps.
+#[derive(Clone, Copy, Debug, PartialEq, Eq)]
+pub struct RollAt {
+    pub steps: u64,
+    /// As `Held::kept_bytes` counts them.
+    pub bytes: u64,
+}
+
+impl RollAt {
+    /// A history that isn't rolled for its length.
+    pub const NEVER: RollAt = RollAt {
+        steps: u64::MAX,
+        bytes: u64::MAX,
+    };
+
+    /// When the history is rolled for the steps of one seat: once they take a sixteenth of the bytes, but a megabyte.
+    pub fn of_seat(self) -> RollAt
+        ensures { result ≡ of_seat self }
+    {
+        RollAt {
+            steps: u64::MAX,
+            bytes: (self.bytes / 16).max(LEAST_BYTES),
+        }
+    }
+
+    /// Takes half of what the receipts of rolled steps take off the bytes. A megabyte stays, so that each roll drops something.
+    pub fn beside(self, unfolded: u64) -> RollAt
+        ensures { result ≡ beside unfolded self }
+    {
+        RollAt {
+            steps: self.steps,
+            bytes: self.bytes.saturating_sub(unfolded / 2).max(LEAST_BYTES),
+        }
+    }
+}
+
+/// Whether the history is to be rolled.
+pub(crate) fn is_due<B: Brands>(held: &Held<B>, at: RollAt) -> bool
+    ensures { result ≡ is_due at (database_at B.text held.now) }
+{
+    let steps = held.database().history().len() as u64;
+    let bytes = held.kept_bytes();
+    at.steps <= steps || at.bytes <= bytes
+}

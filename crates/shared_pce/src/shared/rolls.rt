@@ -1,0 +1,230 @@
+//! Rolls: the state becomes the base of the history, and the kept steps are dropped. No memory is left of them once each seat
+//! has folded its receipts.
+ghost use Rattle.std.specs.Prelude.{ℕ, ◌≡◌, true, All, IfOk, OnErr};
+ghost use mathlib.Core.List.{IsPrefix};
+ghost use Rattle.history_core.specs.Histories.{is_full};
+ghost use Rattle.history_seats.specs.Past.{database_at, with_seen};
+ghost use Rattle.history_seats.specs.Receipts.{tidy};
+ghost use Rattle.shared_pce.specs.Rolls.{beside, is_due, of_seat};
+ghost use Rattle.shared_pce.specs.Lefts.{IsLookedAt, WasLeft};
+ghost use Rattle.shared_pce.specs.Turns.{IsRolledIf, Received, SeesMore, RolledUp, RollsIf};
+
+use super::Shared;
+use crate::due::{RollAt, SPARE_AT, is_due};
+use crate::stepped::{Stepped, step_seen};
+use history_core::{Fault, SharedEvent, Step};
+use history_seats::{Brands, Held, Receipt, Seat, receipt_bytes};
+use pcep_word::Priority;
+use short_lock::acquire;
+use std::alloc::AllocError;
+use std::sync::Wait;
+
+/// Rolls the history if it is due, while the lock is held, and gives the steps that were kept, to be dropped once it is free.
+/// `None` if it isn't due. If memory is refused nothing has changed.
+fn roll_due<B: Brands>(
+    held: &mut Held<B>,
+    seat: &mut Seat<B>,
+    at: RollAt,
+) -> Result<Option<Vec<Step>>, AllocError>
+    ensures rolled { IfOk result (IsRolledIf (is_due at (database_at B.text held.old)) held.old held.new) }
+    ensures unchanged_without_memory { OnErr result (held.new ≡ held.old) }
+    ensures sees { SeesMore seat.old seat.new }
+{
+    held.show_seat(seat);
+    if !is_due(held, at) {
+        return Ok(None);
+    }
+    let unkept = held.take_rolled(seat)?;
+    Ok(Some(unkept))
+}
+
+/// Whether it was due, and was rolled.
+fn is_rolled(rolled: Result<Option<u64>, AllocError>) -> bool {
+    matches!(rolled, Ok(Some(_)))
+}
+
+impl<B: Brands> Shared<B> {
+    /// Rolls the history: the state becomes its base, and the steps that were kept are dropped once the lock is
+    /// free. Gives how many steps were taken before the base. Whoever rolls shows a seat. Where memory is refused nothing has
+    /// changed.
+    pub fn roll<R: Wait>(&self, rt: &R, seat: &mut Seat<B>) -> Result<u64, AllocError>
+        ensures rolled { IfOk result (RolledUp B.text seat.old seat.new) }
+        ensures unchanged_without_memory { OnErr result (SeesMore seat.old seat.new) }
+    {
+        let mut held = acquire(rt, &self.held);
+        let bytes = held.kept_bytes();
+        let unkept = held.take_rolled(seat)?;
+        let steps = held.database().rolled();
+        self.note_roll(rt, bytes);
+        drop(held);
+        drop(unkept);
+        Ok(steps)
+    }
+
+    /// Rolls the history if it is due: if so many steps are kept, or steps of so many bytes. Gives how many were taken before
+    /// its new base. `None` if it isn't due, as when another thread has rolled it: the test and the roll are under one lock. If
+    /// memory is refused nothing has changed.
+    pub fn roll_if<R: Wait>(
+        &self,
+        rt: &R,
+        seat: &mut Seat<B>,
+        at: RollAt,
+    ) -> Result<Option<u64>, AllocError>
+        ensures rolled { IfOk result (RollsIf (is_due at) B.text seat.old seat.new) }
+        ensures unchanged_without_memory { OnErr result (SeesMore seat.old seat.new) }
+    {
+        let mut held = acquire(rt, &self.held);
+        held.show_seat(seat);
+        if !is_due(&held, at) {
+            return Ok(None);
+        }
+        let bytes = held.kept_bytes();
+        let unkept = held.take_rolled(seat)?;
+        let steps = held.database().rolled();
+        self.note_roll(rt, bytes);
+        drop(held);
+        drop(unkept);
+        Ok(Some(steps))
+    }
+
+    /// Rolls the history before a step, if it takes as much memory as it may beside the receipts of rolled steps. Gives the steps
+    /// that were kept, to be dropped once the lock is free. If memory is refused, the step comes all the same.
+    fn make_way<R: Wait>(&self, rt: &R, held: &mut Held<B>, seat: &mut Seat<B>) -> Option<Vec<Step>>
+        ensures { SeesMore seat.old seat.new }
+    {
+        let at = self.due_at(rt);
+        let bytes = held.kept_bytes();
+        match roll_due(held, seat, at) {
+            Ok(Some(unkept)) => {
+                self.note_roll(rt, bytes);
+                Some(unkept)
+            }
+            _ => None,
+        }
+    }
+
+    /// One step while the lock is held, before which the history is rolled if that is due. Gives the steps that were kept, to be
+    /// dropped once it is free.
+    pub(super) fn roll_and_step<R: Wait>(
+        &self,
+        rt: &R,
+        held: &mut Held<B>,
+        seat: &mut Seat<B>,
+        event: SharedEvent,
+        priority: Priority,
+    ) -> Result<(Stepped, Option<Vec<Step>>), Fault>
+        requires { IsLookedAt event priority }
+        ensures received { IfOk result (λ r. Received B.text seat.old event seat.new r.0.reply) }
+        ensures left { IfOk result (λ r. All WasLeft r.0.rows.items) }
+        ensures unchanged_on_fault { OnErr result (SeesMore seat.old seat.new) }
+        ensures full { result ≡ Err Fault.HistoryFull → is_full (database_at B.text seat.new.seen) ≡ true }
+    {
+        let rolled = self.make_way(rt, held, seat);
+        let stepped = step_seen(self.alloc, held, seat, event, priority)?;
+        Ok((stepped, rolled))
+    }
+
+    /// Rolls the history if it takes as much memory as it may beside the receipts of rolled steps, as each step does first.
+    pub fn roll_if_due<R: Wait>(
+        &self,
+        rt: &R,
+        seat: &mut Seat<B>,
+    ) -> Result<Option<u64>, AllocError>
+        ensures rolled { IfOk result (λ r. (unfolded : ℕ) × RollsIf (is_due (beside unfolded self.now.roll_at)) B.text seat.old seat.new r) }
+        ensures unchanged_without_memory { OnErr result (SeesMore seat.old seat.new) }
+    {
+        let at = self.due_at(rt);
+        self.roll_if(rt, seat, at)
+    }
+
+    /// The same where no further step can be kept.
+    pub fn roll_if_full<R: Wait>(
+        &self,
+        rt: &R,
+        seat: &mut Seat<B>,
+    ) -> Result<Option<u64>, AllocError>
+        ensures rolled { IfOk result (RollsIf is_full B.text seat.old seat.new) }
+        ensures unchanged_without_memory { OnErr result (SeesMore seat.old seat.new) }
+    {
+        let mut held = acquire(rt, &self.held);
+        held.show_seat(seat);
+        if !held.database().is_full() {
+            return Ok(None);
+        }
+        let bytes = held.kept_bytes();
+        let unkept = held.take_rolled(seat)?;
+        let steps = held.database().rolled();
+        self.note_roll(rt, bytes);
+        drop(held);
+        drop(unkept);
+        Ok(Some(steps))
+    }
+
+    /// Rolls the history for want of memory. Says whether it was rolled.
+    pub(super) fn spare<R: Wait>(&self, rt: &R, seat: &mut Seat<B>) -> bool
+        ensures { SeesMore seat.old seat.new }
+    {
+        is_rolled(self.roll_if(rt, seat, SPARE_AT))
+    }
+
+    /// How many steps lie before the base of the history: a greater number than before says that it was rolled since.
+    pub fn rolled_at<R: Wait>(&self, rt: &R, seat: &mut Seat<B>) -> u64
+        ensures sees { SeesMore seat.old seat.new }
+        ensures rolled { result ≡ (database_at B.text seat.new.seen).rolled }
+    {
+        let mut held = acquire(rt, &self.held);
+        held.show_seat(seat);
+        held.database().rolled()
+    }
+
+    /// Lets a seat that waits keep its receipts of rolled places no longer; they stay counted. It is no step.
+    pub fn fold<R: Wait>(&self, rt: &R, seat: &mut Seat<B>)
+        ensures begins { IsPrefix seat.old.seen seat.new.seen }
+        ensures folded { seat.new ≡ with_seen seat.new.seen (tidy (database_at B.text seat.new.seen).rolled seat.old) }
+    {
+        let mut held = acquire(rt, &self.held);
+        let unkept = held.fold(seat);
+        drop(held);
+        self.drop_folded(rt, unkept);
+    }
+
+    /// How many bytes the steps of a seat may take before its thread calls `roll_and_fold`.
+    pub fn share_of_seat(&self) -> u64
+        ensures { result ≡ (of_seat self.now.roll_at).bytes }
+    {
+        self.roll_at.of_seat().bytes
+    }
+
+    /// Rolls the history if its steps take as much as those of one seat may, and lets the seat keep its receipts of rolled places no
+    /// longer: so it goes into no wait with more of them. If memory is refused nothing is rolled.
+    pub fn roll_and_fold<R: Wait>(&self, rt: &R, seat: &mut Seat<B>)
+        ensures begins { IsPrefix seat.old.seen seat.new.seen }
+        ensures folded { seat.new ≡ with_seen seat.new.seen (tidy (database_at B.text seat.new.seen).rolled seat.old) }
+    {
+        let _rolled = self.roll_if(rt, seat, self.roll_at.of_seat());
+        self.fold(rt, seat);
+    }
+
+    /// Counts the bytes of the steps that a roll drops as those of receipts. The lock of the database is still held, so that no
+    /// seat folds them before.
+    fn note_roll<R: Wait>(&self, rt: &R, kept: u64) {
+        acquire(rt, &self.unfolded).roll(kept);
+    }
+
+    /// Drops receipts that a seat has folded, and counts their bytes no longer.
+    pub(super) fn drop_folded<R: Wait>(&self, rt: &R, folded: Vec<Receipt>) {
+        if !folded.is_empty() {
+            let bytes = receipt_bytes(&folded);
+            acquire(rt, &self.unfolded).fold(bytes);
+        }
+        drop(folded);
+    }
+
+    /// When the history is to be rolled beside the receipts of rolled steps that seats haven't folded yet.
+    fn due_at<R: Wait>(&self, rt: &R) -> RollAt
+        ensures { (unfolded : ℕ) × (result ≡ beside unfolded self.now.roll_at) }
+    {
+        let unfolded = acquire(rt, &self.unfolded).bytes();
+        self.roll_at.beside(unfolded)
+    }
+}

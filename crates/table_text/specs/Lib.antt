@@ -1,0 +1,5 @@
+pub mod Adding
+pub mod Amounts
+pub mod Durations
+pub mod Names
+pub mod Numbers

@@ -1,0 +1,1 @@
+"""Cases of tests/edge, by what they are about."""
