@@ -18,6 +18,8 @@ pub mod Shares
 pub mod Distinct
 pub mod Reserved
 pub mod Fits
+pub mod Gaps
+pub mod Covered
 pub mod Runs
 pub mod Promises
 pub mod OwnShares

@@ -1,5 +1,5 @@
 -- What paths of a tunnel hold on a link.
-use Rattle.std.specs.Prelude.{⊤, ◌≡◌, ◌<◌, ℕ, zero, suc, ◌+◌, ◌-◌, ◌&&◌, ◌||◌, ◌==◌, nat_le, nat_lt, max, Bool, true, false, List, [], ◌∷◌, if◌then◌else◌, slice_index}
+use Rattle.std.specs.Prelude.{⊤, ◌≡◌, ◌<◌, ℕ, zero, suc, ◌+◌, ◌-◌, ◌&&◌, ◌||◌, ◌==◌, nat_le, nat_lt, max, Bool, true, false, List, [], ◌∷◌, ◌++◌, drop, take, if◌then◌else◌, slice_index}
 use Rattle.std.specs.List.{AllByRecursion}
 use Rattle.lsp_base.specs.declared.path.Path.{Path}
 use Rattle.bandwidth_book.specs.declared.reservation.Motion.{Motion}
@@ -122,3 +122,7 @@ after_all p = record { hold = p + 1; bandwidth = 0 }
 -- what one counts at its own priority
 abbrev pub last_counts : Reservation → ℕ → ℕ
 last_counts h p = if h.hold == p then h.bandwidth else 0
+
+-- what stands before and after a gap of n
+abbrev pub around : ℕ → ℕ → List Reservation → List Reservation
+around gap n hs = take gap hs ++ drop (gap + n) hs

@@ -1,5 +1,6 @@
 //! In which order the paths of a change go. On a link that many paths of a tunnel share, what they hold stands in order, and
-//! one that goes moves those behind it. So of many paths those go first that stand last.
+//! one that goes moves those between it and the one that went before it. So many paths go in that order, and each of those
+//! that stay moves once. The greatest goes last, so that the sums of the link move once for each holding priority.
 ghost use Rattle.std.specs.Prelude.{◌≡◌, ◌<◌, ℕ, IfOk, option_to_list, slice_get};
 ghost use Rattle.lsp_base.specs.declared.tunnel.Tunnel.{Tunnel};
 ghost use Rattle.bandwidth_book.specs.Ledgers.{count, held_at, promised_on};
@@ -14,9 +15,9 @@ use std::alloc::{AllocError, Global};
 use std::slice;
 
 /// How many paths are put in order before they go.
-const MANY_PATHS: usize = 32;
+const MANY_PATHS: usize = 4;
 
-/// Ranks the path at a place: it is the lower, the later what it holds stands in order.
+/// Ranks the path at a place in the order of what paths hold.
 fn rank_at(paths: &[Path], place: usize) -> u64 {
     match paths.get(place) {
         Some(path) => held_of(path).rank(),

@@ -1,8 +1,10 @@
 //! What one tunnel holds on one link.
-ghost use Rattle.std.specs.Prelude.{ℕ, ◌≡◌, ◌<◌, ◌≤◌, ◌+◌, [], length, max, nat_le, slice_index, if◌then◌else◌, false, IsTrue, ◌↔◌, IsOk, OnErr, OnOk};
+ghost use Rattle.std.specs.Prelude.{ℕ, ◌≡◌, ◌<◌, ◌≤◌, ◌+◌, ◌^◌, [], length, max, nat_le, slice_index, if◌then◌else◌, false, true, IsTrue, ◌↔◌, IsOk, OnErr, OnOk};
 ghost use Rattle.smallvec.specs.SmallVec.{HasRoomFor};
-ghost use Rattle.bandwidth_book.specs.Reservation.{most, most_below, AreMaxima, AreInOrder, after_all, end_in, moved_one, place_in, promised_after, room_for, takes_memory, with_one, without_one};
+ghost use Rattle.bandwidth_book.specs.declared.reservation.Motion.{Motion};
+ghost use Rattle.bandwidth_book.specs.Reservation.{most, most_below, AreMaxima, AreInOrder, after_all, around, end_in, moved_one, place_in, promised_after, room_for, takes_memory, with_one, without_one};
 
+use crate::gap::{back, close, front, one_at, take_at};
 use crate::reservation::{Motion, Reservation, is_before, is_same_held};
 use smallvec::SmallVec;
 use std::alloc::{AllocError, Global};
@@ -15,22 +17,30 @@ const IN_PLACE: usize = 3;
 /// What the paths of a tunnel hold on a link, in order, and for how many more there is room for sure.
 #[derive(Drop)]
 pub struct Entry {
-    held: SmallVec<Reservation, IN_PLACE>,
-    promised: usize,
+    /// What is held, in order, around a gap that those that went have left.
+    items: SmallVec<Reservation, IN_PLACE>,
+    /// Where the gap begins.
+    gap: u32,
+    /// How many items the gap has.
+    gone: u32,
+    promised: u32,
 }
 
 impl Model for Entry {
+    ghost use Rattle.std.specs.Prelude.{◌≤◌, ◌<◌, ◌+◌, ◌^◌, length};
     ghost use Rattle.smallvec.specs.SmallVec.{HasRoomFor};
-    ghost use Rattle.bandwidth_book.specs.Reservation.{AreInOrder};
+    ghost use Rattle.bandwidth_book.specs.Reservation.{AreInOrder, around};
     ghost use Rattle.bandwidth_book.specs.Holdings.{Holdings};
 
     ghost Value = { Holdings };
 
-    ghost view = { λ e. record { held = e.held.items; promised = e.promised } };
+    ghost view = { λ e. record { held = around e.gap e.gone e.items.items; promised = e.promised } };
 
     ghost invariant = { λ e. record {
-      order : AreInOrder e.held.items;
-      room : HasRoomFor e.held e.promised;
+      order : AreInOrder (around e.gap e.gone e.items.items);
+      fits : e.gap + e.gone ≤ length e.items.items;
+      room : HasRoomFor e.items e.promised;
+      small : length e.items.items + e.promised < 2 ^ 32;
     } };
 }
 
@@ -168,6 +178,55 @@ fn maxima_of_few(held: &[Reservation]) -> [u64; 8]
     maxima
 }
 
+/// Finds the greatest bandwidth at each priority.
+fn maxima_of(held: &[Reservation]) -> [u64; 8]
+    requires { AreInOrder held.now }
+    ensures { AreMaxima result held.now }
+{
+    if held.len() <= IN_PLACE {
+        maxima_of_few(held)
+    } else {
+        maxima_of_many(held)
+    }
+}
+
+/// Raises the maxima to others that are greater.
+fn raise_to(maxima: &mut [u64; 8], others: &[u64; 8])
+    ensures { (p : ℕ) → p < 8 → slice_index maxima.new p ≡ max (slice_index maxima.old p) (slice_index others.now p) }
+{
+    for priority in 0..8usize {
+        maxima[priority] = maxima[priority].max(others[priority]);
+    }
+}
+
+/// Finds the greatest bandwidth at each priority, before and behind a gap.
+fn maxima_around(items: &[Reservation], gap: usize, gone: usize) -> [u64; 8]
+    requires order { AreInOrder (around gap gone items.now) }
+    requires fits { gap + gone ≤ length items.now }
+    ensures { AreMaxima result (around gap gone items.now) }
+{
+    let mut maxima = maxima_of(back(items, gap, gone));
+    if gap > 0 {
+        raise_to(&mut maxima, &maxima_of(front(items, gap)));
+    }
+    maxima
+}
+
+/// Finds where those begin that come after one in the order, before or behind a gap.
+fn end_around(items: &[Reservation], gap: usize, gone: usize, one: &Reservation) -> usize
+    requires order { AreInOrder (around gap gone items.now) }
+    requires fits { gap + gone ≤ length items.now }
+    ensures end { result ≡ end_in one.now (around gap gone items.now) }
+    ensures within { result + gone ≤ length items.now }
+{
+    let end = end_of(front(items, gap), one);
+    if end < gap {
+        end
+    } else {
+        gap + end_of(back(items, gap, gone), one)
+    }
+}
+
 /// Puts one more in its order, into room that is there: after those that are the same, so that none of them is moved.
 #[tactic(auto, using(crate::proofs::Order::insert_at_end, crate::proofs::Order::order_with_one, crate::proofs::Order::length_with_one))]
 fn put_held(list: &mut SmallVec<Reservation, IN_PLACE>, held: Reservation)
@@ -181,16 +240,27 @@ fn put_held(list: &mut SmallVec<Reservation, IN_PLACE>, held: Reservation)
     list.insert(end, held).unwrap();
 }
 
-/// Takes one out that is the same, if there is one: the last of them, so that none of them is moved.
-fn take_held(list: &mut SmallVec<Reservation, IN_PLACE>, held: Reservation)
-    requires { AreInOrder list.old.items }
-    ensures items { list.new.items ≡ without_one held list.old.items }
-    ensures order { AreInOrder list.new.items }
-    ensures capacity { list.new.capacity ≡ list.old.capacity }
+/// Takes one out that is the same, if there is one: the last of them.
+fn take_held(
+    items: &mut SmallVec<Reservation, IN_PLACE>,
+    gap: &mut u32,
+    gone: &mut u32,
+    held: Reservation,
+)
+    requires order { AreInOrder (around gap.old gone.old items.old.items) }
+    requires fits { gap.old + gone.old ≤ length items.old.items }
+    requires small { length items.old.items < 2 ^ 32 }
+    ensures items { around gap.new gone.new items.new.items ≡ without_one held (around gap.old gone.old items.old.items) }
+    ensures order { AreInOrder (around gap.new gone.new items.new.items) }
+    ensures fits { gap.new + gone.new ≤ length items.new.items }
+    ensures length { length items.new.items ≡ length items.old.items }
+    ensures capacity { items.new.capacity ≡ items.old.capacity }
 {
-    let end = end_of(list.as_slice(), &held);
-    if end > 0 && is_same_held(&held, &list[end - 1]) {
-        let _ = list.remove(end - 1);
+    let begin = *gap as usize;
+    let count = *gone as usize;
+    let end = end_around(items.as_slice(), begin, count, &held);
+    if end > 0 && is_same_held(&held, &one_at(items.as_slice(), begin, count, end - 1)) {
+        take_at(items, gap, gone, end - 1);
     }
 }
 
@@ -201,16 +271,26 @@ impl Entry {
         ensures promised { result.promised ≡ 0 }
     {
         Entry {
-            held: SmallVec::new(alloc),
+            items: SmallVec::new(alloc),
+            gap: 0,
+            gone: 0,
             promised: 0,
         }
+    }
+
+    /// Counts what is held.
+    #[tactic(auto, using(crate::proofs::Gaps::length_around))]
+    fn count(&self) -> usize
+        ensures { result ≡ length self.now.held }
+    {
+        self.items.len() - self.gone as usize
     }
 
     /// Tests whether nothing is held.
     pub fn is_empty(&self) -> bool
         ensures { IsTrue result ↔ (length self.now.held ≡ 0) }
     {
-        self.held.is_empty()
+        self.count() == 0
     }
 
     /// Tests whether nothing is held and no room is promised.
@@ -225,22 +305,33 @@ impl Entry {
     pub fn maxima(&self) -> [u64; 8]
         ensures { AreMaxima result self.now.held }
     {
-        let held = self.held.as_slice();
-        if held.len() <= IN_PLACE {
-            maxima_of_few(held)
-        } else {
-            maxima_of_many(held)
-        }
+        maxima_around(self.items.as_slice(), self.gap as usize, self.gone as usize)
     }
 
-    /// Promises room for one more.
+    /// Tests whether one of its priority is held that has more bandwidth. Then no maximum changes when it comes or goes.
+    #[tactic(auto, using(crate::proofs::Gaps::length_around))]
+    pub fn is_below_another(&self, held: Reservation) -> bool
+        ensures { (motion : Motion) (p : ℕ) → result ≡ true → most (moved_one motion held self.now.held) p ≡ most self.now.held p }
+    {
+        let items = self.items.as_slice();
+        let gap = self.gap as usize;
+        let gone = self.gone as usize;
+        let end = end_around(items, gap, gone, &held);
+        end < self.count() && one_at(items, gap, gone, end).hold() == held.hold()
+    }
+
+    /// Promises room for one more. Refused if the entry could come to hold 2^32.
     fn promise(&mut self) -> Result<(), AllocError>
         ensures held { self.new.held ≡ self.old.held }
         ensures ok { OnOk result (self.new.promised ≡ self.old.promised + 1) }
         ensures err { OnErr result (self.new.promised ≡ self.old.promised) }
     {
-        let promised = self.promised.checked_add(1).ok_or(AllocError)?;
-        self.held.reserve(promised)?;
+        close(&mut self.items, &mut self.gap, &mut self.gone);
+        if self.promised as usize >= u32::MAX as usize - self.items.len() {
+            return Err(AllocError);
+        }
+        let promised = self.promised + 1;
+        self.items.reserve(promised as usize)?;
         self.promised = promised;
         Ok(())
     }
@@ -251,9 +342,22 @@ impl Entry {
         ensures promised { self.new.promised ≡ 0 }
     {
         self.promised = 0;
-        if self.held.len() <= IN_PLACE {
-            self.held.shrink_to_fit();
+        if self.count() <= IN_PLACE {
+            close(&mut self.items, &mut self.gap, &mut self.gone);
+            self.items.shrink_to_fit();
         }
+    }
+
+    /// Adds one into promised room.
+    #[tactic(auto, using(crate::proofs::Gaps::around_none, crate::proofs::Gaps::length_around, crate::proofs::Order::length_with_one))]
+    fn add(&mut self, held: Reservation)
+        requires { 1 ≤ self.old.promised }
+        ensures held { self.new.held ≡ with_one held self.old.held }
+        ensures promised { self.new.promised + 1 ≡ self.old.promised }
+    {
+        close(&mut self.items, &mut self.gap, &mut self.gone);
+        put_held(&mut self.items, held);
+        self.promised -= 1;
     }
 
     /// Promises room for one more, adds one into it, drops one that is the same if there is one, or gives the room up.
@@ -267,11 +371,8 @@ impl Entry {
     {
         match motion {
             Motion::Promise => return self.promise(),
-            Motion::Add => {
-                put_held(&mut self.held, held);
-                self.promised -= 1;
-            }
-            Motion::Drop => take_held(&mut self.held, held),
+            Motion::Add => self.add(held),
+            Motion::Drop => take_held(&mut self.items, &mut self.gap, &mut self.gone, held),
             Motion::Withdraw => self.withdraw(),
         }
         Ok(())

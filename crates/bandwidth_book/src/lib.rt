@@ -33,6 +33,7 @@ mod book;
 mod changes;
 mod drops;
 mod entry;
+mod gap;
 mod ledgers;
 mod link_entries;
 mod looks;

@@ -91,6 +91,9 @@ fn move_in(
     if !motion.changes_held() {
         return entry.move_one(motion, held);
     }
+    if entry.is_below_another(held) {
+        return entry.move_one(motion, held);
+    }
     let before = entry.maxima();
     let moved = entry.move_one(motion, held);
     exchange(sums, &before, &entry.maxima());

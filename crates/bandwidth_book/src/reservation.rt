@@ -88,9 +88,9 @@ impl Reservation {
         self.number / (1 << 48)
     }
 
-    /// Ranks it against others: the later it is in the numbers' order, the lower.
+    /// Ranks it in the order of a list.
     pub fn rank(&self) -> u64 {
-        u64::MAX - self.number
+        self.number
     }
 
     /// Returns the bandwidth.
