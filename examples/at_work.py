@@ -1,4 +1,4 @@
-"""A server in a process of its own with simulated routers on loopback, for examples/demo and examples/europe; and where what the
+"""A server in a process of its own with simulated routers on loopback, for examples/demo and examples/sprint; and where what the
 examples run stands, in the repository or where a release put it."""
 import contextlib
 import json
