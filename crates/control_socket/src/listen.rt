@@ -1,4 +1,6 @@
 //! Who connects is served in a thread of its own.
+ghost use Rattle.std.specs.Prelude.{IfNone};
+
 use crate::places::{AT_ONCE, Place, Stopwatch, free_place, free_places, make_room};
 use crate::reader::ControlReader;
 use crate::waits::is_quiet;
@@ -7,7 +9,7 @@ use std::io::{Read, Write};
 use std::os::fd::OwnedFd;
 use std::os::unix::net::{UnixListener, UnixStream};
 use std::sync::Wait;
-use std::thread::Threads;
+use std::thread::{Scope, Threads};
 use std::time::{Clock, Duration};
 use std::{io, thread};
 
@@ -22,8 +24,14 @@ const ROOM_WAIT_MS: u64 = 10;
 
 /// What a connection knows of its run.
 pub trait Watch {
+    ghost use Rattle.std.specs.Prelude.{◌≡◌, true, ⊤};
+
+    /// The run may be asked to end.
+    ghost may_close: { Self → Type 0 } = { λ _. ⊤ };
+
     /// Whether the run is to end.
-    fn is_closing(&self) -> bool;
+    fn is_closing(&self) -> bool
+        ensures { result ≡ true → may_close self.now };
 }
 
 /// Who answers the lines of a connection.
@@ -88,7 +96,9 @@ fn await_place<'a, R: Wait + Clock, W: Watch>(
     places: &'a [Place; AT_ONCE],
     clock: &Stopwatch<'_, R>,
     watch: &W,
-) -> Option<&'a Place> {
+) -> Option<&'a Place>
+    ensures { IfNone result (W.may_close watch.now) }
+{
     let came_ms = clock.now_ms();
     for _ in rt.forever() {
         if watch.is_closing() {
@@ -101,6 +111,47 @@ fn await_place<'a, R: Wait + Clock, W: Watch>(
         thread::sleep(rt, Duration::from_millis(ROOM_WAIT_MS));
     }
     unreachable!()
+}
+
+/// Serves who connects, each in a thread of the scope, until the run is to end.
+fn accept_until_closing<
+    's,
+    E: 's,
+    R: Wait + Threads + Clock + Sync,
+    P: Operator + Sync,
+    W: Watch + Sync,
+>(
+    scope: &Scope<'s, E>,
+    listener: &UnixListener,
+    rt: &R,
+    places: &'s [Place; AT_ONCE],
+    clock: &'s Stopwatch<'s, R>,
+    watch: &'s W,
+    operator: &'s P,
+)
+    ensures { W.may_close watch.now }
+{
+    for _ in rt.forever() {
+        if watch.is_closing() {
+            return;
+        }
+        match listener.accept() {
+            Ok((stream, _)) => {
+                let Some(place) = await_place(rt, places, clock, watch) else {
+                    return;
+                };
+                place.take(clock.now_ms());
+                if scope
+                    .spawn(move || attend_one(stream, place, clock, watch, operator))
+                    .is_err()
+                {
+                    place.leave();
+                }
+            }
+            Err(error) if is_quiet(error.kind()) => {}
+            Err(_) => thread::sleep(rt, Duration::from_millis(ACCEPT_WAIT_MS)),
+        }
+    }
 }
 
 /// Serves who connects until the run is to end, and waits for the ends of all connections. Four are served at once; for
@@ -118,27 +169,7 @@ pub fn listen_on<R: Wait + Threads + Clock + Sync, P: Operator + Sync, W: Watch 
     let stopwatch = Stopwatch::new(rt);
     let clock = &stopwatch;
     thread::scope(thread::scope_env(), rt, |scope| {
-        for _ in rt.forever() {
-            if watch.is_closing() {
-                break;
-            }
-            match listener.accept() {
-                Ok((stream, _)) => {
-                    let Some(place) = await_place(rt, places, clock, watch) else {
-                        break;
-                    };
-                    place.take(clock.now_ms());
-                    if scope
-                        .spawn(move || attend_one(stream, place, clock, watch, operator))
-                        .is_err()
-                    {
-                        place.leave();
-                    }
-                }
-                Err(error) if is_quiet(error.kind()) => {}
-                Err(_) => thread::sleep(rt, Duration::from_millis(ACCEPT_WAIT_MS)),
-            }
-        }
+        accept_until_closing(scope, listener, rt, places, clock, watch, operator)
     });
     Ok(())
 }

@@ -39,15 +39,36 @@ fn await_lock<R: Clock>(rt: &R, folder: &File) -> io::Result<()> {
     ))
 }
 
-/// The lock of the path. It is let go with the file that is given. Servers take a path and leave it by this lock only,
-/// so that of several which come at once each sees what the one before it did.
-pub(crate) fn lock_path<R: Files<File = File> + Clock>(
+/// A path whose lock is held, until this is let go. Only `lock_path` makes one, and a path is looked at, taken and left only
+/// by one: of several servers that come at once, each sees what the one before it did.
+#[derive(Drop)]
+pub(crate) struct Locked<'a> {
+    path: &'a str,
+    _folder: File,
+}
+
+impl<'a> Locked<'a> {
+    /// The path.
+    pub fn path(&self) -> &'a str
+        ensures { result.now ≡ self.now.path.now }
+    {
+        self.path
+    }
+}
+
+/// Waits for the lock of the path, and holds it.
+pub(crate) fn lock_path<'a, R: Files<File = File> + Clock>(
     rt: &R,
     alloc: Global,
-    path: &str,
-) -> io::Result<File> {
+    path: &'a str,
+) -> io::Result<Locked<'a>>
+    ensures { IfOk result (λ lock. lock.path.now ≡ path.now) }
+{
     let place = folder_at(alloc, path)?;
     let folder = File::open(rt, place.as_str())?;
     await_lock(rt, &folder)?;
-    Ok(folder)
+    Ok(Locked {
+        path,
+        _folder: folder,
+    })
 }

@@ -4,6 +4,7 @@ ghost use Rattle.std.specs.Prelude.{◌≡◌, true, IfErr, IfOk};
 ghost use Rattle.std.specs.declared.io.ErrorKind.TheVariants.{AddrInUse};
 ghost use Rattle.control_socket.specs.Waits.{is_gone, IsFault, IsUnheard, IsUnlessGone};
 
+use crate::lock::Locked;
 use crate::waits::is_gone;
 use std::fs::{Files, Metadata};
 use std::io::ErrorKind;
@@ -33,11 +34,11 @@ pub(crate) struct Unheard {
     ghost gone: { is_gone kind ≡ true },
 }
 
-/// A path, by which its file can be looked at and connected to, and removed if it may go.
+/// A path whose lock is held, by which its file can be looked at and connected to, and removed if it may go.
 #[derive(Drop)]
 pub(crate) struct Named<'a, R> {
     rt: &'a R,
-    path: &'a str,
+    lock: &'a Locked<'a>,
 }
 
 fn id_of(known: &Metadata) -> FileId {
@@ -94,17 +95,17 @@ impl Found {
 }
 
 impl<'a, R: Files> Named<'a, R> {
-    pub fn new(rt: &'a R, path: &'a str) -> Named<'a, R> {
-        Named { rt, path }
+    pub fn new(rt: &'a R, lock: &'a Locked<'a>) -> Named<'a, R> {
+        Named { rt, lock }
     }
 
     /// What stands there.
     pub fn look(&self) -> io::Result<Found> {
-        look_at(self.rt, self.path)
+        look_at(self.rt, self.lock.path())
     }
 
     fn remove(&self) -> io::Result<()> {
-        unless_gone(fs::remove_file(self.rt, self.path))
+        unless_gone(fs::remove_file(self.rt, self.lock.path()))
     }
 
     /// Removes the socket of a server that is gone.
@@ -125,7 +126,7 @@ impl<'a, R: Files> Named<'a, R> {
 impl<'a, R: Files + Net> Named<'a, R> {
     /// Connects to a server there, and lets it go.
     fn connect(&self) -> io::Result<()> {
-        let _stream = UnixStream::connect(self.rt, self.path)?;
+        let _stream = UnixStream::connect(self.rt, self.lock.path())?;
         Ok(())
     }
 

@@ -4,7 +4,7 @@ ghost use Rattle.std.specs.declared.io.ErrorKind.TheVariants.{AlreadyExists};
 ghost use Rattle.control_socket.specs.Paths.{folder_named, socket_in};
 ghost use Rattle.control_socket.specs.Waits.{IsFault};
 
-use crate::lock::lock_path;
+use crate::lock::{Locked, lock_path};
 use crate::named::{FileId, Named, look_at, unless_gone};
 use std::alloc::{AllocError, Global};
 use std::fs::{DirBuilder, File, Files, Permissions};
@@ -93,11 +93,11 @@ fn make_folder<R: Files>(rt: &R, folder: &str) -> io::Result<()> {
 
 /// Binds a socket in the folder, and gives it the path too once only its owner may connect. Whatever came to the path
 /// meanwhile stays, and is a fault (link(2)).
-fn bind_in<R: Files + Net>(rt: &R, socket: &str, path: &str) -> io::Result<ControlFile> {
+fn bind_in<R: Files + Net>(rt: &R, socket: &str, lock: &Locked<'_>) -> io::Result<ControlFile> {
     let listener = UnixListener::bind(rt, socket)?;
     fs::set_permissions(rt, socket, Permissions::from_mode(OWNER_CONNECTS))?;
     let id = look_at(rt, socket)?.id();
-    fs::hard_link(rt, socket, path)?;
+    fs::hard_link(rt, socket, lock.path())?;
     Ok(ControlFile { listener, id })
 }
 
@@ -105,12 +105,12 @@ fn bind_in<R: Files + Net>(rt: &R, socket: &str, path: &str) -> io::Result<Contr
 fn make_at<R: Files + Net + RandomSource>(
     rt: &R,
     alloc: Global,
-    path: &str,
+    lock: &Locked<'_>,
 ) -> io::Result<ControlFile> {
-    let folder = draw_folder(rt, alloc, path)?;
+    let folder = draw_folder(rt, alloc, lock.path())?;
     let socket = socket_in(alloc, &folder)?;
     make_folder(rt, &folder)?;
-    let file = bind_in(rt, &socket, path);
+    let file = bind_in(rt, &socket, lock);
     let _gone = fs::remove_file(rt, socket.as_str());
     let _gone = fs::remove_dir(rt, folder.as_str());
     file
@@ -128,8 +128,8 @@ pub fn open_path<R: Files<File = File> + Net + Clock + RandomSource>(
     path: &str,
 ) -> io::Result<ControlFile> {
     let lock = lock_path(rt, alloc, path)?;
-    let file = match free_path(&Named::new(rt, path)) {
-        Ok(()) => make_at(rt, alloc, path),
+    let file = match free_path(&Named::new(rt, &lock)) {
+        Ok(()) => make_at(rt, alloc, &lock),
         Err(error) => Err(error),
     };
     drop(lock);
@@ -153,7 +153,7 @@ pub fn close_path<R: Files<File = File> + Clock>(
     path: &str,
 ) -> io::Result<()> {
     let lock = lock_path(rt, alloc, path)?;
-    let removed = remove_own(&Named::new(rt, path), file.id);
+    let removed = remove_own(&Named::new(rt, &lock), file.id);
     drop(lock);
     removed
 }

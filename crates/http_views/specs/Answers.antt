@@ -1,5 +1,5 @@
 -- What a request is answered.
-use Rattle.std.specs.Prelude.{ℕ, List, [], ◌∷◌, ◌++◌, codes}
+use Rattle.std.specs.Prelude.{◌≡◌, ℕ, List, [], ◌∷◌, ◌++◌, codes}
 use Rattle.http1.specs.Fields.{Header}
 use Rattle.http_server.specs.declared.response.Response.{Response}
 use Rattle.http_server.specs.Response.{IsResponse}
@@ -33,12 +33,13 @@ html_fields =
 abbrev pub method_fields : List Header
 method_fields = text_fields plain_kind ++ (codes "allow", codes "GET, HEAD") ∷ []
 
--- what was asked is answered by the page, by the places, or by what the source gives for it
-abbrev pub Answers : (Ask → List ℕ → Type 0) → (List ℕ → Type 0) → List ℕ → List ℕ → Asked → Response → Type 0
-Answers is_document is_metrics page places Page r = IsResponse 200 html_fields page r
-Answers is_document is_metrics page places Places r = IsResponse 200 (text_fields json_kind) places r
-Answers is_document is_metrics page places Metrics r = (text : List ℕ) × is_metrics text × IsResponse 200 (text_fields metrics_kind) text r
-Answers is_document is_metrics page places (Document ask) r = (text : List ℕ) × is_document ask text × IsResponse 200 (text_fields json_kind) text r
-Answers is_document is_metrics page places (asked.Wrong wrong) r = IsResponse 400 (text_fields plain_kind) (wrong_text wrong) r
-Answers is_document is_metrics page places NotFound r = IsResponse 404 (text_fields plain_kind) (codes "not found\n") r
-Answers is_document is_metrics page places NotAllowed r = IsResponse 405 method_fields (codes "method not allowed\n") r
+-- What was asked is answered by the page, by the places, or by what the source gives for it. The source was in the first state, and
+-- is left in the second: as it was if it gave nothing.
+abbrev pub Answers : {S : Type 0} → (S → Ask → List ℕ → S → Type 0) → (S → List ℕ → S → Type 0) → List ℕ → List ℕ → S → Asked → Response → S → Type 0
+Answers is_document is_metrics page places old Page r new = (new ≡ old) × IsResponse 200 html_fields page r
+Answers is_document is_metrics page places old Places r new = (new ≡ old) × IsResponse 200 (text_fields json_kind) places r
+Answers is_document is_metrics page places old Metrics r new = (text : List ℕ) × is_metrics old text new × IsResponse 200 (text_fields metrics_kind) text r
+Answers is_document is_metrics page places old (Document ask) r new = (text : List ℕ) × is_document old ask text new × IsResponse 200 (text_fields json_kind) text r
+Answers is_document is_metrics page places old (asked.Wrong wrong) r new = (new ≡ old) × IsResponse 400 (text_fields plain_kind) (wrong_text wrong) r
+Answers is_document is_metrics page places old NotFound r new = (new ≡ old) × IsResponse 404 (text_fields plain_kind) (codes "not found\n") r
+Answers is_document is_metrics page places old NotAllowed r new = (new ≡ old) × IsResponse 405 method_fields (codes "method not allowed\n") r

@@ -3,3 +3,4 @@ pub mod Queries
 pub mod Hosts
 pub mod Asked
 pub mod Answers
+pub mod Turns

@@ -1,5 +1,6 @@
 //! A few connections, served by one thread.
 ghost use Rattle.std.specs.Prelude.{IfOk};
+ghost use Rattle.http_views.specs.Turns.{Leads};
 
 use crate::turn::{Turn, take_turn};
 use http_server::{Config, Connection, Service};
@@ -61,7 +62,9 @@ struct Client {
 }
 
 impl Client {
-    fn take_turn<S: Service>(&mut self, service: &mut S, now_ms: u64) -> Turn {
+    fn take_turn<S: Service>(&mut self, service: &mut S, now_ms: u64) -> Turn
+        ensures { Leads S.answers service.old service.new }
+    {
         let stream = &self.stream;
         let mut reader = stream;
         let mut writer = stream;
@@ -190,7 +193,9 @@ impl Clients {
     }
 
     /// Takes a turn of each connection. Says whether one moved.
-    fn serve<S: Service>(&mut self, service: &mut S, now_ms: u64) -> bool {
+    fn serve<S: Service>(&mut self, service: &mut S, now_ms: u64) -> bool
+        ensures { Leads S.answers service.old service.new }
+    {
         let mut has_moved = false;
         for slot in self.slots.iter_mut() {
             if let Some(client) = slot {
@@ -227,7 +232,8 @@ pub fn serve_views<R: Net<Listener = TcpListener, Stream = TcpStream> + Wait, S:
     service: &mut S,
     watch: &W,
 ) -> io::Result<()>
-    ensures { IfOk result (λ _. W.may_end watch.now) }
+    ensures over { IfOk result (λ _. W.may_end watch.now) }
+    ensures calls { Leads S.answers service.old service.new }
 {
     let mut clients = Clients::new(rt, alloc, keys, listener)?;
     for _ in rt.forever() {

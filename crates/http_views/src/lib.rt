@@ -10,9 +10,9 @@
 //! `source`, `service`, `turn` (a turn of one connection), `clients` (the connections), `page`.
 //!
 //! ```text
-//! fn show<R: Net<Listener = TcpListener, Stream = TcpStream> + Wait, S: ViewSource, W: Watch>(rt: &R, alloc: Global, keys: RandomState, listener: &TcpListener, source: &S, watch: &W) -> io::Result<()>
+//! fn show<R: Net<Listener = TcpListener, Stream = TcpStream> + Wait, S: ViewSource, W: Watch>(rt: &R, alloc: Global, keys: RandomState, listener: &TcpListener, source: S, places: &[u8], watch: &W) -> io::Result<()>
 //! {
-//!     serve_views(rt, alloc, keys, listener, &mut ViewService { alloc, source, page: PAGE }, watch)
+//!     serve_views(rt, alloc, keys, listener, &mut ViewService { alloc, source, page: PAGE, places }, watch)
 //! }
 //! ```
 #![tactic(auto)]
@@ -30,6 +30,6 @@ mod words;
 pub use asked::{Asked, Wrong, asked_by};
 pub use clients::{AT_ONCE, IDLE_MS, Watch, serve_views};
 pub use page::PAGE;
-pub use service::ViewService;
+pub use service::{ViewService, give_document, give_metrics};
 pub use source::ViewSource;
 pub use turn::{Turn, take_turn};

@@ -1,7 +1,7 @@
-//! The service: each request is answered by one call of the source, and changes nothing.
-ghost use Rattle.std.specs.Prelude.{◌≡◌, [], codes, OnOk};
+//! The service: each request is answered by one call of the source, which knows what it has shown so far. Nothing else changes.
+ghost use Rattle.std.specs.Prelude.{◌≡◌, [], codes, OnOk, OnErr};
 ghost use Rattle.http_server.specs.Response.{IsBlank, IsResponse, fields_of};
-ghost use Rattle.http_views.specs.Answers.{Answers, html_fields, json_kind, method_fields, plain_kind, text_fields};
+ghost use Rattle.http_views.specs.Answers.{Answers, html_fields, json_kind, method_fields, metrics_kind, plain_kind, text_fields};
 ghost use Rattle.http_views.specs.declared.asked.Asked.TheVariants.{Metrics, Document};
 
 use crate::asked::{Asked, asked_by};
@@ -9,7 +9,6 @@ use crate::source::ViewSource;
 use bytes::{BufMut, Bytes};
 use http::{HeaderValue, Request, StatusCode, header};
 use http_server::{Response, Service};
-use pce_seen::Ask;
 use std::alloc::{AllocError, Global};
 
 /// What the page may do: nothing from elsewhere, and nothing with a form.
@@ -20,7 +19,7 @@ const PAGE_POLICY: &str =
 #[derive(Drop)]
 pub struct ViewService<'a, S: ViewSource> {
     pub alloc: Global,
-    pub source: &'a S,
+    pub source: S,
     /// The page that draws the network.
     pub page: &'static str,
     /// The JSON document of where nodes are on a map.
@@ -53,6 +52,26 @@ fn give(response: &mut Response, kind: HeaderValue, text: Vec<u8>) -> Result<(),
         Err(_) => return Err(AllocError),
     };
     response.body.push(body)
+}
+
+/// Answers by a JSON document.
+pub fn give_document(response: &mut Response, text: Vec<u8>) -> Result<(), AllocError>
+    requires { IsBlank response.old }
+    ensures { OnOk result (IsResponse 200 (text_fields json_kind) text.items response.new) }
+{
+    give(response, HeaderValue::from_static("application/json"), text)
+}
+
+/// Answers by numbers for a scraper.
+pub fn give_metrics(response: &mut Response, text: Vec<u8>) -> Result<(), AllocError>
+    requires { IsBlank response.old }
+    ensures { OnOk result (IsResponse 200 (text_fields metrics_kind) text.items response.new) }
+{
+    give(
+        response,
+        HeaderValue::from_static("text/plain; version=0.0.4; charset=utf-8"),
+        text,
+    )
 }
 
 fn give_page(response: &mut Response, page: &'static str) -> Result<(), AllocError>
@@ -93,14 +112,6 @@ fn refuse_method(response: &mut Response) -> Result<(), AllocError>
 }
 
 impl<'a, S: ViewSource> ViewService<'a, S> {
-    fn give_document(&self, ask: &Ask, response: &mut Response) -> Result<(), AllocError>
-        requires { IsBlank response.old }
-        ensures { OnOk result (Answers (S.is_document self.now.source.now) (S.is_metrics self.now.source.now) self.now.page.now self.now.places.now (Document ask.now) response.new) }
-    {
-        let text = self.source.document(ask)?;
-        give(response, HeaderValue::from_static("application/json"), text)
-    }
-
     fn give_places(&self, response: &mut Response) -> Result<(), AllocError>
         requires { IsBlank response.old }
         ensures { OnOk result (IsResponse 200 (text_fields json_kind) self.now.places.now response.new) }
@@ -110,27 +121,17 @@ impl<'a, S: ViewSource> ViewService<'a, S> {
         response.body.push(body)
     }
 
-    fn give_metrics(&self, response: &mut Response) -> Result<(), AllocError>
+    fn answer(&mut self, asked: Asked, response: &mut Response) -> Result<(), AllocError>
         requires { IsBlank response.old }
-        ensures { OnOk result (Answers (S.is_document self.now.source.now) (S.is_metrics self.now.source.now) self.now.page.now self.now.places.now Metrics response.new) }
-    {
-        let text = self.source.metrics()?;
-        give(
-            response,
-            HeaderValue::from_static("text/plain; version=0.0.4; charset=utf-8"),
-            text,
-        )
-    }
-
-    fn answer(&self, asked: Asked, response: &mut Response) -> Result<(), AllocError>
-        requires { IsBlank response.old }
-        ensures { OnOk result (Answers (S.is_document self.now.source.now) (S.is_metrics self.now.source.now) self.now.page.now self.now.places.now asked response.new) }
+        ensures ok { OnOk result (Answers S.is_document S.is_metrics self.old.page.now self.old.places.now self.old.source asked response.new self.new.source) }
+        ensures err { OnErr result (self.new.source ≡ self.old.source) }
+        ensures same { self.new ≡ record self.old { source = self.new.source } }
     {
         match asked {
             Asked::Page => give_page(response, self.page),
-            Asked::Metrics => self.give_metrics(response),
+            Asked::Metrics => self.source.metrics(response),
             Asked::Places => self.give_places(response),
-            Asked::Document(ask) => self.give_document(&ask, response),
+            Asked::Document(ask) => self.source.document(&ask, response),
             Asked::Wrong(wrong) => refuse(response, StatusCode::BAD_REQUEST, wrong.text()),
             Asked::NotFound => refuse(response, StatusCode::NOT_FOUND, "not found\n"),
             Asked::NotAllowed => refuse_method(response),
@@ -144,7 +145,7 @@ impl<'a, S: ViewSource> Service for ViewService<'a, S> {
     ghost use Rattle.http_views.specs.Asked.{asked_by};
 
     ghost answers = { λ old request response new.
-        (new ≡ old) × Answers (S.is_document old.source.now) (S.is_metrics old.source.now) old.page.now old.places.now (asked_by request) response };
+        (new ≡ record old { source = new.source }) × Answers S.is_document S.is_metrics old.page.now old.places.now old.source (asked_by request) response new.source };
 
     fn call(
         &mut self,

@@ -1,23 +1,31 @@
 //! Where what is shown comes from.
+use http_server::Response;
 use pce_seen::Ask;
 use std::alloc::AllocError;
 
-/// A server that can be looked at. Each call looks anew, and changes nothing.
+/// A server that can be looked at. Each call looks anew, and changes nothing of the server. A source knows what it has shown so
+/// far. An answer that finds no memory shows nothing.
 pub trait ViewSource {
-    ghost use Rattle.std.specs.Prelude.{ℕ, List, IfOk};
+    ghost use Rattle.std.specs.Prelude.{ℕ, List, ◌≡◌, OnOk, OnErr};
+    ghost use Rattle.http_server.specs.Response.{IsBlank, IsResponse};
     ghost use Rattle.pce_seen.specs.declared.ask.Ask.{Ask};
+    ghost use Rattle.http_views.specs.Answers.{json_kind, metrics_kind, text_fields};
 
-    /// To what is asked this text may be the document.
-    ghost is_document: { Self → Ask → List ℕ → Type 0 };
+    /// From the first state on, this text may be the document to what is asked, and leaves the second state.
+    ghost is_document: { Self → Ask → List ℕ → Self → Type 0 };
 
-    /// This text may be the metrics.
-    ghost is_metrics: { Self → List ℕ → Type 0 };
+    /// From the first state on, this text may be the metrics, and leaves the second state.
+    ghost is_metrics: { Self → List ℕ → Self → Type 0 };
 
-    /// The JSON document of what one look sees.
-    fn document(&self, ask: &Ask) -> Result<Vec<u8>, AllocError>
-        ensures { IfOk result (λ text. is_document self.now ask.now text.items) };
+    /// Answers by the JSON document of what one look sees, as `give_document` does.
+    fn document(&mut self, ask: &Ask, response: &mut Response) -> Result<(), AllocError>
+        requires { IsBlank response.old }
+        ensures ok { OnOk result ((text : List ℕ) × is_document self.old ask.now text self.new × IsResponse 200 (text_fields json_kind) text response.new) }
+        ensures err { OnErr result (self.new ≡ self.old) };
 
-    /// The numbers for a scraper.
-    fn metrics(&self) -> Result<Vec<u8>, AllocError>
-        ensures { IfOk result (λ text. is_metrics self.now text.items) };
+    /// Answers by the numbers for a scraper, as `give_metrics` does.
+    fn metrics(&mut self, response: &mut Response) -> Result<(), AllocError>
+        requires { IsBlank response.old }
+        ensures ok { OnOk result ((text : List ℕ) × is_metrics self.old text self.new × IsResponse 200 (text_fields metrics_kind) text response.new) }
+        ensures err { OnErr result (self.new ≡ self.old) };
 }

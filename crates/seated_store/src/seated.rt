@@ -10,7 +10,7 @@ use history_seats::{Brands, Receipt, receipt_bytes};
 use pcep_messages::Message;
 use pcep_objects::Open;
 use sequence::PlainData;
-use shared_pce::{Event, Fault, Seat, Shared, SharedEvent};
+use shared_pce::{Event, Fault, Look, Seat, Shared, SharedEvent};
 use std::alloc::{AllocError, Global};
 use std::sync::Wait;
 
@@ -82,6 +82,14 @@ impl<'a, R: Wait, B: Brands> Seated<'a, R, B> {
         ensures same { SeatedMoves B.text self.old.seat self.old.calls.items [] self.new.seat self.new.calls.items }
     {
         self.shared.left_at(self.rt, self.seat)
+    }
+
+    /// Looks at the database, and shows the seat what has happened until then. No call is made.
+    pub fn look<L: Look>(&mut self, look: &L) -> Result<L::Seen, AllocError>
+        ensures sees { IfOk result (L.sees look.now (database_at B.text self.new.seat.now.seen)) }
+        ensures same { SeatedMoves B.text self.old.seat self.old.calls.items [] self.new.seat self.new.calls.items }
+    {
+        self.shared.look_at(self.rt, self.seat, look)
     }
 }
 

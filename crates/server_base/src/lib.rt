@@ -42,4 +42,5 @@ pub use linkless::StandsLook;
 pub use outlook::Outlook;
 pub use seat_pool::SeatPool;
 pub use standing::Standing;
+pub use timed_look::TimedLook;
 pub use upkeep::{Seen, Upkeep};

@@ -1,6 +1,6 @@
 //! What those who are shown a run see of it: looks at its database, and what is noted of its peers and steps. Every step and
 //! every roll wants to be shown a seat (`Held` of `history_seats`), and no seat is in reach from here.
-ghost use Rattle.std.specs.Prelude.{IfOk};
+ghost use Rattle.std.specs.Prelude.{◌≡◌, IfOk};
 ghost use mathlib.Core.List.{IsPrefix};
 ghost use Rattle.history_seats.specs.Past.{database_at};
 
@@ -57,15 +57,27 @@ impl<'a, R: Wait + Clock, B: Brands> Outlook<'a, R, B> {
         ensures begins { IsPrefix front.old front.new }
         ensures sees { IfOk result (L.sees look.now (database_at B.text front.new)) }
     {
-        let timed = TimedLook {
+        let timed = self.timed(look);
+        let seen = self.shared.look(self.rt, front, &timed);
+        self.count_look(&timed);
+        seen
+    }
+
+    /// The same look, which notes for how long it holds the lock.
+    pub fn timed<'l, L: Look>(&'l self, look: &'l L) -> TimedLook<'l, 'a, R, L>
+        ensures { result.look.now ≡ look.now }
+    {
+        TimedLook {
             moments: &self.moments,
             look,
             held_us: Cell::new(0),
-        };
-        let seen = self.shared.look(self.rt, front, &timed);
+        }
+    }
+
+    /// Counts for how long a look held the lock.
+    pub fn count_look<L: Look>(&self, timed: &TimedLook<'_, '_, R, L>) {
         let held_us = timed.held_us.get();
         self.counters.lock(self.rt).observe(Timed::Look, held_us);
-        seen
     }
 
     /// Has the keeper of time roll the history for want of memory, and waits for it: for a quarter of a second at most. What is

@@ -8,10 +8,10 @@ use std::time::Clock;
 
 /// A look that notes for how long it holds the lock, in microseconds.
 #[derive(Drop)]
-pub(crate) struct TimedLook<'a, 'm, R: Clock, L: Look> {
-    pub moments: &'a Moments<'m, R>,
-    pub look: &'a L,
-    pub held_us: Cell<u64>,
+pub struct TimedLook<'a, 'm, R: Clock, L: Look> {
+    pub(crate) moments: &'a Moments<'m, R>,
+    pub(crate) look: &'a L,
+    pub(crate) held_us: Cell<u64>,
 }
 
 impl<'a, 'm, R: Clock, L: Look> Look for TimedLook<'a, 'm, R, L> {

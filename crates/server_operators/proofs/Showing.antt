@@ -1,8 +1,10 @@
 -- What is shown page by page.
-use Rattle.std.proofs.Common.{ℕ, List, ◌++◌, Some, None, append_assoc, subst, sym}
+use Rattle.std.proofs.Common.{◌≡◌, ℕ, List, ◌++◌, Some, None, append_assoc, subst, sym}
+use mathlib.Core.List.{IsPrefix}
 use Rattle.te_base.specs.Ted.{Ted}
 use Rattle.step_core.specs.declared.event.Event.{Event}
 use Rattle.history_tokens.specs.declared.rule.Happening.{Happening}
+use Rattle.history_tokens.proofs.Beginnings.{prefix_trans}
 use Rattle.pce_seen.specs.declared.ask.Ask.{Ask}
 use Rattle.pce_view.specs.declared.answer.Form.{Form}
 use Rattle.pce_view.specs.declared.answer.Surroundings.{Surroundings}
@@ -26,3 +28,15 @@ module _ (text : Ted) (form : Form) (around : Surroundings) (begun : List (Happe
       subst (λ (pages : List ℕ). IsShown text form around begun first (pages ++ rest) last) (sym h.3)
       (subst (λ (pages : List ℕ). IsShown text form around begun first pages last) (sym (append_assoc old (h.0 ++ line_end form) rest))
       (on ((h.0 ++ line_end form) ++ rest) last (Goes_on past then last a next h.0 rest h.1 h.2 k)))
+
+-- what is shown after more was seen is shown after less, too
+pub shown_behind : (text : Ted) (form : Form) (around : Surroundings) (begun later : List (Happening Event)) (first : Ask) (pages : List ℕ) (last : List (Happening Event)) → IsPrefix begun later
+    → IsShown text form around later first pages last → IsShown text form around begun first pages last
+shown_behind text form around begun later first pages last h (Ends _ _ a page k is) = Ends begun last a page (prefix_trans begun later last h k) is
+shown_behind text form around begun later first pages last h (Goes_on _ past _ a next page rest k is on) = Goes_on begun past last a next page rest (prefix_trans begun later past h k) is on
+
+-- the same form and the same question, written otherwise
+pub shown_alike : (text : Ted) (form other : Form) (around : Surroundings) (begun : List (Happening Event)) (first ask : Ask) (pages : List ℕ) (last : List (Happening Event)) → other ≡ form → ask ≡ first
+    → IsShown text other around begun ask pages last → IsShown text form around begun first pages last
+shown_alike text form other around begun first ask pages last f a h =
+    subst (λ (it : Form). IsShown text it around begun first pages last) f (subst (λ (it : Ask). IsShown text other around begun it pages last) a h)

@@ -1,5 +1,4 @@
 //! An operator's lines, answered from a seat.
-use crate::network::ServedNetwork;
 use crate::reload_notes::ReloadNoted;
 use history_seats::Brands;
 use seated_store::Seated;
@@ -34,8 +33,9 @@ impl<'a, O: Write> Write for OperatorOutput<'a, O> {
     }
 }
 
-/// Answers an operator's lines from this seat, and gives why no more are heard. Links that a reload leaves below zero are
-/// logged.
+/// Answers an operator's lines from this seat, and gives why no more are heard. What is shown to a line is shown to the seat
+/// too, and what a seat has seen only grows. So answers come in the order of the history. Links that a reload leaves below zero
+/// are logged.
 pub(crate) fn answer_operator<R: Wait + Clock, B: Brands, I: Patient, O: Write, P: Plan>(
     context: &Context<'_, R, B>,
     plan: &P,
@@ -48,11 +48,6 @@ pub(crate) fn answer_operator<R: Wait + Clock, B: Brands, I: Patient, O: Write, 
         front: context.shared.front(context.rt),
         store: Seated::new(context.rt, context.alloc, context.shared, seat),
     };
-    let outlook = context.outlook();
-    let network = ServedNetwork {
-        outlook: &outlook,
-        plan,
-    };
     let mut output = OperatorOutput {
         writer,
         run: context.run,
@@ -63,7 +58,7 @@ pub(crate) fn answer_operator<R: Wait + Clock, B: Brands, I: Patient, O: Write, 
         reader,
         &mut output,
         &context.moments(),
-        &network,
+        plan,
         &mut store,
     )
 }

@@ -1,9 +1,10 @@
 //! The operators of a run: the one at standard input, and those who connect to the control socket. What their lines mean
 //! and what is answered is proved in `server_talk`; what they are shown stands in `specs/Shows`.
 //!
-//! - `network`, `plan`: the network, and the file that its link text stands in
+//! - `plan`: the file that the link text stands in
 //! - `reload_notes`: a store that notes which links a reload leaves below zero
-//! - `shown`: what an operator is shown
+//! - `links_look`: a look at all links
+//! - `shown`: what an operator is shown, from its own seat
 //! - `answering`: an operator's lines
 //! - `control`: operators who connect
 //! - `operator`: the one at standard input (`specs/Faults`)
@@ -11,7 +12,7 @@
 
 mod answering;
 mod control;
-mod network;
+mod links_look;
 mod operator;
 mod plan;
 mod reload_notes;

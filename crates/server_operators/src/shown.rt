@@ -1,24 +1,30 @@
-//! What operators are shown: one look after another at the database, each as a table or as JSON.
-ghost use Rattle.std.specs.Prelude.{◌≡◌, ◌++◌, ℕ, List, All, IfOk, OnOk};
+//! What operators are shown: one look after another at the database, each as a table or as JSON. The operator's own seat is shown
+//! each look, so later looks have seen all that earlier ones had, and all that the operator's lines did.
+ghost use Rattle.std.specs.Prelude.{◌≡◌, ◌++◌, ℕ, List, [], All, IfOk, OnOk};
+ghost use Rattle.history_seats.specs.Past.{database_at};
 ghost use Rattle.pce_seen.specs.Asks.{next_ask};
 ghost use Rattle.pce_view.specs.Answers.{AnswersAs};
 ghost use Rattle.pce_view.specs.declared.heard.Heard.{Heard};
+ghost use Rattle.seated_store.specs.Seating.{SeatedMoves};
 ghost use Rattle.shared_pce.specs.Lefts.{WasLeft};
 ghost use Rattle.server_operators.specs.Shows.{bounded, form_of, line_end, AddsPage, IsShown};
 
-use crate::network::ServedNetwork;
+use crate::links_look::LinksLook;
+use crate::reload_notes::ReloadNoted;
 use history_seats::Brands;
 use pce_seen::{Ask, Seen};
 use pce_view::{Form, Heard, Surroundings, answer_text};
 use pced_build::{LOGIC, VERSION};
 use script_lines::ViewLine;
+use seated_store::Seated;
 use server_base::Outlook;
 use server_counts::{LeftRow, Mark, Presence};
-use server_talk::{Plan, Show, Watch};
-use shared_pce::{Event, Front};
+use server_talk::{Show, Watch};
+use shared_pce::{Event, Front, Look};
 use std::alloc::{AllocError, Global};
 use std::sync::Wait;
 use std::time::Clock;
+use te_base::LinkValues;
 
 /// The form that a line asks for.
 fn form_of(is_json: bool) -> Form
@@ -119,40 +125,89 @@ fn add_next<R: Wait + Clock, B: Brands>(
     Ok(ask.next(seen))
 }
 
+/// Looks at the database, shows the operator's seat what has happened until then, and times for how long that held the lock.
+fn look_from<R: Wait + Clock, B: Brands, L: Look>(
+    outlook: &Outlook<'_, R, B>,
+    store: &mut Seated<'_, R, B>,
+    look: &L,
+) -> Result<L::Seen, AllocError>
+    ensures sees { IfOk result (L.sees look.now (database_at B.text store.new.seat.now.seen)) }
+    ensures same { SeatedMoves B.text store.old.seat store.old.calls.items [] store.new.seat store.new.calls.items }
+{
+    let timed = outlook.timed(look);
+    let seen = store.look(&timed);
+    outlook.count_look(&timed);
+    seen
+}
+
 /// Adds what one look shows, and gives what the next one asks for.
 fn add_page<R: Wait + Clock, B: Brands>(
     outlook: &Outlook<'_, R, B>,
-    front: &mut Front<Event, B>,
+    store: &mut Seated<'_, R, B>,
     form: Form,
     around: &Surroundings<'_>,
     ask: &Ask,
     text: &mut Vec<u8>,
 ) -> Result<Option<Ask>, AllocError>
-    ensures { IfOk result (λ next. AddsPage B.text form around.now ask.now next front.old text.old.items front.new text.new.items) }
+    ensures page { IfOk result (λ next. AddsPage B.text form around.now ask.now next store.old.seat.now.seen text.old.items store.new.seat.now.seen text.new.items) }
+    ensures same { SeatedMoves B.text store.old.seat store.old.calls.items [] store.new.seat store.new.calls.items }
 {
-    let seen = outlook.look(front, ask)?;
+    let seen = look_from(outlook, store, ask)?;
     add_next(outlook, form, around, ask, &seen, text)
 }
 
 /// What is shown from this ask on, up to the last page. Each page is of a look that saw no less than the one before.
 fn show_pages<R: Wait + Clock, B: Brands>(
     outlook: &Outlook<'_, R, B>,
-    front: &mut Front<Event, B>,
+    store: &mut Seated<'_, R, B>,
     form: Form,
     around: &Surroundings<'_>,
     first: Ask,
 ) -> Result<Vec<u8>, AllocError>
-    ensures { IfOk result (λ text. IsShown B.text form around.now front.old first text.items front.new) }
+    ensures shown { IfOk result (λ text. IsShown B.text form around.now store.old.seat.now.seen first text.items store.new.seat.now.seen) }
+    ensures same { SeatedMoves B.text store.old.seat store.old.calls.items [] store.new.seat store.new.calls.items }
 {
     let mut text = Vec::new(outlook.alloc);
     let mut ask = first;
     for _page in 0..u64::MAX {
-        match add_page(outlook, front, form, around, &ask, &mut text)? {
+        match add_page(outlook, store, form, around, &ask, &mut text)? {
             Some(next) => ask = next,
             None => return Ok(text),
         }
     }
     Err(AllocError)
+}
+
+/// What is shown to a line. If memory is refused, it is tried once more after the history was rolled for that.
+fn sure_pages<R: Wait + Clock, B: Brands>(
+    outlook: &Outlook<'_, R, B>,
+    store: &mut Seated<'_, R, B>,
+    around: &Surroundings<'_>,
+    line: &ViewLine,
+) -> Result<Vec<u8>, AllocError>
+    ensures shown { IfOk result (λ text. IsShown B.text (form_of line.now.is_json) around.now store.old.seat.now.seen (bounded line.now.ask) text.items store.new.seat.now.seen) }
+    ensures same { SeatedMoves B.text store.old.seat store.old.calls.items [] store.new.seat store.new.calls.items }
+{
+    let shown = show_pages(
+        outlook,
+        store,
+        form_of(line.is_json),
+        around,
+        bounded(line.ask),
+    );
+    match shown {
+        Ok(text) => Ok(text),
+        Err(AllocError) => {
+            outlook.await_memory();
+            show_pages(
+                outlook,
+                store,
+                form_of(line.is_json),
+                around,
+                bounded(line.ask),
+            )
+        }
+    }
 }
 
 /// How many steps there were at which moments, for a question that wants to know.
@@ -203,48 +258,35 @@ fn notes_for<R: Wait + Clock, B: Brands>(
     })
 }
 
-impl<'a, 'c, 'p, R: Wait + Clock, B: Brands, P: Plan> Show for ServedNetwork<'a, 'c, 'p, R, P, B> {
-    ghost use Rattle.std.specs.Prelude.{All, List};
-    ghost use Rattle.history_tokens.specs.declared.rule.Happening.{Happening};
-    ghost use Rattle.step_core.specs.declared.event.Event.{Event};
+impl<'a, 'c, 's, R: Wait + Clock, B: Brands> Show for ReloadNoted<'a, 'c, R, B, Seated<'s, R, B>> {
+    ghost use Rattle.std.specs.Prelude.{◌≡◌, All};
+    ghost use Rattle.history_seats.specs.Past.{database_at};
     ghost use Rattle.pce_view.specs.declared.answer.Surroundings.{Surroundings};
     ghost use Rattle.server_operators.specs.Shows.{bounded, form_of, IsShown};
     ghost use Rattle.shared_pce.specs.Lefts.{WasLeft};
+    ghost use Rattle.te_base.specs.Values.{values_in};
+    ghost use Rattle.te_snapshot.specs.Left.{all_left};
 
-    ghost shows = { λ _ line text. (around : Surroundings) × (begun last : List (Happening Event)) × All WasLeft around.lefts.now × IsShown B.text (form_of line.is_json) around begun (bounded line.ask) text last };
+    ghost has_links = { λ s values left. let d = database_at B.text s.store.seat.now.seen in (values ≡ values_in d.state.te) × (left ≡ all_left d.state.te.links d.state.base.paths) };
 
-    /// If memory is refused, it is tried once more after the history was rolled for that.
-    fn show(&self, _alloc: Global, line: &ViewLine) -> Result<Vec<u8>, AllocError> {
-        let mut front = self.outlook.front();
-        let notes = notes_for(self.outlook, &mut front, &line.ask)?;
+    ghost shows = { λ old line text new. (around : Surroundings) × All WasLeft around.lefts.now × IsShown B.text (form_of line.is_json) around old.store.seat.now.seen (bounded line.ask) text new.store.seat.now.seen };
+
+    fn links(&mut self) -> Result<(Vec<LinkValues>, Vec<[i64; 8]>), AllocError> {
+        self.store.look(&LinksLook)
+    }
+
+    fn show(&mut self, _alloc: Global, line: &ViewLine) -> Result<Vec<u8>, AllocError> {
+        let outlook = self.context.outlook();
+        let notes = notes_for(&outlook, &mut self.front, &line.ask)?;
         let around = Surroundings {
             version: VERSION,
             logic: LOGIC,
             commit: "",
-            uptime_ms: self.outlook.moments.now_ms(),
+            uptime_ms: outlook.moments.now_ms(),
             presences: &notes.presences,
             marks: &notes.marks,
             lefts: &notes.lefts,
         };
-        let shown = show_pages(
-            self.outlook,
-            &mut front,
-            form_of(line.is_json),
-            &around,
-            bounded(line.ask),
-        );
-        match shown {
-            Ok(text) => Ok(text),
-            Err(AllocError) => {
-                self.outlook.await_memory();
-                show_pages(
-                    self.outlook,
-                    &mut front,
-                    form_of(line.is_json),
-                    &around,
-                    bounded(line.ask),
-                )
-            }
-        }
+        sure_pages(&outlook, &mut self.store, &around, line)
     }
 }

@@ -159,8 +159,8 @@ module _ {S : Type 0} (server : Server S) where
   answer_goes number line a b made text (Shown table new asks h left) = Moves [] [] a new Stays h
   answer_goes number line a b made text (Reloaded links reply new asks given h) = Moves [] (called (event.Reload links) reply ∷ []) a new Stays h
   answer_goes number line a b made text (Unread fault asks given) = Stays
-  answer_goes number line a b made text (Checked links values left asks given has) = Stays
-  answer_goes number line a b made text (Viewed view shown asks h) = Stays
+  answer_goes number line a b made text (Checked links values left new asks given h has) = Moves [] [] a new Stays h
+  answer_goes number line a b made text (Viewed view shown new asks h is) = Moves [] [] a new Stays h
   answer_goes number line a b made text (Refused bad) = Stays
   answer_goes number line a b made text (Starved new asks h) = Moves [] [] a new Stays h
   answer_goes number line a b made text (StillFull steps c d new asks h full k m again) = Moves [] [] d new (rolled steps a c d h full k) m
@@ -170,8 +170,8 @@ module _ {S : Type 0} (server : Server S) where
   answer_operators number line a b made text (Shown table new asks h left) = All-nil IsOperators
   answer_operators number line a b made text (Reloaded links reply new asks given h) = All-push IsOperators [] (called (event.Reload links) reply) (All-nil IsOperators) refl
   answer_operators number line a b made text (Unread fault asks given) = All-nil IsOperators
-  answer_operators number line a b made text (Checked links values left asks given has) = All-nil IsOperators
-  answer_operators number line a b made text (Viewed view shown asks h) = All-nil IsOperators
+  answer_operators number line a b made text (Checked links values left new asks given h has) = All-nil IsOperators
+  answer_operators number line a b made text (Viewed view shown new asks h is) = All-nil IsOperators
   answer_operators number line a b made text (Refused bad) = All-nil IsOperators
   answer_operators number line a b made text (Starved new asks h) = All-nil IsOperators
   answer_operators number line a b made text (StillFull steps c d new asks h full k m again) = All-nil IsOperators
@@ -202,12 +202,12 @@ module _ {S : Type 0} (server : Server S) where
   pub came_table : (number : ℕ) (line : List ℕ) (a b : S) (text : List ℕ) (table : List (List ℤ)) → request_of line ≡ Some Book → server.ways.moves a [] b → server.is_left b table → text ≡ table_text 0 table → (calls : List Deed) × IsDone number line a calls text b
   came_table number line a b text table asks h left is = ([], subst (λ (t : List ℕ). IsDone number line a [] t b) (sym is) (Shown table b asks h left))
 
-  pub came_check : (number : ℕ) (line : List ℕ) (a : S) (text : List ℕ) (links : List LinkReload) (values : List Values) (left : List (List ℤ)) → request_of line ≡ Some Check → server.reads (Ok links) → server.has_links values left → text ≡ check_text values left links
-      → (calls : List Deed) × IsDone number line a calls text a
-  came_check number line a text links values left asks given has is = ([], subst (λ (t : List ℕ). IsDone number line a [] t a) (sym is) (Checked links values left asks given has))
+  pub came_check : (number : ℕ) (line : List ℕ) (a b : S) (text : List ℕ) (links : List LinkReload) (values : List Values) (left : List (List ℤ)) → request_of line ≡ Some Check → server.reads (Ok links) → server.ways.moves a [] b → server.has_links b values left → text ≡ check_text values left links
+      → (calls : List Deed) × IsDone number line a calls text b
+  came_check number line a b text links values left asks given same has is = ([], subst (λ (t : List ℕ). IsDone number line a [] t b) (sym is) (Checked links values left b asks given same has))
 
-  pub came_view : (number : ℕ) (line : List ℕ) (a : S) (view : ViewLine) (text : List ℕ) → request_of line ≡ Some (View view) → server.shows view text → (calls : List Deed) × IsDone number line a calls text a
-  came_view number line a view text asks h = ([], Viewed view text asks h)
+  pub came_view : (number : ℕ) (line : List ℕ) (a b : S) (view : ViewLine) (text : List ℕ) → request_of line ≡ Some (View view) → server.ways.moves a [] b → server.shows a view text b → (calls : List Deed) × IsDone number line a calls text b
+  came_view number line a b view text asks same h = ([], Viewed view text b asks same h)
 
   pub came_starved : (number : ℕ) (line : List ℕ) (a b : S) → IsSome (request_of line) → server.ways.moves a [] b → Came (Err (Store OutOfMemory)) number line a b
   came_starved number line a b asks h = ([], Starved b asks h)

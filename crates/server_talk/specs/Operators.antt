@@ -72,10 +72,10 @@ pub data IsAnswered {S : Type 0} (server : Server S) (number : ℕ) (line : List
       → IsAnswered server number line old (called (event.Reload links) reply ∷ []) (reply_text reply ++ codes "\n") new
   Unread : (fault : PlanFault) → asks_reading (request_of line) ≡ true → server.reads (Err fault) → IsAnswered server number line old [] (unread_line fault) old
   -- it asks what a reload would change: that is said of the values that the link text gives, and nothing is done
-  Checked : (links : List LinkReload) (values : List Values) (left : List (List ℤ)) → request_of line ≡ Some Check → server.reads (Ok links) → server.has_links values left
-      → IsAnswered server number line old [] (check_text values left links) old
+  Checked : (links : List LinkReload) (values : List Values) (left : List (List ℤ)) (new : S) → request_of line ≡ Some Check → server.reads (Ok links) → server.ways.moves old [] new → server.has_links new values left
+      → IsAnswered server number line old [] (check_text values left links) new
   -- it asks to see something: that is said, and nothing is done
-  Viewed : (view : ViewLine) (text : List ℕ) → request_of line ≡ Some (View view) → server.shows view text → IsAnswered server number line old [] text old
+  Viewed : (view : ViewLine) (text : List ℕ) (new : S) → request_of line ≡ Some (View view) → server.ways.moves old [] new → server.shows old view text new → IsAnswered server number line old [] text new
   -- it asks for nothing: nothing is done
   Refused : request_of line ≡ None → IsAnswered server number line old [] (bad_line number) old
   -- it asks for something, and memory is refused to that

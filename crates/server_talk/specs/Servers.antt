@@ -14,12 +14,12 @@ pub record Server (S : Type 0) : Type 1 where
   -- what a reading of its link text may give
   pub reads : Result (List LinkReload) PlanFault → Type 0
   -- the values that its links may have, and what may be left of each at each priority, both at one moment
-  pub has_links : List Values → List (List ℤ) → Type 0
-  -- what may be shown to a line that asks to see something
-  pub shows : ViewLine → List ℕ → Type 0
+  pub has_links : S → List Values → List (List ℤ) → Type 0
+  -- what may be shown to a line that asks to see something, from a state of the store on, and the state that it leaves
+  pub shows : S → ViewLine → List ℕ → S → Type 0
 
--- a server by the members of the traits of its store, and of what it shows, which stands so
-abbrev pub server_of : {S N : Type 0} → Ways S → (S → List (List ℤ) → Type 0)
-    → record { reads : N → Result (List LinkReload) PlanFault → Type 0; has_links : N → List Values → List (List ℤ) → Type 0; shows : N → ViewLine → List ℕ → Type 0 } → N → Server S
-server_of ways is_left network now =
-    record { ways = ways; is_left = is_left; reads = network.reads now; has_links = network.has_links now; shows = network.shows now }
+-- a server by the members of the traits of its store, and by those of its link text, which stands so
+abbrev pub server_of : {S N : Type 0} → Ways S → (S → List (List ℤ) → Type 0) → (S → List Values → List (List ℤ) → Type 0) → (S → ViewLine → List ℕ → S → Type 0)
+    → (N → Result (List LinkReload) PlanFault → Type 0) → N → Server S
+server_of ways is_left has_links shows reads now =
+    record { ways = ways; is_left = is_left; reads = reads now; has_links = has_links; shows = shows }

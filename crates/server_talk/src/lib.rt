@@ -8,9 +8,9 @@
 //! and `PolledOutput` are standard input and output; that they deliver is shown by tests alone.
 //!
 //! ```text
-//! fn ends_by_line<R: Wait, D: Desk, I: Patient, O: Write, W: Watch>(rt: &R, alloc: Global, reader: &mut I, writer: &mut O, watch: &W, store: &mut D) -> bool
+//! fn ends_by_line<R: Wait, D: Show, I: Patient, O: Write, W: Watch, P: Plan>(rt: &R, alloc: Global, reader: &mut I, writer: &mut O, watch: &W, plan: &P, store: &mut D) -> bool
 //! {
-//!     operate(rt, alloc, reader, writer, watch, store) == Ok(OperatorEnd::EndAsked)
+//!     operate(rt, alloc, reader, writer, watch, plan, store) == Ok(OperatorEnd::EndAsked)
 //! }
 //! ```
 //!
@@ -36,7 +36,7 @@ mod traits;
 pub use input::PolledInput;
 pub use operator::{OperatorEnd, operate};
 pub use output::PolledOutput;
-pub use plan::{Network, Plan, PlanFault};
+pub use plan::{Plan, PlanFault};
 pub use requests::LINE_LIMIT;
 pub use show::Show;
 pub use socket::{ACCEPT_WAIT_MS, PolledSocket, bound_accepts, part, peer_of, prepare};

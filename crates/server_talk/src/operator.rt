@@ -12,12 +12,12 @@ ghost use Rattle.server_talk.specs.Connections.{TakesAll};
 
 use crate::commands::{Answer, answer_line, asks_end};
 use crate::pending::OpenLine;
-use crate::plan::PlanFault;
+use crate::plan::{Plan, PlanFault};
 use crate::requests::LINE_LIMIT;
 use crate::show::Show;
 use crate::talk::{INTERRUPTS, write_once};
 use crate::traits::{Patient, Watch};
-use engine_core::{Desk, Fault};
+use engine_core::Fault;
 use itoa::Buffer;
 use script_lines::CommandFault;
 use std::alloc::{AllocError, Global};
@@ -153,7 +153,7 @@ fn say_at_once<O: Write>(
 }
 
 /// Answers a line that has ended. The store's list is emptied. Gives the end, where that has come.
-fn take_line<D: Desk, O: Write, W: Watch, P: Show>(
+fn take_line<D: Show, O: Write, W: Watch, P: Plan>(
     alloc: Global,
     line: &OpenLine,
     watch: &W,
@@ -163,8 +163,8 @@ fn take_line<D: Desk, O: Write, W: Watch, P: Show>(
 ) -> Option<OperatorEnd>
     ensures empty { D.calls store.new ≡ [] }
     ensures taken { (start : D) (lines : List (List ℕ)) (blank : Option (List ℕ)) (text : List ℕ) → IsKept line.now text → line.now.number ≡ number_behind lines
-        → AnswersLines (server_of D.Store D.is_left P.Show plan.now) start lines blank true store.old (O.contents writer.old)
-        → TakesLine (server_of D.Store D.is_left P.Show plan.now) result start lines blank text store.new (O.contents writer.new) }
+        → AnswersLines (server_of D.Store D.is_left D.has_links D.shows P.reads plan.now) start lines blank true store.old (O.contents writer.old)
+        → TakesLine (server_of D.Store D.is_left D.has_links D.shows P.reads plan.now) result start lines blank text store.new (O.contents writer.new) }
 {
     let came = answer_line(alloc, line, watch, plan, store);
     store.forget();
@@ -175,7 +175,7 @@ fn take_line<D: Desk, O: Write, W: Watch, P: Show>(
 }
 
 /// Takes a byte: a line break ends a line, which is answered. Gives the end, where that has come.
-fn take_byte<D: Desk, O: Write, W: Watch, P: Show>(
+fn take_byte<D: Show, O: Write, W: Watch, P: Plan>(
     alloc: Global,
     pending: &mut OpenLine,
     byte: u8,
@@ -186,8 +186,8 @@ fn take_byte<D: Desk, O: Write, W: Watch, P: Show>(
 ) -> Option<OperatorEnd>
     ensures empty { D.calls store.old ≡ [] → D.calls store.new ≡ [] }
     ensures taken { (start : D) (blank : Option (List ℕ)) (heard : List ℕ)
-        → SoFar (server_of D.Store D.is_left P.Show plan.now) start blank heard pending.old store.old (O.contents writer.old)
-        → HearsOn (server_of D.Store D.is_left P.Show plan.now) result start blank (heard ++ byte ∷ []) pending.new store.new (O.contents writer.new) }
+        → SoFar (server_of D.Store D.is_left D.has_links D.shows P.reads plan.now) start blank heard pending.old store.old (O.contents writer.old)
+        → HearsOn (server_of D.Store D.is_left D.has_links D.shows P.reads plan.now) result start blank (heard ++ byte ∷ []) pending.new store.new (O.contents writer.new) }
 {
     if byte != b'\n' {
         pending.add(byte);
@@ -203,7 +203,7 @@ fn take_byte<D: Desk, O: Write, W: Watch, P: Show>(
 }
 
 /// Takes bytes, up to the end, and gives that, where it has come.
-fn take_piece<D: Desk, O: Write, W: Watch, P: Show>(
+fn take_piece<D: Show, O: Write, W: Watch, P: Plan>(
     alloc: Global,
     pending: &mut OpenLine,
     piece: &[u8],
@@ -214,8 +214,8 @@ fn take_piece<D: Desk, O: Write, W: Watch, P: Show>(
 ) -> Option<OperatorEnd>
     ensures empty { D.calls store.old ≡ [] → D.calls store.new ≡ [] }
     ensures taken { (start : D) (blank : Option (List ℕ)) (heard : List ℕ)
-        → SoFar (server_of D.Store D.is_left P.Show plan.now) start blank heard pending.old store.old (O.contents writer.old)
-        → HearsOn (server_of D.Store D.is_left P.Show plan.now) result start blank (heard ++ piece.now) pending.new store.new (O.contents writer.new) }
+        → SoFar (server_of D.Store D.is_left D.has_links D.shows P.reads plan.now) start blank heard pending.old store.old (O.contents writer.old)
+        → HearsOn (server_of D.Store D.is_left D.has_links D.shows P.reads plan.now) result start blank (heard ++ piece.now) pending.new store.new (O.contents writer.new) }
 {
     for byte in piece {
         match take_byte(alloc, pending, *byte, watch, plan, store, writer) {
@@ -250,7 +250,7 @@ fn after_fault<W: Watch>(kind: ErrorKind, watch: &W) -> Option<OperatorEnd>
 }
 
 /// Reads once, and answers the whole lines that came. Gives the end, if that has come.
-fn turn<D: Desk, I: Patient, O: Write, W: Watch, P: Show>(
+fn turn<D: Show, I: Patient, O: Write, W: Watch, P: Plan>(
     alloc: Global,
     pending: &mut OpenLine,
     piece: &mut [u8],
@@ -263,8 +263,8 @@ fn turn<D: Desk, I: Patient, O: Write, W: Watch, P: Show>(
     requires room { 0 < length piece.old }
     ensures empty { D.calls store.old ≡ [] → D.calls store.new ≡ [] }
     ensures turned { (start : D) (unread blank : Option (List ℕ)) (heard : List ℕ) → Consumes unread (I.remaining reader.old) heard
-        → SoFar (server_of D.Store D.is_left P.Show plan.now) start blank heard pending.old store.old (O.contents writer.old)
-        → Turns (server_of D.Store D.is_left P.Show plan.now) result start unread blank (W.may_close watch.now) pending.new store.new (I.remaining reader.new) (O.contents writer.new) }
+        → SoFar (server_of D.Store D.is_left D.has_links D.shows P.reads plan.now) start blank heard pending.old store.old (O.contents writer.old)
+        → Turns (server_of D.Store D.is_left D.has_links D.shows P.reads plan.now) result start unread blank (W.may_close watch.now) pending.new store.new (I.remaining reader.new) (O.contents writer.new) }
 {
     let count = match reader.read(piece) {
         Ok(count) => count,
@@ -288,7 +288,7 @@ fn turn<D: Desk, I: Patient, O: Write, W: Watch, P: Show>(
 /// is read. What no line break ends does nothing: it may be half of another line. If the run is to end, what was read last is
 /// left. The only fault is want of memory before the first
 /// read.
-pub fn operate<R: Wait, D: Desk, I: Patient, O: Write, W: Watch, P: Show>(
+pub fn operate<R: Wait, D: Show, I: Patient, O: Write, W: Watch, P: Plan>(
     rt: &R,
     alloc: Global,
     reader: &mut I,
@@ -300,7 +300,7 @@ pub fn operate<R: Wait, D: Desk, I: Patient, O: Write, W: Watch, P: Show>(
     ensures by_operators { (deeds : List Deed) × AreOperators deeds × Goes D.Store store.old deeds store.new }
     ensures empty { D.calls store.old ≡ [] → D.calls store.new ≡ [] }
     ensures operated { EndsAs result
-        (λ end. Operated (server_of D.Store D.is_left P.Show plan.now) store.old (I.remaining reader.old) (O.contents writer.old) end (W.may_close watch.now) store.new (I.remaining reader.new) (O.contents writer.new))
+        (λ end. Operated (server_of D.Store D.is_left D.has_links D.shows P.reads plan.now) store.old (I.remaining reader.old) (O.contents writer.old) end (W.may_close watch.now) store.new (I.remaining reader.new) (O.contents writer.new))
         ((store.new ≡ store.old) × (reader.new ≡ reader.old) × (writer.new ≡ writer.old)) }
 {
     let mut pending = OpenLine {

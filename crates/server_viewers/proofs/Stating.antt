@@ -1,9 +1,10 @@
 -- The states of LSPs, page by page.
-use Rattle.std.proofs.Common.{ℕ, ◌≡◌, List, ◌++◌, Option, Some, None, append_assoc, refl, subst, sym}
+use Rattle.std.proofs.Common.{ℕ, List, ◌++◌, Option, Some, None, append_assoc, refl, subst, sym}
 use mathlib.Core.List.{IsPrefix}
 use Rattle.te_base.specs.Ted.{Ted}
 use Rattle.step_core.specs.declared.event.Event.{Event}
 use Rattle.history_tokens.specs.declared.rule.Happening.{Happening}
+use Rattle.history_tokens.proofs.Beginnings.{prefix_trans}
 use Rattle.history_seats.specs.Past.{database_at}
 use Rattle.pce_seen.specs.declared.ask.Ask.TheVariants as ask
 use Rattle.pce_seen.specs.declared.seen.Seen.{Seen}
@@ -12,6 +13,7 @@ use Rattle.database_looks.specs.Looks.{Sees}
 use Rattle.pce_view.specs.declared.state_metrics.ShownState.{ShownState}
 use Rattle.server_viewers.specs.States.{AddsStates, AreStates, IsStatesOf}
 use Rattle.server_viewers.specs.States.AreStates.{Ends, Goes_on}
+use Rattle.server_viewers.specs.Views.{IsMetrics}
 
 module _ (text : Ted) (begun : List (Happening Event)) where
   -- what was seen of a page of LSPs
@@ -45,3 +47,18 @@ module _ (text : Ted) (begun : List (Happening Event)) where
       subst (λ (states : List ShownState). AreStates text begun 0 (states ++ rest) last) (sym h.3)
       (subst (λ (states : List ShownState). AreStates text begun 0 states last) (sym (append_assoc old h.0 rest))
       (on (h.0 ++ rest) last (Goes_on past then last from next h.0 rest h.1 h.2 k)))
+
+-- the states begin where less had been seen
+pub states_earlier : (text : Ted) (earlier begun : List (Happening Event)) (from : ℕ) (states : List ShownState) (last : List (Happening Event)) → IsPrefix earlier begun → AreStates text begun from states last → AreStates text earlier from states last
+states_earlier text earlier begun from states last less (Ends b l f page more is) = Ends earlier l f page (prefix_trans earlier b l less more) is
+states_earlier text earlier begun from states last less (Goes_on b past l f next page rest more is on) = Goes_on earlier past l f next page rest (prefix_trans earlier b past less more) is on
+
+-- so do the metrics
+pub metrics_earlier : (text : Ted) (earlier begun past : List (Happening Event)) (document : List ℕ) → IsPrefix earlier begun → IsMetrics text begun past document → IsMetrics text earlier past document
+metrics_earlier text earlier begun past document less m = record {
+  before = m.before;
+  states = m.states;
+  are_states = states_earlier text earlier begun 0 m.states m.before less m.are_states;
+  later = m.later;
+  numbers = m.numbers;
+}

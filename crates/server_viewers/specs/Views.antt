@@ -36,9 +36,9 @@ pub record IsNumbers (text : Ted) (past : List (Happening Event)) (states : List
   pub sees : SeesBook (database_at text past) book
   pub says : document ≡ metrics around (counts_in (database_at text past)) book counters process states
 
--- the metrics: the states of all LSPs, and then what one look saw of the database to which this past led
-pub record IsMetrics (text : Ted) (past : List (Happening Event)) (document : List ℕ) : Type 0 where
-  pub begun : List (Happening Event)
+-- The metrics: the states of all LSPs, and then what one look saw of the database to which this past led. Each look saw all that the
+-- looks before it had seen, and what had been seen when they began.
+pub record IsMetrics (text : Ted) (begun past : List (Happening Event)) (document : List ℕ) : Type 0 where
   pub before : List (Happening Event)
   pub states : List ShownState
   pub are_states : AreStates text begun 0 states before

@@ -1,5 +1,6 @@
 //! The states in which LSPs are shown, of all of them: a look for each page.
 ghost use Rattle.std.specs.Prelude.{◌≡◌, ◌++◌, IfOk, OnOk};
+ghost use mathlib.Core.List.{IsPrefix};
 ghost use Rattle.pce_view.specs.States.{shown_states};
 ghost use Rattle.pce_view.specs.declared.heard.Heard.{Heard};
 ghost use Rattle.server_viewers.specs.States.{AddsStates, AreStates, IsStatesOf};
@@ -62,7 +63,8 @@ fn add_page<R: Wait + Clock, B: Brands>(
     from: u64,
     states: &mut Vec<ShownState>,
 ) -> Result<Option<u64>, AllocError>
-    ensures { IfOk result (λ next. AddsStates B.text from next front.old states.old.items front.new states.new.items) }
+    ensures begins { IsPrefix front.old front.new }
+    ensures states { IfOk result (λ next. AddsStates B.text from next front.old states.old.items front.new states.new.items) }
 {
     let seen = outlook.look(front, &Ask::Lsps { peer: None, from })?;
     add_seen(outlook, &seen, states)
@@ -73,7 +75,8 @@ pub(crate) fn all_states<R: Wait + Clock, B: Brands>(
     outlook: &Outlook<'_, R, B>,
     front: &mut Front<Event, B>,
 ) -> Result<Vec<ShownState>, AllocError>
-    ensures { IfOk result (λ states. AreStates B.text front.old 0 states.items front.new) }
+    ensures begins { IsPrefix front.old front.new }
+    ensures states { IfOk result (λ states. AreStates B.text front.old 0 states.items front.new) }
 {
     let mut states = Vec::new(outlook.alloc);
     let mut from = 0;

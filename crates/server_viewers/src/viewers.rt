@@ -1,6 +1,8 @@
 //! Viewers: documents and metrics of the run, by HTTP.
-ghost use Rattle.std.specs.Prelude.{IfOk};
+ghost use Rattle.std.specs.Prelude.{ℕ, List, IfOk, OnOk};
 ghost use mathlib.Core.List.{IsPrefix};
+ghost use Rattle.http_server.specs.Response.{IsBlank, IsResponse};
+ghost use Rattle.http_views.specs.Answers.{json_kind, metrics_kind, text_fields};
 ghost use Rattle.pce_view.specs.Answers.{IsJsonOf};
 ghost use Rattle.pce_view.specs.declared.heard.Heard.{Heard};
 ghost use Rattle.server_viewers.specs.Views.{IsDocument, IsMetrics, IsNumbers};
@@ -9,18 +11,21 @@ use crate::process::process_of;
 use crate::states::{all_states, hear};
 use database_looks::NumbersLook;
 use history_seats::Brands;
-use http_views::{PAGE, ViewService, ViewSource, serve_views};
+use http_server::Response;
+use http_views::{PAGE, ViewService, ViewSource, give_document, give_metrics, serve_views};
 use pce_seen::{Ask, Seen};
 use pce_view::{Form, Heard, Process, ShownState, Surroundings, answer_text, metrics_text};
 use pced_build::{LOGIC, VERSION, commit};
 use server_base::{Context, Outlook};
-use server_counts::Counters;
+use server_counts::{Counters, Presence};
 use server_log::LogLine;
 use server_talk::Watch;
 use shared_pce::{Event, Front};
 use std::alloc::AllocError;
 use std::hash::RandomState;
+use std::marker::Model;
 use std::net::{Net, TcpListener, TcpStream};
+use std::snapshot::Snapshot;
 use std::sync::Wait;
 use std::time::Clock;
 
@@ -57,10 +62,30 @@ fn document_text<R: Wait + Clock, B: Brands>(
     around: &Surroundings<'_>,
     ask: &Ask,
 ) -> Result<Vec<u8>, AllocError>
-    ensures { IfOk result (λ text. IsDocument B.text front.new ask.now text.items) }
+    ensures begins { IsPrefix front.old front.new }
+    ensures text { IfOk result (λ text. IsDocument B.text front.new ask.now text.items) }
 {
     let seen = outlook.look(front, ask)?;
     seen_text(outlook, around, ask, &seen)
+}
+
+/// The same. If memory is refused, it is tried once more after the history was rolled for that.
+fn sure_text<R: Wait + Clock, B: Brands>(
+    outlook: &Outlook<'_, R, B>,
+    front: &mut Front<Event, B>,
+    around: &Surroundings<'_>,
+    ask: &Ask,
+) -> Result<Vec<u8>, AllocError>
+    ensures begins { IsPrefix front.old front.new }
+    ensures text { IfOk result (λ text. IsDocument B.text front.new ask.now text.items) }
+{
+    match document_text(outlook, front, around, ask) {
+        Ok(text) => Ok(text),
+        Err(AllocError) => {
+            outlook.await_memory();
+            document_text(outlook, front, around, ask)
+        }
+    }
 }
 
 /// The metrics of what one look sees, of what was counted, and of the states in which LSPs are shown.
@@ -95,75 +120,131 @@ fn numbers_text<R: Wait + Clock, B: Brands>(
     counters: &Counters,
     process: Process,
 ) -> Result<Vec<u8>, AllocError>
-    ensures { IfOk result (λ text. IsMetrics B.text front.new text.items) }
+    ensures begins { IsPrefix front.old front.new }
+    ensures text { IfOk result (λ text. IsMetrics B.text front.old front.new text.items) }
 {
     let states = all_states(outlook, front)?;
     counted_text(outlook, front, around, counters, process, &states)
 }
 
-/// What viewers see: each document is of one look, and the metrics of one behind others for the states of LSPs. If memory is refused, a document is tried once more after the history was
-/// rolled for that.
+/// Answers by the document of one look.
+fn answer_document<R: Wait + Clock, B: Brands>(
+    outlook: &Outlook<'_, R, B>,
+    front: &mut Front<Event, B>,
+    presences: &[(u32, Presence)],
+    ask: &Ask,
+    response: &mut Response,
+) -> Result<(), AllocError>
+    requires { IsBlank response.old }
+    ensures begins { IsPrefix front.old front.new }
+    ensures answer { OnOk result ((text : List ℕ) × IsDocument B.text front.new ask.now text × IsResponse 200 (text_fields json_kind) text response.new) }
+{
+    let around = Surroundings {
+        version: VERSION,
+        logic: LOGIC,
+        commit: "",
+        uptime_ms: outlook.moments.now_ms(),
+        presences,
+        marks: &[],
+        lefts: &[],
+    };
+    let text = sure_text(outlook, front, &around, ask)?;
+    give_document(response, text)
+}
+
+/// Answers by the metrics.
+fn answer_metrics<R: Wait + Clock, B: Brands>(
+    outlook: &Outlook<'_, R, B>,
+    front: &mut Front<Event, B>,
+    files: &HostRuntime,
+    response: &mut Response,
+) -> Result<(), AllocError>
+    requires { IsBlank response.old }
+    ensures begins { IsPrefix front.old front.new }
+    ensures answer { OnOk result ((text : List ℕ) × IsMetrics B.text front.old front.new text × IsResponse 200 (text_fields metrics_kind) text response.new) }
+{
+    let commit = commit(files);
+    let around = Surroundings {
+        version: VERSION,
+        logic: LOGIC,
+        commit: &commit,
+        uptime_ms: outlook.moments.now_ms(),
+        presences: &[],
+        marks: &[],
+        lefts: &[],
+    };
+    let counters = *outlook.counters.lock(outlook.rt);
+    let process = process_of(files);
+    let text = numbers_text(outlook, front, &around, &counters, process)?;
+    give_metrics(response, text)
+}
+
+/// What viewers see: each document is of one look, and the metrics of one behind others for the states of LSPs. All looks are shown
+/// to one front. A contract sees what that had seen when viewers were answered last: an answer that finds no memory shows nothing.
 #[derive(Drop)]
 pub(crate) struct Views<'a, 'c, 'f, R: Clock, B: Brands> {
-    pub outlook: &'a Outlook<'c, R, B>,
-    pub files: &'f HostRuntime,
+    outlook: &'a Outlook<'c, R, B>,
+    files: &'f HostRuntime,
+    front: Front<Event, B>,
+    shown: Snapshot<Front<Event, B>>,
+}
+
+impl<'a, 'c, 'f, R: Clock, B: Brands> Model for Views<'a, 'c, 'f, R, B> {
+    ghost use Rattle.std.specs.Prelude.{List};
+    ghost use mathlib.Core.List.{IsPrefix};
+    ghost use Rattle.history_tokens.specs.declared.rule.Happening.{Happening};
+    ghost use Rattle.step_core.specs.declared.event.Event.{Event};
+
+    ghost Value = { List (Happening Event) };
+
+    ghost view = { λ v. v.shown.value };
+
+    ghost invariant = { λ v. IsPrefix v.shown.value v.front };
+}
+
+impl<'a, 'c, 'f, R: Wait + Clock, B: Brands> Views<'a, 'c, 'f, R, B> {
+    /// What is seen from now on.
+    fn new(outlook: &'a Outlook<'c, R, B>, files: &'f HostRuntime) -> Views<'a, 'c, 'f, R, B> {
+        let front = outlook.front();
+        let shown = Snapshot::of(&front);
+        Views {
+            outlook,
+            files,
+            front,
+            shown,
+        }
+    }
 }
 
 impl<'a, 'c, 'f, R: Wait + Clock, B: Brands> ViewSource for Views<'a, 'c, 'f, R, B> {
-    ghost use Rattle.std.specs.Prelude.{List};
-    ghost use Rattle.history_tokens.specs.declared.rule.Happening.{Happening};
-    ghost use Rattle.step_core.specs.declared.event.Event.{Event};
+    ghost use mathlib.Core.List.{IsPrefix};
     ghost use Rattle.server_viewers.specs.Views.{IsDocument, IsMetrics};
 
-    ghost is_document = { λ _ ask text. (past : List (Happening Event)) × IsDocument B.text past ask text };
+    ghost is_document = { λ old ask text new. IsPrefix old new × IsDocument B.text new ask text };
 
-    ghost is_metrics = { λ _ text. (past : List (Happening Event)) × IsMetrics B.text past text };
+    ghost is_metrics = { λ old text new. IsPrefix old new × IsMetrics B.text old new text };
 
-    fn document(&self, ask: &Ask) -> Result<Vec<u8>, AllocError> {
+    fn document(&mut self, ask: &Ask, response: &mut Response) -> Result<(), AllocError> {
         let presences = self.outlook.all_presences()?;
-        let around = Surroundings {
-            version: VERSION,
-            logic: LOGIC,
-            commit: "",
-            uptime_ms: self.outlook.moments.now_ms(),
-            presences: &presences,
-            marks: &[],
-            lefts: &[],
-        };
-        let document = document_text(self.outlook, &mut self.outlook.front(), &around, ask);
-        match document {
-            Ok(text) => Ok(text),
-            Err(AllocError) => {
-                self.outlook.await_memory();
-                document_text(self.outlook, &mut self.outlook.front(), &around, ask)
-            }
-        }
+        answer_document(self.outlook, &mut self.front, &presences, ask, response)?;
+        self.shown = Snapshot::of(&self.front);
+        Ok(())
     }
 
-    fn metrics(&self) -> Result<Vec<u8>, AllocError> {
-        let commit = commit(self.files);
-        let around = Surroundings {
-            version: VERSION,
-            logic: LOGIC,
-            commit: &commit,
-            uptime_ms: self.outlook.moments.now_ms(),
-            presences: &[],
-            marks: &[],
-            lefts: &[],
-        };
-        let counters = *self.outlook.counters.lock(self.outlook.rt);
-        let process = process_of(self.files);
-        numbers_text(
-            self.outlook,
-            &mut self.outlook.front(),
-            &around,
-            &counters,
-            process,
-        )
+    fn metrics(&mut self, response: &mut Response) -> Result<(), AllocError> {
+        answer_metrics(self.outlook, &mut self.front, self.files, response)?;
+        self.shown = Snapshot::of(&self.front);
+        Ok(())
     }
 }
 
-impl<'a, 'c, 'f, R: Wait + Clock, B: Brands> http_views::Watch for Views<'a, 'c, 'f, R, B> {
+/// Until when viewers are served.
+#[derive(Drop)]
+struct Serving<'a, 'c, R: Clock, B: Brands> {
+    outlook: &'a Outlook<'c, R, B>,
+}
+
+impl<'a, 'c, R: Wait + Clock, B: Brands> http_views::Watch for Serving<'a, 'c, R, B> {
     fn now_ms(&self) -> u64 {
         self.outlook.moments.now_ms()
     }
@@ -179,13 +260,9 @@ pub fn show_views<R: Wait + Clock + Net<Listener = TcpListener, Stream = TcpStre
     at: &ViewerListener<'_>,
 ) {
     let outlook = context.outlook();
-    let views = Views {
-        outlook: &outlook,
-        files: at.files,
-    };
     let mut service = ViewService {
         alloc: context.alloc,
-        source: &views,
+        source: Views::new(&outlook, at.files),
         page: PAGE,
         places: at.places,
     };
@@ -195,7 +272,7 @@ pub fn show_views<R: Wait + Clock + Net<Listener = TcpListener, Stream = TcpStre
         at.keys,
         at.listener,
         &mut service,
-        &views,
+        &Serving { outlook: &outlook },
     );
     if served.is_err() {
         context.say(LogLine::ViewersGone);

@@ -5,7 +5,7 @@ use pcep_messages::Message;
 use pcep_objects::Open;
 use script_lines::ViewLine;
 use sequence::Sequence;
-use server_talk::{Network, Patient, Plan, PlanFault, Show, TAKEN_WITHIN_MS, Watch};
+use server_talk::{Patient, Plan, PlanFault, Show, TAKEN_WITHIN_MS, Watch};
 use std::alloc::{AllocError, Global};
 use std::cell::Cell;
 use std::collections::VecDeque;
@@ -97,25 +97,6 @@ fn entries(alloc: Global) -> Result<Sequence<LinkReload>, AllocError> {
         values: values_with(20, 400_000)?,
     })?;
     Ok(Sequence::from_vec(links))
-}
-
-impl Network for Text {
-    /// Of two links, the second of which bears less than is reported.
-    fn links(&self) -> Result<(Vec<LinkValues>, Vec<[i64; 8]>), AllocError> {
-        let mut values = Vec::new(self.alloc);
-        let mut left = Vec::new(self.alloc);
-        for amounts in [[1, 2, 3, 4, 5, 6, 7, 8], [-1; 8]] {
-            values.push(values_with(10, 1_000_000)?)?;
-            left.push(amounts)?;
-        }
-        Ok((values, left))
-    }
-}
-
-impl Show for Text {
-    fn show(&self, alloc: Global, _line: &ViewLine) -> Result<Vec<u8>, AllocError> {
-        Ok(Vec::new(alloc))
-    }
 }
 
 /// A writer that takes `left` writes, of `most` bytes each at most, and then fails.
@@ -291,5 +272,20 @@ impl Desk for Faulty {
         table.push([1, 2, 3, 4, 5, 6, 7, 8])?;
         table.push([-1; 8])?;
         Ok(table)
+    }
+}
+
+impl Show for Faulty {
+    /// Of two links, the second of which bears less than is reported.
+    fn links(&mut self) -> Result<(Vec<LinkValues>, Vec<[i64; 8]>), AllocError> {
+        let mut values = Vec::new(*self.calls.allocator());
+        values.push(values_with(10, 1_000_000)?)?;
+        values.push(values_with(10, 1_000_000)?)?;
+        let left = self.left()?;
+        Ok((values, left))
+    }
+
+    fn show(&mut self, alloc: Global, _line: &ViewLine) -> Result<Vec<u8>, AllocError> {
+        Ok(Vec::new(alloc))
     }
 }

@@ -1,6 +1,11 @@
+use Rattle.std.proofs.Common.{[]}
+use Rattle.seated_store.specs.Seating.{SeatedMoves}
 use Rattle.server_operators.proofs.Showing.{Awaits}
 use Rattle.server_operators.proofs.shown.show_pages.Given as goal
 
--- after the pages so far comes what is shown to the ask that is next
+-- after the pages so far comes what is shown to the ask that is next, and no call was made
 abbrev pub invariant-loop-page : goal.invariant-loop-page
-invariant-loop-page g l = Awaits g.B.Room.text l.form l.around l.fn.front l.fn.first l.front l.ask l.text.items
+invariant-loop-page g l = record {
+  shown : Awaits g.B.Room.text l.form l.around l.fn.store.seat.now.seen l.fn.first l.store.seat.now.seen l.ask l.text.items;
+  same : SeatedMoves g.B.Room.text l.fn.store.seat l.fn.store.calls.items [] l.store.seat l.store.calls.items;
+}

@@ -1,6 +1,10 @@
+use mathlib.Core.List.{IsPrefix}
 use Rattle.server_viewers.proofs.Stating.{Awaits}
 use Rattle.server_viewers.proofs.states.all_states.Given as goal
 
--- after the states so far come those of the LSPs from the place that is next
+-- no less was seen than at first, and after the states so far come those of the LSPs from the place that is next
 abbrev pub invariant-loop-page : goal.invariant-loop-page
-invariant-loop-page g l = Awaits g.B.Room.text l.fn.front l.front l.from l.states.items
+invariant-loop-page g l = record {
+  begins : IsPrefix l.fn.front l.front;
+  awaits : Awaits g.B.Room.text l.fn.front l.front l.from l.states.items;
+}

@@ -5,13 +5,12 @@ use Rattle.pce_view.specs.declared.state_metrics.ShownState.{ShownState}
 use Rattle.server_viewers.specs.Views.{IsNumbers}
 use Rattle.server_viewers.proofs.viewers.numbers_text.Goals as goal
 
-pub returns : goal.returns
-returns g c = IfOk-weaker c.counted_text.result _ _
+pub returns-clause-text : goal.returns-clause-text
+returns-clause-text g c = IfOk-weaker c.counted_text.result _ _
     (λ text numbers. record {
-      begun = c.args.front.now;
       before = c.all_states.new.front;
       states = c.in_ok-states.states.items;
-      are_states = c.in_ok-states.ensures;
+      are_states = c.in_ok-states.ensures.states;
       later = c.counted_text.ensures.begins;
       numbers = subst (λ (states : List ShownState). IsNumbers g.B.Room.text c.counted_text.new.front states text.items) c.deref.ensures.value numbers;
     })
