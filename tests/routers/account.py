@@ -31,13 +31,14 @@ def holdings_of(router):
                 yield (router.address, lsp.destination, lsp.tunnel, lsp.source), path.shown_way, path.bandwidth, lsp.hold
 
 
-def holding_of_grant(network, router, plsp, links, ask):
-    """What a grant holds: what the router was asked to carry out, or, if that never came to it, what the server has on these links."""
+def holding_of_grant(network, router, srp, plsp, links, ask):
+    """What a grant holds: what the router was asked to carry out, or, if that never came to it, what the server has on these links.
+    A new LSP that its router hasn't reported yet is a tunnel of its own."""
     lsp = router.lsps.get(plsp)
     if lsp is not None:
         tunnel, source, destination = (router.address, lsp.destination, lsp.tunnel, lsp.source), lsp.source, lsp.destination
     else:
-        tunnel, (source, destination) = (router.address, "no LSP", plsp), ask.ends if ask and ask.ends else (None, None)
+        tunnel, (source, destination) = (router.address, "no LSP", srp), ask.ends if ask and ask.ends else (None, None)
     if ask is None:
         return tunnel, links, lsp.bandwidth if lsp else 0, lsp.hold if lsp else 7
     return tunnel, network.way_of(source, ask.hops, destination) or links, int(ask.bandwidth), ask.hold

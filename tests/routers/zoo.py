@@ -112,7 +112,7 @@ class Zoo:
         holdings = [holding for router in self.routers for holding in account.holdings_of(router)]
         for (address, srp), (plsp, links) in grants.items():
             router = self.router_of(address)
-            holdings.append(account.holding_of_grant(self.network, router, plsp, links, self.ask_of(router, srp)))
+            holdings.append(account.holding_of_grant(self.network, router, srp, plsp, links, self.ask_of(router, srp)))
         return account.left_of(self.network, holdings)
 
     def overdue(self):
