@@ -159,7 +159,8 @@ def since_when_a_grant_is_unanswered(program):
     router.show(first, wire.GOING_UP, OVER_B, 1_000, one.srp)
     yield comes(lambda: unanswered(zoo, router)[one.srp] < said[one.srp], 5), True
     later = unanswered(zoo, router)
-    yield 0 <= later[one.srp] <= 1000 * (time.monotonic() - named), True
+    # (the server's two moments are rounded down to milliseconds)
+    yield 0 <= later[one.srp] <= 1000 * (time.monotonic() - named) + 1, True
     yield [later[two.srp] >= said[two.srp], later[two.srp] > later[one.srp]], [True, True]
     yield zoo.end(), WELL
 
