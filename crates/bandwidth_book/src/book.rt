@@ -13,23 +13,23 @@ use std::alloc::Global;
 use te_base::Link;
 use te_snapshot::{Marks, Snapshot};
 
-/// What paths reserve on each link of a network, as stored numbers. A contract says for which lists of
-/// paths it stands.
+/// What paths reserve on each link of a network, as stored numbers. A contract says which lists of paths it stands for.
 #[derive(Drop)]
 pub struct Book {
     pub(crate) alloc: Global,
-    /// The links with the values that they have now.
+    /// The links with their current values.
     pub(crate) links: Vec<Link>,
-    /// The snapshot that was given last, which running searches share. It is never written.
+    /// The last snapshot that was given out, which running searches share. It is never written.
     pub(crate) last: Snapshot,
-    /// Whether it is of now: no path and no value changed since.
+    /// Whether it is current: no path and no value changed since.
     pub(crate) is_kept: bool,
-    /// Whether its network has the links of now.
+    /// Whether its network has the current links.
     pub(crate) is_current: bool,
-    /// The rows of its table on whose links something changed since.
+    /// The rows of its table whose links have changed since.
     pub(crate) marks: Marks,
     pub(crate) ledgers: Ledgers,
-    /// The paths for which room was promised since the last change. An entry without paths stands nowhere else.
+    /// The paths for which room was promised since the last change. An entry without paths exists only for one of
+    /// these.
     pub(crate) pending: Sequence<Path>,
     ghost same: { AreLinksOf last.network links.items },
     ghost agree: { is_current ≡ true → last.network.links ≡ links.items },

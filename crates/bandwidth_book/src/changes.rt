@@ -18,7 +18,7 @@ use std::alloc::{AllocError, Global};
 use std::sync::Arc;
 use te_snapshot::{Marks, Topology};
 
-/// Whether a snapshot that was kept stays so: where no path goes or comes.
+/// Tests whether the last snapshot stays current: no path goes or comes.
 fn stays_kept(is_kept: bool, dropped: &[Path], added: &[Path]) -> bool
     ensures kept { dropped.now ≡ [] → added.now ≡ [] → result ≡ is_kept }
     ensures was { result ≡ true → is_kept ≡ true }
@@ -49,9 +49,8 @@ impl Book {
         })
     }
 
-    /// Makes all the room that `change` needs for this change. Room that was made for an earlier one and
-    /// isn't used is given up, so an entry without paths is one that this change adds to. Where memory is
-    /// refused the book stands for what it stood for.
+    /// Makes all the room that `change` needs for this change. Unused room of an earlier reservation is given up, so an
+    /// entry without paths is one that this change adds to. If memory runs out, the book stands for what it stood for.
     pub fn reserve(&mut self, change: &Change) -> Result<(), AllocError>
         ensures ready { OnOk result (IsReady self.new change.now) }
         ensures network { network_of self.new ≡ network_of self.old }
@@ -66,9 +65,9 @@ impl Book {
         promise_paths(self.alloc, &mut self.ledgers, change.added.as_slice())
     }
 
-    /// Carries out a change: the dropped paths go, then the added ones come. It needs no memory: it puts many dropped paths in
-    /// order if it gets some for that. It gives the room up that isn't used, so no entry is left without paths. A change that isn't empty ends the
-    /// snapshot that was kept.
+    /// Carries out a change: the dropped paths go, then the added ones come. It needs no memory, but if there is some
+    /// it uses it to put many dropped paths in order. Unused room is given up, so no entry is left without paths. After
+    /// a change that isn't empty, the last snapshot is out of date.
     pub fn change(&mut self, change: &Change)
         requires ready { IsReady self.old change.now }
         ensures network { network_of self.new ≡ network_of self.old }

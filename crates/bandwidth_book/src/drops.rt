@@ -1,6 +1,6 @@
-//! In which order the paths of a change go. On a link that many paths of a tunnel share, what they hold stands in order, and
-//! one that goes moves those between it and the one that went before it. So many paths go in that order, and each of those
-//! that stay moves once. The greatest goes last, so that the sums of the link move once for each holding priority.
+//! In which order the paths of a change go. On a link that many paths of a tunnel share, what they hold is kept in
+//! order. One that goes moves all between it and the one that went before it. So if many paths go in that order, each
+//! one that stays moves once. The greatest goes last, so that the sums of the link move once for each holding priority.
 ghost use Rattle.std.specs.Prelude.{◌≡◌, ◌<◌, ℕ, IfOk, option_to_list, slice_get};
 ghost use Rattle.lsp_base.specs.declared.tunnel.Tunnel.{Tunnel};
 ghost use Rattle.bandwidth_book.specs.Ledgers.{count, held_at, promised_on};
@@ -14,7 +14,7 @@ use lsp_base::Path;
 use std::alloc::{AllocError, Global};
 use std::slice;
 
-/// How many paths are put in order before they go.
+/// From how many paths on they are put in order before they go.
 const MANY_PATHS: usize = 4;
 
 /// Ranks the path at a place in the order of what paths hold.

@@ -11,13 +11,13 @@ use std::alloc::{AllocError, Global};
 use std::default::MadeWith;
 use std::marker::Model;
 
-/// How many bandwidths stand in place: those of two paths, and one more while one of them is replaced.
+/// How many bandwidths are stored in place: those of two paths, and one more while one of them is replaced.
 const IN_PLACE: usize = 3;
 
-/// What the paths of a tunnel hold on a link, in order, and for how many more there is room for sure.
+/// What the paths of a tunnel hold on a link, in order, and how many more there is sure to be room for.
 #[derive(Drop)]
 pub struct Entry {
-    /// What is held, in order, around a gap that those that went have left.
+    /// What is held, in order, around the gap that those that went have left.
     items: SmallVec<Reservation, IN_PLACE>,
     /// Where the gap begins.
     gap: u32,
@@ -52,7 +52,7 @@ impl MadeWith<Global> for Entry {
     }
 }
 
-/// Finds where one belongs in the order.
+/// Finds where a reservation belongs in the order.
 #[tactic(auto, using(crate::proofs::Order::place_within))]
 fn place_of(held: &[Reservation], one: &Reservation) -> usize
     requires { AreInOrder held.now }
@@ -72,7 +72,7 @@ fn place_of(held: &[Reservation], one: &Reservation) -> usize
     low
 }
 
-/// Finds where those begin that come after one in the order.
+/// Finds where the reservations begin that come after this one in the order.
 #[tactic(auto, using(crate::proofs::Order::end_within))]
 fn end_of(held: &[Reservation], one: &Reservation) -> usize
     requires { AreInOrder held.now }
@@ -92,7 +92,7 @@ fn end_of(held: &[Reservation], one: &Reservation) -> usize
     low
 }
 
-/// Counts those that are held at the priority or a better one. If none is, or all are, there is no search.
+/// Counts the reservations that are held at the priority or a better one. If none is, or all are, it needs no search.
 fn count_to(held: &[Reservation], priority: u8) -> usize
     requires order { AreInOrder held.now }
     requires priority { priority < 8 }
@@ -127,7 +127,7 @@ fn last_of(held: &[Reservation], priority: u8) -> u64
     }
 }
 
-/// Finds the greatest bandwidth that is held at the priority or a better one, from that at better ones.
+/// Finds the greatest bandwidth that is held at the priority or a better one, given that at better ones.
 #[tactic(auto, using(crate::proofs::Runs::below_next))]
 fn most_from(held: &[Reservation], priority: u8, better: u64) -> u64
     requires order { AreInOrder held.now }
@@ -199,7 +199,7 @@ fn raise_to(maxima: &mut [u64; 8], others: &[u64; 8])
     }
 }
 
-/// Finds the greatest bandwidth at each priority, before and behind a gap.
+/// Finds the greatest bandwidth at each priority, before and after a gap.
 fn maxima_around(items: &[Reservation], gap: usize, gone: usize) -> [u64; 8]
     requires order { AreInOrder (around gap gone items.now) }
     requires fits { gap + gone ≤ length items.now }
@@ -212,7 +212,7 @@ fn maxima_around(items: &[Reservation], gap: usize, gone: usize) -> [u64; 8]
     maxima
 }
 
-/// Finds where those begin that come after one in the order, before or behind a gap.
+/// Finds where the reservations begin that come after this one in the order, before or after a gap.
 fn end_around(items: &[Reservation], gap: usize, gone: usize, one: &Reservation) -> usize
     requires order { AreInOrder (around gap gone items.now) }
     requires fits { gap + gone ≤ length items.now }
@@ -227,7 +227,7 @@ fn end_around(items: &[Reservation], gap: usize, gone: usize, one: &Reservation)
     }
 }
 
-/// Puts one more in its order, into room that is there: after those that are the same, so that none of them is moved.
+/// Inserts one in its order, into reserved room: after those that are equal, so that none of them moves.
 #[tactic(auto, using(crate::proofs::Order::insert_at_end, crate::proofs::Order::order_with_one, crate::proofs::Order::length_with_one))]
 fn put_held(list: &mut SmallVec<Reservation, IN_PLACE>, held: Reservation)
     requires room { HasRoomFor list.old 1 }
@@ -240,7 +240,7 @@ fn put_held(list: &mut SmallVec<Reservation, IN_PLACE>, held: Reservation)
     list.insert(end, held).unwrap();
 }
 
-/// Takes one out that is the same, if there is one: the last of them.
+/// Removes one that is equal, if there is one: the last of them.
 fn take_held(
     items: &mut SmallVec<Reservation, IN_PLACE>,
     gap: &mut u32,
@@ -265,7 +265,7 @@ fn take_held(
 }
 
 impl Entry {
-    /// Makes an entry that holds nothing. Takes no memory.
+    /// Makes an entry that holds nothing. Allocates nothing.
     pub fn new(alloc: Global) -> Entry
         ensures held { result.held ≡ [] }
         ensures promised { result.promised ≡ 0 }
@@ -308,7 +308,8 @@ impl Entry {
         maxima_around(self.items.as_slice(), self.gap as usize, self.gone as usize)
     }
 
-    /// Tests whether one of its priority is held that has more bandwidth. Then no maximum changes when it comes or goes.
+    /// Tests whether another reservation of its priority has more bandwidth. If so, no maximum changes when it comes or
+    /// goes.
     #[tactic(auto, using(crate::proofs::Gaps::length_around))]
     pub fn is_below_another(&self, held: Reservation) -> bool
         ensures { (motion : Motion) (p : ℕ) → result ≡ true → most (moved_one motion held self.now.held) p ≡ most self.now.held p }
@@ -336,7 +337,7 @@ impl Entry {
         Ok(())
     }
 
-    /// Gives the promised room up. A list that has become short stands in place again.
+    /// Gives the promised room up. A list that has become short is stored in place again.
     fn withdraw(&mut self)
         ensures held { self.new.held ≡ self.old.held }
         ensures promised { self.new.promised ≡ 0 }
@@ -360,7 +361,8 @@ impl Entry {
         self.promised -= 1;
     }
 
-    /// Promises room for one more, adds one into it, drops one that is the same if there is one, or gives the room up.
+    /// Promises room for one more, adds one into that room, drops one that is equal (if there is one), or gives the
+    /// room up.
     #[tactic(auto, using(crate::proofs::Order::length_with_one, crate::proofs::Sums::length_without_one))]
     pub fn move_one(&mut self, motion: Motion, held: Reservation) -> Result<(), AllocError>
         requires { room_for motion 1 ≤ self.old.promised }

@@ -1,5 +1,6 @@
-//! Lists with a gap. The first that goes leaves a gap in its place. When another goes, those between it and the gap move to
-//! the gap's other side, and the gap takes in its place too. So if many go in order, each of those that stay moves once.
+//! Lists with a gap. The first item that goes leaves a gap in its place. When another goes, those between it and the
+//! gap move to the gap's other side, and the gap takes in its place too. So if many go in order, each one that stays
+//! moves once.
 ghost use Rattle.std.specs.Prelude.{◌≡◌, ◌<◌, ◌≤◌, ◌+◌, ◌^◌, drop, length, get_or, take};
 ghost use Rattle.std.specs.List.{remove};
 ghost use Rattle.bandwidth_book.specs.Reservation.{Reservation, around};
@@ -16,7 +17,7 @@ pub fn front(items: &[Reservation], gap: usize) -> &[Reservation]
     &items[..gap]
 }
 
-/// Lends what is behind a gap.
+/// Lends what is after a gap.
 pub fn back(items: &[Reservation], gap: usize, gone: usize) -> &[Reservation]
     requires { gap + gone ≤ length items.now }
     ensures items { result.now ≡ drop (gap + gone) items.now }
@@ -25,7 +26,7 @@ pub fn back(items: &[Reservation], gap: usize, gone: usize) -> &[Reservation]
     &items[gap + gone..]
 }
 
-/// Copies the one at a place, the gap not counted.
+/// Copies the item at a place, not counting the gap.
 #[tactic(auto, using(crate::proofs::Gaps::get_before, crate::proofs::Gaps::get_behind))]
 pub fn one_at(items: &[Reservation], gap: usize, gone: usize, place: usize) -> Reservation
     requires fits { gap + gone ≤ length items.now }
@@ -58,7 +59,7 @@ fn move_between(items: &mut [Reservation], gap: usize, gone: usize, place: usize
     }
 }
 
-/// Takes the one at a place out, the gap not counted. Its place becomes part of the gap.
+/// Removes the item at a place, not counting the gap. Its place becomes part of the gap.
 pub fn take_at<const N: usize>(
     items: &mut SmallVec<Reservation, N>,
     gap: &mut u32,
@@ -78,7 +79,7 @@ pub fn take_at<const N: usize>(
     *gone += 1;
 }
 
-/// Closes the gap: those behind it move to where it begins.
+/// Closes the gap: moves those after it to where it begins.
 #[tactic(auto, using(crate::proofs::Gaps::closed, crate::proofs::Gaps::around_none))]
 pub fn close<const N: usize>(items: &mut SmallVec<Reservation, N>, gap: &mut u32, gone: &mut u32)
     requires { gap.old + gone.old ≤ length items.old.items }

@@ -17,7 +17,7 @@ use lsp_base::Tunnel;
 pub struct Ledgers {
     pub(crate) tunnels: IndexMap<Tunnel, LinkEntries>,
     pub(crate) sums: Vec<[u64; 8]>,
-    /// The place of the tunnel that was found last. Any number would do.
+    /// The place of the tunnel that was found last, which is only a hint: any number would do.
     pub(crate) last: usize,
     ghost summed: { AreSums sums.items tunnels.entries },
     ghost few: { length tunnels.entries ≤ 30000 },

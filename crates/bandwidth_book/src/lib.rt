@@ -1,21 +1,23 @@
-//! The unreserved bandwidth of links (RFC 3630 section 2.5.8), kept in a book of what paths reserve: on each link, for each
-//! tunnel the holding priorities and bandwidths of its paths there, and for each priority the sum over all tunnels of the
-//! greatest bandwidth of each. The paths of one tunnel share what they reserve on a common link (shared explicit
-//! reservation, RFC 3209 section 2.4.3). So what a link can still carry is read from stored sums, and what a tunnel holds
-//! already is listed from its own entries.
+//! The unreserved bandwidth of links (RFC 3630 section 2.5.8), kept in a book of what paths reserve. For each link, the
+//! book has the holding priorities and bandwidths of each tunnel's paths there, and for each priority the sum over all
+//! tunnels of the greatest bandwidth of each. The paths of one tunnel share what they reserve on a common link (shared
+//! explicit reservation, RFC 3209 section 2.4.3). So what a link can still carry is read from stored sums, and what a
+//! tunnel holds already is listed from its own entries.
 //!
-//! A layer above may rely on it that a book stands for a list of paths (`StandsFor` in `specs/Books.antt`):
-//! a new one for none, and after `change` one that stood for paths stands for them without the dropped and
-//! with the added ones, for each list that had the dropped ones. What it says of a list for which it stands
-//! are the definitions of `lsp_base`. `reserve` makes all the room, so `change` is never refused memory. It leaves
-//! no entry without paths, so that a book keeps memory for standing paths alone
-//! (`specs/Promises.antt`).
-//! `snapshot` gives a table of what is left of every link, of which a search can be made while the book goes
-//! on; while no path and no link's values change it gives the same one again, and else shares with it all pages of links on
-//! which nothing changed (`specs/Tables.antt`).
-//! `set_values` gives a link other metrics, colours and reservable bandwidth: what is left of it moves by the difference, and
-//! of no other link. It takes no memory: the book has the links of now in a list of its own, so that a network which running
-//! searches share is never written. The next snapshot makes a new one.
+//! A layer above may rely on a book standing for a list of paths (`StandsFor` in `specs/Books.antt`). A new book stands
+//! for none. After `change`, a book that stood for paths stands for them without the dropped and with the added ones,
+//! for each list that had the dropped ones. What it says of such a list are the definitions of `lsp_base`.
+//!
+//! `reserve` makes all the room, so `change` never runs out of memory. `change` leaves no entry without paths, so that
+//! a book keeps memory only for existing paths (`specs/Promises.antt`).
+//!
+//! `snapshot` gives a table of what is left of every link, which can be searched while the book goes on. While no path
+//! and no link's values change, it gives the same snapshot again. Otherwise the new one shares with it all pages of
+//! links on which nothing changed (`specs/Tables.antt`).
+//!
+//! `set_values` gives a link other metrics, colours and reservable bandwidth. What is left of that link, and of no
+//! other, moves by the difference. It allocates nothing: the book has the current links in a list of its own, and never
+//! writes a network that running searches share. The next snapshot makes a new one.
 //!
 //! ```text
 //! fn carry_out(book: &mut Book, change: &Change) -> Result<(), AllocError>

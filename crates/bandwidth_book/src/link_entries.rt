@@ -13,7 +13,7 @@ use std::default::MadeWith;
 use std::marker::Model;
 use te_base::LinkNumber;
 
-/// For how many links of a path entries are made all at once.
+/// From how many links of a path on entries are made all at once.
 const MANY_LINKS: usize = 16;
 
 /// What a tunnel holds on one of its links.
@@ -34,12 +34,12 @@ impl MadeWith<Global> for LinkEntry {
     }
 }
 
-/// The entries of a tunnel, at most one for each link, in the order of the links' numbers. Up to four stand in place, so
-/// that those of a short path lie beside the tunnel.
+/// The entries of a tunnel, at most one for each link, in the order of the links' numbers. Up to four are stored in
+/// place, next to the tunnel.
 #[derive(Drop)]
 pub struct LinkEntries {
     entries: SmallVec<LinkEntry, 4>,
-    /// Whether one of them may hold nothing and have promised no room.
+    /// Whether one of them may be idle: it holds nothing and has promised no room.
     may_be_idle: bool,
 }
 
@@ -60,7 +60,7 @@ impl Model for LinkEntries {
     } };
 }
 
-/// Takes what was before out of the sums, and adds what is after.
+/// Subtracts what was before from the sums, and adds what is after.
 fn exchange(sums: &mut [u64; 8], before: &[u64; 8], after: &[u64; 8])
     requires within { (p : ℕ) → p < 8 → slice_index before.now p ≤ slice_index sums.old p }
     requires small { (p : ℕ) → p < 8 → slice_index sums.old p + slice_index after.now p < 2 ^ 64 }
@@ -100,7 +100,7 @@ fn move_in(
     moved
 }
 
-/// The same, and notes whether the entry is left idle.
+/// Moves an entry as `move_in` does, and notes whether it is left idle.
 fn move_and_note(
     entry: &mut Entry,
     sums: &mut [u64; 8],
@@ -178,7 +178,7 @@ pub(crate) fn find(entries: &[LinkEntry], link: LinkNumber) -> Option<usize>
     }
 }
 
-/// Puts an entry with room for one in, for a link that has none.
+/// Inserts an entry with room for one, for a link that has none.
 #[tactic(auto, using(crate::proofs::Moved::not_shifted))]
 fn put_entry(
     alloc: Global,
@@ -202,7 +202,8 @@ fn put_entry(
     Ok(())
 }
 
-/// Moves a link's entry, which is at a place, and the sums of the link. It stays, even if it is idle then, which is noted.
+/// Moves the link's entry at a place, and the sums of the link. The entry stays even if it is then idle, which is
+/// noted.
 fn move_at(
     entries: &mut SmallVec<LinkEntry, 4>,
     may_be_idle: &mut bool,
@@ -237,7 +238,7 @@ fn is_busy(entry: &LinkEntry) -> bool
     !entry.entry.is_idle()
 }
 
-/// Takes out the entries that hold nothing and have promised no room, all in one pass.
+/// Removes the entries that hold nothing and have promised no room, all in one pass.
 fn drop_idle(entries: &mut SmallVec<LinkEntry, 4>)
     requires { AreRising entries.old.items }
     ensures rising { AreRising entries.new.items }
@@ -283,7 +284,7 @@ impl LinkEntries {
         }
     }
 
-    /// Takes out the entries that hold nothing and have promised no room. If there is none, nothing is looked at.
+    /// Removes the entries that hold nothing and have promised no room. If there is none, nothing is looked at.
     fn drop_idle(&mut self)
         ensures { (l : ℕ) → entry_on l self.new ≡ if_busy (entry_on l self.old) }
     {
@@ -293,7 +294,7 @@ impl LinkEntries {
         }
     }
 
-    /// Moves what a path holds on one link, and the sums of the link. A link that isn't there is skipped.
+    /// Moves what a path holds on one link, and the sums of the link. Skips a link that doesn't exist.
     fn move_on(
         &mut self,
         alloc: Global,
@@ -376,8 +377,8 @@ impl LinkEntries {
         put_missing(alloc, &mut self.entries, &mut self.may_be_idle, links)
     }
 
-    /// Moves what a path holds on each of its links, once those of many links have entries. Entries that hold nothing then
-    /// stay.
+    /// Moves what a path holds on each of its links, after making the missing entries if the links are many. Entries
+    /// that hold nothing then stay.
     fn move_all(
         &mut self,
         alloc: Global,
@@ -402,8 +403,9 @@ impl LinkEntries {
         self.move_each(alloc, sums, links, motion, held)
     }
 
-    /// Walks over the links of a path: moves what it holds on each, and the sums of the link. A link that isn't there is
-    /// skipped. Entries that hold nothing then, and have promised no room, go. Only a promise is refused, where memory is.
+    /// Walks over the links of a path and moves what it holds on each, and the sums of the link. Skips a link that
+    /// doesn't exist. Entries that then hold nothing and have promised no room go. Only a promise can fail, if memory
+    /// runs out.
     pub fn move_links(
         &mut self,
         alloc: Global,

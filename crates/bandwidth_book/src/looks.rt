@@ -1,4 +1,4 @@
-//! What a book says of the paths for which it stands.
+//! What a book says of the paths that it stands for.
 ghost use Rattle.std.specs.Prelude.{◌≡◌, ◌<◌, ◌≤◌, ◌+◌, ◌-◌, ◌^◌, ◌-ℤ◌, ◌||◌, pos, int_le, nat_le, ℕ, List, length, slice_index, true};
 ghost use Rattle.std.specs.List.{list_all};
 ghost use Rattle.lsp_base.specs.Shares.{fits, fits_at, has_link, priorities, reservable, reserved, share, unreserved};
@@ -62,7 +62,7 @@ fn unreserved_at(links: &[Link], ledgers: &Ledgers, link: LinkNumber, priority: 
     left_of(reservable_of(links, link), sums[priority.number() as usize])
 }
 
-/// Tests whether a bandwidth is borne where the tunnel holds this share and this much of the reservable is taken.
+/// Tests whether a bandwidth fits, given the tunnel's share and how much of the reservable bandwidth is taken.
 fn is_borne(bandwidth: u64, share: u64, reservable: u64, sum: u64) -> bool
     requires bandwidth { bandwidth < 2 ^ 48 }
     requires reservable { reservable < 2 ^ 48 }
@@ -83,8 +83,8 @@ pub(crate) fn reservable_of(links: &[Link], link: LinkNumber) -> u64
     links[link].reservable
 }
 
-/// Tests whether a link of the path bears it at a priority at which it is held: its tunnel's share doesn't rise
-/// there, or what it rises by is left.
+/// Tests whether the path fits on a link at a priority at which it is held: its tunnel's share doesn't rise there, or
+/// what it rises by is left.
 fn bears_at(
     links: &[Link],
     ledgers: &Ledgers,
@@ -104,7 +104,7 @@ fn bears_at(
     let reservable = reservable_of(links, link);
     let sum = sums[priority.number() as usize];
     let bandwidth = path.bandwidth.value();
-    // where the link bears it beside all that is reserved, the tunnel's share isn't looked up
+    // if it fits without sharing anything, the tunnel's share isn't looked up
     if is_borne(bandwidth, 0, reservable, sum) {
         return true;
     }
@@ -112,7 +112,7 @@ fn bears_at(
     is_borne(bandwidth, share, reservable, sum)
 }
 
-/// Tests whether a link of the path bears it at each priority from holding to setup.
+/// Tests whether the path fits on a link at each priority from holding to setup.
 #[tactic(auto, using(crate::proofs::Fits::first_priority, crate::proofs::Fits::no_priority))]
 fn bears(links: &[Link], ledgers: &Ledgers, path: &Path, link: LinkNumber, setup: Priority) -> bool
     requires link { link < length links.now }
@@ -130,7 +130,7 @@ fn bears(links: &[Link], ledgers: &Ledgers, path: &Path, link: LinkNumber, setup
     true
 }
 
-/// Tests whether each link of a path, whose links these are, is there and bears it.
+/// Tests whether a path, whose links these are, fits on each of them, and whether each exists.
 #[tactic(auto, using(crate::proofs::Fits::has_at), unfolding(lsp_base::specs::Shares::fits))]
 fn fits_on(
     links: &[Link],
@@ -172,8 +172,8 @@ impl Book {
         sums_at(&self.ledgers, link)
     }
 
-    /// Computes what is left of the reservable bandwidth of the link at the priority, in bytes per second. It is
-    /// below zero where more was reported than the link bears.
+    /// Computes what is left of the reservable bandwidth of the link at the priority, in bytes per second. It is below
+    /// zero if more was reported than the link can carry.
     pub fn unreserved(&self, link: LinkNumber, priority: Priority) -> i64
         requires { link < length (links_of self.now) }
         ensures { (paths : List Path) → StandsFor self.now paths → result ≡ unreserved (links_of self.now) paths link priority }
@@ -188,7 +188,7 @@ impl Book {
         self.links.len()
     }
 
-    /// Tests whether one more path with this setup priority fits: its links are there, and with it none is below
+    /// Tests whether one more path with this setup priority fits. Its links must exist, and with it none may be below
     /// zero at a priority from holding to setup at which its tunnel reserves more than now.
     pub fn fits(&self, path: &Path, setup: Priority) -> bool
         ensures { (paths : List Path) → StandsFor self.now paths → result ≡ fits (links_of self.now) paths path.now setup }

@@ -1,4 +1,4 @@
-//! Entries for many links at once. If they came one at a time, each would move all entries of higher links.
+//! Entries for many links at once. One at a time, each would move all entries of higher links.
 ghost use Rattle.std.specs.Prelude.{◌≡◌, ◌<◌, ◌-◌, true, false, ℕ, [], Some, None, length, slice_get};
 ghost use Rattle.smallvec.specs.SmallVec.{HasRoomFor};
 ghost use Rattle.bandwidth_book.specs.declared.link_entries.LinkEntry.{LinkEntry};
@@ -34,7 +34,7 @@ fn ends_below(entries: &[LinkEntry], link: LinkNumber) -> bool
     }
 }
 
-/// Moves the entries of links below this one from the end of `rest`, where the lowest stand.
+/// Moves the entries of links below this one from the end of `rest`, where the lowest are.
 fn move_below(
     rest: &mut SmallVec<LinkEntry, 4>,
     joined: &mut SmallVec<LinkEntry, 4>,
@@ -49,7 +49,7 @@ fn move_below(
     }
 }
 
-/// Moves all entries from the end of `rest`, where the lowest stand.
+/// Moves all entries from the end of `rest`, where the lowest are.
 fn move_all(rest: &mut SmallVec<LinkEntry, 4>, joined: &mut SmallVec<LinkEntry, 4>)
     requires { HasRoomFor joined.old (length rest.old.items) }
     ensures { joined.new.items ≡ joined_with joined.old.items rest.old.items }
@@ -88,8 +88,8 @@ fn is_next(joined: &[LinkEntry], rest: &[LinkEntry], link: LinkNumber) -> bool
     are_below(joined, link) && are_above(rest, link)
 }
 
-/// Puts an idle entry of a link behind those that were moved, if it belongs there, and if there is room beside those that
-/// weren't.
+/// Puts an idle entry of a link after those that were moved, if it belongs there, and if there is room for it and for
+/// those that weren't.
 fn put_idle(
     alloc: Global,
     rest: &[LinkEntry],
@@ -110,8 +110,8 @@ fn put_idle(
     }
 }
 
-/// Moves all entries from the end of `rest`, where the lowest stand, and puts an idle one among them for each of these links
-/// that has none. The links are in their order.
+/// Moves all entries from the end of `rest`, where the lowest are, and puts an idle one among them for each of these
+/// links that has none. The links are in their order.
 fn join(
     alloc: Global,
     rest: &mut SmallVec<LinkEntry, 4>,

@@ -1,4 +1,4 @@
-//! What a tunnel holds already, for a search of a path of it.
+//! What a tunnel holds already, for a search for one of its paths.
 ghost use Rattle.std.specs.Prelude.{◌≡◌, ◌<◌, ◌≤◌, ◌++◌, ◌∷◌, [], ℕ, List, cond, length, IfOk, OnOk};
 ghost use Rattle.lsp_base.specs.Shares.{share};
 ghost use Rattle.lsp_base.specs.declared.path.Path.{Path};
@@ -38,7 +38,7 @@ fn own_of(entry: &LinkEntry) -> OwnShare
     }
 }
 
-/// Lists it if something is reserved.
+/// Lists a share if it reserves something.
 fn list_if_some(own: &mut Vec<OwnShare>, held: OwnShare) -> Result<(), AllocError>
     ensures { OnOk result (own.new.items ≡ own.old.items ++ cond (is_something held) (held ∷ []) []) }
 {
@@ -69,8 +69,8 @@ fn filled(entries: &[LinkEntry]) -> usize
         .count()
 }
 
-/// Lists what a tunnel reserves on each link on which it reserves something. The entries are counted before, so that their
-/// memory comes at once and the list doesn't grow.
+/// Lists what a tunnel reserves on each link on which it reserves something. It counts the entries first, so that the
+/// list is allocated at once and doesn't grow.
 fn own_on(alloc: Global, ledgers: &Ledgers, tunnel: &Tunnel) -> Result<Vec<OwnShare>, AllocError>
     ensures { IfOk result (λ own. (paths : List Path) → IsHeldBy (count ledgers.now) (held_at ledgers.now) paths
         → own.items ≡ own_shares paths tunnel.now (count ledgers.now)) }
@@ -85,10 +85,10 @@ fn own_on(alloc: Global, ledgers: &Ledgers, tunnel: &Tunnel) -> Result<Vec<OwnSh
 }
 
 impl Book {
-    /// Lists what the tunnel reserves already, in bytes per second for each priority: the links on which it
-    /// reserves something, in the order of their numbers, each once. It is what a search for a path of the
-    /// tunnel takes: on a link that is not listed the tunnel reserves nothing. Where memory is refused the
-    /// book is as it was, since it is only read.
+    /// Lists what the tunnel reserves already, in bytes per second for each priority: the links on which it reserves
+    /// something, in the order of their numbers, each once. A search for a path of the tunnel takes this list: on a
+    /// link that is not listed the tunnel reserves nothing. If memory runs out, the book is as it was, since it is only
+    /// read.
     pub fn own_shares(&self, tunnel: &Tunnel) -> Result<OwnShares, AllocError>
         ensures listed { IfOk result (λ own. (paths : List Path) → StandsFor self.now paths → own ≡ own_shares paths tunnel.now (length (links_of self.now))) }
         ensures shares { IfOk result (λ own. (paths : List Path) → StandsFor self.now paths → (l p : ℕ) → l < length (links_of self.now) → p < 8

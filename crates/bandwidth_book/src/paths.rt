@@ -16,7 +16,7 @@ use lsp_base::Path;
 use sequence::Sequence;
 use std::alloc::{AllocError, Global};
 
-/// Moves what the paths hold on each of their links, in order. Only a promise is refused, where memory is.
+/// Moves what the paths hold on each of their links, in order. Only a promise can fail, if memory runs out.
 pub(crate) fn move_paths(
     alloc: Global,
     ledgers: &mut Ledgers,
@@ -53,7 +53,7 @@ pub fn promise_paths(alloc: Global, ledgers: &mut Ledgers, paths: &[Path]) -> Re
     move_paths(alloc, ledgers, Motion::Promise, paths)
 }
 
-/// Drops, then adds. An entry goes with the last that it holds, where no room is promised.
+/// Drops, then adds. An entry goes with the last reservation that it holds, unless room is promised.
 pub fn change_paths(alloc: Global, ledgers: &mut Ledgers, dropped: &[Path], added: &[Path])
     requires room { IsPromised (count ledgers.old) (promised_on ledgers.old) added.now }
     ensures count { count ledgers.new ≡ count ledgers.old }

@@ -5,12 +5,12 @@ ghost use Rattle.bandwidth_book.specs.Reservation.{changes_held, held_of, is_bef
 use lsp_base::Path;
 use std::marker::Model;
 
-/// What is done with what a path holds on each of its links.
+/// What is done with a path's reservation on each of its links.
 #[derive(Clone, Copy, Debug)]
 pub enum Motion {
-    /// Room for it is promised. This alone takes memory.
+    /// Room for it is promised. Only this allocates.
     Promise,
-    /// It is added, where room was promised.
+    /// It is added, into promised room.
     Add,
     /// It is dropped.
     Drop,
@@ -40,7 +40,7 @@ impl Motion {
     }
 }
 
-/// A path's holding priority, from 0 to 7, and its bandwidth in bytes per second, below 2^48, as one number: the
+/// A path's holding priority, from 0 to 7, and its bandwidth in bytes per second, below 2^48, as one number. The
 /// numbers' order is by priority, then by bandwidth. A contract sees the two.
 #[derive(Clone, Copy, Debug)]
 pub struct Reservation {
@@ -110,7 +110,7 @@ pub fn held_of(path: &Path) -> Reservation
     Reservation::new(path.hold.number(), path.bandwidth.value())
 }
 
-/// Tests whether both are of one holding priority and bandwidth.
+/// Tests whether both have the same holding priority and bandwidth.
 #[tactic(auto, using(crate::proofs::Packed::same_is))]
 pub fn is_same_held(a: &Reservation, b: &Reservation) -> bool
     ensures { result ≡ same_held a.now b.now }
@@ -118,7 +118,7 @@ pub fn is_same_held(a: &Reservation, b: &Reservation) -> bool
     a.number == b.number
 }
 
-/// Tests the order in a list: by holding priority, then by bandwidth.
+/// Tests whether a reservation comes before another in a list: by holding priority, then by bandwidth.
 #[tactic(auto, using(crate::proofs::Packed::before_is))]
 pub fn is_before(a: &Reservation, b: &Reservation) -> bool
     ensures { result ≡ is_before a.now b.now }

@@ -21,7 +21,7 @@ use std::sync::Arc;
 use te_base::{Link, LinkNumber};
 use te_snapshot::{Marks, Snapshot, Table, Topology};
 
-/// A snapshot to begin with, of which each row is to be made anew.
+/// Makes the first snapshot. Each row of it is still to be computed.
 pub(crate) fn first_snapshot(
     alloc: Global,
     topology: Arc<Topology, Global>,
@@ -53,7 +53,7 @@ pub(crate) fn mark_paths(marks: &mut Marks, paths: &[Path])
     }
 }
 
-/// The stored sums of all links.
+/// Lends the stored sums of all links.
 fn all_sums(ledgers: &Ledgers) -> &[[u64; 8]]
     ensures count { length result.now ≡ count ledgers.now }
     ensures small { (l p : ℕ) → l < length result.now → p < 8 → slice_index (slice_index_or result.now l []) p < 2 ^ 63 }
@@ -63,7 +63,7 @@ fn all_sums(ledgers: &Ledgers) -> &[[u64; 8]]
     &ledgers.sums
 }
 
-/// What is left of every link: the last snapshot's table, with the marked rows made anew.
+/// Makes the table of what is left of every link: the last snapshot's table, with the marked rows computed again.
 fn table_now(
     alloc: Global,
     last: &Snapshot,
@@ -82,7 +82,8 @@ fn table_now(
 }
 
 impl Book {
-    /// The network with the links of now: that of the last snapshot, or a new one where a link has other values since.
+    /// Returns the network with the current links: that of the last snapshot, or a new one if a link has other values
+    /// since.
     fn topology_now(&self) -> Result<Arc<Topology, Global>, AllocError>
         ensures { IfOk result (λ topology. arc_value topology ≡ network_of self.now) }
     {
@@ -93,7 +94,7 @@ impl Book {
         Ok(Arc::new(self.alloc, topology)?)
     }
 
-    /// A snapshot of now, of the pages of the last one and of new ones.
+    /// Makes a current snapshot, of the pages of the last one and of new ones.
     fn snapshot_now(&self) -> Result<Snapshot, AllocError>
         ensures left { IfOk result (IsLeftOver (network_of self.now) (count self.now.ledgers) (held_at self.now.ledgers)) }
         ensures rows { IfOk result (λ s. (l : ℕ) → l < length (links_of self.now) → IsRowOf (links_of self.now) (held_on self.now) l (row s.unreserved l)) }
@@ -109,10 +110,10 @@ impl Book {
         Snapshot::of(self.alloc, topology, table)
     }
 
-    /// The network, with what is left of every link at each priority, in bytes per second. Where no path and no value
-    /// changed since the last one it is that one, shared, and takes no memory; else the pages with a link on which
-    /// something changed are copied and those links' rows made anew, and the network where a link has other values. Later
-    /// changes leave it as it is. Where memory is refused nothing has changed.
+    /// Returns the network, with what is left of every link at each priority, in bytes per second. If no path and no
+    /// value changed since the last snapshot, it returns that one, shared, and allocates nothing. Otherwise it copies
+    /// the pages with a changed link and computes the rows of those links again, and copies the network if a link has
+    /// other values. Later changes leave the snapshot as it is. If memory runs out nothing has changed.
     pub fn snapshot(&mut self) -> Result<Snapshot, AllocError>
         ensures network { IfOk result (λ s. s.network ≡ network_of self.old) }
         ensures whole { IfOk result (λ s. (paths : List Path) → StandsFor self.old paths → s ≡ state_beside (network_of self.old) paths) }

@@ -1,4 +1,4 @@
-//! What tunnels hold, by tunnel, and what one path does to it and to the sums of its links. A link that isn't there holds
+//! What tunnels hold, by tunnel, and how a path changes it and the sums of its links. A link that doesn't exist holds
 //! nothing, and a path's part on it is skipped.
 ghost use Rattle.std.specs.Prelude.{◌≡◌, ◌<◌, ◌≤◌, ◌+◌, ◌-◌, ◌^◌, [], ℕ, length, slice_get, slice_index, None, Some, IfOk, IsOk, OnOk, true, false, OnErr, cond};
 ghost use Rattle.std.specs.Map.{lookup};
@@ -17,12 +17,12 @@ use lsp_base::Tunnel;
 use std::alloc::{AllocError, Global};
 use te_base::LinkNumber;
 
-/// How many tunnels have entries: nearly twice as many as there are paths at most. So the sum of their
-/// maxima on a link stays so far below 2^63 that one more path doesn't reach it.
+/// How many tunnels can have entries: nearly twice as many as there can be paths. So the sum of their maxima on a link
+/// stays far enough below 2^63 for one more path.
 const TUNNEL_LIMIT: usize = 30_000;
 
-/// The room that is made with the first tunnel: for one of each path, and for 64 that a change adds before it drops others.
-/// So no event moves all tunnels.
+/// The room that is made with the first tunnel: one for each path, and 64 for what a change adds before it drops
+/// others. So no event moves all tunnels.
 const FIRST_ROOM: usize = 16_448;
 
 /// Inserts a tunnel that isn't there yet.
@@ -42,8 +42,8 @@ fn insert_tunnel(
     Ok(())
 }
 
-/// Puts the first entries of a tunnel in, with room for one on each of a path's links. It is refused where
-/// `TUNNEL_LIMIT` tunnels have entries already.
+/// Inserts the first entries of a tunnel, with room for one on each of a path's links. Fails if `TUNNEL_LIMIT` tunnels
+/// have entries already.
 #[tactic(auto, using(crate::proofs::Moved::no_room_for, crate::proofs::Moved::refused))]
 fn put_tunnel(
     alloc: Global,
@@ -81,7 +81,7 @@ fn put_tunnel(
     Ok(())
 }
 
-/// Finds the place of a tunnel, first where one was found last; the end if it isn't there.
+/// Finds the place of a tunnel, looking first where one was found last. Returns the end if it isn't there.
 fn place_of(tunnels: &IndexMap<Tunnel, LinkEntries>, last: usize, tunnel: &Tunnel) -> usize
     ensures key { (t : Tunnel) → slice_get (keys tunnels.now) result ≡ Some t → t ≡ tunnel.now }
     ensures value { slice_get (values tunnels.now) result ≡ get tunnel_eq tunnels.now tunnel.now }
@@ -92,8 +92,8 @@ fn place_of(tunnels: &IndexMap<Tunnel, LinkEntries>, last: usize, tunnel: &Tunne
     }
 }
 
-/// Moves what a path holds in the entries of its tunnel, and the sums. A tunnel that is left with no entry goes. It is looked
-/// up unless it is the one that was found last.
+/// Moves what a path holds in the entries of its tunnel, and the sums. Removes a tunnel that is left with no entry. The
+/// tunnel is looked up unless it is the one that was found last.
 pub fn move_in_tunnel(
     alloc: Global,
     tunnels: &mut IndexMap<Tunnel, LinkEntries>,
@@ -169,7 +169,7 @@ impl Ledgers {
         self.sums.len()
     }
 
-    /// Moves what a path holds on each of its links. Only a promise is refused, where memory is.
+    /// Moves what a path holds on each of its links. Only a promise can fail, if memory runs out.
     pub fn move_path(
         &mut self,
         alloc: Global,

@@ -1,4 +1,4 @@
-//! Links that get other values (metrics, colours, reservable bandwidth) while paths stand.
+//! Links that get other values (metrics, colours, reservable bandwidth) while there are paths.
 ghost use Rattle.std.specs.Prelude.{◌≡◌, ◌<◌, ◌-ℤ◌, pos, None, ℕ, List, length};
 ghost use Rattle.lsp_base.specs.Shares.{reservable, unreserved};
 ghost use Rattle.lsp_base.specs.declared.effect.Change.{Change};
@@ -12,8 +12,8 @@ use crate::book::Book;
 use te_base::{LinkNumber, LinkValues, set_values};
 
 impl Book {
-    /// Gives a link other values: what is left of it moves by the difference of what may be reserved. Takes no memory. It
-    /// ends the snapshot that was kept; a snapshot that somebody holds stays as it is.
+    /// Gives a link other values: what is left of it moves by the difference of the reservable bandwidths. Allocates
+    /// nothing. The last snapshot is then out of date; one that somebody holds stays as it is.
     pub fn set_values(&mut self, link: LinkNumber, values: LinkValues)
         requires { link < length (links_of self.old) }
         ensures network { network_of self.new ≡ with_links (network_of self.old) (set_values (links_of self.old) link values) }

@@ -5,15 +5,15 @@ ghost use Rattle.keyed_list.specs.Index.{IsFree, IsIndex, IsNext, LeadsTo};
 use std::alloc::{AllocError, Global};
 use std::marker::Model;
 
-/// The number of buckets that have an entry in `newest`. A place of a greater bucket is found by a pass.
+/// The number of buckets that have an entry in `newest`. A place of a greater bucket is found by a pass over all.
 const BUCKETS: usize = 16384;
 
-/// The bucket of each place of a list. A contract sees the buckets and the capacity; that a bucket's places are
-/// found in few steps is a matter of speed.
+/// The bucket of each place of a list. A contract sees the buckets and the capacity. It doesn't see that a bucket's
+/// places are found in few steps, which is a matter of speed.
 ///
-/// An end of a bucket below a place is one past the last place below it that may have the bucket: from the end up to
-/// the place, no place has it. `newest` has each bucket's end below the length, `earlier` each place's end of its own
-/// bucket below that place. Ends are stored in 16 bits, so that they stay in the cache; 65,535 means unknown.
+/// An end of a bucket below a place: from the end up to the place, no place has the bucket. `newest` has each bucket's
+/// end below the length, `earlier` each place's end of its own bucket below that place. Ends are stored in 16 bits, so
+/// that they stay in the cache; 65,535 means unknown.
 #[derive(Debug, Drop)]
 pub struct BucketIndex {
     buckets: Vec<u16>,
@@ -32,14 +32,14 @@ impl Model for BucketIndex {
     ghost invariant = { λ i. IsIndex i.buckets.items i.newest.items i.earlier.items };
 }
 
-/// Packs an end into 16 bits. One of 65,535 or more becomes unknown.
+/// Packs an end into 16 bits. An end of 65,535 or more becomes unknown.
 fn pack(end: usize) -> u16
     ensures { result ≡ min end 65535 }
 {
     end.min(usize::from(u16::MAX)) as u16
 }
 
-/// Reads a packed end below a place. Where it is unknown, the place itself is an end.
+/// Reads a packed end below a place. If it is unknown, the place itself is an end.
 fn unpack(end: u16, place: usize) -> usize
     ensures known { end < 65535 → result ≡ min end place }
     ensures unknown { 65535 ≤ end → result ≡ place }
@@ -147,7 +147,7 @@ fn put(buckets: &mut [u16], newest: &mut [u16], earlier: &mut [u16], place: usiz
     buckets[place] = bucket;
 }
 
-/// Allocates the ends of all buckets, where that wasn't done yet.
+/// Allocates the ends of all buckets, if that wasn't done yet.
 fn start_ends(
     buckets: &[u16],
     newest: &mut Vec<u16>,

@@ -1,10 +1,10 @@
-//! A list that finds its items by a key's bucket: the table of the LSP-DB's paths. Items stand in one order, equal ones
-//! as often as they were added, the last one takes the place of one that is removed, and the whole list is lent as a
-//! slice. A layer above may rely on it that each call gives what the same call of a plain list gives (`position`,
-//! `any`, `filter`, `swap_remove`, `map`), and that nothing but `reserve` and `filter_in` allocates.
+//! A list that finds its items by a key's bucket: the table of the LSP-DB's paths. Items are kept in order, and equal
+//! items as often as they were added. If an item is removed, the last one takes its place. The whole list is lent as a
+//! slice. A layer above may rely on two things: each call gives what the same call of a plain list gives (`position`,
+//! `any`, `filter`, `swap_remove`, `map`), and only `reserve` and `filter_in` allocate.
 //!
-//! A bucket is a number below 65,536 that `Keyed` gives an item; equal keys have equal buckets, and other keys may
-//! share one. A look-up names the bucket that all items it wants are in, and reads the places of that bucket alone.
+//! A bucket is a number below 65,536 that `Keyed` gives an item. Equal keys have equal buckets, and other keys may
+//! share one. A look-up names the bucket that all items it wants are in, and reads only the places of that bucket.
 //! `specs/List.antt` defines what a contract sees, `specs/Index.antt` the index by bucket.
 //!
 //! - `index`: the bucket of each place, and a way from a bucket's last place to its first

@@ -82,7 +82,7 @@ fn first<T: Keyed, S: Test<T>>(
     }
 }
 
-/// Tests whether an item of a list with an index beside it passes. All items that pass are in the bucket.
+/// Tests whether an item passes, in a list with its index. All items that pass are in the bucket.
 pub fn any<T: Keyed, S: Test<T>>(items: &[T], index: &BucketIndex, bucket: u16, test: &S) -> bool
     requires index { index.now.buckets ≡ map T.bucket_of items.now }
     requires within { AllIn T.bucket_of (S.passes test.now) bucket }
@@ -192,7 +192,7 @@ impl<T: Keyed> KeyedList<T> {
         self.index.reserve(more)
     }
 
-    /// Adds the item at the end, into room that is there. Allocates nothing.
+    /// Adds the item at the end, into reserved room. Allocates nothing.
     pub fn push(&mut self, item: T)
         requires { length self.old.items < self.old.room }
         ensures items { self.new.items ≡ self.old.items ++ item ∷ [] }

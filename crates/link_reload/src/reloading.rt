@@ -18,7 +18,7 @@ fn are_links(entries: &[LinkReload], count: usize) -> bool
     entries.iter().all(|entry| entry.link < count)
 }
 
-/// Refuses a list that names a link that isn't there.
+/// Refuses a list that names a link that doesn't exist.
 fn check_links(te: &TeBase, entries: &[LinkReload]) -> Result<(), Why>
     ensures taken { OnOk result (must_have_links te.now entries.now ≡ None) }
     ensures refused { IfErr result (λ why. must_have_links te.now entries.now ≡ Some why) }
@@ -42,7 +42,7 @@ fn set_values(te: &mut TeBase, book: &mut Book, link: LinkNumber, values: LinkVa
     book.set_values(link, values);
 }
 
-/// Sets the values of links that are there, one entry after the other.
+/// Sets the values of existing links, one entry after the other.
 fn set_links(te: &mut TeBase, book: &mut Book, entries: &[LinkReload])
     requires there { list_all (λ e. nat_lt e.link (length te.old.links)) entries.now ≡ true }
     requires network { IsBookOf te.old book.old }
@@ -55,8 +55,8 @@ fn set_links(te: &mut TeBase, book: &mut Book, entries: &[LinkReload])
     }
 }
 
-/// Gives links other values, in the TED and in the book, and counts the reload. A list that names a link that isn't there
-/// is refused, and changes nothing. Takes no memory.
+/// Gives links other values, in the TED and in the book, and counts the reload. A list that names a link that doesn't
+/// exist is refused, and changes nothing. Allocates nothing.
 pub fn reload(
     te: &mut TeBase,
     book: &mut Book,

@@ -20,22 +20,21 @@ use lsp_words::Plsp;
 use std::alloc::{AllocError, Global};
 use std::marker::Model;
 
-/// The greatest number of paths that stand at a time.
+/// The greatest number of paths at a time.
 pub const PATH_LIMIT: usize = 16384;
 
 /// How many items the first allocation has room for: 16,384, and as many again that an effect adds before the old ones
 /// go. So the tables never move.
 const FIRST_ROOM: usize = 32_768;
 
-/// The LSP-DB: the paths and the records of all LSPs, each in one order. A contract sees them beside the room that was
-/// made for more.
+/// The LSP-DB: the paths and the records of all LSPs, each in order. A contract sees them and the room for more.
 #[derive(Drop)]
 pub struct LspBase {
     paths: KeyedList<Path>,
     records: RecordTable,
 }
 
-/// Returns for how many more items room is made, where this many more come.
+/// Returns for how many more items to make room if this many more come.
 fn wanted(count: usize, more: usize) -> usize
     ensures { more ≤ result }
 {
@@ -82,8 +81,8 @@ impl LspBase {
         self.records.reserve(wanted(records, changed))
     }
 
-    /// Carries out an effect on the LSPs of a peer: removes the dropped paths, the last path taking the place of each,
-    /// adds the others at the end, and sets the records in order. No other path comes or goes. Allocates nothing.
+    /// Carries out an effect on the LSPs of a peer: removes the dropped paths (the last path takes the place of each),
+    /// adds the others at the end, and sets the records in order. No other path changes. Allocates nothing.
     #[tactic(auto, unfolding(crate::specs::Lsps::changed), using(crate::proofs::Distinct::set_records_distinct, crate::proofs::Removal::paths_exchanged))]
     pub fn change(&mut self, peer: u32, effect: Effect)
         requires reserved { HasRoom self.old effect }
@@ -138,7 +137,7 @@ impl LspBase {
             .filter_in(alloc, buckets_of_lsp(peer, plsp), test)
     }
 
-    /// Tests whether a path of the LSP passes: reported, or a grant that is bound to it. Allocates nothing.
+    /// Tests whether a path of the LSP passes: a reported one, or a grant that is bound to it. Allocates nothing.
     pub fn any_path_of_lsp<T: Test<Path>>(&self, peer: u32, plsp: Plsp, test: &T) -> bool
         ensures { result ≡ list_any (λ x. T.passes test.now x && is_path_of peer plsp x) self.now.content.paths }
     {
@@ -163,7 +162,7 @@ impl LspBase {
         paths_passing(alloc, self.paths.as_slice(), test)
     }
 
-    /// Lists what becomes of the records that the rule changes, in order, by a pass over all.
+    /// Lists the changes that the rule makes to records, in order, by a pass over all.
     pub fn record_changes<R: RecordRule>(
         &self,
         alloc: Global,
@@ -197,7 +196,7 @@ impl LspBase {
         self.records.lsp(peer, plsp)
     }
 
-    /// Returns the record at a place. Each record stands at one place below their number.
+    /// Returns the record at a place. Each record has one place below their number.
     pub fn record_at(&self, place: usize) -> Option<&Record>
         ensures { option_copied result ≡ slice_get self.now.content.records place }
     {

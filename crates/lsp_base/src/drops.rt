@@ -1,4 +1,4 @@
-//! Paths that go, with the records that then have none.
+//! Paths that go, and the records that then have none.
 ghost use Rattle.std.specs.Prelude.{◌≡◌, ◌&&◌, not, filter, IfOk, IsPermutation};
 ghost use Rattle.std.specs.List.{list_any};
 ghost use Rattle.lsp_base.specs.Lsps.{is_path_of, ended_records, ended_record, changed, dropping};
@@ -19,7 +19,7 @@ pub fn is_path_of_lsp(path: &Path, peer: u32, plsp: Plsp) -> bool
     path.peer == peer && path.plsp == plsp
 }
 
-/// Tests whether a path stays where those that pass `going` go.
+/// Tests whether a path stays if those that pass `going` go.
 #[derive(Drop)]
 struct Stays<'a, T: Test<Path>> {
     going: &'a T,
@@ -35,14 +35,14 @@ impl<'a, T: Test<Path>> Test<Path> for Stays<'a, T> {
     }
 }
 
-/// Tests whether a path of the LSP stays where those that pass `going` go.
+/// Tests whether a path of the LSP stays if those that pass `going` go.
 fn keeps_a_path<T: Test<Path>>(base: &LspBase, peer: u32, plsp: Plsp, going: &T) -> bool
     ensures { result ≡ list_any (λ x. not (T.passes going.now x) && is_path_of peer plsp x) base.now.content.paths }
 {
     base.any_path_of_lsp(peer, plsp, &Stays { going })
 }
 
-/// Removes the peer's records of which no path stays where those that pass `going` go.
+/// Removes the peer's records of which no path stays if those that pass `going` go.
 #[derive(Drop)]
 struct NoneLeft<'a, T: Test<Path>> {
     base: &'a LspBase,
@@ -69,7 +69,7 @@ impl<'a, T: Test<Path>> RecordRule for NoneLeft<'a, T> {
     }
 }
 
-/// Removes the LSP's record, if no path of it stays where those that pass `going` go.
+/// Removes the LSP's record, if no path of it stays when those that pass `going` go.
 pub fn ended_record<T: Test<Path>>(
     alloc: Global,
     base: &LspBase,
@@ -86,7 +86,7 @@ pub fn ended_record<T: Test<Path>>(
     Ok(changes)
 }
 
-/// Removes the peer's records of which no path stays where those that pass `going` go.
+/// Removes the peer's records of which no path stays if those that pass `going` go.
 fn ended<T: Test<Path>>(
     alloc: Global,
     base: &LspBase,
@@ -111,7 +111,7 @@ pub fn dropping_of_peer<T: Test<Path>>(
         (changed base.now.content peer effect).paths) }
     ensures few { IfOk result (λ effect. IsWithinLimit base.now.content effect) }
 {
-    // for the proof alone: no more paths stand than there may be
+    // only for the proof: there are no more paths than there may be
     let _few = base.paths();
     let dropped = base.paths_passing(alloc, test)?;
     let records = ended(alloc, base, peer, test)?;

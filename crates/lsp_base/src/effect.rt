@@ -26,7 +26,7 @@ impl PlainData for Record {
     }
 }
 
-/// What becomes of one record of a peer: `None` takes it away.
+/// What becomes of one record of a peer: `None` removes it.
 #[derive(Debug, Drop)]
 pub struct RecordChange {
     pub plsp: Plsp,

@@ -1,12 +1,13 @@
-//! The LSP-DB: what is known of LSPs, their paths with what each reserves, and one record for each LSP. The rules compute
-//! an `Effect`, `LspBase::reserve` makes all the room that it needs, and `LspBase::change` then carries it out without
-//! allocating. A layer above may rely on it that the lists after a change are exactly `without paths dropped ++ added`
-//! and the records set in the effect's order, where the last path or record takes the place of one that goes; that at
-//! most one record of an LSP stands, and that at most 16,384 paths ever stand. What paths reserve is defined in
-//! `specs/Shares.antt` (shared explicit reservation, RFC 3209), the lists after a change in `specs/Lsps.antt`.
+//! The LSP-DB: what is known of LSPs, their paths with what each reserves, and one record for each LSP. The rules
+//! compute an `Effect`, `LspBase::reserve` makes all the room that it needs, and `LspBase::change` then carries it out
+//! without allocating. A layer above may rely on these facts. The lists after a change are exactly `without paths
+//! dropped ++ added` and the records set in the effect's order; the last path or record takes the place of one that
+//! goes. There is at most one record of an LSP, and there are never more than 16,384 paths. What paths reserve is
+//! defined in `specs/Shares.antt` (shared explicit reservation, RFC 3209), the lists after a change in
+//! `specs/Lsps.antt`.
 //!
-//! Records stand in an `IndexMap` by LSP, with an index by name; paths in a `KeyedList` by LSP, since an LSP has several.
-//! What concerns a whole peer, and whether an SRP-ID is in use, is a pass over all.
+//! Records are in an `IndexMap` by LSP, with an index by name. Paths are in a `KeyedList` by LSP, since an LSP has
+//! several. What concerns a whole peer, and whether an SRP-ID is in use, is found by a pass over all.
 //!
 //! - `path`, `tunnel`, `lsp`, `effect`, `why`: plain data
 //! - `path_list`, `record_table`: the tables

@@ -21,25 +21,25 @@ pub struct Constraints {
     pub priorities: Priorities,
     pub colours: Colours,
     pub minimise: MetricType,
-    /// Of the minimised metric.
+    /// On the minimised metric.
     pub bound: Option<u64>,
     pub hop_bound: Option<u64>,
     pub other_bounds: OtherBounds,
-    /// Local protection is wanted (flag L of LSPA, RFC 5440 section 7.11). It binds no path.
+    /// Local protection is wanted (flag L of LSPA, RFC 5440 section 7.11). The search doesn't consider it.
     pub local_protection: bool,
 }
 
 /// What is known of one LSP.
 #[derive(Debug, Drop)]
 pub struct Lsp {
-    /// The symbolic path name (RFC 8231 section 7.3.2); empty where none was reported.
+    /// The symbolic path name (RFC 8231 section 7.3.2); empty if none was reported.
     pub name: Sequence<u8>,
     pub delegated: bool,
     /// The PCE initiated it (RFC 8281 section 5.3.1).
     pub created: bool,
     pub constraints: Constraints,
     pub tunnel: Tunnel,
-    /// The SRP-ID of the deletion that the peer was asked for.
+    /// The SRP-ID of the deletion that the PCE asked the peer for.
     pub removing: Option<u32>,
 }
 

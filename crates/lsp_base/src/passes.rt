@@ -1,4 +1,4 @@
-//! Passes over all paths and over all records: for what concerns a whole peer.
+//! Passes over all paths and over all records, for what concerns a whole peer.
 ghost use Rattle.std.specs.Prelude.{◌≡◌, ◌++◌, ◌∷◌, [], filter, map, IfOk, OnOk};
 
 use crate::effect::{Record, RecordChange};
@@ -51,7 +51,7 @@ pub fn paths_passing<T: Test<Path>>(
     Ok(found)
 }
 
-/// Adds what becomes of the record at the end, if the rule changes it.
+/// Adds the change of the record at the end, if the rule changes it.
 fn add_change<R: RecordRule>(
     changes: &mut Vec<RecordChange>,
     known: &Record,
@@ -65,7 +65,7 @@ fn add_change<R: RecordRule>(
     Ok(())
 }
 
-/// Lists what becomes of the records that the rule changes, in order.
+/// Lists the changes that the rule makes to records, in order.
 pub fn changes_of<R: RecordRule>(
     alloc: Global,
     records: &[Record],

@@ -56,7 +56,7 @@ fn are_same_links(a: &[LinkNumber], b: &[LinkNumber]) -> bool
     true
 }
 
-/// Tests whether two paths are the same, in all that they have.
+/// Tests whether two paths are equal in all fields.
 pub fn is_same_path(a: &Path, b: &Path) -> bool
     ensures { result ≡ same_path a.now b.now }
 {

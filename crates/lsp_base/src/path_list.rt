@@ -122,7 +122,7 @@ fn drop_all(paths: &mut KeyedList<Path>, dropped: &[Path])
     }
 }
 
-/// Adds these paths at the end, into room that is there.
+/// Adds these paths at the end, into reserved room.
 fn add_all(paths: &mut KeyedList<Path>, added: Vec<Path>)
     requires { length paths.old.items + length added.items ≤ paths.old.room }
     ensures paths { paths.new.items ≡ paths.old.items ++ added.items }

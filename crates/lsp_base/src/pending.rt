@@ -11,7 +11,7 @@ use crate::path::Path;
 use keyed_list::Test;
 use lsp_words::Plsp;
 
-/// Tests whether the LSP is delegated to the PCE. One of which nothing is known is not.
+/// Tests whether the LSP is delegated to the PCE. An unknown LSP is not.
 pub fn is_delegated(lsp: Option<&Lsp>) -> bool
     ensures { result ≡ is_delegated (option_copied lsp.entry) }
 {
@@ -21,7 +21,7 @@ pub fn is_delegated(lsp: Option<&Lsp>) -> bool
     }
 }
 
-/// Tests whether the PCE initiated the LSP. One of which nothing is known it did not.
+/// Tests whether the PCE initiated the LSP. It didn't initiate an unknown LSP.
 pub fn is_created(lsp: Option<&Lsp>) -> bool
     ensures { result ≡ is_created (option_copied lsp.entry) }
 {
@@ -80,7 +80,7 @@ pub(crate) fn has_grant_as(paths: &[Path], peer: u32, srp: u32) -> bool
     paths.iter().any(|path| grant.passes(path))
 }
 
-/// Tests whether a removal that is awaited of the peer has the SRP-ID.
+/// Tests whether an awaited removal of the peer has the SRP-ID.
 pub(crate) fn has_removal_as(records: &[Record], peer: u32, srp: u32) -> bool
     ensures { result ≡ list_any (is_removed_as peer srp) records.now }
 {

@@ -22,7 +22,7 @@ pub struct LspKey {
     pub plsp: Plsp,
 }
 
-/// Records in one order, found by LSP and by name. A contract sees the list of them, and for how many more there is room.
+/// Records in order, found by LSP and by name. A contract sees the list of them, and for how many more there is room.
 #[derive(Drop)]
 pub struct RecordTable {
     by_lsp: IndexMap<LspKey, Record>,
@@ -80,7 +80,7 @@ impl<'a> Test<Record> for Named<'a> {
     }
 }
 
-/// Sets a record under its key, into room that is there. Returns its place.
+/// Sets a record under its key, into reserved room. Returns its place.
 fn insert(map: &mut IndexMap<LspKey, Record>, known: Record) -> usize
     requires { 0 < spare map.old }
     ensures place { result ≡ position_or_len (same_key (key_of known)) (keys_of map.old.entries) }
@@ -153,7 +153,7 @@ impl RecordTable {
         )
     }
 
-    /// Sets a record: in its place where there is one, else as the last, into room that is there.
+    /// Sets a record, into reserved room: in its place if there is one, else at the end.
     fn put(&mut self, peer: u32, plsp: Plsp, lsp: Lsp)
         requires { 0 < self.old.room }
         ensures records { self.new.records ≡ put self.old.records peer plsp lsp }
@@ -185,7 +185,7 @@ impl RecordTable {
         }
     }
 
-    /// Sets or removes a record of the peer, into room that is there.
+    /// Sets or removes a record of the peer, into reserved room.
     fn set(&mut self, peer: u32, change: RecordChange)
         requires { 0 < self.old.room }
         ensures records { self.new.records ≡ set_record peer self.old.records change.plsp change.lsp }
@@ -198,7 +198,7 @@ impl RecordTable {
         }
     }
 
-    /// Sets or removes each of these records of the peer, into room that is there. Allocates nothing.
+    /// Sets or removes each of these records of the peer, into reserved room. Allocates nothing.
     pub fn set_all(&mut self, peer: u32, changes: Vec<RecordChange>)
         requires { length changes.items ≤ self.old.room }
         ensures records { self.new.records ≡ set_records peer self.old.records changes.items }

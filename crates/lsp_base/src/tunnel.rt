@@ -5,7 +5,8 @@ ghost use Rattle.lsp_base.specs.Same.{same_tunnel, same_part, is_reported};
 use lsp_words::Plsp;
 use pcep_word::Ipv4;
 
-/// What shares its reservations on a common link (shared explicit reservation, RFC 3209 section 2.4.3).
+/// A session of which all paths share their reservations on a common link (shared explicit reservation, RFC 3209
+/// section 2.4.3).
 #[derive(Clone, Copy, Debug, PartialEq, Eq, Hash)]
 pub enum Tunnel {
     /// The session of RFC 3209 section 4.6.1, kept apart for each peer.
@@ -15,7 +16,7 @@ pub enum Tunnel {
         tunnel: u16,
         extended: u32,
     },
-    /// An LSP that was reported with identifiers of zeros alone: a tunnel for each LSP.
+    /// An LSP that was reported with all identifiers zero: each such LSP is a tunnel of its own.
     Unsignalled {
         peer: u32,
         plsp: Plsp,

@@ -25,9 +25,9 @@ pub enum Why {
     /// The peer takes no initiations.
     NoInitiate,
     NotCreatedHere,
-    /// 1,024 tickets stand.
+    /// There are 1,024 tickets.
     TooManyTickets,
-    /// More than 16,384 paths would stand.
+    /// There would be more than 16,384 paths.
     TooManyPaths,
     /// 64 peers are known.
     TooManyPeers,

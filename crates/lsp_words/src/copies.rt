@@ -1,4 +1,4 @@
-//! Copies of them.
+//! Copies of the words for LSPs.
 use crate::object::{Capabilities, Colours, Hop, Plsp};
 use sequence::PlainData;
 use std::alloc::AllocError;

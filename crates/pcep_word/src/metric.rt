@@ -4,9 +4,9 @@ ghost use Rattle.pcep_word.specs.Word.{IsBandwidth, IsBound, IsNumber, IsWordOf,
 
 use crate::word::{divided_up, is_number, mantissa_and_scale, rounded_down};
 
-/// The whole number that the word of a METRIC object stands for (RFC 5440 section 7.8), rounded down:
-/// from 0 to 2^48 - 1, which also stands for every greater value. None where the word is infinite, not
-/// a number, or negative; minus zero is 0.
+/// Reads the word of a METRIC object as a whole number, rounded down (RFC 5440 section 7.8): from 0 to 2^48 - 1, which
+/// also stands for every greater value. Returns None if the word is infinite, not a number, or negative; minus zero is
+/// 0.
 pub fn metric_bound(word: u32) -> Option<u64>
     ensures value { result ≡ bound_of word }
     ensures found { IfSome result (λ v. ReadsBound word v) }
@@ -26,7 +26,7 @@ fn greatest_below(word: u32) -> Option<u64>
     Some(rounded_down(mantissa, scale))
 }
 
-/// The word that a number below 2^48 is written as: the least whose value is not below it. So a number of
+/// Returns the word that a number below 2^48 is written as: the least one whose value is not below it. So a number of
 /// more than 24 significant bits is rounded up.
 pub fn metric_word(value: u64) -> u32
     requires { value < 2 ^ 48 }
@@ -48,7 +48,7 @@ fn least_word(value: u64) -> u32
     ((top + 126) << 23) + mantissa as u32
 }
 
-/// The 24 highest bits of a number whose highest bit is `top`, rounded up.
+/// Returns the 24 highest bits of a number whose highest bit is `top`, rounded up.
 fn leading_bits(value: u64, top: u32) -> u64
     requires small { value < 2 ^ 48 }
     requires low { 2 ^ top ≤ value }
@@ -66,7 +66,7 @@ fn leading_bits(value: u64, top: u32) -> u64
     }
 }
 
-/// What is read from a word is read again from the word that it is written as.
+/// Shows that what is read from a word is read again from the word that it is written as.
 pub fn words_are_read_again()
     ensures bandwidths { (v : ℕ) → IsBandwidth v → bandwidth_of (word_of v) ≡ Some v }
     ensures bounds { (v : ℕ) → IsBound v → bound_of (word_of v) ≡ Some v }

@@ -2,14 +2,14 @@
 ghost use Rattle.std.specs.Prelude.{◌≡◌, ◌<◌, ◌≤◌, ◌*◌, ◌-◌, ◌+◌, ◌^◌, ◌↔◌, ℕ, IsTrue, IfSome, IfNone};
 ghost use Rattle.pcep_word.specs.Word.{IsNumber, IsLeast, IsGreatest, mantissa, scale, units};
 
-/// Whether the word is a finite number that is not negative. Minus zero is 0.
+/// Tests whether the word is a finite number that is not negative. Minus zero is 0.
 pub(crate) fn is_number(word: u32) -> bool
     ensures { IsTrue result ↔ IsNumber word }
 {
     (word >> 23) & 255 != 255 && word <= 1 << 31
 }
 
-/// A number's word stands for mantissa * 2 ^ (scale - 150).
+/// Returns the mantissa and the scale of a number's word, which stands for mantissa * 2 ^ (scale - 150).
 #[tactic(auto, unfolding(crate::specs::Word::mantissa, crate::specs::Word::scale))]
 pub(crate) fn mantissa_and_scale(word: u32) -> (u64, u32)
     requires { IsNumber word }
@@ -29,7 +29,7 @@ pub(crate) fn mantissa_and_scale(word: u32) -> (u64, u32)
     }
 }
 
-/// The least number that is not below mantissa * 2 ^ (scale - 150), if it is below 2 ^ 48.
+/// Returns the least number that is not below mantissa * 2 ^ (scale - 150), if it is below 2 ^ 48.
 pub(crate) fn rounded_up(mantissa: u64, scale: u32) -> Option<u64>
     requires small { mantissa < 2 ^ 24 }
     requires bounded { scale < 255 }
@@ -47,7 +47,7 @@ pub(crate) fn rounded_up(mantissa: u64, scale: u32) -> Option<u64>
     Some(mantissa << (scale - 150))
 }
 
-/// The greatest number up to 2 ^ 48 - 1 that is not above mantissa * 2 ^ (scale - 150).
+/// Returns the greatest number up to 2 ^ 48 - 1 that is not above mantissa * 2 ^ (scale - 150).
 pub(crate) fn rounded_down(mantissa: u64, scale: u32) -> u64
     requires small { mantissa < 2 ^ 24 }
     requires bounded { scale < 255 }
@@ -63,7 +63,7 @@ pub(crate) fn rounded_down(mantissa: u64, scale: u32) -> u64
     mantissa << (scale - 150)
 }
 
-/// The number divided by 2 ^ k, rounded up.
+/// Returns the number divided by 2 ^ k, rounded up.
 pub(crate) fn divided_up(number: u64, k: u32) -> u64
     requires { k < 64 }
     ensures covers { number ≤ result * 2 ^ k }

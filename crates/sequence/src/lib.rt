@@ -1,9 +1,8 @@
-//! Lists in plain data. A `Sequence` is what a message, an event or a path holds in place of a bare
-//! `Vec`: a contract sees it as the list of its elements, so two values are equal where their
-//! elements are, whatever room or pointer each has. `PlainData` is what can be copied where there is
-//! memory, and its copy equals it: `u8`, `u32`, `usize`, options and lists of plain data, and each type
-//! above that has an impl. `specs/Memory.antt` says what a call answers where memory may run out: what is
-//! due, or want of memory.
+//! Lists in plain data. Messages, events and paths hold a `Sequence` instead of a bare `Vec`. A contract sees a
+//! `Sequence` as the list of its elements, so two of them are equal if their elements are, whatever their capacity or
+//! pointer. `PlainData` is data that can be copied if there is memory, and the copy equals the original: `u8`, `u32`,
+//! `usize`, options and lists of plain data, and each type above that has an impl. `specs/Memory.antt` says what a call
+//! returns if memory may run out: what is due, or an error that memory ran out.
 //!
 //! ```
 //! let mut labels = Vec::new(alloc);

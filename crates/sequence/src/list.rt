@@ -4,8 +4,7 @@ use crate::plain::PlainData;
 use std::alloc::AllocError;
 use std::marker::Model;
 
-/// A list in plain data, made from a `Vec` and given back as one. Its copy is made where the elements of
-/// the list are.
+/// A list in plain data. It is made from a `Vec` and can be turned back into one. Copying it copies the elements.
 #[derive(Debug, Drop)]
 pub struct Sequence<T> {
     items: Vec<T>,
@@ -20,21 +19,21 @@ impl<T> Model for Sequence<T> {
 }
 
 impl<T> Sequence<T> {
-    /// The list of the vector's elements. Takes no memory.
+    /// Wraps the vector as a list. Allocates nothing.
     pub fn from_vec(items: Vec<T>) -> Sequence<T>
         ensures { result ≡ items.items }
     {
         Sequence { items }
     }
 
-    /// The elements as a vector. Takes no memory.
+    /// Returns the elements as a vector. Allocates nothing.
     pub fn into_vec(self) -> Vec<T>
         ensures { result.items ≡ self }
     {
         self.items
     }
 
-    /// The elements, lent.
+    /// Lends the elements as a slice.
     pub fn as_slice(&self) -> &[T]
         ensures { result.now ≡ self.now }
     {
@@ -42,7 +41,7 @@ impl<T> Sequence<T> {
     }
 }
 
-/// A copy of each element, in order.
+/// Copies each element, in order.
 fn copied<T: PlainData>(items: &Vec<T>) -> Result<Vec<T>, AllocError>
     ensures { IfOk result (λ copy. copy.items ≡ items.now.items) }
 {

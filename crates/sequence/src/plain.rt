@@ -2,9 +2,9 @@ ghost use Rattle.std.specs.Prelude.{◌≡◌, IfOk};
 
 use std::alloc::AllocError;
 
-/// Plain data, which may be copied where there is memory.
+/// Plain data, which can be copied if there is memory.
 pub trait PlainData: Drop {
-    /// A value equal to this one. An `Err` where a growth was refused; what was copied until then is freed.
+    /// Returns a copy that equals this value. Fails if memory runs out; what was copied until then is freed.
     fn copy(&self) -> Result<Self, AllocError>
         ensures { IfOk result (λ copy. copy ≡ self.now) };
 }

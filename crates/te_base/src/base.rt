@@ -1,4 +1,4 @@
-//! The TED as its link text says it, and look-ups in it.
+//! The TED that a link text describes, and look-ups in it.
 ghost use Rattle.std.specs.Prelude.{◌≡◌, ◌≢◌, ◌<◌, ◌≤◌, ◌↔◌, ℕ, IsTrue, IfOk, IfSome, IsSome, All, AllPairs, map, option_map, slice_get, length, if◌then◌else◌};
 ghost use Rattle.te_base.specs.Ted.{IsLinkAmong, empty_ted};
 ghost use Rattle.te_base.specs.Faults.{Gives};
@@ -30,13 +30,14 @@ use std::alloc::{AllocError, Global};
 use std::marker::Model;
 use toml::Table;
 
-/// The TED: the nodes, links and owners of a link text; the values of links may change. A contract sees it as a `Ted` of lists, which is sound.
+/// The TED: the nodes, links and owners of a link text. The values of links may change. A contract sees it as a `Ted`
+/// of lists, which is sound.
 #[derive(Debug)]
 pub struct TeBase {
     parts: Parts,
 }
 
-/// Drops its parts. A derived drop would be proved anew for each owner.
+/// Drops its parts. Written by hand because a derived drop would be proved again for every owner.
 impl Drop for TeBase {
     fn drop(self) {
         let TeBase { parts } = self;
@@ -95,7 +96,7 @@ fn read_tree(alloc: Global, document: &Table) -> Result<Parts, PlacedFault>
     parts_of(alloc, &nodes, &links)
 }
 
-/// Returns the fault of a text that isn't TOML, or want of memory.
+/// Returns the fault of a text that isn't TOML, or that memory ran out.
 fn parse_fault(is_memory: bool) -> TeFault
     ensures { result ≡ (if is_memory then OutOfMemory else NotToml) }
 {
@@ -119,8 +120,8 @@ fn read_parts(alloc: Global, text: &str) -> Result<Parts, PlacedFault>
 }
 
 impl TeBase {
-    /// Reads what the text says, or gives its first fault in the order of `TeFault`. Nodes and links are
-    /// numbered from 0 in the order of the text.
+    /// Reads a link text, or returns its first fault in the order of `TeFault`. Nodes and links are numbered from 0 in
+    /// the order of the text.
     pub fn read(alloc: Global, text: &str) -> Result<TeBase, TeFault>
         ensures { Gives (λ b. b) result (base_of text.now) }
     {
@@ -130,7 +131,7 @@ impl TeBase {
         }
     }
 
-    /// The same, with the place of the first fault.
+    /// Reads a link text as `read` does, and says also where its first fault is.
     pub fn read_placed(alloc: Global, text: &str) -> Result<TeBase, PlacedFault>
         ensures { GivesAt (λ b. b) result (placed_base text.now) }
     {
@@ -138,7 +139,7 @@ impl TeBase {
         Ok(TeBase { parts })
     }
 
-    /// Looks up the link of a number, None past the last.
+    /// Looks up the link of a number. None past the last.
     pub fn link(&self, number: LinkNumber) -> Option<Link>
         ensures link { result ≡ slice_get self.now.links number }
         ensures sound { IfSome result (IsLinkAmong (length self.now.nodes)) }
@@ -162,7 +163,7 @@ impl TeBase {
         self.parts.nodes.len()
     }
 
-    /// Looks up the name and the id of a node, None past the last.
+    /// Looks up the name and the id of a node. None past the last.
     pub fn node(&self, number: NodeNumber) -> Option<(&str, Ipv4)>
         ensures node { option_map (λ n. record { name = n.0.now; id = n.1 }) result ≡ slice_get self.now.nodes number }
         ensures found { IsSome result ↔ (number < length self.now.nodes) }
@@ -187,8 +188,8 @@ impl TeBase {
         &self.parts.owners
     }
 
-    /// Finds the node that owns an address: the one that has it as its own, as the local address of a link
-    /// that leaves it, or as the remote address of a link that reaches it. None where no node does.
+    /// Finds the node that owns an address: the one that has it as its own, as the local address of a link that leaves
+    /// it, or as the remote address of a link that reaches it. None if no node does.
     pub fn owner(&self, address: Ipv4) -> Option<NodeNumber>
         ensures owner { result ≡ owner_of self.now.owners address }
         ensures owns { (node : ℕ) → (result ≡ Some node) ↔ IsTrue (owns self.now.nodes self.now.links node address) }
@@ -200,11 +201,11 @@ impl TeBase {
     /// Lists the links that a route uses from a start to an end, in order (RFC 3209 section 4.3.3 for an
     /// explicit route, 4.4 for a recorded one).
     ///
-    /// From the owner of the start, each address leads to its owner over the link from the current node
-    /// with that remote address, else over one whose local address the route named last, else over the
-    /// least-numbered one. A hop to a node without such a link uses none, an address that no node owns
-    /// and a hop of another kind do nothing, loose hops are walked like strict ones, and a link that
-    /// comes again is kept once. A start that no node owns uses no link.
+    /// From the owner of the start, each address leads to its owner. The link taken is the one from the current node
+    /// with that remote address, else one whose local address the route named last, else the one with the least number.
+    /// A hop to a node without such a link uses none. An address that no node owns and a hop of another kind do
+    /// nothing. Loose hops are walked like strict ones. A link that comes again is kept once. A start that no node owns
+    /// uses no link.
     pub fn walk(
         &self,
         alloc: Global,
@@ -226,8 +227,8 @@ impl TeBase {
         all_values(alloc, self.parts.links.as_slice())
     }
 
-    /// Lists the values that the text, read again, gives all links, each at its link's number. A fault is what `read` says of
-    /// the text, and `OtherLinks` where it says other nodes, or other ends or addresses of links.
+    /// Reads the text again and lists the values that it gives all links, each at its link's number. Fails with what
+    /// `read` says of the text, or with `OtherLinks` if it has other nodes, or other ends or addresses of links.
     pub fn reload(&self, alloc: Global, text: &str) -> Result<Vec<LinkValues>, TeFault>
         ensures values { Gives (λ v. v.items) result (reloaded self.now text.now) }
         ensures whole { IfOk result (λ v. length v.items ≡ length self.now.links) }
@@ -246,7 +247,7 @@ impl TeBase {
         Ok(other.values(alloc)?)
     }
 
-    /// Gives a link other values. Nodes, owners, and ends and addresses of links stay. Takes no memory.
+    /// Gives a link other values. Nodes, owners, and ends and addresses of links stay. Allocates nothing.
     pub fn set_values(&mut self, link: LinkNumber, values: LinkValues)
         requires { link < length self.old.links }
         ensures { self.new ≡ with_link_values self.old link values }

@@ -6,26 +6,26 @@ use crate::network::{LinkNumber, NodeNumber};
 use std::alloc::{AllocError, AllocFailed};
 use thiserror::Error;
 
-/// The first fault of a link text. The text itself comes first, then too many tables, then each node's
-/// table in order, then each link's; within a table, faults come in the order that the variants' comments
-/// give. The text of a fault has its number.
+/// The first fault of a link text. The text itself comes first, then too many tables, then each node's table in order,
+/// then each link's. Within a table, faults come in the order that the variants' comments give. The text of a fault
+/// contains its number.
 #[derive(Clone, Copy, Debug, PartialEq, Eq, Error)]
 pub enum TeFault {
-    /// The text is not TOML; an integer that TOML can't hold is one reason.
+    /// The text is not TOML. An integer that TOML can't hold is one reason.
     #[error("te fault 1")]
     NotToml,
     /// A field is absent or of another kind, or `node` or `link` is not an array of tables. All fields of
     /// a table are looked for before any value is judged.
     #[error("te fault 2")]
     MissingField,
-    /// A name of no or more than 64 bytes, an address that is not four numbers joined by dots or is
-    /// 0.0.0.0, or a number out of its range.
+    /// A name is empty or has more than 64 bytes, an address is not four numbers joined by dots or is 0.0.0.0, or a
+    /// number is out of its range.
     #[error("te fault 3")]
     OutOfRange,
     /// An end of a link is no node's name.
     #[error("te fault 4")]
     UnknownNode,
-    /// An address has two nodes as owners. The last fault of a table that is looked for.
+    /// An address has two nodes as owners. This is the last fault of a table that is looked for.
     #[error("te fault 5")]
     AddressTwice,
     /// An earlier node has the name.
@@ -34,14 +34,14 @@ pub enum TeFault {
     /// Both ends of a link are one node.
     #[error("te fault 7")]
     SelfLoop,
-    /// More than 1,024 nodes or 4,096 links. Looked for before anything in a table.
+    /// There are more than 1,024 nodes or 4,096 links. This is looked for before anything in a table.
     #[error("te fault 8")]
     TooMany,
-    /// There is no memory for what is read. May come in place of any answer.
+    /// Memory ran out. This may come in place of any answer.
     #[error("out of memory")]
     OutOfMemory,
-    /// The text, read again, has other nodes, or other ends or addresses of links, or more or fewer of them. Of a
-    /// reload alone, and looked for last.
+    /// The text, read again, has other nodes, or other ends or addresses of links, or more or fewer of them. Only a
+    /// reload finds this, and it is looked for last.
     #[error("te fault 10")]
     OtherLinks,
 }
@@ -57,12 +57,12 @@ pub enum FaultPlace {
     InLink(LinkNumber),
 }
 
-/// A fault and where it stands.
+/// A fault and its place.
 #[derive(Clone, Copy, Debug, PartialEq, Eq)]
 pub struct PlacedFault {
     /// The fault.
     pub fault: TeFault,
-    /// The part that has it. Of want of memory it says nothing.
+    /// The part that has the fault. If memory ran out, the place means nothing.
     pub place: FaultPlace,
 }
 
@@ -85,7 +85,7 @@ impl<T: Drop> From<AllocFailed<T>> for TeFault {
 impl TeFault {
     ghost use Rattle.te_base.specs.Faults.{fault_number};
 
-    /// The number of the fault, 1 to 10.
+    /// Returns the number of the fault, 1 to 10.
     pub fn number(self) -> u8
         ensures { result ≡ fault_number self }
     {

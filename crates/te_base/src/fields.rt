@@ -1,4 +1,4 @@
-//! The fields of a table as they stand, before any value is judged.
+//! The fields of a table, before any value is judged.
 ghost use Rattle.std.specs.Prelude.{◌≡◌, map, option_map};
 ghost use Rattle.toml.specs.View.{view, table_view, array_view};
 ghost use Rattle.toml.specs.Data.{get_member};
@@ -108,7 +108,7 @@ fn all_tables(alloc: Global, array: &Array) -> Result<Vec<&Table>, TeFault>
     Ok(tables)
 }
 
-/// Lists the tables of the array at a key, and none where the key is absent.
+/// Lists the tables of the array at a key. None if the key is absent.
 pub(crate) fn tables<'a>(
     alloc: Global,
     document: &'a Table,

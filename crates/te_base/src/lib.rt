@@ -1,17 +1,17 @@
-//! The TED (traffic engineering database): nodes, directed links and who owns which address. A link text in TOML says
-//! it, and `TeBase::read` gives what the text says or its first fault. Metrics, colours and reservable bandwidth of links
-//! may change after (`TeBase::set_values`), to those of the text read again (`TeBase::reload`); nothing else does.
+//! The TED (traffic engineering database): nodes, directed links and who owns which address. `TeBase::read` reads it
+//! from a link text in TOML, or gives the text's first fault. After that only metrics, colours and reservable bandwidth
+//! of links can change (`TeBase::set_values`), to those of the text read again (`TeBase::reload`).
 //!
-//! The layer above may rely on each `TeBase` being sound: at most 1,024 nodes and 4,096 links, each link from one node to
-//! another with every number in its range, each address owned by the node that has it as its own or as its end of a
-//! link, and by no other. `TeBase::walk` gives the links that a route of RFC 3209 uses, of which each exists and none
-//! comes twice; they are what a path on that route reserves.
+//! The layer above may rely on each `TeBase` being sound: it has at most 1,024 nodes and 4,096 links; each link joins
+//! two different nodes and has every number in its range; each address is owned by the node that has it as its own or
+//! as its end of a link, and by no other. `TeBase::walk` gives the links that a route of RFC 3209 uses. Each of them
+//! exists and none comes twice. They are the links on which a path with that route reserves.
 //!
-//! The definitions stand in `specs/`: `LinkText` is the text's meaning with its faults in order, over `Fields`, `Ranges`
-//! and `Owners`, `Places` says where the first fault stands; `Ted` has the lists and `IsSound`, `Values` the values of links and what stays beside them, `Reload`
-//! the text read again, `Walk` the walk, and `Faults` the words in which a clause says "this value, or this fault
-//! first". Names and addresses are looked up in an `IndexMap`, the links that leave a node in a
-//! `KeyedList`.
+//! The definitions are in `specs/`. `LinkText` says what the text means and which faults come first, over `Fields`,
+//! `Ranges` and `Owners`; `Places` says where the first fault is. `Ted` has the lists and `IsSound`, `Values` the
+//! values of links and what stays when they change, `Reload` the text read again, `Walk` the walk, and `Faults` the
+//! words in which a clause says "this value, or this fault first". Names and addresses are looked up in an `IndexMap`,
+//! the links that leave a node in a `KeyedList`.
 //!
 //! - `network`, `link_values`, `name`, `fault`: plain data, and the faults of a link text
 //! - `fields`, `ranges`: a table's fields, and their values

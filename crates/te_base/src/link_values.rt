@@ -1,4 +1,4 @@
-//! The values of a link that may change while its network stands.
+//! The values of a link that may change while its network stays the same.
 ghost use Rattle.std.specs.Prelude.{◌≡◌, ◌<◌, ◌^◌};
 ghost use Rattle.te_base.specs.Values.{AreInRange, checked_values, is_metric, values_of, with_values};
 
@@ -36,7 +36,7 @@ fn is_metric(number: u64) -> bool
 }
 
 impl LinkValues {
-    /// Makes the values of these numbers. None where a metric is not 1 to 16,777,215, the colour is above
+    /// Makes the values of these numbers. Returns None if a metric is not 1 to 16,777,215, the colour is above
     /// 4,294,967,295, or the bandwidth is 2^48 or more.
     #[tactic(auto, unfolding(crate::specs::Values::checked_values))]
     pub fn new(igp: u64, te: u64, colour: u64, reservable: u64) -> Option<LinkValues>
@@ -76,7 +76,7 @@ impl LinkValues {
         self.te
     }
 
-    /// Returns the administrative groups, one a bit (RFC 3630 section 2.5.9).
+    /// Returns the administrative groups, one per bit (RFC 3630 section 2.5.9).
     pub fn colour(self) -> u32
         ensures { result ≡ self.colour }
     {

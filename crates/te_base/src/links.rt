@@ -1,4 +1,4 @@
-//! The links of the TED: those that leave a node are found by an index.
+//! The links of the TED. Those that leave a node are found by an index.
 ghost use Rattle.std.specs.Prelude.{◌≡◌, ◌==◌, ◌&&◌, position};
 ghost use Rattle.te_base.specs.Entries.{link_bucket, node_bucket};
 ghost use Rattle.te_base.specs.Walk.{chosen_link, joins, remembered_link};

@@ -16,9 +16,9 @@ pub type LinkNumber = usize;
 /// A router.
 #[derive(Debug, Drop)]
 pub struct Node {
-    /// 1 to 64 bytes, and no other node's.
+    /// 1 to 64 bytes. No other node has this name.
     pub name: Name,
-    /// An address of its own, as its router ID (RFC 3630 section 2.4.1).
+    /// Its own address, which is its router ID (RFC 3630 section 2.4.1).
     pub id: Ipv4,
 }
 
@@ -44,7 +44,7 @@ pub struct Link {
     pub igp: u32,
     /// Its traffic engineering metric, 1 to 16,777,215 (RFC 3630 section 2.5.5).
     pub te: u32,
-    /// Its administrative groups, one a bit (RFC 3630 section 2.5.9).
+    /// Its administrative groups, one per bit (RFC 3630 section 2.5.9).
     pub colour: u32,
     /// The bandwidth that may be reserved on it, in bytes per second, below 2^48 (RFC 3630 section 2.5.7).
     pub reservable: u64,
@@ -59,7 +59,7 @@ pub struct Owner {
     pub node: NodeNumber,
 }
 
-/// What was read so far of a link text.
+/// What has been read so far of a link text.
 #[derive(Debug, Drop)]
 pub(crate) struct Parts {
     pub nodes: NodeTable,

@@ -13,7 +13,7 @@ use pcep_word::Ipv4;
 use std::alloc::{AllocError, Global};
 use std::marker::Model;
 
-/// Tests whether both have a node of one name and one id at the number.
+/// Tests whether both tables have a node of the same name and id at the number.
 fn same_at(
     ids: &IndexMap<String, Ipv4>,
     others: &IndexMap<String, Ipv4>,
@@ -75,7 +75,7 @@ impl NodeTable {
         self.ids.len()
     }
 
-    /// Looks up the name and the id of a node, None past the last.
+    /// Looks up the name and the id of a node. None past the last.
     pub fn get(&self, number: NodeNumber) -> Option<(&str, Ipv4)>
         ensures { option_map (λ n. record { name = n.0.now; id = n.1 }) result ≡ slice_get self.now number }
     {

@@ -15,7 +15,7 @@ pub struct OwnerTable {
     map: IndexMap<Ipv4, Owner>,
 }
 
-/// Drops its map. A derived drop would be proved anew for each owner.
+/// Drops its map. Written by hand because a derived drop would be proved again for every owner.
 impl Drop for OwnerTable {
     fn drop(self) {
         let OwnerTable { map } = self;

@@ -48,8 +48,8 @@ pub(crate) fn node_of(alloc: Global, fields: &NodeFields) -> Result<Node, TeFaul
     Ok(Node { name, id })
 }
 
-/// Reads the addresses of the link at the node that it leaves and at the one that it reaches. The names of both are
-/// judged first.
+/// Reads the addresses of the link at the node that it leaves and at the one that it reaches. Judges the names of both
+/// first.
 #[tactic(auto, unfolding(crate::specs::Ranges::link_addresses))]
 pub(crate) fn link_addresses(fields: &LinkFields) -> Result<(Ipv4, Ipv4), TeFault>
     ensures { Gives (λ p. p) result (link_addresses (link_texts fields.now)) }

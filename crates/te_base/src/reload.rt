@@ -34,7 +34,7 @@ fn all_same_ends(links: &[Link], others: &[Link]) -> bool
     true
 }
 
-/// Tests whether both are one network, but for the values of its links.
+/// Tests whether both are the same network, apart from the values of its links.
 pub(crate) fn is_same(parts: &Parts, others: &Parts) -> bool
     ensures { result ≡ same_network (base_in parts.now) (base_in others.now) }
 {

@@ -1,4 +1,4 @@
-//! The tables of a link text, one after the other: each adds a node or a link to what was read before.
+//! Reads the tables of a link text one after the other. Each adds a node or a link to what was read before.
 ghost use Rattle.std.specs.Prelude.{map};
 ghost use Rattle.toml.specs.View.{table_view};
 ghost use Rattle.te_base.specs.Faults.{Gives, Leaves};

@@ -9,7 +9,7 @@ use crate::spans::Arcs;
 use std::alloc::{AllocError, Global};
 use te_base::{Link, LinkNumber};
 
-/// Puts the link last of those that leave its node.
+/// Appends the link to those that leave its node.
 fn add(lists: &mut [Vec<Outgoing>], number: LinkNumber, link: &Link) -> Result<(), AllocError>
     requires { link.now.from < length lists.old }
     ensures { OnOk result ((v : ℕ) → listed lists.new v
@@ -52,7 +52,7 @@ fn lists_of(alloc: Global, links: &[Link], nodes: usize) -> Result<Vec<Vec<Outgo
     Ok(lists)
 }
 
-/// For each node the links that leave it, in the order of their numbers.
+/// Lists for each node the links that leave it, in the order of their numbers.
 pub(crate) fn leaving(alloc: Global, links: &[Link], nodes: usize) -> Result<Arcs, AllocError>
     requires { All (IsLinkAmong nodes) links.now }
     ensures count { IfOk result (λ arcs. length arcs ≡ nodes) }
@@ -62,7 +62,7 @@ pub(crate) fn leaving(alloc: Global, links: &[Link], nodes: usize) -> Result<Arc
     Arcs::new(alloc, &lists)
 }
 
-/// The link the other way round.
+/// Turns the link round.
 fn turned(link: &Link) -> Link
     ensures { result ≡ turned link.now }
 {
@@ -78,7 +78,7 @@ fn turned(link: &Link) -> Link
     }
 }
 
-/// The links the other way round, each at its number.
+/// Turns the links round, each at its number.
 fn all_turned(alloc: Global, links: &[Link]) -> Result<Vec<Link>, AllocError>
     ensures { IfOk result (λ all. all.items ≡ map turned links.now) }
 {
@@ -89,7 +89,7 @@ fn all_turned(alloc: Global, links: &[Link]) -> Result<Vec<Link>, AllocError>
     Ok(all)
 }
 
-/// For each node the links that enter it, in the order of their numbers, each the other way round.
+/// Lists for each node the links that enter it, in the order of their numbers, each turned round.
 pub(crate) fn entering(alloc: Global, links: &[Link], nodes: usize) -> Result<Arcs, AllocError>
     requires { All (IsLinkAmong nodes) links.now }
     ensures count { IfOk result (λ arcs. length arcs ≡ nodes) }

@@ -4,16 +4,17 @@ ghost use Rattle.te_snapshot.specs.Pages.{is_marked, is_page_marked};
 
 use te_base::LinkNumber;
 
-/// Which rows of a table are out of date, and which pages have one. All past the 64th page are.
+/// Which rows of a table are out of date, and which pages have such a row. All pages from the 64th on count as out of
+/// date.
 #[derive(Clone, Copy, Debug)]
 pub struct Marks {
     pages: [bool; 64],
-    /// The rows of a page that isn't marked say nothing.
+    /// The rows of a page that isn't marked mean nothing.
     rows: [[bool; 64]; 64],
 }
 
 impl Marks {
-    /// Each row.
+    /// Marks each row.
     pub fn all() -> Marks
         ensures { (l : ℕ) → is_marked result l ≡ true }
     {
@@ -38,14 +39,14 @@ impl Marks {
         }
     }
 
-    /// Marks no row of 4,096 links any more.
+    /// Clears the marks of 4,096 links.
     pub fn clear(&mut self)
         ensures { (l : ℕ) → l < 4096 → is_marked self.new l ≡ false }
     {
         self.pages = [false; 64];
     }
 
-    /// Whether the page at this place is marked.
+    /// Tests whether the page at this place is marked.
     pub(crate) fn has(&self, page: usize) -> bool
         ensures { result ≡ is_page_marked self.now page }
     {
@@ -55,7 +56,7 @@ impl Marks {
         }
     }
 
-    /// The marks of the rows of a page.
+    /// Lends the marks of the rows of a page.
     pub(crate) fn rows(&self, page: usize) -> &[bool; 64]
         requires { page < 64 }
         ensures { result.now ≡ slice_index_or self.now.rows page [] }

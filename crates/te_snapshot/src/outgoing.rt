@@ -1,7 +1,7 @@
-//! A link as a node at its end sees it.
+//! A link as seen from a node at its end.
 use te_base::{Link, LinkNumber, NodeNumber};
 
-/// A link as the node that it leaves sees it, with what a search asks of it.
+/// A link as seen from the node that it leaves, with what a search asks of it.
 #[derive(Clone, Copy, Debug, PartialEq, Eq)]
 pub struct Outgoing {
     pub number: LinkNumber,
@@ -11,7 +11,7 @@ pub struct Outgoing {
     pub igp: u32,
     /// Its traffic engineering metric, 1 to 16,777,215.
     pub te: u32,
-    /// Its administrative groups, one a bit.
+    /// Its administrative groups, one per bit.
     pub colour: u32,
 }
 
@@ -19,7 +19,7 @@ impl Outgoing {
     ghost use Rattle.std.specs.Prelude.{◌≡◌};
     ghost use Rattle.te_snapshot.specs.Leaving.{arc_of};
 
-    /// The link of this number.
+    /// Makes the entry of the link of this number.
     #[inline(always)]
     pub fn of(number: LinkNumber, link: &Link) -> Outgoing
         ensures { result ≡ arc_of number link.now }

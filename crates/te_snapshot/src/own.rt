@@ -17,7 +17,7 @@ pub struct OwnShare {
 /// What a tunnel reserves on its links. It reserves nothing on a link that is not listed.
 pub type OwnShares = Sequence<OwnShare>;
 
-/// What the tunnel reserves on a link at a priority, in bytes per second.
+/// Returns what the tunnel reserves on a link at a priority, in bytes per second.
 pub fn own_share(own: &[OwnShare], link: LinkNumber, priority: Priority) -> u64
     ensures { result ≡ own_share own.now link priority }
 {

@@ -7,14 +7,14 @@ use lsp_words::{Colours, MetricType};
 use pcep_word::Ipv4;
 use te_base::{Link, LinkNumber, NodeNumber, OwnerTable};
 
-/// Finds the node that owns the address of an end, None where the end isn't given.
+/// Finds the node that owns the address of an end. None if the end isn't given.
 pub fn node_of(owners: &OwnerTable, end: Option<Ipv4>) -> Option<NodeNumber>
     ensures { result ≡ node_of owners.now end }
 {
     owners.node(end?)
 }
 
-/// Whether a link of this colour may be taken (RFC 3209 section 4.7.4).
+/// Tests whether a link of this colour may be taken (RFC 3209 section 4.7.4).
 #[inline(always)]
 pub fn colours_pass(colours: &Colours, colour: u32) -> bool
     ensures { result ≡ colours_pass colours.now colour }
@@ -43,7 +43,7 @@ fn metric_of(minimise: MetricType, links: &[Link], number: LinkNumber) -> u32
     }
 }
 
-/// Adds up a metric along a path of at most 64 links; a link that isn't there costs nothing. Takes no memory.
+/// Adds up a metric along a path of at most 64 links. A link that doesn't exist costs nothing. Allocates nothing.
 pub fn cost_of(minimise: MetricType, links: &[Link], path: &[LinkNumber]) -> u64
     requires { length path.now ≤ 64 }
     ensures cost { result ≡ cost_of minimise links.now path.now }
@@ -56,7 +56,7 @@ pub fn cost_of(minimise: MetricType, links: &[Link], path: &[LinkNumber]) -> u64
     cost
 }
 
-/// Whether a number keeps its bound, if it has one.
+/// Tests whether a number is within its bound, if it has one.
 pub fn is_within(bound: Option<u64>, number: u64) -> bool
     ensures { result ≡ is_within bound number }
 {
@@ -66,7 +66,7 @@ pub fn is_within(bound: Option<u64>, number: u64) -> bool
     }
 }
 
-/// Whether the path keeps the bounds on metrics that aren't minimised.
+/// Tests whether the path keeps the bounds on metrics that aren't minimised.
 pub fn keeps_other_bounds(links: &[Link], constraints: &Constraints, path: &[LinkNumber]) -> bool
     requires { length path.now ≤ 64 }
     ensures { result ≡ keeps_other_bounds links.now constraints.now path.now }

@@ -22,8 +22,8 @@ struct Shared {
     unreserved: Table,
 }
 
-/// A network and the unreserved bandwidth of its links at a moment, in bytes per second for each priority.
-/// It never changes. A contract sees it as a `NetworkState`, with eight numbers for each link.
+/// A network and the unreserved bandwidth of its links at one moment, in bytes per second for each priority. It never
+/// changes. A contract sees it as a `NetworkState`, with eight numbers for each link.
 #[derive(Drop)]
 pub struct Snapshot {
     shared: Arc<Shared, Global>,
@@ -42,8 +42,8 @@ impl Model for Snapshot {
 }
 
 impl Snapshot {
-    /// The network with these numbers: the eight at a place are what is unreserved on the link of that
-    /// number, by priority, and below 0 where more was reported than the link bears.
+    /// Joins the network with these numbers. The eight at a place are what is unreserved on the link of that number, by
+    /// priority. They are below 0 if more was reported than the link can carry.
     pub fn new(
         alloc: Global,
         topology: Arc<Topology, Global>,
@@ -57,7 +57,7 @@ impl Snapshot {
         Snapshot::of(alloc, topology, table)
     }
 
-    /// The network with this table.
+    /// Joins the network with this table.
     pub fn of(
         alloc: Global,
         topology: Arc<Topology, Global>,
@@ -76,21 +76,21 @@ impl Snapshot {
         Ok(Snapshot { shared })
     }
 
-    /// The network.
+    /// Lends the network.
     pub fn topology(&self) -> &Topology
         ensures { result.now ≡ self.now.network }
     {
         &self.shared.topology
     }
 
-    /// The network, shared: takes no memory.
+    /// Shares the network. Allocates nothing.
     pub fn shared_topology(&self) -> Result<Arc<Topology, Global>, AllocError>
         ensures { IfOk result (λ t. arc_value t ≡ self.now.network) }
     {
         Arc::try_clone(&self.shared.topology)
     }
 
-    /// What is unreserved on a link at a priority, in bytes per second; None where there is no such link.
+    /// Looks up what is unreserved on a link at a priority, in bytes per second. None if there is no such link.
     pub fn unreserved(&self, link: LinkNumber, priority: Priority) -> Option<i64>
         ensures { result ≡ option_map (λ _. left self.now.unreserved link priority) (slice_get self.now.network.links link) }
     {
@@ -98,7 +98,7 @@ impl Snapshot {
         Some(numbers[priority.number() as usize])
     }
 
-    /// What is unreserved on each link: eight numbers at the link's number, by priority.
+    /// Lends what is unreserved on each link: eight numbers at the link's number, by priority.
     pub fn table(&self) -> &Table
         ensures table { result.now ≡ self.now.unreserved }
         ensures whole { length result.now ≡ length self.now.network.links }
@@ -108,7 +108,7 @@ impl Snapshot {
 }
 
 impl PlainData for Snapshot {
-    /// The same snapshot, shared: takes no memory.
+    /// Shares the snapshot. Allocates nothing.
     fn copy(&self) -> Result<Snapshot, AllocError> {
         Ok(Snapshot {
             shared: Arc::try_clone(&self.shared)?,

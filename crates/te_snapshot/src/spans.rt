@@ -8,14 +8,14 @@ use std::alloc::{AllocError, Global};
 use std::marker::Model;
 use te_base::{Link, NodeNumber};
 
-/// Where the links of a node stand: from a place on, up to another.
+/// Where the links of a node are: from one place up to another.
 #[derive(Clone, Copy, Debug, PartialEq, Eq)]
 pub(crate) struct Span {
     start: usize,
     end: usize,
 }
 
-/// The links of each node, all in one list, so that a copy is made of few parts. A contract sees the list of each node.
+/// The links of each node, all in one list, so that copying takes few steps. A contract sees the list of each node.
 #[derive(Debug, Drop)]
 pub(crate) struct Arcs {
     spans: Vec<Span>,
@@ -54,7 +54,7 @@ fn add_all(arcs: &mut Arcs, lists: &[Vec<Outgoing>]) -> Result<(), AllocError>
     Ok(())
 }
 
-/// Sets the values of a link to those that it has among these links.
+/// Gives a link the values that it has among these links.
 #[inline(always)]
 fn set_values(arc: &mut Outgoing, links: &[Link])
     ensures { arc.new ≡ arc_now links.now arc.old }

@@ -12,10 +12,10 @@ use std::marker::Model;
 use std::sync::Arc;
 use te_base::{Link, LinkNumber};
 
-/// What is unreserved on 64 links that follow one another, by priority.
+/// What is unreserved on 64 consecutive links, by priority.
 type Page = [[i64; 8]; 64];
 
-/// What is unreserved on each link, by priority, in pages that tables share where they agree. It never changes. A
+/// What is unreserved on each link, by priority, in pages that tables share if they agree in them. It never changes. A
 /// contract sees the list of rows, eight numbers each.
 #[derive(Drop)]
 pub struct Table {
@@ -34,7 +34,7 @@ impl Model for Table {
     ghost invariant = { IsPaged };
 }
 
-/// What is left of an amount beside each of eight sums.
+/// Subtracts each of eight sums from an amount.
 fn left_of(amount: u64, sums: &[u64; 8]) -> [i64; 8]
     requires amount { amount < 2 ^ 63 }
     requires sums { (p : ℕ) → p < 8 → slice_index sums.now p < 2 ^ 63 }
@@ -47,7 +47,7 @@ fn left_of(amount: u64, sums: &[u64; 8]) -> [i64; 8]
     left
 }
 
-/// What the sums of a link leave of it.
+/// Computes what the sums of a link leave of it.
 fn left_beside(links: &[Link], sums: &[[u64; 8]], link: LinkNumber) -> [i64; 8]
     requires link { link < length links.now }
     requires same { length sums.now ≡ length links.now }
@@ -58,7 +58,8 @@ fn left_beside(links: &[Link], sums: &[[u64; 8]], link: LinkNumber) -> [i64; 8]
     left_of(links[link].reservable, &sums[link])
 }
 
-/// The page of the links from 64 times its place on: the marked rows are of the sums, the others those that stand.
+/// Makes the page of the links from 64 times its place on. The marked rows are computed from the sums, the others
+/// copied from the old page.
 fn page_beside(
     standing: &Page,
     marked: &[bool; 64],
@@ -83,7 +84,7 @@ fn page_beside(
     rows
 }
 
-/// The page of the rows from 64 times its place on.
+/// Makes the page of the rows from 64 times its place on.
 fn page_of(table: &[[i64; 8]], page: usize) -> Page
     requires page { page ≤ 64 }
     ensures { (place : ℕ) → place < 64 → 64 * page + place < length table.now
@@ -99,7 +100,7 @@ fn page_of(table: &[[i64; 8]], page: usize) -> Page
     rows
 }
 
-/// The page at this place: with the marked rows of the sums where it has one, else the one that stands, shared.
+/// Makes the page at this place: if it has marked rows, with those computed from the sums, else the old page, shared.
 fn page_now(
     alloc: Global,
     standing: &Arc<Page, Global>,
@@ -122,7 +123,7 @@ fn page_now(
     Arc::try_clone(standing)
 }
 
-/// The pages of these rows.
+/// Makes the pages of these rows.
 fn pages_of(alloc: Global, table: &[[i64; 8]]) -> Result<Vec<Arc<Page, Global>>, AllocError>
     requires { length table.now ≤ 4096 }
     ensures whole { IfOk result (λ pages. length table.now ≤ 64 * length pages.items) }
@@ -137,7 +138,7 @@ fn pages_of(alloc: Global, table: &[[i64; 8]]) -> Result<Vec<Arc<Page, Global>>,
     Ok(pages)
 }
 
-/// The pages that stand, with the marked rows of the sums.
+/// Makes the pages anew, with the marked rows computed from the sums.
 fn pages_now(
     alloc: Global,
     standing: &[Arc<Page, Global>],
@@ -161,7 +162,7 @@ fn pages_now(
 }
 
 impl Table {
-    /// A table of these rows, in pages of its own.
+    /// Makes a table of these rows, in pages of its own.
     pub fn new(alloc: Global, rows: &[[i64; 8]]) -> Result<Table, AllocError>
         requires { length rows.now ≤ 4096 }
         ensures { IfOk result (λ t. t ≡ rows.now) }
@@ -173,7 +174,8 @@ impl Table {
         })
     }
 
-    /// The table with what the sums leave of the links whose rows are marked. It shares all pages without a marked row.
+    /// Makes the table with what the sums leave of the links whose rows are marked. It shares all pages without a
+    /// marked row.
     pub fn renewed(
         &self,
         alloc: Global,
@@ -196,7 +198,7 @@ impl Table {
         })
     }
 
-    /// What is left of each link at each priority: eight numbers, None where there is no such link.
+    /// Looks up what is left of a link at each priority: eight numbers, or None if there is no such link.
     #[inline(always)]
     pub fn get(&self, link: LinkNumber) -> Option<&[i64; 8]>
         ensures { option_map (λ r. r.now) result ≡ slice_get self.now link }
@@ -208,7 +210,7 @@ impl Table {
         Some(&page[link % 64])
     }
 
-    /// What is left of a link at a priority, 0 where there is no such link.
+    /// Looks up what is left of a link at a priority, or 0 if there is no such link.
     #[inline(always)]
     pub fn left(&self, link: LinkNumber, priority: Priority) -> i64
         ensures { result ≡ left self.now link priority }

@@ -16,8 +16,8 @@ use std::marker::Model;
 use std::sync::Arc;
 use te_base::{Link, LinkNumber, NodeNumber, OwnerTable, TeBase};
 
-/// The links, the links that leave each node and those that enter it, and the owners of addresses with their
-/// index, which topologies of one network share. A contract sees it as a `Network` of lists, which is sound.
+/// The links, the links that leave each node and those that enter it, and the owners of addresses with their index.
+/// Topologies of one network share the owners. A contract sees it as a `Network` of lists, which is sound.
 #[derive(Drop)]
 pub struct Topology {
     nodes: usize,
@@ -40,7 +40,7 @@ impl Model for Topology {
 }
 
 impl Topology {
-    /// The network of a link text. Takes memory of its own.
+    /// Copies the network of a link text into memory of its own.
     pub fn new(alloc: Global, te: &TeBase) -> Result<Topology, AllocError>
         ensures { IfOk result (λ t. t ≡ network_of te.now) }
     {
@@ -54,7 +54,7 @@ impl Topology {
         })
     }
 
-    /// The network with other values of its links, each at its number. The owners are shared.
+    /// Makes the network with other values of its links, each at its number. The owners are shared.
     pub fn with_links(&self, alloc: Global, links: &[Link]) -> Result<Topology, AllocError>
         requires { AreLinksOf self.now links.now }
         ensures { IfOk result (λ t. t ≡ with_links self.now links.now) }
@@ -68,7 +68,7 @@ impl Topology {
         })
     }
 
-    /// How many nodes there are, at most 1,024. They are numbered from 0.
+    /// Counts the nodes, at most 1,024. They are numbered from 0.
     pub fn node_count(&self) -> usize
         ensures count { result ≡ self.now.nodes }
         ensures few { result ≤ 1024 }
@@ -76,7 +76,7 @@ impl Topology {
         self.nodes
     }
 
-    /// All links, each at its number.
+    /// Lends all links, each at its number.
     pub fn links(&self) -> &[Link]
         ensures links { result.now ≡ self.now.links }
         ensures few { length result.now ≤ 4096 }
@@ -85,7 +85,7 @@ impl Topology {
         &self.links
     }
 
-    /// The link of a number, None past the last.
+    /// Looks up the link of a number. None past the last.
     pub fn link(&self, number: LinkNumber) -> Option<Link>
         ensures link { result ≡ slice_get self.now.links number }
         ensures sound { IfSome result (IsLinkAmong self.now.nodes) }
@@ -93,7 +93,7 @@ impl Topology {
         self.links.get(number).copied()
     }
 
-    /// The node that owns the address of an end, None where the end isn't given or no node owns it.
+    /// Finds the node that owns the address of an end. None if the end isn't given or no node owns it.
     pub fn node_of(&self, end: Option<Ipv4>) -> Option<NodeNumber>
         ensures node { result ≡ node_of self.now.owners end }
         ensures within { IfSome result (λ n. n < self.now.nodes) }
@@ -101,7 +101,7 @@ impl Topology {
         node_of(&self.owners, end)
     }
 
-    /// The links that leave a node, in the order of their numbers.
+    /// Lends the links that leave a node, in the order of their numbers.
     pub fn leaving(&self, node: NodeNumber) -> &[Outgoing]
         requires { node < self.now.nodes }
         ensures links { result.now ≡ leaving self.now.links node }
@@ -110,8 +110,8 @@ impl Topology {
         self.leaving.at(node)
     }
 
-    /// The links that enter a node, in the order of their numbers. Each is given the other way round: `to` is
-    /// the node that the link leaves.
+    /// Lends the links that enter a node, in the order of their numbers. Each is turned round: `to` is the node that
+    /// the link leaves.
     pub fn entering(&self, node: NodeNumber) -> &[Outgoing]
         requires { node < self.now.nodes }
         ensures links { result.now ≡ entering self.now.links node }
