@@ -19,7 +19,7 @@ use lsp_base::{Constraints, LspBase, PATH_LIMIT, Path, is_delegated, is_pending}
 use te_base::TeBase;
 use te_snapshot::keeps_other_bounds;
 
-/// Whether there is nothing to update any more.
+/// Tests whether there is nothing left to update.
 fn is_moot(base: &LspBase, peer: u32, purpose: &Purpose) -> bool
     ensures { result ≡ is_moot base.now.content peer purpose.now }
 {
@@ -67,7 +67,7 @@ fn accepted(ticket: &Ticket, base: &LspBase, view: PeerView) -> Verdict
     }
 }
 
-/// Whether one more path is admissible now, and within all bounds.
+/// Tests whether one more path is admissible now, and within all bounds.
 fn is_acceptable(
     te: &TeBase,
     base: &LspBase,
@@ -111,19 +111,19 @@ fn verdict_of(
     }
 }
 
-/// What becomes of a taken ticket, as the LSPs are now. `offer` is the path that a grant of what the search found
-/// would add (`offered_path`), or `None` where it found nothing; the search's own numbers play no part. Takes no
-/// memory.
+/// Decides what becomes of a taken ticket, given the LSPs as they are now. `offer` is the path that a grant of what the
+/// search found would add (`offered_path`), or `None` if it found nothing. The search's own figures play no part.
+/// Allocates nothing.
 ///
-/// `Gone` where the peer isn't up in the session in which the ticket was asked for, where it synchronizes (not
-/// for a request), or where an LSP to update isn't delegated any more or awaits a grant or a removal. With an
-/// offer that is admissible and within all bounds `Answer` for a request, else `Grant`, or `GivenUp` where 16,384
-/// paths stand or the next SRP-ID is still in use. With any other offer `Again`, and `GivenUp` at the fourth try.
-/// Without an offer `NoPath`, but `Again` where paths came or went or links were reloaded since the ticket was taken,
-/// up to the fourth try.
+/// Answers `Gone` if the peer isn't up in the session in which the ticket was asked for, if it is synchronizing (except
+/// for a request), or if an LSP to update isn't delegated any more or awaits a grant or a removal. With an offer that
+/// is admissible and within all bounds, answers `Answer` for a request, else `Grant`, or `GivenUp` if there are 16,384
+/// paths or the next SRP-ID is still in use. With any other offer, answers `Again`, and `GivenUp` at the fourth try.
+/// Without an offer, answers `NoPath`, but `Again` if paths came or went or links were reloaded since the ticket was
+/// taken, up to the fourth try.
 ///
-/// A grant leaves no link below zero at its setup priority or a better one, where it charges it anew. What a search
-/// finds is accepted where nothing changed since.
+/// A grant leaves no link below zero at its setup priority or a better one, on links that it charges anew. What a
+/// search finds is accepted if nothing changed since.
 pub fn judge(
     ticket: &Ticket,
     offer: Option<&Path>,
@@ -141,7 +141,7 @@ pub fn judge(
     ensures found_is_accepted { IsFoundNow te.now base.now.content ticket.now (option_copied offer.entry)
         → is_gone base.now.content ticket.now view ≡ false → result ≡ accepted base.now.content ticket.now view }
 {
-    // for the proof alone: a setup priority is at most 7
+    // only for the proof: a setup priority is at most 7
     let _setup = ticket.constraints.priorities.setup().number();
     verdict_of(ticket, offer, base, book, te, view)
 }

@@ -1,10 +1,10 @@
-//! Admission control, what becomes of a ticket when its search answers: `judge` tests the offer against the LSPs as
-//! they are now, whatever the snapshot of the search said. So no grant takes what isn't there: after it, each link that
-//! it charges anew has something left, or nothing, at each priority from holding to setup.
+//! Admission control: what becomes of a ticket when its search answers. `judge` tests the offer against the LSPs as
+//! they are now, whatever the snapshot of the search said. So no grant takes bandwidth that isn't there: after it, no
+//! link that it charges anew is overbooked at any priority from holding to setup.
 //!
-//! The layer above may rely on it that the verdict is the definition's in `specs/Verdicts.antt`; `specs/Routes.antt`
-//! says which paths are admissible, `specs/Offers.antt` which path a grant of an offer adds, `specs/Names.antt` what
-//! name an LSP that is asked for may have. Nothing is changed here, and `judge` takes no memory.
+//! The layer above may rely on the verdict being the definition's in `specs/Verdicts.antt`. `specs/Routes.antt` says
+//! which paths are admissible, `specs/Offers.antt` which path a grant of an offer adds, `specs/Names.antt` what name an
+//! LSP that is asked for may have. Nothing is changed here, and `judge` allocates nothing.
 //!
 //! ```text
 //! let path = offered_path(&ticket, base, srp, links);

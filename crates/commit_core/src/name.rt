@@ -24,7 +24,7 @@ impl Model for LspName {
 }
 
 impl LspName {
-    /// The name of these bytes; `None` where there is none of them, or more than 64. Takes no memory.
+    /// Makes a name of these bytes. Returns `None` if there are none, or more than 64. Allocates nothing.
     pub fn new(bytes: Sequence<u8>) -> Option<LspName>
         ensures { result ≡ name_of bytes }
     {
@@ -36,7 +36,7 @@ impl LspName {
         }
     }
 
-    /// The bytes, lent.
+    /// Lends the bytes.
     pub fn as_slice(&self) -> &[u8]
         ensures { result.now ≡ self.now }
     {

@@ -8,7 +8,7 @@ use lsp_words::Plsp;
 use sequence::Sequence;
 use te_base::LinkNumber;
 
-/// Whether a path is asked for to answer a request, and not to be granted.
+/// Tests whether a path is asked for to answer a request, and not to be granted.
 pub fn is_request(purpose: &Purpose) -> bool
     ensures { result ≡ is_request purpose.now }
 {
@@ -33,8 +33,8 @@ fn tunnel_named(base: &LspBase, peer: u32, plsp: Option<Plsp>) -> Option<Tunnel>
     }
 }
 
-/// The tunnel whose reservations a path for this purpose may share (RFC 3209 section 2.4.3): that of the LSP that
-/// it is for, where one is named and known. Takes no memory.
+/// Returns the tunnel whose reservations a path for this purpose may share (RFC 3209 section 2.4.3): that of the LSP
+/// that it is for, if one is named and known. Allocates nothing.
 pub fn own_tunnel(base: &LspBase, peer: u32, purpose: &Purpose) -> Option<Tunnel>
     ensures { result ≡ own_tunnel base.now.content.records peer purpose.now }
 {
@@ -70,8 +70,8 @@ fn granted_plsp(purpose: &Purpose) -> Plsp
     }
 }
 
-/// The path that a grant of these links adds, with this SRP-ID, as the LSPs are now. It is what `judge` tests; for
-/// a request it is never added. Takes no memory.
+/// Makes the path that a grant of these links adds, with this SRP-ID, given the LSPs as they are now. `judge` tests
+/// this path. For a request it is never added. Allocates nothing.
 #[tactic(auto, unfolding(crate::specs::Offers::offered_path))]
 pub fn offered_path(base: &LspBase, srp: u32, ticket: &Ticket, links: Sequence<LinkNumber>) -> Path
     ensures { result ≡ offered_path base.now.content.records srp ticket.now links }

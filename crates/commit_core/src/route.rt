@@ -1,4 +1,4 @@
-//! Whether links are a path that constraints allow.
+//! Whether links form a path that constraints allow.
 ghost use Rattle.std.specs.Prelude.{◌≡◌, ◌≤◌, ◌==◌, map, length, slice_get, true};
 ghost use Rattle.std.specs.List.{list_any};
 ghost use Rattle.te_snapshot.specs.Admissible.{end_of, is_distinct, nodes_of};
@@ -9,10 +9,10 @@ use lsp_words::Colours;
 use te_base::{LinkNumber, NodeNumber, TeBase};
 use te_snapshot::{colours_pass, cost_of, is_within, node_of};
 
-/// How many links a path has at most.
+/// The greatest number of links of a path.
 const LINK_LIMIT: usize = 64;
 
-/// Whether the links are there and lead from one node to the other.
+/// Tests whether the links exist and lead from one node to the other.
 fn leads(te: &TeBase, from: NodeNumber, to: NodeNumber, path: &[LinkNumber]) -> bool
     ensures { result ≡ leads from to (map (slice_get te.now.links) path.now) }
 {
@@ -38,7 +38,7 @@ fn end_of(te: &TeBase, number: LinkNumber) -> NodeNumber
     }
 }
 
-/// Whether a path that starts at a node passes another.
+/// Tests whether a path that starts at a node passes another.
 fn passes(te: &TeBase, start: NodeNumber, path: &[LinkNumber], node: NodeNumber) -> bool
     ensures { result ≡ list_any (λ y. y == node) (nodes_of te.now.links start path.now) }
 {
@@ -52,7 +52,7 @@ fn passes(te: &TeBase, start: NodeNumber, path: &[LinkNumber], node: NodeNumber)
     here == node
 }
 
-/// Whether a path that starts at a node passes none twice.
+/// Tests whether a path that starts at a node passes no node twice.
 fn passes_once(te: &TeBase, start: NodeNumber, path: &[LinkNumber]) -> bool
     ensures { result ≡ is_distinct (nodes_of te.now.links start path.now) }
 {
@@ -90,8 +90,8 @@ fn all_have_colours(te: &TeBase, colours: &Colours, path: &[LinkNumber]) -> bool
     true
 }
 
-/// Whether the links are a path from the source to the destination that the constraints allow, leaving bandwidth
-/// and the bounds on metrics that aren't minimised aside.
+/// Tests whether the links are a path from the source to the destination that the constraints allow, apart from
+/// bandwidth and from the bounds on metrics that aren't minimised.
 #[tactic(auto, unfolding(crate::specs::Routes::is_route))]
 pub fn is_route(te: &TeBase, constraints: &Constraints, path: &[LinkNumber]) -> bool
     ensures route { result ≡ is_route te.now constraints.now path.now }

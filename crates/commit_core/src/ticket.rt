@@ -24,7 +24,7 @@ pub enum Purpose {
     Answer {
         /// The Request-ID.
         request: u32,
-        /// The LSP that the path is for, where the request names one (RFC 8231 section 6.4).
+        /// The LSP that the path is for, if the request names one (RFC 8231 section 6.4).
         plsp: Option<Plsp>,
         constraints: Constraints,
     },
@@ -54,17 +54,17 @@ impl PlainData for Purpose {
 /// A path that is asked for.
 #[derive(Debug, Drop)]
 pub struct Ticket {
-    /// From 1, over all peers, in the order in which they were asked for.
+    /// From 1, over all peers, in the order in which the tickets were asked for.
     pub id: u64,
     pub peer: u32,
     /// The peer's session in which it was asked for.
     pub session: u64,
     pub purpose: Purpose,
-    /// What is asked of the path: for an update, what the LSP's record asked when it was asked for.
+    /// What is asked of the path. For an update, this is what the LSP's record asked when the ticket was made.
     pub constraints: Constraints,
     /// How often it was taken to be searched for, at most `TRY_LIMIT` times.
     pub tries: u32,
-    /// How often paths had come or gone or links been reloaded when it was taken last.
+    /// How often paths had come or gone or links been reloaded when it was last taken.
     pub seen: u64,
     /// A search for it is under way.
     pub taken: bool,

@@ -1,4 +1,4 @@
-//! What becomes of a ticket, and what that rests on beside the LSPs.
+//! What becomes of a ticket, and what decides that besides the LSPs.
 
 /// What is known of a ticket's peer, and of the whole state, at a commit.
 #[derive(Clone, Copy, Debug, PartialEq, Eq)]
@@ -11,7 +11,7 @@ pub struct PeerView {
     pub syncing: bool,
     /// How often paths came or went so far, of all peers, or links were reloaded.
     pub changes: u64,
-    /// A grant or a removal of the peer still has the SRP-ID that is the next.
+    /// A grant or a removal of the peer still uses the SRP-ID that comes next.
     pub srp_in_use: bool,
 }
 

@@ -10,7 +10,7 @@ use lsp_base::{LspBase, Path, carries_srp, is_grant_of_lsp, is_unbound};
 use pcep_messages::StateReport;
 use std::alloc::{AllocError, Global};
 
-/// Whether the path is the LSP's grant, or, where the LSP has none, the unbound one of the report's SRP-ID.
+/// Tests whether the path is the LSP's grant, or, if the LSP has none, the unbound one of the report's SRP-ID.
 pub fn meets_grant(granted: bool, peer: u32, report: &StateReport, path: &Path) -> bool
     ensures { result ≡ is_grant_met granted peer report.now path.now }
 {
@@ -27,7 +27,7 @@ pub fn settles_grant(report: &StateReport, path: &Path) -> bool
     carries_srp(report.srp, path.part) && means_settled(report.operational)
 }
 
-/// The grant that a report meets and does not settle.
+/// Tests whether a path is the grant that a report meets and does not settle.
 #[derive(Drop)]
 struct GrantKept<'a> {
     granted: bool,
@@ -45,7 +45,7 @@ impl<'a> Test<Path> for GrantKept<'a> {
     }
 }
 
-/// The unbound grant that a removal binds and does not settle.
+/// Tests whether a path is the unbound grant that a removal binds and does not settle.
 #[derive(Drop)]
 struct GrantBound<'a> {
     granted: bool,
@@ -101,7 +101,7 @@ impl<'a> Edit<Path> for BoundGrant<'a> {
     }
 }
 
-/// The grant that a report moves, as it leaves it.
+/// Copies the grant that a report moves, as it is afterwards.
 pub fn grants_moved(
     alloc: Global,
     base: &LspBase,
@@ -121,7 +121,7 @@ pub fn grants_moved(
     Ok(grants)
 }
 
-/// The grant that a removal binds, as it leaves it; none where all paths of the LSP are removed.
+/// Copies the grant that a removal binds, as it is afterwards. None if all paths of the LSP are removed.
 pub fn grants_bound(
     alloc: Global,
     base: &LspBase,

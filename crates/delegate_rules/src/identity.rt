@@ -59,7 +59,7 @@ pub fn means_down(operational: Operational) -> bool
     operational == Operational::Down
 }
 
-/// Whether the peer has done what it was asked, or will not.
+/// Tests whether the peer has done what it was asked, or will not do it.
 pub fn means_settled(operational: Operational) -> bool
     ensures { result ≡ is_settled operational }
 {

@@ -1,10 +1,9 @@
-//! What a state report does (RFC 8231 section 6.1): the path that it describes takes the place of an earlier
-//! one, or is removed; the grant that it answers is bound to the LSP, moved to its tunnel, or settled; and
-//! the record of the LSP is set. A report is never refused for the bandwidth that it books: the network is
-//! as it is. The rule computes an `Effect` and changes nothing; the layer above may rely on it that the
-//! answer is the definition's in `specs/Effects.antt`, and that `LspBase::change` may carry the effect out
-//! once room was reserved. What a report says of its path stands in `specs/Reports.antt`, what becomes of
-//! grants in `specs/Grants.antt`.
+//! What a state report does (RFC 8231 section 6.1). The path that it describes takes the place of an earlier one, or is
+//! removed. The grant that it answers is bound to the LSP, moved to its tunnel, or settled. The record of the LSP is
+//! set. A report is never refused for the bandwidth that it books: it says what the network already does. The rule
+//! computes an `Effect` and changes nothing. The layer above may rely on the answer being the definition's in
+//! `specs/Effects.antt`, and on `LspBase::change` being able to carry the effect out once room was reserved.
+//! `specs/Reports.antt` says what a report says of its path, `specs/Grants.antt` what becomes of grants.
 //!
 //! ```text
 //! match on_report(alloc, &base, &te, peer, &report) {

@@ -10,7 +10,7 @@ use pcep_objects::Plsp;
 use sequence::PlainData;
 use std::alloc::{AllocError, Global};
 
-/// Tests whether a path stays where the grants of an SRP-ID go.
+/// Tests whether a path stays if the grants of an SRP-ID go.
 #[derive(Drop)]
 struct Stays {
     peer: u32,
@@ -38,7 +38,7 @@ fn has_no_other(base: &LspBase, peer: u32, srp: u32, plsp: Plsp) -> bool
     !base.any_path_of_lsp(peer, plsp, &Stays { peer, srp })
 }
 
-/// Takes away the records of the LSPs of these grants, which go, where no path of the LSP stays.
+/// Removes the records of the LSPs of these grants, which go, if no path of the LSP stays.
 fn records_ended(
     alloc: Global,
     base: &LspBase,
@@ -104,19 +104,17 @@ fn removals_cleared(
     base.record_changes(alloc, &ClearedOf { peer, srp })
 }
 
-/// The peer refused the request of this SRP-ID (a PCErr, RFC 8231 section 6.3): its grant of the number, bound
-/// to an LSP or not, is dropped, and with it the LSP's record where no other path of the LSP stands. Where no
-/// grant has the number, the removal that has it isn't awaited any more. A number that neither has changes
-/// nothing.
+/// Handles a peer's refusal of the request of this SRP-ID (a PCErr, RFC 8231 section 6.3). Its grant of the number,
+/// bound to an LSP or not, is dropped, and with it the LSP's record if no other path of the LSP remains. If no grant
+/// has the number, the removal that has it isn't awaited any more. A number that neither has changes nothing.
 ///
-/// Grants are not kept by their numbers: it makes a pass over all paths, and where none of them is the grant one over
-/// all records.
+/// Grants have no index by number. So this passes over all paths, and if none of them is the grant, over all records.
 #[tactic(auto, unfolding(crate::specs::Refusals::refused_effect))]
 pub fn on_refused(alloc: Global, base: &LspBase, peer: u32, srp: u32) -> Result<Effect, AllocError>
     ensures effect { IfOk result (λ effect. effect ≡ refused_effect base.now.content peer srp) }
     ensures few { IfOk result (λ effect. IsWithinLimit base.now.content effect) }
 {
-    // for the proof alone: no more paths stand than there may be
+    // only for the proof: there are no more paths than there may be
     let _few = base.paths();
     let grants = base.paths_passing(alloc, &GrantAs { peer, srp })?;
     if has_no_path(grants.as_slice()) {

@@ -38,7 +38,7 @@ fn ends_grant(granted: bool, peer: u32, report: &StateReport, path: &Path) -> bo
         && (settles_grant(report, path) || path.plsp.number() == 0)
 }
 
-/// The paths that go by a removal.
+/// Tests whether a path goes by a removal.
 #[derive(Drop)]
 struct GoesByRemoval<'a> {
     granted: bool,
@@ -57,8 +57,8 @@ impl<'a> Test<Path> for GoesByRemoval<'a> {
     }
 }
 
-/// Takes the LSP's record away where it has no path left, unless a grant was bound. All paths that go are
-/// the LSP's, or were bound to none: so no other record can have lost its last one.
+/// Removes the LSP's record if it has no path left, unless a grant was bound. All paths that go are the LSP's, or were
+/// bound to none, so no other record can have lost its last one.
 fn records_after(
     alloc: Global,
     base: &LspBase,
@@ -77,7 +77,7 @@ fn records_after(
     }
 }
 
-/// What a removal does, by whether the LSP has a grant.
+/// Computes what a removal does, given whether the LSP has a grant.
 #[tactic(auto, unfolding(crate::specs::Effects::removal_effect_by))]
 pub fn effect_of_removal(
     alloc: Global,

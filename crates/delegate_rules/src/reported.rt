@@ -18,8 +18,9 @@ use sequence::{PlainData, Sequence};
 use std::alloc::{AllocError, Global};
 use te_base::{LinkNumber, TeBase};
 
-/// Lists the links of the path that a report describes: none where it is down, else the walk of its RRO, or of its ERO where
-/// it has none, from the sender to the endpoint of its identifiers (RFC 8231 section 6.1, RFC 3209 section 4.4).
+/// Lists the links of the path that a report describes. There are none if it is down. Otherwise they are the walk of
+/// its RRO, or of its ERO if it has no RRO, from the sender to the endpoint of its identifiers (RFC 8231 section 6.1,
+/// RFC 3209 section 4.4).
 pub fn report_links(
     alloc: Global,
     te: &TeBase,
@@ -170,7 +171,7 @@ fn replaces(peer: u32, report: &StateReport, path: &Path) -> bool
     is_path_of_lsp(path, peer, report.plsp) && replaces_part(zero, lsp, path)
 }
 
-/// The paths that go by a report with R clear.
+/// Tests whether a path goes by a report with R clear.
 #[derive(Drop)]
 struct GoesByReport<'a> {
     granted: bool,
@@ -232,7 +233,7 @@ pub fn record_of(alloc: Global, plsp: Plsp, lsp: Lsp) -> Result<Vec<RecordChange
     Ok(changes)
 }
 
-/// What a report with R clear does, by whether the LSP has a grant and what was known of it.
+/// Computes what a report with R clear does, given whether the LSP has a grant and what was known of it.
 #[tactic(auto, unfolding(crate::specs::Effects::report_effect_by))]
 pub fn effect_of_report(
     alloc: Global,

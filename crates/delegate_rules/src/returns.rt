@@ -33,9 +33,9 @@ fn given_back(alloc: Global, plsp: Plsp, lsp: &Lsp) -> Result<Vec<RecordChange>,
     record_of(alloc, plsp, lsp)
 }
 
-/// The PCE gives an LSP back to its peer (RFC 8231 section 5.7.3): the record's delegation ends, and nothing
-/// else changes. It is refused in this order: `Why::UnknownLsp` where nothing is known of the LSP,
-/// `Why::NotDelegated` where it isn't delegated, `Why::Pending` where a grant or a removal of it is awaited.
+/// Gives an LSP back to its peer (RFC 8231 section 5.7.3): the record's delegation ends, and nothing else changes.
+/// Refuses in this order: `Why::UnknownLsp` if nothing is known of the LSP, `Why::NotDelegated` if it isn't delegated,
+/// `Why::Pending` if a grant or a removal of it is awaited.
 #[tactic(auto, unfolding(crate::specs::Returns::return_result))]
 pub fn on_return(alloc: Global, base: &LspBase, peer: u32, plsp: Plsp) -> Result<Effect, RuleFault>
     ensures returned { Gives result (return_result base.now.content peer plsp) }
@@ -50,7 +50,7 @@ pub fn on_return(alloc: Global, base: &LspBase, peer: u32, plsp: Plsp) -> Result
     if is_pending(base, peer, plsp) {
         return Err(RuleFault::Why(Why::Pending));
     }
-    // for the proof alone: no more paths stand than there may be
+    // only for the proof: there are no more paths than there may be
     let _few = base.paths();
     let records = given_back(alloc, plsp, lsp)?;
     Ok(Effect::new(Vec::new(alloc), Vec::new(alloc), records, false))

@@ -39,7 +39,7 @@ fn reported_effect(
     }
 }
 
-/// Whether more than 16,384 paths would stand after the effect.
+/// Tests whether there would be more than 16,384 paths after the effect.
 fn adds_too_many(base: &LspBase, effect: &Effect) -> bool
     ensures { result ≡ is_too_many base.now.content effect.now }
 {
@@ -48,8 +48,8 @@ fn adds_too_many(base: &LspBase, effect: &Effect) -> bool
     base.paths().len() + added > PATH_LIMIT + dropped
 }
 
-/// What a report of a peer does (RFC 8231 section 6.1), R clear or set: with `Why::BadReport` it is refused
-/// where its PLSP-ID is reserved, with `Why::TooManyPaths` where more than 16,384 paths would stand after it.
+/// Computes what a report of a peer does (RFC 8231 section 6.1), with R clear or set. Refuses it with `Why::BadReport`
+/// if its PLSP-ID is reserved, and with `Why::TooManyPaths` if there would be more than 16,384 paths after it.
 #[tactic(auto, unfolding(crate::specs::Effects::report_result))]
 pub fn on_report(
     alloc: Global,

@@ -5,7 +5,7 @@ ghost use Rattle.event_bytes.specs.Bytes.{block};
 /// The most bytes that are counted: 2^40.
 pub(crate) const MOST: u64 = 1_099_511_627_776;
 
-/// How many bytes the allocator takes for a block of this many.
+/// Returns how many bytes the allocator takes for a block of this many.
 pub(crate) fn block(bytes: u64) -> u64
     ensures { result ≡ min (block bytes) (2 ^ 40) }
 {
@@ -18,21 +18,21 @@ pub(crate) fn block(bytes: u64) -> u64
     ((bytes + 23) / 16 * 16).max(32).min(MOST)
 }
 
-/// How many bytes the allocator takes for a list of bytes of this length.
+/// Returns how many bytes the allocator takes for a list of bytes of this length.
 pub(crate) fn block_of_bytes(length: usize) -> u64
     ensures { result ≡ min (block length) (2 ^ 40) }
 {
     block(length as u64)
 }
 
-/// The same for a list of numbers, which take 8 bytes each.
+/// Returns the same for a list of numbers, which take 8 bytes each.
 pub(crate) fn block_of_numbers(length: usize) -> u64
     ensures { result ≡ min (block (8 * length)) (2 ^ 40) }
 {
     block((length as u64).min(MOST) * 8)
 }
 
-/// The same for a list of what takes 32 bytes each.
+/// Returns the same for a list of items of 32 bytes each.
 pub(crate) fn block_of_32s(length: usize) -> u64
     ensures { result ≡ min (block (32 * length)) (2 ^ 40) }
 {

@@ -10,15 +10,15 @@ use sequence::Sequence;
 use step_core::{Event, Purpose};
 use te_base::LinkNumber;
 
-/// What a step takes if its event holds nothing on the heap: 224 for the block that the owners of the event share, 24 of the
-/// history, and 64 of the seat's receipts, with the room for more of them.
+/// What a step takes if its event holds nothing on the heap: 224 bytes for the block that the owners of the event
+/// share, 24 for the history, and 64 for the seat's receipts, with the room for more of them.
 const STEP: u64 = 312;
 
 const _: () = prove!(size_of::<Event>() <= 200);
 
 const _: () = prove!(size_of::<LinkReload>() == 32);
 
-/// How many bytes a name holds that may be missing.
+/// Counts the bytes of a name, if there is one.
 fn name_bytes(name: &Option<Sequence<u8>>) -> u64
     ensures { result ≡ min (name_bytes name.now) (2 ^ 40) }
 {
@@ -55,7 +55,7 @@ fn offer_bytes(offer: &Option<Sequence<LinkNumber>>) -> u64
     }
 }
 
-/// How many bytes the event holds on the heap.
+/// Counts the bytes that the event holds on the heap.
 fn held_bytes(event: &Event) -> u64
     ensures { result ≡ min (held_bytes event.now) (2 ^ 40) }
 {
@@ -68,8 +68,8 @@ fn held_bytes(event: &Event) -> u64
     }
 }
 
-/// How many bytes a step of the event takes in memory, in its history and in the receipt of its seat: 312, and what the
-/// event holds on the heap; 2^40 at the most.
+/// Counts the bytes that a step of the event takes in memory, in its history and in the receipt of its seat: 312, and
+/// what the event holds on the heap. It is 2^40 at most.
 #[tactic(auto, unfolding(crate::specs::Bytes::bytes_of))]
 pub fn bytes_of(event: &Event) -> u64
     ensures { result ≡ bytes_of event.now }

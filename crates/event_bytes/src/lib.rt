@@ -1,10 +1,10 @@
-//! How many bytes a step takes in memory, by its event: the event itself, the block that its owners share, the step of the
-//! history and the receipt of its seat, and all that the event holds on the heap: routes, names, links and values. The sizes
-//! are those of 64-bit machines and of the GNU C library's allocator. A thousand million bytes more or less don't matter to
-//! whoever counts, so no more than 2^40 are counted of one event, and no sum overflows.
+//! How many bytes a step takes in memory, by its event: the event itself, the block that its owners share, the step of
+//! the history and the receipt of its seat, and all that the event holds on the heap (routes, names, links and values).
+//! The sizes are those of 64-bit machines and of the GNU C library's allocator. At most 2^40 bytes are counted for one
+//! event, so that no sum overflows.
 //!
 //! The layer above may rely on `bytes_of`, which is the definition `bytes_of` of `specs/Bytes.antt`. It takes a few
-//! nanoseconds for each hop of a route, and takes no memory.
+//! nanoseconds for each hop of a route, and allocates nothing.
 //!
 //! ```text
 //! let bytes = bytes_of(&event);

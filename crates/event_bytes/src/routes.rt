@@ -8,7 +8,7 @@ use sequence::Sequence;
 
 const _: () = prove!(size_of::<Hop>() == 32);
 
-/// How many bytes a subobject holds on the heap.
+/// Counts the bytes that a subobject holds on the heap.
 fn hop_bytes(hop: &Hop) -> u64
     ensures { result ≡ min (hop_bytes hop.now) (2 ^ 40) }
 {
@@ -18,7 +18,7 @@ fn hop_bytes(hop: &Hop) -> u64
     }
 }
 
-/// How many bytes a subobject has on the wire.
+/// Counts the bytes of a subobject on the wire.
 fn wire_size(hop: &Hop) -> u64
     ensures { result ≡ min (wire_size hop.now) (2 ^ 40) }
 {
@@ -28,7 +28,8 @@ fn wire_size(hop: &Hop) -> u64
     }
 }
 
-/// How many bytes a route holds on the heap: its hops, with the room for more that its reader made, and what they hold.
+/// Counts the bytes that a route holds on the heap: its hops, with the room for more that its reader made, and what
+/// they hold.
 pub(crate) fn route_bytes(hops: &[Hop]) -> u64
     ensures { result ≡ min (route_bytes hops.now) (2 ^ 40) }
 {
@@ -46,7 +47,7 @@ pub(crate) fn route_bytes(hops: &[Hop]) -> u64
     (block(room * 32) + held).min(MOST)
 }
 
-/// The same of a route that may be missing.
+/// Counts the same for a route that may be missing.
 pub(crate) fn reported_route_bytes(hops: &Option<Sequence<Hop>>) -> u64
     ensures { result ≡ min (reported_route_bytes hops.now) (2 ^ 40) }
 {

@@ -41,7 +41,7 @@ pub struct Database {
     grants: u64,
 }
 
-/// Drops each part. A derived drop would be proved anew for each owner.
+/// Drops each part. Written by hand because a derived drop would be proved again for every owner.
 impl Drop for Database {
     fn drop(self) {
         let Database {
@@ -70,8 +70,8 @@ impl Model for Database {
     ghost invariant = { λ d. IsKept d.state d.history.items d.base d.text d.rolled d.rolled_grants d.grants };
 }
 
-/// For how many more steps room is made, by the number of those kept: for all that may be, with the first of them, so
-/// that no later step moves those before it. Memory that isn't written yet costs nothing but its addresses.
+/// Returns for how many more steps to reserve room, given how many are kept. The first step reserves room for all of
+/// them, so that none is ever moved. Memory that isn't written yet costs only addresses.
 fn wanted_room(kept: usize) -> usize
     ensures { 1 ≤ result }
 {
@@ -84,8 +84,8 @@ fn is_grant(brief: Brief) -> bool
     matches!(brief, Brief::Granted(_))
 }
 
-/// Keeps the event with the brief of its reply, as the newest step, in room that is there, and counts it where it is a
-/// grant.
+/// Appends a step (the event and the brief of its reply) to the history, and counts it if it is a grant. The caller has
+/// reserved the room.
 fn keep(history: &mut Vec<Step>, grants: &mut u64, event: SharedEvent, reply: &Reply)
     requires room { vec_len history.old + 1 ≤ vec_capacity history.old }
     requires grants { grants.old < 2 ^ 62 }
@@ -99,7 +99,7 @@ fn keep(history: &mut Vec<Step>, grants: &mut u64, event: SharedEvent, reply: &R
     history.push_reserved(Step { event, brief });
 }
 
-/// What is known, and the values of all links once more.
+/// Copies what is known, and the values of all links once more.
 fn known_at_first(state: &State) -> Result<(Base, Sequence<LinkValues>), AllocError>
     ensures base { IfOk result (λ known. known.0 ≡ known_in state.now) }
     ensures text { IfOk result (λ known. known.1 ≡ values_in state.now.te) }
@@ -115,8 +115,7 @@ fn known_at_first(state: &State) -> Result<(Base, Sequence<LinkValues>), AllocEr
 }
 
 impl Database {
-    /// A network of which nothing was reported yet. The links and nodes are dropped where memory is
-    /// refused.
+    /// Makes the database of a network of which nothing was reported yet. Drops the links and nodes if memory runs out.
     pub fn new(alloc: Global, te: TeBase) -> Result<Database, AllocError>
         ensures { IfOk result (λ database. database ≡ nothing_happened te) }
     {
@@ -138,16 +137,16 @@ impl Database {
         }
     }
 
-    /// Whether no further step can be kept.
+    /// Tests whether no further step can be kept.
     pub fn is_full(&self) -> bool
         ensures { result ≡ is_full self.now }
     {
         self.history.len() == STEP_LIMIT || self.steps() == LAST_STEP
     }
 
-    /// One event, which is kept with the brief of its reply. A refused event is kept too, and changes
-    /// nothing else. `HistoryFull` is answered exactly where 1,048,576 steps are kept, or 2^62 were ever
-    /// taken. After a fault nothing has changed, and the event is dropped.
+    /// Takes one event, and keeps it with the brief of its reply. A refused event is kept too, and changes nothing
+    /// else. Fails with `HistoryFull` exactly if 1,048,576 steps are kept, or 2^62 were ever taken. After a fault
+    /// nothing has changed, and the event is dropped.
     #[tactic(auto, using(crate::proofs::Sounding::sound_by_replay))]
     pub fn apply(&mut self, event: Event) -> Result<Reply, Fault>
         ensures step { IfOk result (λ reply. self.new ≡ stepped self.old event reply) }
@@ -166,7 +165,7 @@ impl Database {
         self.apply_shared(shared)
     }
 
-    /// The same of an event that others keep too.
+    /// Does what `apply` does, with an event that others keep too.
     #[tactic(auto, using(crate::proofs::Sounding::sound_by_replay))]
     pub fn apply_shared(&mut self, event: SharedEvent) -> Result<Reply, Fault>
         ensures step { IfOk result (λ reply. self.new ≡ stepped self.old event reply) }
@@ -187,9 +186,8 @@ impl Database {
         Ok(reply)
     }
 
-    /// The state becomes the base, and the kept steps are dropped: more can be kept again. It is no step, no
-    /// reply to a later event is another by it, and the steps and grants stay counted. Where memory is
-    /// refused nothing has changed.
+    /// Makes the state the base, and drops the kept steps, so that more can be kept again. This is no step, it changes
+    /// no reply to a later event, and the steps and grants stay counted. If memory runs out nothing has changed.
     pub fn roll(&mut self) -> Result<(), AllocError>
         ensures rolled { OnOk result (self.new ≡ rolled_up self.old) }
         ensures unchanged_without_memory { OnErr result (self.new ≡ self.old) }
@@ -199,8 +197,8 @@ impl Database {
         Ok(())
     }
 
-    /// The same, and gives the steps that were kept, oldest first: dropping a million of them takes time, which may be
-    /// spent once a lock is free.
+    /// Does what `roll` does, and returns the steps that were kept, oldest first. Dropping a million of them takes
+    /// time, which the caller can spend after it has freed a lock.
     pub fn take_rolled(&mut self) -> Result<Vec<Step>, AllocError>
         ensures rolled { OnOk result (self.new ≡ rolled_up self.old) }
         ensures given { IfOk result (λ steps. steps.items ≡ self.old.history) }
@@ -215,8 +213,8 @@ impl Database {
         Ok(mem::replace(&mut self.history, Vec::new(alloc)))
     }
 
-    /// What was known at the last roll, before the first of the kept steps; before the first roll, that
-    /// nothing was reported of the network of the link text. Takes no memory.
+    /// Returns what was known at the last roll, before the first of the kept steps. Before the first roll that is the
+    /// network of the link text, of which nothing was reported. Allocates nothing.
     pub fn base(&self) -> &Base
         ensures known { state_over self.now.state.te result.now ≡ self.now.base }
         ensures values { result.now.values ≡ values_in self.now.base.te }
@@ -224,14 +222,14 @@ impl Database {
         &self.base
     }
 
-    /// How many steps were taken before the base. Takes no memory.
+    /// Returns how many steps were taken before the base. Allocates nothing.
     pub fn rolled(&self) -> u64
         ensures { result ≡ self.now.rolled }
     {
         self.rolled
     }
 
-    /// The kept steps, oldest first. The first has the place `rolled` among all steps.
+    /// Lends the kept steps, oldest first. The first has the place `rolled` among all steps.
     #[tactic(auto, using(crate::proofs::Sounding::sound_by_replay))]
     pub fn history(&self) -> &[Step]
         ensures history { result.now ≡ self.now.history }
@@ -242,7 +240,7 @@ impl Database {
         self.history.as_slice()
     }
 
-    /// How many steps were ever taken, at most 2^62.
+    /// Returns how many steps were ever taken, at most 2^62.
     pub fn steps(&self) -> u64
         ensures steps { result ≡ steps_of self.now }
         ensures few { result ≤ last_step }
@@ -250,14 +248,14 @@ impl Database {
         self.rolled + self.history.len() as u64
     }
 
-    /// How many of all steps were grants.
+    /// Returns how many of all steps were grants.
     pub fn grants(&self) -> u64
         ensures { result ≡ grants_of self.now }
     {
         self.grants
     }
 
-    /// Whether a ticket waits to be searched for.
+    /// Tests whether a ticket waits to be searched for.
     pub fn waiting(&self) -> bool
         ensures waiting { result ≡ has_waiting self.now.state }
         ensures replays { Replays self.now }
@@ -265,10 +263,9 @@ impl Database {
         self.state.waiting()
     }
 
-    /// What is left on a link at a priority, in bytes per second: what may be reserved on it, minus,
-    /// summed over tunnels, the greatest bandwidth of the tunnel's paths there that are held at that
-    /// priority or a better one. It is below zero where more is reported than the link bears. `None`
-    /// where there is no such link. It takes no memory.
+    /// Computes what is left on a link at a priority, in bytes per second: the reservable bandwidth, minus the sum over
+    /// tunnels of the greatest bandwidth of the tunnel's paths there that are held at that priority or a better one. It
+    /// is below zero if more is reported than the link can carry. `None` if there is no such link. Allocates nothing.
     pub fn unreserved(&self, link: LinkNumber, priority: Priority) -> Option<i64>
         ensures no_such_link { IsNone result ↔ (length self.now.state.te.links ≤ link) }
         ensures left { IfSome result (λ left. left ≡ unreserved self.now.state.te.links self.now.state.base.paths link priority) }
@@ -277,7 +274,7 @@ impl Database {
         self.state.unreserved(link, priority)
     }
 
-    /// Whether a session of the peer is up.
+    /// Tests whether a session of the peer is up.
     pub fn is_up(&self, peer: u32) -> bool
         ensures is_up { result ≡ is_up self.now.state peer }
         ensures replays { Replays self.now }
@@ -285,7 +282,7 @@ impl Database {
         self.state.is_up(peer)
     }
 
-    /// Whether messages wait to be sent to the peer.
+    /// Tests whether messages wait to be sent to the peer.
     pub fn queued(&self, peer: u32) -> bool
         ensures queued { result ≡ is_queued self.now.state peer }
         ensures replays { Replays self.now }
@@ -293,14 +290,14 @@ impl Database {
         self.state.queued(peer)
     }
 
-    /// The links and nodes.
+    /// Lends the links and nodes.
     pub fn te_base(&self) -> &TeBase
         ensures { result.now ≡ self.now.state.te }
     {
         self.state.te_base()
     }
 
-    /// What is known at this moment.
+    /// Lends what is known at this moment.
     pub fn state(&self) -> &State
         ensures state { result.now ≡ self.now.state }
         ensures replays { Replays self.now }

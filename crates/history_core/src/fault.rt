@@ -9,14 +9,14 @@ use std::{error, fmt};
 /// Why an event was not applied. Nothing has changed, and no step is kept.
 #[derive(Clone, Copy, Debug, PartialEq, Eq)]
 pub enum Fault {
-    /// A growth was refused.
+    /// Memory ran out.
     OutOfMemory,
     /// 1,048,576 steps are kept, or 2^62 were ever taken.
     HistoryFull,
 }
 
 impl Fault {
-    /// The place of the fault in the order of the variants, 1 or 2.
+    /// Returns the place of the fault in the order of the variants, 1 or 2.
     pub fn number(self) -> u8
         ensures { result ≡ fault_number self }
     {

@@ -1,10 +1,10 @@
-//! The database: a state with the history of the steps that led to it. Every event that `apply` answers
-//! with `Ok`, a refused one too, is kept as one `Step`, which has the event and the brief of its reply. Of
-//! every value of `Database` it holds that its history replays: from its base, on one thread, its events
-//! give these very briefs and lead to its state (`specs/Histories.antt`). So what `unreserved` answers is
-//! what the reports leave of a link. At most 1,048,576 steps are kept; a roll makes the state the base, and
-//! drops the steps before it, which stay counted. All steps ever taken, those before the base too, are
-//! one legal and sound history from the network of the link text, of which nothing was reported (`one_history`).
+//! The database: a state with the history of the steps that led to it. Every event that `apply` answers with `Ok`, even
+//! a refused one, is kept as one `Step`, which has the event and the brief of its reply. The history of every
+//! `Database` replays: from its base, on one thread, its events give these very briefs and lead to its state
+//! (`specs/Histories.antt`). So what `unreserved` answers is what the reports leave of a link. At most 1,048,576 steps
+//! are kept. A roll makes the state the base, and drops the steps before it, which stay counted. All steps ever taken,
+//! those before the base too, are one legal and sound history from the network of the link text, of which nothing was
+//! reported (`one_history`).
 //!
 //! ```text
 //! fn left_after(database: &mut Database, event: Event) -> Result<Option<i64>, Fault>

@@ -6,7 +6,7 @@ use sequence::PlainData;
 use std::alloc::AllocError;
 use step_core::{Reply, SharedEvent, Why};
 
-/// A reply, cut down to what a history keeps of it.
+/// What a history keeps of a reply.
 #[derive(Clone, Copy, Debug, PartialEq, Eq)]
 pub enum Brief {
     Done,

@@ -1,5 +1,5 @@
 //! Laws of every database. They follow from its history: whatever holds of the empty network and is kept by each step
-//! holds of the state of each database, so no table that keeps the state has a say in it.
+//! holds of the state of each database, whatever tables keep that state.
 #![tactic(auto)]
 
 ghost use Rattle.std.specs.Prelude.{◌≡◌, All};
@@ -12,41 +12,43 @@ ghost use Rattle.step_core.specs.States.{State};
 ghost use Rattle.step_core.specs.Steps.{step};
 ghost use Rattle.step_core.specs.declared.event.Event.{Event};
 
-/// The state of a database is consistent: each LSP has at most one record and one grant, of a peer no two grants or
-/// awaited removals have the same SRP-ID, each awaited name is that of one grant, and each peer stands once.
+/// Shows that the state of a database is consistent: each LSP has at most one record and one grant, no two grants or
+/// awaited removals of a peer have the same SRP-ID, each awaited name is that of one grant, and each peer is listed
+/// once.
 pub fn consistent()
     ensures { (d : Content) → Replays d → IsConsistent d.state }
 {}
 
-/// Two databases that differ only in the order of their lists give the same reply to each event, and differ only in that
-/// order after it. So what a router is sent doesn't depend on the tables that keep the state.
+/// Shows that two databases that differ only in the order of their lists give the same reply to each event, and differ
+/// only in that order after it. So what a router is sent doesn't depend on the tables that keep the state.
 pub fn same_replies()
     ensures replies { (d e : Content) (event : Event) → Replays d → AreAlike d.state e.state → (step d.state event).reply ≡ (step e.state event).reply }
     ensures states { (d e : Content) (event : Event) → Replays d → AreAlike d.state e.state → AreAlike (step d.state event).state (step e.state event).state }
 {}
 
-/// Each path, each record and each awaited name of a database is of a peer that it knows.
+/// Shows that each path, each record and each awaited name of a database is of a peer that it knows.
 pub fn of_known_peers()
     ensures { (d : Content) → Replays d → AreOfKnownPeers d.state }
 {}
 
-/// No message waits for a peer that is down, and such a peer isn't synchronizing (RFC 8231 section 5.6).
+/// Shows that no message waits for a peer that is down, and that such a peer isn't synchronizing (RFC 8231 section
+/// 5.6).
 pub fn quiet_if_down()
     ensures { (d : Content) → Replays d → All IsQuietIfDown d.state.peers }
 {}
 
-/// No reported path has PLSP-ID 0, which is reserved (RFC 8231 section 7.3).
+/// Shows that no reported path has PLSP-ID 0, which is reserved (RFC 8231 section 7.3).
 pub fn reports_are_numbered()
     ensures { (d : Content) → Replays d → All IsNumbered d.state.base.paths }
 {}
 
-/// Each link of each path, reported or granted, is one of the network's, and none stands in a path twice.
+/// Shows that each link of each path, reported or granted, is one of the network's, and that no path has a link twice.
 pub fn links_stand_once()
     ensures { (d : Content) → Replays d → All (TakesLinksOnce d.state.te.links) d.state.base.paths }
 {}
 
-/// Local protection (flag L of LSPA, RFC 5440 section 7.11) decides nothing. Without it each event gets the same reply and
-/// leaves the same state, but for that flag. If no event and no state has it, no step sets it.
+/// Shows that local protection (flag L of LSPA, RFC 5440 section 7.11) decides nothing. Without it each event gets the
+/// same reply and leaves the same state, apart from that flag. If no event and no state has it, no step sets it.
 pub fn local_protection_decides_nothing()
     ensures nothing_else { (s : State) (event : Event) → plain_outcome (step s event) ≡ plain_outcome (step (plain s) (plain_event event)) }
     ensures never_set { (s : State) (event : Event) → step (plain s) (plain_event event) ≡ plain_outcome (step s event) }

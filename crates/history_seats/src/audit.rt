@@ -11,7 +11,7 @@ use crate::sameness::SameAs;
 use crate::seat::Seat;
 use history_core::Database;
 
-/// Whether the receipt is of a rolled place, or its event and its brief are those of the kept step at its place.
+/// Tests whether the receipt is of a rolled place, or its event and its brief are those of the kept step at its place.
 fn agrees(database: &Database, receipt: &Receipt) -> bool
     ensures { IsTrue result ↔ Agrees database.now receipt.now }
 {
@@ -26,7 +26,7 @@ fn agrees(database: &Database, receipt: &Receipt) -> bool
     }
 }
 
-/// The place of the first receipt that doesn't agree with the history.
+/// Finds the place of the first receipt that doesn't agree with the history.
 fn differing(database: &Database, receipts: &[Receipt]) -> Option<u64>
     ensures none { IfNone result (All (Agrees database.now) receipts.now) }
     ensures some { IfSome result (λ place. Any (Differs database.now place) receipts.now) }
@@ -39,7 +39,7 @@ fn differing(database: &Database, receipts: &[Receipt]) -> Option<u64>
     None
 }
 
-/// The same of a seat, which has folded no place that isn't rolled.
+/// Does the same for a seat, which has folded no place that isn't rolled.
 fn differing_in<B: Brands>(database: &Database, seat: &Seat<B>) -> Option<u64>
     ensures none { IfNone result (SeatAgrees database.now seat.now) }
     ensures some { IfSome result (λ place. SeatDiffers database.now place seat.now) }
@@ -50,7 +50,7 @@ fn differing_in<B: Brands>(database: &Database, seat: &Seat<B>) -> Option<u64>
     differing(database, seat.receipts.as_slice())
 }
 
-/// The same of all seats.
+/// Does the same for all seats.
 fn differing_seat<B: Brands>(database: &Database, seats: &[Seat<B>]) -> Option<u64>
     ensures none { IfNone result (AllAgree database.now seats.now) }
     ensures some { IfSome result (λ place. Any (SeatDiffers database.now place) seats.now) }
@@ -64,8 +64,7 @@ fn differing_seat<B: Brands>(database: &Database, seats: &[Seat<B>]) -> Option<u
     None
 }
 
-/// The test of the receipts. Where each kept one agrees with its step, the seats' places leave nothing else that
-/// could fail.
+/// Tests the receipts. If each kept one agrees with its step, the seats' places leave nothing else that could fail.
 pub(crate) fn test_receipts<B: Brands>(
     database: &Database,
     seats: &[Seat<B>],

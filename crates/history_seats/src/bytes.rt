@@ -14,7 +14,7 @@ pub(crate) fn more_bytes(bytes: u64, event: &Event) -> u64
     bytes.saturating_add(bytes_of(event))
 }
 
-/// Sums the bytes of the steps that receipts are of: 2^64 - 1 at the most. Takes a few nanoseconds for each hop of a route.
+/// Sums the bytes of the steps of these receipts, up to 2^64 - 1. Takes a few nanoseconds for each hop of a route.
 #[tactic(auto, unfolding(crate::specs::Bytes::receipt_bytes))]
 pub fn receipt_bytes(receipts: &[Receipt]) -> u64
     ensures { result ≡ receipt_bytes receipts.now }

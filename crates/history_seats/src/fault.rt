@@ -11,23 +11,23 @@ use std::{error, fmt};
 pub enum AuditFault {
     /// Not all seats were given.
     SeatMissing,
-    /// The seats received more or fewer steps than were taken. Never answered: the seats' shares rule it out.
+    /// The seats received more or fewer steps than were taken. This never comes: the seats' shares rule it out.
     StepsDiffer,
-    /// The seats received more or fewer grants than there were. Never answered either.
+    /// The seats received more or fewer grants than there were. This never comes either.
     GrantsDiffer,
     /// A receipt of this place has another event or another brief than the step there, or there is no such
     /// step.
     ReceiptDiffers(u64),
-    /// Two receipts have one place. Never answered: each place is drawn once.
+    /// Two receipts have one place. This never comes: each place is drawn once.
     PlaceTwice,
-    /// The places of one seat don't rise. Never answered either.
+    /// The places of one seat don't rise. This never comes either.
     PlacesFall,
-    /// A growth was refused. Never answered: an audit takes no memory.
+    /// Memory ran out. This never comes: an audit allocates nothing.
     OutOfMemory,
 }
 
 impl AuditFault {
-    /// The place of the fault in the order of the variants, 1 to 7.
+    /// Returns the place of the fault in the order of the variants, 1 to 7.
     pub fn number(self) -> u8
         ensures { result ≡ audit_fault_number self }
     {

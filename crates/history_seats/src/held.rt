@@ -28,9 +28,9 @@ use std::mem;
 use std::sync::ledger::{Blank, Book, Share};
 use step_core::{Event, Reply, SharedEvent};
 
-/// A database, with the totals of what its seats received, the source of the places of its steps, and the keeper of what
-/// has happened to it. A contract sees that: the steps and rolls, oldest first, which led to the database from the network
-/// that the type names.
+/// A database, with the totals of what its seats received, the source of the places of its steps, and the keeper of
+/// what has happened to it. A contract sees the steps and rolls, oldest first, that led to the database from the
+/// network that the type names.
 pub struct Held<B: Brands> {
     alloc: Global,
     database: Database,
@@ -44,7 +44,7 @@ pub struct Held<B: Brands> {
     bytes: u64,
 }
 
-/// Drops each part. A derived drop would be proved anew for each owner.
+/// Drops each part. Written by hand because a derived drop would be proved again for every owner.
 impl<B: Brands> Drop for Held<B> {
     fn drop(self) {
         let Held {
@@ -84,7 +84,7 @@ impl<B: Brands> Model for Held<B> {
         × (h.bytes ≡ kept_bytes (database_at B.text h.history)) };
 }
 
-/// The brief of the last of the steps.
+/// Returns the brief of the last of the steps.
 fn newest_brief(steps: &[Step]) -> Brief
     requires { 0 < length steps.now }
     ensures { (before : List Step) (event : Event) (reply : Reply) → steps.now ≡ before ++ kept_step event reply ∷ [] → result ≡ brief_of reply }
@@ -93,7 +93,7 @@ fn newest_brief(steps: &[Step]) -> Brief
 }
 
 impl<B: Brands> Held<B> {
-    /// The next token's seat, with a part of each share.
+    /// Makes the next token's seat, with a part of each share.
     fn next_seat(
         alloc: Global,
         steps_left: &mut Share<Steps<B>>,
@@ -125,7 +125,7 @@ impl<B: Brands> Held<B> {
         )
     }
 
-    /// A seat for each token.
+    /// Makes a seat for each token.
     fn seats_of(
         alloc: Global,
         n: u64,
@@ -149,7 +149,7 @@ impl<B: Brands> Held<B> {
         Ok(seats)
     }
 
-    /// The source of places, and a seat for each of its tokens, with a part of each share.
+    /// Makes the source of places, and a seat for each of its tokens, with a part of each share.
     fn seated(
         alloc: Global,
         n: u64,
@@ -172,8 +172,8 @@ impl<B: Brands> Held<B> {
         Ok((source, seats))
     }
 
-    /// The database of which no step was taken yet, with its seats, one for each part of the two blanks and each
-    /// token of the room, 1 to 256 of them. All is dropped where memory is refused.
+    /// Makes the database of which no step was taken yet, with its seats: one for each part of the two blanks and each
+    /// token of the room, 1 to 256 of them. Drops everything if memory runs out.
     pub fn new(
         alloc: Global,
         database: Database,
@@ -193,7 +193,7 @@ impl<B: Brands> Held<B> {
         ensures database { IfOk result (λ r. (r.0 ≡ []) × (database ≡ database_at B.text [])) }
         ensures seats { IfOk result (λ r. r.1.items ≡ replicate n new_seat) }
     {
-        // for the proof alone: no step is kept
+        // only for the proof: no step is kept
         let _none = database.history();
         let (steps, steps_left) = steps.open::<Steps<B>>();
         let (grants, grants_left) = grants.open::<Grants<B>>();
@@ -219,22 +219,22 @@ impl<B: Brands> Held<B> {
         }
     }
 
-    /// The database, lent to be looked at.
+    /// Lends the database.
     pub fn database(&self) -> &Database
         ensures { result.now ≡ database_at B.text self.now }
     {
         &self.database
     }
 
-    /// How many bytes the kept steps take in memory, with their receipts and all that their events hold: the sum of
-    /// `event_bytes::bytes_of`, 2^64 - 1 at the most. A roll makes it 0.
+    /// Returns how many bytes the kept steps take in memory, with their receipts and all that their events hold: the
+    /// sum of `event_bytes::bytes_of`, up to 2^64 - 1. A roll makes it 0.
     pub fn kept_bytes(&self) -> u64
         ensures { result ≡ kept_bytes (database_at B.text self.now) }
     {
         self.bytes
     }
 
-    /// The database alone. The seats are of no more use.
+    /// Returns only the database. The seats are of no more use.
     pub fn into_database(self) -> Database
         ensures { result ≡ database_at B.text self }
     {
@@ -251,8 +251,8 @@ impl<B: Brands> Held<B> {
         database
     }
 
-    /// One event, as one step of the database, and its receipt to the seat. After a fault the database and the
-    /// seat are as before, and the event is dropped; `HistoryFull` is tested first.
+    /// Takes one event as one step of the database, and gives its receipt to the seat. After a fault the database and
+    /// the seat are as before, and the event is dropped. `HistoryFull` is tested first.
     pub fn step(&mut self, seat: &mut Seat<B>, event: Event) -> Result<Reply, Fault>
         ensures step { IfOk result (λ _. self.new ≡ self.old ++ Took event ∷ []) }
         ensures reply { IfOk result (λ reply. reply ≡ (step (database_at B.text self.old).state event).reply) }
@@ -272,8 +272,7 @@ impl<B: Brands> Held<B> {
         self.step_shared(seat, shared)
     }
 
-    /// The same of an event that others keep too. It stands in memory once, also for the history and the
-    /// receipt.
+    /// Does the same with an event that others keep too. It is in memory once, also for the history and the receipt.
     pub fn step_shared(&mut self, seat: &mut Seat<B>, event: SharedEvent) -> Result<Reply, Fault>
         ensures step { IfOk result (λ _. self.new ≡ self.old ++ Took event ∷ []) }
         ensures reply { IfOk result (λ reply. reply ≡ (step (database_at B.text self.old).state event).reply) }
@@ -286,8 +285,8 @@ impl<B: Brands> Held<B> {
         Ok(reply)
     }
 
-    /// The same, and the receipts that the seat keeps no longer are given, oldest first, to be dropped once a
-    /// lock is free. Room for the new receipt is made before the step, and nothing fails after it.
+    /// Does the same, and returns the receipts that the seat no longer keeps, oldest first, so that they can be dropped
+    /// after a lock is freed. Makes room for the new receipt before the step, and nothing fails after it.
     pub fn step_and_fold(
         &mut self,
         seat: &mut Seat<B>,
@@ -301,7 +300,7 @@ impl<B: Brands> Held<B> {
         ensures full { (result ≡ Err Fault.HistoryFull) ↔ IsTrue (is_full (database_at B.text self.old)) }
         ensures unchanged_on_fault { OnErr result ((self.new ≡ self.old) × (seat.new ≡ with_seen self.old seat.old)) }
     {
-        // for the proof alone: the seat has seen all that has happened until now
+        // only for the proof: the seat has seen all that has happened until now
         self.history.show(&mut seat.seen);
         if self.database.is_full() {
             return Err(Fault::HistoryFull);
@@ -328,7 +327,7 @@ impl<B: Brands> Held<B> {
         self.grants.add(&mut seat.grants, grants);
         self.steps.audit(&mut seat.steps);
         self.grants.audit(&mut seat.grants);
-        // for the proof alone: a seat received no more steps and grants than there were
+        // only for the proof: a seat received no more steps and grants than there were
         let _steps = self.database.steps();
         let _grants = self.database.grants();
         self.source.draw(&mut seat.drawn);
@@ -345,9 +344,9 @@ impl<B: Brands> Held<B> {
         Ok((reply, spare))
     }
 
-    /// Lets a seat that waits keep its receipts no longer, where the places of all of them are rolled: they are
-    /// given, oldest first, to be dropped once a lock is free, and stay counted. It is no step. A seat that
-    /// steps does this by itself. Takes no memory.
+    /// Lets a waiting seat drop its receipts if the places of all of them are rolled. Returns them, oldest first, so
+    /// that they can be dropped after a lock is freed; they stay counted. This is no step. A seat that steps does this
+    /// by itself. Allocates nothing.
     pub fn fold(&mut self, seat: &mut Seat<B>) -> Vec<Receipt>
         ensures same { self.new ≡ self.old }
         ensures begins { IsPrefix seat.old.seen self.old }
@@ -365,9 +364,9 @@ impl<B: Brands> Held<B> {
         mem::replace(&mut seat.receipts, Vec::new(self.alloc))
     }
 
-    /// The state becomes the base, and the kept steps are dropped. It is no step, and no seat changes: each folds its
-    /// receipts when it steps next, or by `fold`. Whoever rolls shows a seat, so that a look, which has none, can't roll.
-    /// Where memory is refused nothing has changed.
+    /// Makes the state the base, and drops the kept steps. This is no step, and no seat changes: each folds its
+    /// receipts when it steps next, or by `fold`. The caller shows a seat, so that a query, which has none, can't roll.
+    /// If memory runs out nothing has changed.
     pub fn roll(&mut self, seat: &mut Seat<B>) -> Result<(), AllocError>
         ensures rolled { OnOk result (self.new ≡ self.old ++ Rolled ∷ []) }
         ensures unchanged_without_memory { OnErr result (self.new ≡ self.old) }
@@ -378,7 +377,8 @@ impl<B: Brands> Held<B> {
         Ok(())
     }
 
-    /// The same, and the steps that were kept are given, oldest first, to be dropped once a lock is free.
+    /// Does the same, and returns the steps that were kept, oldest first, so that they can be dropped after a lock is
+    /// freed.
     pub fn take_rolled(&mut self, seat: &mut Seat<B>) -> Result<Vec<Step>, AllocError>
         ensures rolled { OnOk result (self.new ≡ self.old ++ Rolled ∷ []) }
         ensures given { IfOk result (λ steps. steps.items ≡ (database_at B.text self.old).history) }
@@ -394,7 +394,7 @@ impl<B: Brands> Held<B> {
         Ok(steps)
     }
 
-    /// A front that has seen all that has happened.
+    /// Makes a front that has seen all that has happened.
     pub fn front(&mut self) -> Front<Event, B>
         ensures front { result ≡ self.old }
         ensures same { self.new ≡ self.old }
@@ -402,7 +402,7 @@ impl<B: Brands> Held<B> {
         self.history.front()
     }
 
-    /// The seat has seen all that has happened.
+    /// Shows the seat all that has happened.
     pub fn show_seat(&mut self, seat: &mut Seat<B>)
         ensures begins { IsPrefix seat.old.seen self.old }
         ensures shown { seat.new ≡ with_seen self.old seat.old }
@@ -411,7 +411,7 @@ impl<B: Brands> Held<B> {
         self.history.show(&mut seat.seen);
     }
 
-    /// The front has seen all that has happened, and nothing that it had seen before is lost.
+    /// Shows the front all that has happened. It loses nothing that it had seen before.
     pub fn show(&mut self, seen: &mut Front<Event, B>)
         ensures begins { IsPrefix seen.old self.old }
         ensures shown { seen.new ≡ self.old }
@@ -420,8 +420,8 @@ impl<B: Brands> Held<B> {
         self.history.show(seen);
     }
 
-    /// Tests, in the order of `AuditFault`, that all seats are here, and that their receipts are those of the
-    /// history. Nothing changes, and no memory is taken.
+    /// Tests, in the order of `AuditFault`, that all seats are here, and that their receipts are those of the history.
+    /// Nothing changes, and nothing is allocated.
     pub fn audit(&mut self, seats: &mut Vec<Seat<B>>) -> Result<(), AuditFault>
         ensures same { self.new ≡ self.old }
         ensures same_seats { seats.new.items ≡ seats.old.items }

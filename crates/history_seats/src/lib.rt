@@ -1,18 +1,17 @@
-//! Seats: who received which steps, and the audit that compares what they received with the history.
-//! `Held` is a database of which every step is taken for a seat, and is `Database::apply` with one receipt
-//! to that seat: the place of the step among all, its event, and the brief of its reply. Nothing else gives
-//! a seat a receipt, and a fault leaves both as they were. Each seat has a share of all steps and one of all
-//! grants (`std::sync::ledger`). One type parameter, `Brands`, names these ledgers, the source of places and the
-//! history, so that the seats of one `Held` are known from all others by their type, and an audit of all of them
-//! never finds that the sums differ.
+//! Seats: who received which steps, and the audit that compares what they received with the history. `Held` is a
+//! database that takes every step for a seat. A step is `Database::apply` with one receipt to that seat: the place of
+//! the step among all, its event, and the brief of its reply. Nothing else gives a seat a receipt, and a fault leaves
+//! both as they were. Each seat has a share of all steps and one of all grants (`std::sync::ledger`). One type
+//! parameter, `Brands`, names these ledgers, the source of places and the history. So the type of a seat says which
+//! `Held` it belongs to, and an audit of all its seats never finds that the sums differ.
 //!
-//! Each step's place is drawn for its seat from a source under the same lock (`place_tokens`), so that every
-//! step that ever was, rolled or kept, was received by exactly one seat, once (`received_once`): no audit finds a place
-//! twice, or places that fall. After `Held::audit` each kept step has exactly one receipt, with its event and
-//! brief (`one_receipt_each`). Receipts of places that were rolled are folded into numbers when their seat steps
-//! next, or by `Held::fold`, and stay counted (`fold_counts`): their places stay known in the proofs, and their
-//! events and briefs are compared no longer. `specs/Receipts.antt` has what a seat receives, `specs/Audits.antt`
-//! what an audit compares, and when each fault comes.
+//! Each step's place is drawn for its seat from a source under the same lock (`place_tokens`). So every step that ever
+//! was, rolled or kept, was received by exactly one seat, once (`received_once`), and no audit finds a place twice, or
+//! places that fall. After `Held::audit` each kept step has exactly one receipt, with its event and brief
+//! (`one_receipt_each`). Receipts of rolled places are folded into numbers when their seat steps next, or by
+//! `Held::fold`, and stay counted (`fold_counts`): their places stay known in the proofs, but their events and briefs
+//! are no longer compared. `specs/Receipts.antt` has what a seat receives, `specs/Audits.antt` what an audit compares,
+//! and when each fault comes.
 //!
 //! ```text
 //! fn closed<B: Brands>(held: Held<B>, seats: &mut Vec<Seat<B>>) -> Result<Database, AuditFault>

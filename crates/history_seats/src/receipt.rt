@@ -1,4 +1,4 @@
-//! Receipts, and what their places are.
+//! Receipts, and their places.
 ghost use Rattle.std.specs.Prelude.{◌≡◌, if◌then◌else◌, ◌+◌, ◌≤◌, IsTrue, IfSome, IfNone, false, length};
 ghost use Rattle.history_core.specs.Briefs.{is_grant};
 ghost use Rattle.history_seats.specs.Receipts.{are_past, floor_after};
@@ -18,21 +18,21 @@ pub struct Receipt {
 }
 
 impl Receipt {
-    /// The place of the step among all steps that were ever taken, from 0.
+    /// Returns the place of the step among all steps that were ever taken, from 0.
     pub fn place(&self) -> u64
         ensures { result ≡ self.now.place }
     {
         self.place
     }
 
-    /// The event.
+    /// Lends the event.
     pub fn event(&self) -> &Event
         ensures { result.now ≡ self.now.event }
     {
         self.event.event()
     }
 
-    /// The brief of the reply.
+    /// Returns the brief of the reply.
     pub fn brief(&self) -> Brief
         ensures { result ≡ self.now.brief }
     {
@@ -50,7 +50,7 @@ impl PlainData for Receipt {
     }
 }
 
-/// One for a grant, and else none.
+/// Returns 1 for a grant, and 0 otherwise.
 pub(crate) fn grant_count(brief: Brief) -> u64
     ensures value { result ≡ (if is_grant brief then 1 else 0) }
     ensures small { result ≤ 1 }
@@ -61,8 +61,8 @@ pub(crate) fn grant_count(brief: Brief) -> u64
     }
 }
 
-/// One past the last place, where all of them are rolled and rise from the floor on. At the first receipt of a
-/// kept place the look ends.
+/// Returns one past the last place if all of them are rolled and rise from the floor on. The search ends at the first
+/// receipt of a kept place.
 pub(crate) fn past_floor(floor: u64, rolled: u64, receipts: &[Receipt]) -> Option<u64>
     ensures none { IfNone result (are_past floor rolled receipts.now ≡ false) }
     ensures past { IfSome result (λ after. IsTrue (are_past floor rolled receipts.now) × (after ≡ floor_after floor receipts.now)) }

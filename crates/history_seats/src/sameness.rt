@@ -11,9 +11,9 @@ use pcep_word::{Ipv4, Priorities};
 use sequence::Sequence;
 use step_core::{Event, LinkReload};
 
-/// Plain data, of which two values can be known apart wherever they differ.
+/// Plain data of which any two values that differ can be told apart.
 pub(crate) trait SameAs {
-    /// Whether the two are equal in all that they hold. Takes no memory.
+    /// Tests whether the two are equal in all that they hold. Allocates nothing.
     fn is_same(&self, other: &Self) -> bool
         ensures { IsTrue result ↔ (self.now ≡ other.now) };
 }

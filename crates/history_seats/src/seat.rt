@@ -8,15 +8,14 @@ use std::marker::Model;
 use std::sync::ledger::Share;
 use step_core::{Event, Job};
 
-/// What one caller holds: its receipts, its shares of all steps and of all grants, the token of its places, and
-/// perhaps a job. It is changed by calls of `Held` alone, but for the job in its hand, and a seat that is dropped
-/// fails every audit from then on.
+/// What one caller holds: its receipts, its shares of all steps and of all grants, the token of its places, and perhaps
+/// a job. Only calls of `Held` change it, except for the job in its hand. Once a seat is dropped, every audit fails.
 pub struct Seat<B: Brands> {
-    /// How many steps the seat received, the folded ones among them.
+    /// How many steps the seat received, including the folded ones.
     pub(crate) received: u64,
     /// How many of these were grants.
     pub(crate) granted: u64,
-    /// How many receipts are kept no longer.
+    /// How many receipts are no longer kept.
     pub(crate) folded: u64,
     /// How many of these were of grants.
     pub(crate) folded_grants: u64,
@@ -32,7 +31,7 @@ pub struct Seat<B: Brands> {
     pub(crate) seen: Front<Event, B>,
 }
 
-/// Drops each part. A derived drop would be proved anew for each owner.
+/// Drops each part. Written by hand because a derived drop would be proved again for every owner.
 impl<B: Brands> Drop for Seat<B> {
     fn drop(self) {
         let Seat {
@@ -80,7 +79,7 @@ impl<B: Brands> Seat<B> {
     ghost use Rattle.history_seats.specs.Receipts.{SeatContent, new_seat, steps_at, grants_at};
     ghost use Rattle.history_seats.specs.Lending.{LendsHand};
 
-    /// A seat that received nothing. Takes no memory.
+    /// Makes a seat that received nothing. Allocates nothing.
     pub(crate) fn new(
         alloc: Global,
         steps: Share<Steps<B>>,
@@ -109,14 +108,14 @@ impl<B: Brands> Seat<B> {
         }
     }
 
-    /// Makes room for this number of receipts more, so that a step finds it. Where memory is refused nothing has changed.
+    /// Makes room for this many more receipts, so that a step finds it. If memory runs out nothing has changed.
     pub fn reserve(&mut self, receipts: usize) -> Result<(), AllocError>
         ensures { self.new ≡ self.old }
     {
         self.receipts.reserve(receipts)
     }
 
-    /// The job in the seat's hand, lent: it may be taken out, and another put in.
+    /// Lends the job in the seat's hand. It may be taken out, and another put in.
     pub fn hand(&mut self) -> &mut Option<Job>
         ensures* writes_back { sem 𝓛 (LendsHand B.row B.Brands.own B.Room self.entry result) }
         ensures value { result.now ≡ self.old.hand }
@@ -124,21 +123,21 @@ impl<B: Brands> Seat<B> {
         &mut self.hand
     }
 
-    /// How many steps the seat received, those whose receipts are kept no longer among them.
+    /// Returns how many steps the seat received, including those whose receipts are no longer kept.
     pub fn steps(&self) -> u64
         ensures { result ≡ steps_at self.now }
     {
         self.received
     }
 
-    /// How many of these steps were grants.
+    /// Returns how many of these steps were grants.
     pub fn grants(&self) -> u64
         ensures { result ≡ grants_at self.now }
     {
         self.granted
     }
 
-    /// The receipts that are kept, oldest first.
+    /// Lends the receipts that are kept, oldest first.
     pub fn receipts(&self) -> &[Receipt]
         ensures { result.now ≡ self.now.receipts }
     {

@@ -12,8 +12,8 @@ use place_tokens::{PlaceTable, Token, give_back, learn, lend};
 use std::sync::ledger::{Book, Share};
 use step_core::Event;
 
-/// Lends each seat's shares to those that were seen, until all parts are together and so are the totals, and
-/// gives them back. It does nothing at run time, but to go down the seats.
+/// Lends each seat's shares to those that were seen, until all parts are together and so are the totals, and gives them
+/// back. At run time it only goes down the seats.
 pub(crate) fn gather<B: Brands>(
     steps: &mut Book<Steps<B>>,
     grants: &mut Book<Grants<B>>,
@@ -69,7 +69,7 @@ pub(crate) fn gather_places<B: Brands>(
     give_back(table, keeper, &mut first.drawn.token);
 }
 
-/// What each seat has seen is a beginning of the history.
+/// Learns that what each seat has seen is a beginning of the history.
 pub(crate) fn compare_all<B: Brands>(history: &mut Keeper<Event, B>, seats: &mut [Seat<B>])
     ensures same { (history.new ≡ history.old) × (seats.new ≡ seats.old) }
     ensures seen { All (HasSeenOf history.old) seats.old }

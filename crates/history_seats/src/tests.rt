@@ -1,4 +1,4 @@
-//! Two seats over two routers and one link: their receipts are forged, and the audit says how.
+//! Two seats over two routers and one link. Their receipts are forged, and the audit says how.
 ghost use Rattle.std.specs.Prelude.{◌≡◌, IfOk};
 ghost use Rattle.history_core.specs.Histories.{steps_of};
 ghost use Rattle.history_seats.specs.Audits.{IsAudited};
@@ -107,7 +107,7 @@ fn new_database(alloc: Global) -> Result<Database, Fail>
     Ok(Database::new(alloc, te)?)
 }
 
-/// The case, under new names.
+/// Runs the case, under new names.
 fn run_named<R: Abort>(rt: &R, alloc: Global, case: Case) -> Result<(), Fail> {
     let room = Unopened::new(alloc, 2)?;
     let history = Unnamed::new(alloc)?;
@@ -124,7 +124,7 @@ fn run_named<R: Abort>(rt: &R, alloc: Global, case: Case) -> Result<(), Fail> {
     )
 }
 
-/// A new database with two seats, four steps, and the case.
+/// Makes a database with two seats, takes four steps, and runs the case.
 fn run<B: Brands, R: Abort>(
     rt: &R,
     alloc: Global,
@@ -145,7 +145,7 @@ fn run<B: Brands, R: Abort>(
     test_case(rt, alloc, &mut held, &mut seats, case)
 }
 
-/// The database with no step, once it was audited.
+/// Audits the database with no step, and returns it.
 fn run_closed<B: Brands>(
     alloc: Global,
     database: Database,
@@ -164,7 +164,7 @@ fn run_closed<B: Brands>(
     Ok(closed(held, &mut seats)?)
 }
 
-/// The database, once its audit has passed.
+/// Audits the database, and returns it if the audit has passed.
 fn closed<B: Brands>(held: Held<B>, seats: &mut Vec<Seat<B>>) -> Result<Database, AuditFault>
     ensures audited { IfOk result (λ database. IsAudited B.seats database seats.old.items) }
     ensures same_seats { seats.new.items ≡ seats.old.items }
@@ -190,7 +190,7 @@ fn test_case<B: Brands, R: Abort>(
     }
 }
 
-/// One event of a seat.
+/// Takes one event of a seat.
 fn step_at<B: Brands>(
     held: &mut Held<B>,
     seats: &mut Vec<Seat<B>>,
@@ -202,7 +202,7 @@ fn step_at<B: Brands>(
     Ok(())
 }
 
-/// The first seat steps at the places 0 and 2, and the second at 1 and 3.
+/// Takes steps: the first seat at the places 0 and 2, the second at 1 and 3.
 fn take_steps<B: Brands>(held: &mut Held<B>, seats: &mut Vec<Seat<B>>) -> Result<(), Fail> {
     step_at(
         held,
@@ -218,15 +218,15 @@ fn take_steps<B: Brands>(held: &mut Held<B>, seats: &mut Vec<Seat<B>>) -> Result
     step_at(held, seats, 1, Event::Down { peer: 1 })
 }
 
-/// A copy of a receipt of the first seat.
+/// Copies a receipt of the first seat.
 fn receipt<B: Brands>(seats: &Vec<Seat<B>>, at: usize) -> Result<Receipt, Fail> {
     let seat = seats.first().ok_or("a seat")?;
     let receipt = seat.receipts().get(at).ok_or("a receipt")?;
     Ok(receipt.copy()?)
 }
 
-/// Writes over a receipt. Whether it is there, the other is of its place, and neither is of a grant: else nothing is
-/// done. A receipt of another place fits no seat.
+/// Writes over a receipt, if it is there, the other is of its place, and neither is of a grant. Otherwise it does
+/// nothing. A receipt of another place fits no seat.
 fn overwrite_in<B: Brands>(seat: &mut Seat<B>, at: usize, receipt: Receipt) -> bool {
     if at >= seat.receipts.len() {
         return false;
@@ -260,7 +260,7 @@ fn forge<B: Brands>(alloc: Global, seats: &mut Vec<Seat<B>>, forgery: Forgery) -
     overwrite(seats, 1, forged)
 }
 
-/// The audit finds a forgery twice, so changes nothing, and nothing once the forgery is undone.
+/// Tests that the audit finds a forgery twice, so changes nothing, and finds nothing once the forgery is undone.
 fn test_forgery<B: Brands, R: Abort>(
     rt: &R,
     alloc: Global,
@@ -307,7 +307,8 @@ fn test_missing_seat<B: Brands, R: Abort>(
     Ok(())
 }
 
-/// The first seat steps once more, and that step's receipt, the only one that it keeps then, is forged.
+/// Tests a forgery after a roll: the first seat steps once more, and the receipt of that step, the only one that it
+/// then keeps, is forged.
 fn test_after_a_roll<B: Brands, R: Abort>(
     rt: &R,
     held: &mut Held<B>,
@@ -328,14 +329,14 @@ fn test_after_a_roll<B: Brands, R: Abort>(
     overwrite(seats, 0, right)
 }
 
-/// What a seat counts and keeps.
+/// Tests what a seat counts and keeps.
 fn assert_seat<B: Brands, R: Abort>(rt: &R, seat: &Seat<B>, steps: u64, kept: usize) {
     assert_eq!(rt; seat.steps(), steps);
     assert_eq!(rt; seat.grants(), 0);
     assert_eq!(rt; seat.receipts().len(), kept);
 }
 
-/// The second seat's receipts are folded once their places are rolled, and not before.
+/// Tests that the second seat's receipts are folded once their places are rolled, and not before.
 fn test_fold<B: Brands, R: Abort>(
     rt: &R,
     held: &mut Held<B>,

@@ -6,9 +6,9 @@ ghost use Rattle.initiate_rules.specs.Checks.{must_be_new, may_be_deleted};
 use lsp_base::{LspBase, Why, is_created, is_delegated, is_pending};
 use pcep_objects::Plsp;
 
-/// Refuses an initiation with `Why::NameInUse` where an LSP of the peer has the symbolic path name already, or
-/// where it is held: what the PCE asks for or granted, and no report named yet, has it (RFC 8281 section
-/// 5.3). Allocates nothing.
+/// Refuses an initiation with `Why::NameInUse` if an LSP of the peer has the symbolic path name already, or if the name
+/// is held: the PCE asked for it or granted it, and no report has named it yet (RFC 8281 section 5.3). Allocates
+/// nothing.
 pub fn check_initiate(base: &LspBase, peer: u32, name: &[u8], held: bool) -> Result<(), Why>
     ensures { result ≡ answered_unless (must_be_new base.now.content peer name.now held) tt }
 {
@@ -18,9 +18,9 @@ pub fn check_initiate(base: &LspBase, peer: u32, name: &[u8], held: bool) -> Res
     Ok(())
 }
 
-/// Refuses a deletion (RFC 8281 section 5.4), in this order: with `Why::UnknownLsp` where nothing is known of
-/// the LSP, `Why::NotCreatedHere` where no PCE initiated it, `Why::NotDelegated` where it isn't delegated,
-/// `Why::Pending` where a grant or a removal of it is awaited. Allocates nothing.
+/// Refuses a deletion (RFC 8281 section 5.4), in this order: with `Why::UnknownLsp` if nothing is known of the LSP,
+/// `Why::NotCreatedHere` if no PCE initiated it, `Why::NotDelegated` if it isn't delegated, `Why::Pending` if a grant
+/// or a removal of it is awaited. Allocates nothing.
 pub fn check_delete(base: &LspBase, peer: u32, plsp: Plsp) -> Result<(), Why>
     ensures { result ≡ answered_unless (may_be_deleted base.now.content peer plsp) tt }
 {

@@ -1,8 +1,8 @@
-//! What the PCE asks a peer for: to update an LSP or to take it back (RFC 8231 section 6.2), to set one up or to
-//! take one away (RFC 8281 sections 5.3 and 5.4). `next_srp` numbers the requests, `check_initiate` and
-//! `check_delete` say why one may not be made, and the others make its message. Nothing is changed here; the
-//! layer above may rely on it that each answer is the definition's in `specs/`: `Numbers` has the numbers of
-//! requests, `Checks` the refusals in their order, `Messages` the messages.
+//! What the PCE asks a peer for: to update an LSP or to take it back (RFC 8231 section 6.2), to set one up or to remove
+//! one (RFC 8281 sections 5.3 and 5.4). `next_srp` numbers the requests, `check_initiate` and `check_delete` say why
+//! one may not be made, and the other functions make the messages. Nothing is changed here. The layer above may rely on
+//! each answer being the definition's in `specs/`: `Numbers` has the numbers of requests, `Checks` the refusals in
+//! their order, `Messages` the messages.
 //!
 //! ```text
 //! check_delete(&base, peer, plsp)?;

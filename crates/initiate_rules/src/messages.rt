@@ -1,4 +1,4 @@
-//! The messages of what the PCE asks for.
+//! The messages by which the PCE asks.
 ghost use Rattle.std.specs.Prelude.{◌≡◌, IfOk};
 ghost use Rattle.initiate_rules.specs.Messages.{hops_over, attributes_of, update_message, return_message, initiate_message, delete_message, answer_message, no_path_message};
 ghost use Rattle.pcep_messages.specs.Constraints.{metric_number};
@@ -11,7 +11,7 @@ use sequence::Sequence;
 use std::alloc::{AllocError, Global};
 use te_base::{LinkNumber, TeBase};
 
-/// The route over links: for each that is there one strict hop, its remote address (RFC 3209 section 4.3.3).
+/// Lists the route over links: one strict hop for each that exists, its remote address (RFC 3209 section 4.3.3).
 fn hops_over(
     alloc: Global,
     te: &TeBase,
@@ -28,7 +28,7 @@ fn hops_over(
     Ok(Sequence::from_vec(hops))
 }
 
-/// What an LSPA says of the path that is asked for, and whether local protection is wanted.
+/// Returns what an LSPA says of the path that is asked for, and whether local protection is wanted.
 fn attributes_of(constraints: &Constraints, local_protection: bool) -> Attributes
     ensures { result ≡ attributes_of constraints.now local_protection }
 {
@@ -39,9 +39,9 @@ fn attributes_of(constraints: &Constraints, local_protection: bool) -> Attribute
     }
 }
 
-/// The PCUpd that carries out a grant (RFC 8231 section 6.2): the LSP stays delegated and is to be active, over
-/// the links of these numbers, with the bandwidth, the priorities and the colours that the grant was found for, and with
-/// local protection if its router reported that it is wanted.
+/// Makes the PCUpd that carries out a grant (RFC 8231 section 6.2). The LSP stays delegated and is to be active. The
+/// message has the links of these numbers, the bandwidth, priorities and colours that the grant was found for, and
+/// local protection if the router reported that it is wanted.
 #[tactic(auto, unfolding(crate::specs::Messages::update_message))]
 pub fn update_message(
     alloc: Global,
@@ -65,7 +65,7 @@ pub fn update_message(
     }))
 }
 
-/// The PCUpd that gives an LSP back (RFC 8231 section 5.7.3): flag D clear, and no route. Allocates nothing.
+/// Makes the PCUpd that gives an LSP back (RFC 8231 section 5.7.3): flag D clear, and no route. Allocates nothing.
 #[tactic(auto, unfolding(crate::specs::Messages::return_message))]
 pub fn return_message(alloc: Global, srp: u32, plsp: Plsp) -> Message
     ensures { result ≡ return_message srp plsp }
@@ -81,8 +81,8 @@ pub fn return_message(alloc: Global, srp: u32, plsp: Plsp) -> Message
     })
 }
 
-/// The PCInitiate that sets an LSP up (RFC 8281 section 5.3): its name, its ends, its links, and the bandwidth,
-/// the priorities and the colours that it was asked for with, and no local protection. An end that isn't given is written
+/// Makes the PCInitiate that sets an LSP up (RFC 8281 section 5.3). It has the name, the ends, the links, and the
+/// bandwidth, priorities and colours that were asked for, and no local protection. An end that isn't given is written
 /// as 0.0.0.0.
 #[tactic(auto, unfolding(crate::specs::Messages::initiate_message))]
 pub fn initiate_message(
@@ -108,7 +108,7 @@ pub fn initiate_message(
     })))
 }
 
-/// The PCInitiate that takes an LSP away (RFC 8281 section 5.4): flag R of SRP set.
+/// Makes the PCInitiate that removes an LSP (RFC 8281 section 5.4): flag R of SRP set.
 #[tactic(auto, unfolding(crate::specs::Messages::delete_message))]
 pub fn delete_message(srp: u32, plsp: Plsp) -> Message
     ensures { result ≡ delete_message srp plsp }
@@ -126,8 +126,8 @@ fn metric_number(minimise: MetricType) -> u8
     }
 }
 
-/// The PCRep that answers a request with the links of these numbers, and with what they cost by the metric that
-/// the path was to have least of (RFC 5440 section 6.5).
+/// Makes the PCRep that answers a request with the links of these numbers, and with their cost by the metric that the
+/// path was to minimise (RFC 5440 section 6.5).
 #[tactic(auto, unfolding(crate::specs::Messages::answer_message))]
 pub fn answer_message(
     alloc: Global,
@@ -150,7 +150,7 @@ pub fn answer_message(
     }))
 }
 
-/// The PCRep that says that there is no path (RFC 5440 section 6.5), without NO-PATH-VECTOR. Allocates nothing.
+/// Makes the PCRep that says that there is no path (RFC 5440 section 6.5), without NO-PATH-VECTOR. Allocates nothing.
 #[tactic(auto, unfolding(crate::specs::Messages::no_path_message))]
 pub fn no_path_message(request: u32) -> Message
     ensures { result ≡ no_path_message request }

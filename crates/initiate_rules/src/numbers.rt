@@ -4,10 +4,11 @@ ghost use Rattle.initiate_rules.specs.Numbers.{next_srp, is_srp_used};
 
 use lsp_base::LspBase;
 
-/// The greatest SRP-ID that is used: 0xFFFFFFFF is reserved, as 0 is (RFC 8231 section 7.2).
+/// The greatest SRP-ID that is used. 0xFFFFFFFF is reserved, as 0 is (RFC 8231 section 7.2).
 const GREATEST_SRP: u32 = 0xffff_fffe;
 
-/// The SRP-ID that comes after another (RFC 8231 section 7.2): 1 after 0xFFFFFFFE, and 1 is the first, after 0.
+/// Returns the SRP-ID that comes after another (RFC 8231 section 7.2): 1 comes after 0xFFFFFFFE, and after 0, so it is
+/// the first.
 pub fn next_srp(last: u32) -> u32
     ensures number { result ≡ next_srp last }
     ensures first { 1 ≤ result }

@@ -12,7 +12,7 @@ use std::alloc::{AllocError, Global};
 use te_base::NodeNumber;
 use te_snapshot::{OwnShares, Snapshot, keeps_other_bounds};
 
-/// The least cost that is too much.
+/// Returns the least cost that is too much.
 fn limit_of(bound: Option<u64>) -> u32
     ensures limit { result ≡ limit_of bound }
     ensures small { result ≤ 2 ^ 31 }
@@ -33,7 +33,7 @@ fn hops_of(bound: Option<u64>) -> usize
     }
 }
 
-/// A least path between two nodes.
+/// Finds a least path between two nodes.
 fn between(
     alloc: Global,
     query: &Query<'_>,
@@ -48,7 +48,7 @@ fn between(
     ensures some { IfOk result (λ r. IfSome r (λ f. IsLeast (searched query.now) query.now.constraints.now query.now.own.now f.links f.cost)) }
     ensures none { IfOk result (λ r. IfNone r (IsImpossible (searched query.now) query.now.constraints.now query.now.own.now)) }
 {
-    // for the proof alone: the links of a topology are among its nodes
+    // only for the proof: the links of a topology are among its nodes
     let _links = query.topology.links();
     if source == destination {
         return Ok(None);
@@ -70,7 +70,7 @@ fn between(
     }
 }
 
-/// A least path from a node.
+/// Finds a least path from a node.
 fn leaving(
     alloc: Global,
     query: &Query<'_>,
@@ -88,7 +88,7 @@ fn leaving(
     }
 }
 
-/// A least path between the ends that are asked for.
+/// Finds a least path between the ends that are asked for.
 fn least_path(
     alloc: Global,
     query: &Query<'_>,
@@ -103,7 +103,7 @@ fn least_path(
     }
 }
 
-/// What is answered to a query.
+/// Answers a query.
 fn answer(
     alloc: Global,
     query: &Query<'_>,
@@ -131,8 +131,8 @@ fn answer(
     }
 }
 
-/// The same as `find`, and adds to `fallbacks` 1 where the quick search did not show its answer, so that the
-/// second one ran: where the cheapest walk has too many links.
+/// Does what `find` does, and adds 1 to `fallbacks` if the quick search couldn't show its answer, so that the second
+/// search ran. That happens if the cheapest walk has too many links.
 fn find_counting(
     alloc: Global,
     snapshot: &Snapshot,
@@ -152,12 +152,12 @@ fn find_counting(
     answer(alloc, &query, fallbacks)
 }
 
-/// A path from the source to the destination that the snapshot admits, of least cost, with its cost, if it keeps
-/// the other bounds.
+/// Finds a path from the source to the destination that the snapshot admits, of least cost, and returns it with its
+/// cost, if it keeps the other bounds.
 ///
-/// `None` where an end is missing or no node owns its address, where both ends are one node, where no path is
-/// admissible, and where the least path that was found breaks an other bound. Where several paths are least, any
-/// of them is answered. It takes no lock, and keeps nothing.
+/// Returns `None` if an end is missing or no node owns its address, if both ends are one node, if no path is
+/// admissible, or if the least path that was found breaks another bound. If several paths are least, it returns any of
+/// them. It takes no lock, and keeps nothing.
 pub fn find(
     alloc: Global,
     snapshot: &Snapshot,

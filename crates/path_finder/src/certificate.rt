@@ -10,8 +10,8 @@ use crate::query::{Ends, Query};
 use te_base::NodeNumber;
 use te_snapshot::Outgoing;
 
-/// Whether the label rises by no more than the link's metric from its near end to its far end, or the link may
-/// not be taken. What is cheap is tested first.
+/// Tests whether the label rises by no more than the link's metric from its near end to its far end, or the link may
+/// not be taken. The cheap test comes first.
 #[inline(always)]
 fn rises(query: &Query<'_>, near: u32, far: u32, arc: &Outgoing) -> bool
     requires igp { arc.now.igp < 2 ^ 24 }
@@ -24,7 +24,7 @@ fn rises(query: &Query<'_>, near: u32, far: u32, arc: &Outgoing) -> bool
     !is_open(query, arc)
 }
 
-/// The same of each link that leaves a node with this label.
+/// Tests this of each link that leaves a node with this label.
 #[inline(always)]
 fn all_rise_from(query: &Query<'_>, labels: &[u32], label: u32, arcs: &[Outgoing]) -> bool
     requires among { All (IsArcAmong (length labels.now)) arcs.now }
@@ -38,7 +38,7 @@ fn all_rise_from(query: &Query<'_>, labels: &[u32], label: u32, arcs: &[Outgoing
     true
 }
 
-/// The same of each link that enters a node with this label.
+/// Tests this of each link that enters a node with this label.
 #[inline(always)]
 fn all_rise_into(query: &Query<'_>, labels: &[u32], label: u32, arcs: &[Outgoing]) -> bool
     requires among { All (IsArcAmong (length labels.now)) arcs.now }
@@ -52,7 +52,7 @@ fn all_rise_into(query: &Query<'_>, labels: &[u32], label: u32, arcs: &[Outgoing
     true
 }
 
-/// The same of the links that leave a node below the middle, and of those that enter one above it.
+/// Tests this of the links that leave a node below the middle, and of those that enter one above it.
 #[inline(always)]
 fn is_relaxed_at(query: &Query<'_>, labels: &[u32], middle: u32, node: NodeNumber) -> bool
     requires nodes { length labels.now ≡ query.now.topology.now.nodes }
@@ -69,7 +69,7 @@ fn is_relaxed_at(query: &Query<'_>, labels: &[u32], middle: u32, node: NodeNumbe
     true
 }
 
-/// Goes over the nodes. From one at the middle or above to one at the middle or below no label rises.
+/// Tests this of all nodes. No label rises from a node at the middle or above to one at the middle or below.
 fn is_relaxed(query: &Query<'_>, labels: &[u32], middle: u32) -> bool
     requires nodes { length labels.now ≡ query.now.topology.now.nodes }
     ensures { IsTrue result → (v : ℕ) → v < length labels.now → IsRelaxedAt query.now query.now.topology.now.links labels.now middle v }
@@ -82,7 +82,7 @@ fn is_relaxed(query: &Query<'_>, labels: &[u32], middle: u32) -> bool
     true
 }
 
-/// Whether the labels show that each walk from the source to the destination costs at least the limit.
+/// Tests whether the labels show that each walk from the source to the destination costs at least the limit.
 pub(crate) fn none_cheaper(
     query: &Query<'_>,
     labels: &[u32],

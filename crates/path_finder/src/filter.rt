@@ -12,7 +12,7 @@ use pcep_word::Priority;
 use te_base::{Link, LinkNumber};
 use te_snapshot::{Outgoing, colours_pass, own_share};
 
-/// Whether what the tunnel's share rises by is left, or it doesn't rise.
+/// Tests whether what the tunnel's share rises by is left, or it doesn't rise.
 fn rise_fits(left: i64, share: u64, bandwidth: u64) -> bool
     requires { bandwidth < 2 ^ 48 }
     ensures { result ≡ (nat_le bandwidth share || int_le (pos (bandwidth - share)) left) }
@@ -20,8 +20,8 @@ fn rise_fits(left: i64, share: u64, bandwidth: u64) -> bool
     bandwidth <= share || (bandwidth - share) as i64 <= left
 }
 
-/// Whether the link bears the bandwidth at the priority. Own shares are looked up only where less is left
-/// than the bandwidth.
+/// Tests whether the bandwidth fits on the link at the priority. Own shares are looked up only if less is left than the
+/// bandwidth.
 #[inline(always)]
 fn has_room_at(query: &Query<'_>, link: LinkNumber, priority: Priority) -> bool
     ensures { result ≡ has_room_at query.now.unreserved.now query.now.own.now query.now.constraints.now.bandwidth link priority }
@@ -31,7 +31,7 @@ fn has_room_at(query: &Query<'_>, link: LinkNumber, priority: Priority) -> bool
     bandwidth as i64 <= left || rise_fits(left, own_share(query.own, link, priority), bandwidth)
 }
 
-/// Whether the link bears the bandwidth at each priority from holding to setup.
+/// Tests whether the bandwidth fits on the link at each priority from holding to setup.
 #[inline(always)]
 fn has_room(query: &Query<'_>, link: LinkNumber) -> bool
     ensures { result ≡ has_room query.now.unreserved.now query.now.own.now query.now.constraints.now.bandwidth
@@ -68,7 +68,7 @@ pub(crate) fn metric(minimise: MetricType, arc: &Outgoing) -> u32
     }
 }
 
-/// What the link adds to the cost of a path, where the path may take it.
+/// Returns what the link adds to the cost of a path, if the path may take it.
 #[inline(always)]
 #[tactic(auto, unfolding(crate::specs::Passing::fee))]
 pub(crate) fn fee(query: &Query<'_>, arc: &Outgoing) -> Option<u32>
@@ -84,7 +84,7 @@ pub(crate) fn fee(query: &Query<'_>, arc: &Outgoing) -> Option<u32>
     }
 }
 
-/// The same of a link by its number.
+/// Returns the same for a link by its number.
 pub(crate) fn toll(query: &Query<'_>, number: LinkNumber, link: &Link) -> Option<u32>
     requires igp { link.now.igp < 2 ^ 24 }
     requires te { link.now.te < 2 ^ 24 }

@@ -8,7 +8,7 @@ use te_base::LinkNumber;
 pub struct Found {
     /// Its links, from the source on.
     pub links: Sequence<LinkNumber>,
-    /// The sum of the metric that is minimised: 1 for each link where that is the number of links.
+    /// The sum of the metric that is minimised. If that is the number of links, each counts 1.
     pub cost: u64,
 }
 
@@ -28,6 +28,6 @@ pub(crate) enum QuickAnswer {
     Least(Found),
     /// No walk costs less than the limit.
     Nothing,
-    /// Neither was shown.
+    /// Neither could be shown.
     Unknown,
 }

@@ -39,7 +39,7 @@ fn judge(
     }
 }
 
-/// Answers by a quick search what its labels show.
+/// Answers what the labels of a quick search show.
 fn by_labels(
     alloc: Global,
     query: &Query<'_>,
@@ -52,7 +52,7 @@ fn by_labels(
     requires hops { hops ≤ 64 }
     ensures { IfOk result (λ answer. IsQuickAnswer query.now query.now.topology.now.links ends.source ends.destination ends.limit hops answer) }
 {
-    // for the proof alone: the links of a topology are among its nodes
+    // only for the proof: the links of a topology are among its nodes
     let _links = query.topology.links();
     let labels = search(alloc, query, query.topology.node_count(), ends)?;
     let cost = labels.costs[ends.destination];
@@ -69,8 +69,8 @@ fn by_labels(
     Ok(judge(query, ends, hops, cost, path))
 }
 
-/// A least walk of at most `hops` links, where one costs less than the limit. It counts how often the second
-/// search runs.
+/// Finds a least walk of at most `hops` links, if one costs less than the limit. It counts how often the second search
+/// runs.
 pub(crate) fn least_walk(
     alloc: Global,
     query: &Query<'_>,

@@ -1,4 +1,4 @@
-//! Nodes by their costs, the least first: a binary heap. Only the quick search uses it, so nothing rests on its
+//! Nodes by their costs, the least first: a binary heap. Only the quick search uses it, so no proof depends on its
 //! order.
 ghost use Rattle.std.specs.Prelude.{◌<◌, length, IfSome};
 
@@ -11,10 +11,10 @@ pub(crate) struct Reached {
     pub node: u32,
 }
 
-/// More levels than a heap of an entry for each link has.
+/// More levels than a heap has that holds an entry for each link.
 const LEVELS: u32 = 16;
 
-/// Puts an entry into the last place, or above where it is less.
+/// Puts an entry into the last place, or higher if it is less.
 #[inline(always)]
 fn raise(entries: &mut [Reached], reached: Reached) {
     let mut at = entries.len().saturating_sub(1);
@@ -34,7 +34,7 @@ fn raise(entries: &mut [Reached], reached: Reached) {
     }
 }
 
-/// The lesser of the two entries below.
+/// Finds the lesser of the two entries below.
 #[inline(always)]
 fn least_below(entries: &[Reached], at: usize) -> Option<usize>
     ensures { IfSome result (λ below. below < length entries.now) }
@@ -52,7 +52,7 @@ fn least_below(entries: &[Reached], at: usize) -> Option<usize>
     Some(left)
 }
 
-/// Puts an entry into the first place, or below where it is more.
+/// Puts an entry into the first place, or lower if it is more.
 #[inline(always)]
 fn lower(entries: &mut [Reached], reached: Reached) {
     let mut at = 0;
@@ -78,7 +78,7 @@ pub(crate) fn push(heap: &mut Vec<Reached>, reached: Reached) -> Result<(), Allo
     Ok(())
 }
 
-/// Takes the entry of least cost.
+/// Removes the entry of least cost and returns it.
 #[inline(always)]
 pub(crate) fn pop(heap: &mut Vec<Reached>) -> Option<Reached> {
     let last = heap.pop()?;
@@ -90,7 +90,7 @@ pub(crate) fn pop(heap: &mut Vec<Reached>) -> Option<Reached> {
     Some(first)
 }
 
-/// The least cost of an entry.
+/// Returns the least cost of an entry.
 #[inline(always)]
 pub(crate) fn least_cost(heap: &[Reached]) -> Option<u32> {
     match heap.first() {

@@ -1,6 +1,6 @@
-//! A quick search that nobody has to trust: what it finds is tested. It goes along links from the source and
-//! against them from the destination, until what either side has still to go on from is dearer together than the
-//! cheapest walk on which they met.
+//! A quick search that nobody has to trust, since what it finds is tested. It goes along links from the source and
+//! against them from the destination. It ends when the nodes that both sides have still to go on from cost more
+//! together than the cheapest walk on which they met.
 ghost use Rattle.std.specs.Prelude.{◌≡◌, ◌<◌, ◌≤◌, ◌^◌, All, length, IfOk, OnOk};
 ghost use Rattle.te_snapshot.specs.Leaving.{IsArcAmong};
 ghost use Rattle.path_finder.specs.Sides.{IsOver};
@@ -12,7 +12,7 @@ use std::alloc::{AllocError, Global};
 use te_base::{Link, LinkNumber, NodeNumber};
 use te_snapshot::Outgoing;
 
-/// What stands in a label where no walk is known.
+/// The label of a node to which no walk is known.
 const FAR: u32 = u32::MAX;
 
 /// Which way a side goes over links.
@@ -56,7 +56,7 @@ pub(crate) struct Ways {
     meeting: NodeNumber,
 }
 
-/// A side that knows its end alone.
+/// Makes a side that knows only its end.
 fn start(
     alloc: Global,
     direction: Direction,
@@ -83,7 +83,7 @@ fn start(
     })
 }
 
-/// The links by which a side goes on from a node.
+/// Lends the links by which a side goes on from a node.
 #[inline(always)]
 fn arcs_at<'a>(query: &Query<'a>, direction: Direction, node: NodeNumber) -> &'a [Outgoing]
     requires { node < query.now.topology.now.nodes }
@@ -95,7 +95,7 @@ fn arcs_at<'a>(query: &Query<'a>, direction: Direction, node: NodeNumber) -> &'a
     }
 }
 
-/// Remembers the walk over a node, by its costs on both sides of it, where it is the cheapest.
+/// Remembers the walk over a node, given its costs on both sides, if it is the cheapest.
 #[inline(always)]
 fn join(met: &mut Met, node: NodeNumber, here: u32, there: u32)
     requires { here < met.old.cost }
@@ -182,7 +182,7 @@ fn advance(
     Ok(())
 }
 
-/// Whether no walk that is yet unknown can be cheaper.
+/// Tests whether no walk that isn't known yet can be cheaper.
 #[inline(always)]
 fn is_over(source: &Side, destination: &Side, met: Met) -> bool {
     match (least_cost(&source.heap), least_cost(&destination.heap)) {
@@ -221,7 +221,7 @@ fn meet(
     Ok(())
 }
 
-/// One label from both costs: the cost from the source below the middle, what is left of the cheapest walk
+/// Joins both costs to one label: the cost from the source below the middle, and what is left of the cheapest walk
 /// above it.
 fn join_labels(costs: &mut [u32], there: &[u32], middle: u32, cheapest: u32)
     requires { length there.now ≡ length costs.old }
@@ -233,7 +233,7 @@ fn join_labels(costs: &mut [u32], there: &[u32], middle: u32, cheapest: u32)
     }
 }
 
-/// Labels from both ends.
+/// Computes labels from both ends.
 pub(crate) fn search(
     alloc: Global,
     query: &Query<'_>,
@@ -301,7 +301,7 @@ fn follow(
     Ok(())
 }
 
-/// The path on which both sides met, as far as that many links go.
+/// Lists the path on which both sides met, as far as this many links go.
 pub(crate) fn trace(
     alloc: Global,
     links: &[Link],

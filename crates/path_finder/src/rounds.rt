@@ -12,7 +12,7 @@ use sequence::Sequence;
 use std::alloc::{AllocError, Global};
 use te_base::{Link, LinkNumber, NodeNumber};
 
-/// Lowers what the row has for the link's first node, where the link and the old row make less.
+/// Lowers what the row has for the link's first node, if the link and the old row make less.
 fn lower(query: &Query<'_>, number: usize, link: &Link, old: &[u32], row: &mut [u32], limit: u32)
     requires from { link.now.from < length row.old }
     requires to { link.now.to < length old.now }
@@ -95,7 +95,7 @@ struct Taken {
     to: NodeNumber,
 }
 
-/// The link that makes the cost from a node.
+/// Finds the link that makes the cost from a node.
 fn follow(query: &Query<'_>, links: &[Link], old: &[u32], at: usize, cost: u32) -> Option<Taken>
     requires metrics { HasMetrics links.now }
     requires links { InRange links.now (length old.now) }
@@ -121,14 +121,14 @@ struct Frontier {
     paid: u32,
 }
 
-/// How many links are behind the row, and how many are to come.
+/// How many links the row covers, and how many are to come.
 #[derive(Clone, Copy, Debug)]
 struct Count {
     used: usize,
     left: usize,
 }
 
-/// The front for the older row, from that for the newer one.
+/// Computes the front for the older row from that for the newer one.
 fn step_back(
     query: &Query<'_>,
     links: &[Link],
@@ -146,7 +146,7 @@ fn step_back(
     requires front { IsFront query.now links.now ends.source ends.destination ends.limit next.now (count.used + 1) count.left path.old.items front.at front.paid }
     ensures { IfOk result (λ f. IsFront query.now links.now ends.source ends.destination ends.limit row.now count.used (count.left + 1) path.new.items f.at f.paid) }
 {
-    // for the proof alone: counts and limits are in their types' ranges
+    // only for the proof: counts and limits are in their types' ranges
     let _count = count;
     let _ends = ends;
     let cost = next[front.at];
@@ -171,7 +171,7 @@ fn is_same(next: &[u32], row: &[u32]) -> bool
     next == row
 }
 
-/// The front of a least walk of at most `count.left` links more than the row knows.
+/// Finds the front of a least walk of at most `count.left` links more than the row knows.
 fn extend(
     alloc: Global,
     query: &Query<'_>,
@@ -237,7 +237,7 @@ fn first_row(
     Ok(row)
 }
 
-/// The walk that the front of a walk of all its links is.
+/// Makes a walk of a front that has all its links.
 fn whole(row: &[u32], ends: Ends, front: Frontier, links: Vec<LinkNumber>) -> Option<Found>
     requires at { front.at < length row.now }
     requires small { front.paid ≤ 2 ^ 30 }
@@ -293,7 +293,7 @@ fn from_first(
     Ok(whole(row, ends, front, path))
 }
 
-/// A least walk of at most `hops` links, where one costs less than the limit.
+/// Finds a least walk of at most `hops` links, if one costs less than the limit.
 pub(crate) fn by_rounds(
     alloc: Global,
     query: &Query<'_>,

@@ -34,7 +34,7 @@ fn step_along(query: &Query<'_>, links: &[Link], number: LinkNumber, at: NodeNum
     }
 }
 
-/// The cost of the path, where its links lead from the source to the destination and it may take each.
+/// Computes the cost of the path, if its links lead from the source to the destination and it may take each.
 pub(crate) fn price_of(
     query: &Query<'_>,
     links: &[Link],

@@ -1,4 +1,4 @@
-//! A path, or what stands in its way.
+//! A path, or what prevents it.
 ghost use Rattle.std.specs.Prelude.{◌≡◌, [], IfOk, IfSome, IfNone, None};
 ghost use Rattle.path_finder.specs.Answers.{IsAnswer, IsRefused};
 ghost use Rattle.path_looks.specs.Paths.{any_colours, no_bounds, relaxed, IsPathAnswer, RefusesBefore};
@@ -11,7 +11,7 @@ use pcep_word::Bandwidth;
 use std::alloc::{AllocError, Global};
 use te_snapshot::{OwnShares, Snapshot};
 
-/// What stands in the way of a path.
+/// What prevents a path.
 #[derive(Clone, Copy, Debug, PartialEq, Eq)]
 pub enum Obstacle {
     /// Links are too full.
@@ -35,7 +35,7 @@ pub enum PathAnswer {
     NoWay,
 }
 
-/// Asks for the same without what an obstacle names.
+/// Drops from the constraints what an obstacle names.
 fn relaxed(by: Obstacle, wanted: &Constraints) -> Constraints
     ensures { result ≡ relaxed by wanted.now }
 {
@@ -131,7 +131,7 @@ fn first_obstacle(
     }
 }
 
-/// Says what stands in the way of a path that there isn't.
+/// Says what prevents a path that wasn't found.
 fn refusal(
     alloc: Global,
     snapshot: &Snapshot,
@@ -146,7 +146,7 @@ fn refusal(
     }
 }
 
-/// Finds a path of least cost on a snapshot, for a tunnel that holds nothing yet, or says what stands in its way.
+/// Finds a path of least cost on a snapshot, for a tunnel that holds nothing yet, or says what prevents it.
 pub fn path_on(
     alloc: Global,
     snapshot: &Snapshot,

@@ -9,7 +9,7 @@ use std::alloc::{AllocError, Global};
 use te_base::Link;
 use te_snapshot::{OwnShares, Snapshot, cost_of};
 
-/// A path of least cost, and what the cheapest path that stands costs.
+/// A path of least cost, and the cost of the cheapest existing path.
 #[derive(Drop)]
 pub struct Cheaper {
     pub path: Found,
@@ -19,7 +19,7 @@ pub struct Cheaper {
 /// The greatest number of links of a path whose cost is known.
 const LINK_LIMIT: usize = 64;
 
-/// Adds up what a path of 1 to 64 links costs.
+/// Adds up the cost of a path of 1 to 64 links.
 fn known_cost(minimise: MetricType, links: &[Link], path: &Path) -> Option<u64>
     ensures { result ≡ known_cost minimise links.now path.now }
 {
@@ -41,7 +41,7 @@ fn lesser(best: Option<u64>, cost: Option<u64>) -> Option<u64>
     }
 }
 
-/// Finds what the cheapest of these paths costs; `None` where none has 1 to 64 links.
+/// Finds the cost of the cheapest of these paths. `None` if none has 1 to 64 links.
 fn standing_cost(minimise: MetricType, links: &[Link], paths: &[Path]) -> Option<u64>
     ensures { result ≡ standing_cost minimise links.now paths.now }
 {
@@ -63,8 +63,8 @@ fn cheaper_than(standing: u64, found: Option<Found>) -> Option<Cheaper>
     }
 }
 
-/// Finds a path of least cost for an LSP whose tunnel holds these shares, where it costs less than each of the LSP's paths
-/// that stand.
+/// Finds a path of least cost for an LSP whose tunnel holds these shares, if it costs less than each of the LSP's
+/// existing paths.
 pub fn cheaper_path(
     alloc: Global,
     snapshot: &Snapshot,

@@ -10,11 +10,11 @@ use std::alloc::{AllocError, Global};
 use te_base::LinkNumber;
 use te_snapshot::Snapshot;
 
-/// A link that doesn't bear a bandwidth.
+/// A link on which a bandwidth doesn't fit.
 #[derive(Clone, Copy)]
 pub struct FullLink {
     pub link: LinkNumber,
-    /// The best of the priorities at which it doesn't.
+    /// The best of the priorities at which it doesn't fit.
     pub priority: u8,
 }
 
@@ -34,7 +34,7 @@ fn is_borne(left: i64, bandwidth: u64) -> bool
     bandwidth == 0 || bandwidth as i64 <= left
 }
 
-/// Tests whether a link doesn't bear a bandwidth at a priority.
+/// Tests whether a bandwidth doesn't fit on a link at a priority.
 fn is_full_at(snapshot: &Snapshot, wanted: &Constraints, link: LinkNumber, priority: u8) -> bool
     requires { priority < 8 }
     ensures { result ≡ is_full_at snapshot.now.unreserved wanted.now link priority }
@@ -43,7 +43,7 @@ fn is_full_at(snapshot: &Snapshot, wanted: &Constraints, link: LinkNumber, prior
     !is_borne(left, wanted.bandwidth.value())
 }
 
-/// Finds the best of the priorities from holding to setup at which a link doesn't bear a bandwidth.
+/// Finds the best of the priorities from holding to setup at which a bandwidth doesn't fit on a link.
 fn first_priority(snapshot: &Snapshot, wanted: &Constraints, link: LinkNumber) -> Option<u8>
     ensures { result ≡ find (is_full_at snapshot.now.unreserved wanted.now link) (priorities wanted.now.priorities.hold wanted.now.priorities.setup) }
 {
@@ -57,7 +57,7 @@ fn first_priority(snapshot: &Snapshot, wanted: &Constraints, link: LinkNumber) -
     None
 }
 
-/// Says where a link is too full for a bandwidth first, if it is.
+/// Finds the best priority at which a link is too full for a bandwidth, if there is one.
 fn first_full(snapshot: &Snapshot, wanted: &Constraints, link: LinkNumber) -> Option<FullLink>
     ensures { result ≡ first_full snapshot.now.unreserved wanted.now link }
 {
@@ -67,7 +67,8 @@ fn first_full(snapshot: &Snapshot, wanted: &Constraints, link: LinkNumber) -> Op
     }
 }
 
-/// Lists those of these links that don't bear what is asked for, with the best of the priorities at which each doesn't.
+/// Lists those of these links on which what is asked for doesn't fit, with the best of the priorities at which each is
+/// too full.
 pub fn full_links(
     alloc: Global,
     snapshot: &Snapshot,

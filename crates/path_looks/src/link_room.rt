@@ -22,7 +22,7 @@ fn room_on(snapshot: &Snapshot, wanted: &Constraints, link: LinkNumber) -> LinkR
     LinkRoom { link, left }
 }
 
-/// Gives the one of two links on which less is left; of equals the first.
+/// Returns the one of two links on which less is left. If both have the same, it is the first.
 fn tighter(best: Option<LinkRoom>, other: LinkRoom) -> Option<LinkRoom>
     ensures { result ≡ tighter best other }
 {
@@ -32,8 +32,8 @@ fn tighter(best: Option<LinkRoom>, other: LinkRoom) -> Option<LinkRoom>
     }
 }
 
-/// Finds the link of a path on which least is left at the setup priority: of the priorities from holding to setup that is
-/// the one at which least is left.
+/// Finds the link of a path on which least is left at the setup priority, which is the priority from holding to setup
+/// at which least is left.
 pub fn tightest(snapshot: &Snapshot, wanted: &Constraints, links: &[LinkNumber]) -> Option<LinkRoom>
     ensures { result ≡ tightest snapshot.now.unreserved wanted.now links.now }
 {

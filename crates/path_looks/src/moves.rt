@@ -25,7 +25,7 @@ pub struct Mover {
     pub own: OwnShares,
 }
 
-/// Where an LSP would go; `None` where it finds no place.
+/// Where an LSP would go. `None` if it finds no place.
 #[derive(Drop)]
 pub struct Move {
     pub peer: u32,
@@ -34,7 +34,7 @@ pub struct Move {
     pub path: Option<Found>,
 }
 
-/// Reads the row of a link, on which nothing is left where it is the closed one.
+/// Reads the row of a link. Nothing is left on the closed one.
 fn open_row(closed: LinkNumber, table: &Table, link: LinkNumber) -> [i64; 8]
     requires { link < length table.now }
     ensures { result ≡ open_row closed table.now link }
@@ -211,7 +211,7 @@ fn search(
     ensures placed { IfOk result (λ found. IfSome found (IsPlaced (arc_value topology.now) closed table.now mover.now)) }
     ensures unplaced { IfOk result (λ found. IfNone found (IsUnplaced (arc_value topology.now) closed table.now mover.now)) }
 {
-    // for the proof alone: there is a priority from holding to setup
+    // only for the proof: there is a priority from holding to setup
     let _hold = mover.wanted.priorities.hold();
     let snapshot = snapshot_over(alloc, topology, table)?;
     let own = Sequence::from_vec(held_elsewhere(alloc, closed, mover.own.as_slice())?);
@@ -229,7 +229,7 @@ fn moved(mover: &Mover, path: Option<Found>) -> Move
     }
 }
 
-/// Tries an LSP elsewhere: where it finds a place, the table is from then on as it leaves it.
+/// Tries an LSP elsewhere. If it finds a place, it takes that from the table.
 fn try_one(
     alloc: Global,
     topology: &Arc<Topology, Global>,
@@ -274,8 +274,8 @@ fn try_all(
     Ok(moves)
 }
 
-/// Finds where LSPs would go if a link went away: one after the other, each beside what those before it took. Nothing is
-/// booked.
+/// Finds where LSPs would go if a link went away. They go one after the other, and each finds taken what those before
+/// it took. Nothing is booked.
 #[tactic(auto, using(crate::proofs::Closing::starts_closed))]
 pub fn moves_without(
     alloc: Global,

@@ -1,4 +1,4 @@
-//! The source of places, which lies under the lock, and the tokens of the seats.
+//! The source of places, which is under the lock, and the tokens of the seats.
 ghost use Rattle.std.specs.Prelude.{◌≡◌, ◌+◌, ◌-◌, ◌<◌, ◌^◌, ℕ, List, [], ◌∷◌, ◌++◌, sum_by, replicate, IfOk};
 ghost use Rattle.place_tokens.specs.Drawing.{keeping, holding, emptied, times, once_below, older_of, newest_of};
 
@@ -10,10 +10,10 @@ use atomic_table::{Seat, Table};
 use std::alloc::{AllocError, Global};
 use std::marker::{Model, PhantomData};
 
-/// The one word whose rule the tokens stand under.
+/// The one word that the tokens' rule governs.
 pub type PlaceTable = Table<(), View, u64, DrawnOnce, Global>;
 
-/// What knows places: the keeper's, or a seat's. It has no bytes.
+/// What knows places: the keeper's token, or a seat's. It has no bytes.
 pub type Token = Seat<(), View>;
 
 /// Draws places in order from 0. A contract sees how many were drawn.
@@ -38,7 +38,7 @@ impl<B: Room> Model for Source<B> {
         × (s.keeper.table_id ≡ B.table) × (s.keeper.me ≡ keeping 1 s.keeper.me.0.next []) };
 }
 
-/// The places that one seat was ever given, oldest first, and they rise. It has no bytes.
+/// The places that one seat ever got, oldest first. They rise. It has no bytes.
 #[derive(Drop)]
 pub struct Drawn<B: Room> {
     pub token: Token,
@@ -80,7 +80,7 @@ impl Model for Unopened {
 }
 
 impl Unopened {
-    /// A source for a number of seats below 2^32.
+    /// Makes a source for a number of seats below 2^32.
     pub fn new(alloc: Global, seats: u64) -> Result<Unopened, AllocError>
         requires { seats < 2 ^ 32 }
         ensures { IfOk result (λ room. room.seats ≡ seats) }
@@ -93,7 +93,7 @@ impl Unopened {
         })
     }
 
-    /// The source under its name, and the tokens of its seats. All is dropped where memory is refused.
+    /// Gives the source its name, and returns it with the tokens of its seats. Drops everything if memory runs out.
     pub fn open<B: Room>(self, alloc: Global) -> Result<(Source<B>, Vec<Drawn<B>>), AllocError>
         requires table { self.table ≡ B.table }
         requires seats { self.seats ≡ B.seats }
@@ -123,7 +123,7 @@ impl Unopened {
     }
 }
 
-/// The keeper draws a place, and a seat takes it in.
+/// Lets the keeper draw a place, and a seat take it in.
 fn hand_over(table: &PlaceTable, keeper: &mut Token, token: &mut Token)
     ghost g: { ℕ × List ℕ }
     requires table { (keeper.old.table_id ≡ table.now.shared.table_id) × (token.old.table_id ≡ table.now.shared.table_id) × (table.now.shared.table_id.words ≡ 1) }
@@ -140,7 +140,7 @@ fn hand_over(table: &PlaceTable, keeper: &mut Token, token: &mut Token)
     table.shared.join_seat::<TakesIn>(keeper, part);
 }
 
-/// The keeper is lent what a token knows.
+/// Lends the keeper what a token knows.
 pub fn lend(table: &PlaceTable, keeper: &mut Token, token: &mut Token)
     requires table { (keeper.old.table_id ≡ table.now.shared.table_id) × (token.old.table_id ≡ table.now.shared.table_id) × (table.now.shared.table_id.words ≡ 1) }
     requires keeper { keeper.old.me ≡ keeping keeper.old.me.0.parts keeper.old.me.0.next keeper.old.me.0.lent }
@@ -153,7 +153,7 @@ pub fn lend(table: &PlaceTable, keeper: &mut Token, token: &mut Token)
     table.shared.join_seat::<Stacks>(keeper, all);
 }
 
-/// The keeper gives back what it was lent last.
+/// Lets the keeper give back what it was lent last.
 pub fn give_back(table: &PlaceTable, keeper: &mut Token, token: &mut Token)
     requires table { (keeper.old.table_id ≡ table.now.shared.table_id) × (token.old.table_id ≡ table.now.shared.table_id) × (table.now.shared.table_id.words ≡ 1) }
     requires keeper { (1 < keeper.old.me.0.parts) × (keeper.old.me ≡ keeping keeper.old.me.0.parts keeper.old.me.0.next keeper.old.me.0.lent) }
@@ -166,7 +166,7 @@ pub fn give_back(table: &PlaceTable, keeper: &mut Token, token: &mut Token)
     table.shared.join_seat::<TakesIn>(token, newest);
 }
 
-/// With all parts in the keeper's hands, the lists that it was lent have each place below its next one, once.
+/// Learns that the lists that the keeper was lent have each place below its next one, once. The keeper has all parts.
 pub fn learn(table: &PlaceTable, keeper: &mut Token)
     requires table { (keeper.old.table_id ≡ table.now.shared.table_id) × (table.now.shared.table_id.words ≡ 1) }
     requires keeper { keeper.old.me ≡ keeping keeper.old.me.0.parts keeper.old.me.0.next keeper.old.me.0.lent }
@@ -177,7 +177,7 @@ pub fn learn(table: &PlaceTable, keeper: &mut Token)
     table.shared.load::<Learns>(keeper, 0);
 }
 
-/// What a seat was given was drawn before the next place.
+/// Learns that what a seat was given was drawn before the next place.
 fn compare(table: &PlaceTable, keeper: &mut Token, token: &mut Token)
     requires table { (keeper.old.table_id ≡ table.now.shared.table_id) × (token.old.table_id ≡ table.now.shared.table_id) × (table.now.shared.table_id.words ≡ 1) }
     requires keeper { keeper.old.me ≡ keeping 1 keeper.old.me.0.next [] }
@@ -192,7 +192,7 @@ fn compare(table: &PlaceTable, keeper: &mut Token, token: &mut Token)
 }
 
 impl<B: Room> Source<B> {
-    /// The next place, to this seat, whose places stay risen. It neither waits nor fails.
+    /// Draws the next place for this seat, whose places keep rising. It neither waits nor fails.
     pub fn draw(&mut self, seat: &mut Drawn<B>)
         ensures seat { seat.new ≡ seat.old ++ self.old ∷ [] }
         ensures source { self.new ≡ self.old + 1 }

@@ -25,7 +25,7 @@ pub struct Seated<'a, R: Wait, B: Brands> {
     bytes: u64,
 }
 
-/// The event, to be kept twice: it stands in memory once.
+/// Makes the event one that is kept twice and is in memory once.
 fn shared_twice(alloc: Global, event: Event) -> Result<(SharedEvent, SharedEvent), AllocError>
     ensures { IfOk result (λ both. (both.0 ≡ event) × (both.1 ≡ event)) }
 {
@@ -47,7 +47,7 @@ fn with_newest(before: u64, receipts: &[Receipt]) -> u64 {
 }
 
 impl<'a, R: Wait, B: Brands> Seated<'a, R, B> {
-    /// The seat, with no calls yet. Takes no memory.
+    /// Makes the store of a seat, with no calls yet. Allocates nothing.
     pub fn new(
         rt: &'a R,
         alloc: Global,
@@ -67,7 +67,7 @@ impl<'a, R: Wait, B: Brands> Seated<'a, R, B> {
         }
     }
 
-    /// Whether messages wait to be sent to the peer, in what the seat has then seen.
+    /// Tests whether messages wait to be sent to the peer, in what the seat has then seen.
     pub fn queued(&mut self, peer: u32) -> bool
         ensures queued { result ≡ is_queued (database_at B.text self.new.seat.now.seen).state peer }
         ensures same { SeatedMoves B.text self.old.seat self.old.calls.items [] self.new.seat self.new.calls.items }
@@ -75,8 +75,8 @@ impl<'a, R: Wait, B: Brands> Seated<'a, R, B> {
         self.shared.queued_at(self.rt, self.seat, peer)
     }
 
-    /// What is left of every link at each of the eight priorities, in bytes per second, by the number of the link, in what the
-    /// seat has then seen.
+    /// Lists what is left of every link at each of the eight priorities, in bytes per second, by the number of the
+    /// link, in what the seat has then seen.
     pub fn left(&mut self) -> Result<Vec<[i64; 8]>, AllocError>
         ensures left { IfOk result (λ table. let d = database_at B.text self.new.seat.now.seen in table.items ≡ all_left d.state.te.links d.state.base.paths) }
         ensures same { SeatedMoves B.text self.old.seat self.old.calls.items [] self.new.seat self.new.calls.items }
@@ -84,7 +84,7 @@ impl<'a, R: Wait, B: Brands> Seated<'a, R, B> {
         self.shared.left_at(self.rt, self.seat)
     }
 
-    /// Looks at the database, and shows the seat what has happened until then. No call is made.
+    /// Runs a query on the database, and shows the seat what has happened until then. No call is made.
     pub fn look<L: Look>(&mut self, look: &L) -> Result<L::Seen, AllocError>
         ensures sees { IfOk result (L.sees look.now (database_at B.text self.new.seat.now.seen)) }
         ensures same { SeatedMoves B.text self.old.seat self.old.calls.items [] self.new.seat self.new.calls.items }
@@ -113,7 +113,7 @@ impl<'a, R: Wait, B: Brands> Store for Seated<'a, R, B> {
 
     ghost moves_add = { λ a b made h. h.added };
 
-    /// One step under the lock. The room for the call is made first, and the event stands in memory once.
+    /// Takes one step under the lock. Makes room for the call first. The event is in memory once.
     fn submit(&mut self, event: Event) -> Result<(), Fault> {
         self.calls.reserve(1)?;
         let (event, kept) = shared_twice(*self.calls.allocator(), event)?;
@@ -138,8 +138,8 @@ impl<'a, R: Wait, B: Brands> Store for Seated<'a, R, B> {
         self.calls.as_slice()
     }
 
-    /// Empties the list. Where it is empty already, nothing was done since: then the seat keeps its receipts of rolled
-    /// places no longer. Once its steps take as much memory as those of one seat may, the history is rolled first.
+    /// Empties the list. If it is empty already, nothing was done since, and the seat drops its receipts of rolled
+    /// places. Once its steps take as much memory as those of one seat may, the history is rolled first.
     fn forget(&mut self) {
         if self.bytes >= self.shared.share_of_seat() {
             self.bytes = 0;

@@ -1,8 +1,8 @@
-//! The bell of the workers, on which they sleep until a ticket waits.
+//! The bell on which the workers sleep until a ticket waits.
 use std::sync::Condvar;
 use std::sync::atomic::{AtomicBool, Ordering};
 
-/// The bell of the workers, and whether their end has come.
+/// The bell of the workers, and whether the end was announced.
 #[derive(Drop)]
 pub(crate) struct Bell {
     pub work: Condvar,
@@ -22,13 +22,13 @@ impl Bell {
         self.work.notify_one();
     }
 
-    /// The end has come: wakes all workers.
+    /// Announces the end, and wakes all workers.
     pub fn ring_out(&self) {
         self.over.store(true, Ordering::SeqCst);
         self.work.notify_all();
     }
 
-    /// Whether the end has come.
+    /// Tests whether the end was announced.
     pub fn is_over(&self) -> bool {
         self.over.load(Ordering::SeqCst)
     }

@@ -5,10 +5,10 @@ ghost use Rattle.shared_pce.specs.Rolls.{beside, is_due, of_seat};
 
 use history_seats::{Brands, Held};
 
-/// The least number of bytes of kept steps for which memory is gained by a roll: a roll takes memory too.
+/// The least number of bytes of kept steps for which a roll is worth it. A roll takes memory too.
 const LEAST_BYTES: u64 = 1_048_576;
 
-/// When a history is rolled for want of memory.
+/// When a history is rolled because memory ran out.
 pub const SPARE_AT: RollAt = RollAt {
     steps: u64::MAX,
     bytes: LEAST_BYTES,
@@ -23,13 +23,14 @@ pub struct RollAt {
 }
 
 impl RollAt {
-    /// A history that isn't rolled for its length.
+    /// For a history that isn't rolled for its length.
     pub const NEVER: RollAt = RollAt {
         steps: u64::MAX,
         bytes: u64::MAX,
     };
 
-    /// When the history is rolled for the steps of one seat: once they take a sixteenth of the bytes, but a megabyte.
+    /// Returns when the history is rolled for the steps of one seat: once they take a sixteenth of the bytes, and at
+    /// least a megabyte.
     pub fn of_seat(self) -> RollAt
         ensures { result ≡ of_seat self }
     {
@@ -50,7 +51,7 @@ impl RollAt {
     }
 }
 
-/// Whether the history is to be rolled.
+/// Tests whether the history is to be rolled.
 pub(crate) fn is_due<B: Brands>(held: &Held<B>, at: RollAt) -> bool
     ensures { result ≡ is_due at (database_at B.text held.now) }
 {

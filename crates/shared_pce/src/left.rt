@@ -1,4 +1,4 @@
-//! What a step leaves of the links of the path that it brings: numbers of one hold of the lock, before the step and after it.
+//! What a step leaves of the links of the path that it adds, read under the same lock before the step and after it.
 ghost use Rattle.std.specs.Prelude.{ℕ, ◌≡◌, true, [], All, None, length, map, IfOk, IfSome};
 ghost use Rattle.delegate_rules.specs.Reports.{hops_of};
 ghost use Rattle.history_core.specs.Histories.{Content, Replays};
@@ -14,11 +14,11 @@ use server_counts::LeftRow;
 use std::alloc::{AllocError, Global};
 use te_base::{LinkNumber, TeBase};
 
-/// The greatest number of links of a path that are looked at.
+/// The greatest number of links of a path that are read.
 const LINK_LIMIT: usize = 64;
 
-/// The greatest number of hops of a report whose links are looked at: four for each of the links that are looked at at most.
-/// A longer route is walked by the step alone, so that no router makes the lock last by a walk that shows nothing.
+/// The greatest number of hops of a report whose links are read: four for each of the links that are read at most. A
+/// longer route is walked only by the step, so that no router can make the lock last by a walk that shows nothing.
 const HOP_LIMIT: usize = 256;
 
 /// Counts the hops of the route that a report gives its path.
@@ -31,7 +31,7 @@ fn hop_count(report: &StateReport) -> usize
     }
 }
 
-/// Tests whether an event's route is so long that its links aren't looked at.
+/// Tests whether an event's route is so long that its links aren't read.
 fn is_long(event: &Event) -> bool
     ensures { result ≡ is_long event.now }
 {
@@ -41,7 +41,7 @@ fn is_long(event: &Event) -> bool
     }
 }
 
-/// Lists the links of the path that an event brings.
+/// Lists the links of the path that an event adds.
 fn links_in(alloc: Global, te: &TeBase, event: &Event) -> Result<Vec<LinkNumber>, AllocError>
     ensures { IfOk result (λ links. links.items ≡ links_in te.now event.now) }
 {
@@ -55,7 +55,7 @@ fn links_in(alloc: Global, te: &TeBase, event: &Event) -> Result<Vec<LinkNumber>
     }
 }
 
-/// Reads what is left of a link. `None` where there is no such link.
+/// Reads what is left of a link. `None` if there is no such link.
 fn row_before(database: &Database, link: LinkNumber, priority: Priority) -> Option<LeftRow>
     ensures { IfSome result (λ row. row ≡ row_before database.now priority link) }
 {
@@ -69,7 +69,7 @@ fn row_before(database: &Database, link: LinkNumber, priority: Priority) -> Opti
     })
 }
 
-/// Reads what is left of each link. `None` where one isn't there, there are too many, or memory is refused.
+/// Reads what is left of each link. `None` if one doesn't exist, there are too many, or memory runs out.
 fn rows_before(
     alloc: Global,
     database: &Database,
@@ -88,7 +88,7 @@ fn rows_before(
     Some(rows)
 }
 
-/// Reads what is left of each link of an event, where it can be read and the route isn't too long.
+/// Reads what is left of each link of an event, if it can be read and the route isn't too long.
 fn rows_of_event(
     alloc: Global,
     database: &Database,
@@ -105,7 +105,7 @@ fn rows_of_event(
     rows_before(alloc, database, &links, priority)
 }
 
-/// Reads what is left of each link of an event, or nothing. The walk of a long route is spared.
+/// Reads what is left of each link of an event, or nothing. A long route isn't walked.
 pub(crate) fn see_before(
     alloc: Global,
     database: &Database,
@@ -121,7 +121,7 @@ pub(crate) fn see_before(
     }
 }
 
-/// Reads what is left of a row's link after the step. `None` where there is no such link.
+/// Reads what is left of a row's link after the step. `None` if there is no such link.
 fn row_after(database: &Database, row: &LeftRow) -> Option<LeftRow>
     ensures { IfSome result (λ after. after ≡ row_after database.now.state row.now) }
 {
@@ -129,7 +129,7 @@ fn row_after(database: &Database, row: &LeftRow) -> Option<LeftRow>
     Some(LeftRow { after, ..*row })
 }
 
-/// Reads what is left of each row's link after the step. `None` where one isn't there, or memory is refused.
+/// Reads what is left of each row's link after the step. `None` if one doesn't exist, or memory runs out.
 fn rows_after(alloc: Global, database: &Database, before: &[LeftRow]) -> Option<Vec<LeftRow>>
     ensures { IfSome result (λ rows. rows.items ≡ map (row_after database.now.state) before.now) }
 {
@@ -147,7 +147,7 @@ fn brings(reply: &Reply) -> bool
     matches!(reply, Reply::Booked { .. } | Reply::Granted(_))
 }
 
-/// Reads what is left of each row's link after a step that brought a path, or nothing.
+/// Reads what is left of each row's link after a step that added a path, or nothing.
 pub(crate) fn see_after(
     alloc: Global,
     database: &Database,

@@ -1,4 +1,4 @@
-//! What steps left of links, kept.
+//! A table of what steps left of links.
 ghost use Rattle.std.specs.Prelude.{◌≡◌, ◌<◌, ◌≤◌, ◌++◌, [], All, drop, length, IfOk, OnOk, OnErr};
 ghost use Rattle.shared_pce.specs.Lefts.{with_rows, WasLeft};
 
@@ -27,7 +27,7 @@ impl Model for LeftTable {
     ghost invariant = { λ t. All WasLeft t.rows.items };
 }
 
-/// Adds rows behind those that others have from a place on.
+/// Appends the rows to those that are kept from a place on.
 fn add_behind(kept: &mut Vec<LeftRow>, start: usize, rows: &[LeftRow]) -> Result<(), AllocError>
     requires { start ≤ length kept.old.items }
     ensures added { OnOk result (kept.new.items ≡ drop start kept.old.items ++ rows.now) }
@@ -40,7 +40,7 @@ fn add_behind(kept: &mut Vec<LeftRow>, start: usize, rows: &[LeftRow]) -> Result
     Ok(())
 }
 
-/// Adds rows. Where there are 65,536, the older half is dropped.
+/// Appends rows. If there are 65,536, the older half is dropped.
 fn add(kept: &mut Vec<LeftRow>, rows: &[LeftRow]) -> Result<(), AllocError>
     ensures added { OnOk result (kept.new.items ≡ with_rows rows.now kept.old.items) }
     ensures unchanged { OnErr result (kept.new.items ≡ kept.old.items) }
@@ -61,7 +61,7 @@ impl LeftTable {
         }
     }
 
-    /// Adds what a step left. Where memory is refused nothing is added.
+    /// Adds what a step left. If memory runs out nothing is added.
     pub fn note(&mut self, rows: &[LeftRow]) -> Result<(), AllocError>
         requires { All WasLeft rows.now }
         ensures noted { OnOk result (self.new ≡ with_rows rows.now self.old) }
@@ -70,7 +70,7 @@ impl LeftTable {
         add(&mut self.rows, rows)
     }
 
-    /// Copies all out.
+    /// Copies all rows.
     pub fn copies(&self, alloc: Global) -> Result<Vec<LeftRow>, AllocError>
         ensures copies { IfOk result (λ rows. rows.items ≡ self.now) }
         ensures left { IfOk result (λ rows. All WasLeft rows.items) }

@@ -42,15 +42,15 @@ pub struct Shared<B: Brands> {
     alloc: Global,
     held: Mutex<Held<B>>,
     bell: Bell,
-    /// What steps left of links. Its lock is taken with that of the database free.
+    /// What steps left of links. Its lock is taken only while that of the database is free.
     lefts: Mutex<LeftTable>,
-    /// What the receipts of rolled steps take. Its lock is taken within that of the database, or alone.
+    /// What the receipts of rolled steps take. Its lock is taken under that of the database, or while no other is held.
     unfolded: Mutex<Unfolded>,
     /// When the history is rolled before a step, if no receipts of rolled steps are left.
     roll_at: RollAt,
 }
 
-/// Drops each part. A derived drop would be proved anew for each owner.
+/// Drops each part. Written by hand because a derived drop would be proved again for every owner.
 impl<B: Brands> Drop for Shared<B> {
     fn drop(self) {
         let Shared {
@@ -69,8 +69,8 @@ impl<B: Brands> Drop for Shared<B> {
 }
 
 impl<B: Brands> Shared<B> {
-    /// Puts a database of which no step was taken behind a lock, with 1 to 256 seats. From `roll_at` on each step rolls the
-    /// history first. All is dropped where memory is refused.
+    /// Puts a database of which no step was taken behind a lock, with 1 to 256 seats. From `roll_at` on each step rolls
+    /// the history first. Drops everything if memory runs out.
     pub fn new(
         alloc: Global,
         database: Database,
@@ -102,9 +102,9 @@ impl<B: Brands> Shared<B> {
         Ok((shared, seats))
     }
 
-    /// One event, as one step under the lock, with its receipt to the seat. If the history takes as much memory as it may beside
-    /// the receipts of rolled steps, it is rolled first. After a fault the seat is as before, and no step was taken. `HistoryFull`
-    /// where no further step could be kept.
+    /// Takes one event as one step under the lock, and gives its receipt to the seat. If the history takes as much
+    /// memory as it may, given the receipts of rolled steps, it is rolled first. After a fault the seat is as before,
+    /// and no step was taken. Fails with `HistoryFull` if no further step could be kept.
     pub fn submit<R: Wait>(&self, rt: &R, seat: &mut Seat<B>, event: Event) -> Result<Reply, Fault>
         ensures received { IfOk result (Received B.text seat.old event seat.new) }
         ensures unchanged_on_fault { OnErr result (SeesMore seat.old seat.new) }
@@ -114,8 +114,9 @@ impl<B: Brands> Shared<B> {
         self.submit_shared(rt, seat, event)
     }
 
-    /// The same of an event that the caller keeps too. It stands in memory once, for the history, the receipt
-    /// and the caller. If memory is refused and the history holds a megabyte or more, it is rolled and the event is tried once more.
+    /// Does the same with an event that the caller keeps too. It is in memory once, for the history, the receipt and
+    /// the caller. If memory runs out and the history holds a megabyte or more, it is rolled and the event is tried
+    /// once more.
     pub fn submit_shared<R: Wait>(
         &self,
         rt: &R,
@@ -133,7 +134,8 @@ impl<B: Brands> Shared<B> {
         }
     }
 
-    /// The same after memory was refused: the history is rolled first. `OutOfMemory` if there is nothing to roll.
+    /// Does the same after memory ran out: rolls the history first. Fails with `OutOfMemory` if there is nothing to
+    /// roll.
     fn submit_again<R: Wait>(
         &self,
         rt: &R,
@@ -150,7 +152,7 @@ impl<B: Brands> Shared<B> {
         self.submit_once(rt, seat, event)
     }
 
-    /// The same, tried once.
+    /// Does the same, and tries once.
     fn submit_once<R: Wait>(
         &self,
         rt: &R,
@@ -173,7 +175,8 @@ impl<B: Brands> Shared<B> {
         Ok(self.note_step(rt, stepped))
     }
 
-    /// Keeps what a step left of links, while the lock is free, and gives its reply. Where memory is refused it isn't kept.
+    /// Keeps what a step left of links, while the lock is free, and returns its reply. If memory runs out it isn't
+    /// kept.
     fn note_step<R: Wait>(&self, rt: &R, stepped: Stepped) -> Reply
         requires { All WasLeft stepped.rows.items }
         ensures { result ≡ stepped.reply }
@@ -191,20 +194,20 @@ impl<B: Brands> Shared<B> {
         reply
     }
 
-    /// Copies what the last steps that brought paths left of their links: fewer than 65,600 rows. What a step left is kept once
-    /// the lock of the database is free, so that the step may stand in the history before.
+    /// Copies what the last steps that added paths left of their links: fewer than 65,600 rows. What a step left is
+    /// kept after the lock of the database is freed, so the step may be in the history earlier.
     pub fn lefts<R: Wait>(&self, rt: &R) -> Result<Vec<LeftRow>, AllocError>
         ensures { IfOk result (λ rows. All WasLeft rows.items) }
     {
         acquire(rt, &self.lefts).copies(self.alloc)
     }
 
-    /// A front that has seen all that has happened until now. It has no bytes.
+    /// Makes a front that has seen all that has happened until now. It has no bytes.
     pub fn front<R: Wait>(&self, rt: &R) -> Front<Event, B> {
         acquire(rt, &self.held).front()
     }
 
-    /// Whether a ticket waits to be searched for.
+    /// Tests whether a ticket waits to be searched for.
     pub fn waiting<R: Wait>(&self, rt: &R, me: &mut Front<Event, B>) -> bool
         ensures begins { IsPrefix me.old me.new }
         ensures waiting { result ≡ has_waiting (database_at B.text me.new).state }
@@ -214,7 +217,7 @@ impl<B: Brands> Shared<B> {
         held.database().waiting()
     }
 
-    /// Whether messages wait to be sent to the peer.
+    /// Tests whether messages wait to be sent to the peer.
     pub fn queued<R: Wait>(&self, rt: &R, me: &mut Front<Event, B>, peer: u32) -> bool
         ensures begins { IsPrefix me.old me.new }
         ensures queued { result ≡ is_queued (database_at B.text me.new).state peer }
@@ -224,7 +227,7 @@ impl<B: Brands> Shared<B> {
         held.database().queued(peer)
     }
 
-    /// The same, of a seat.
+    /// Does the same, for a seat.
     pub fn queued_at<R: Wait>(&self, rt: &R, seat: &mut Seat<B>, peer: u32) -> bool
         ensures sees { SeesMore seat.old seat.new }
         ensures queued { result ≡ is_queued (database_at B.text seat.new.seen).state peer }
@@ -234,7 +237,7 @@ impl<B: Brands> Shared<B> {
         held.database().queued(peer)
     }
 
-    /// How many steps are kept, of those that were taken.
+    /// Counts the steps that are kept, of those that were taken.
     pub fn kept<R: Wait>(&self, rt: &R, me: &mut Front<Event, B>) -> u64
         ensures begins { IsPrefix me.old me.new }
         ensures kept { result ≡ length (database_at B.text me.new).history }
@@ -244,9 +247,9 @@ impl<B: Brands> Shared<B> {
         held.database().history().len() as u64
     }
 
-    /// What is left of every link at each of the eight priorities, in bytes per second, by the number of the link:
-    /// what may be reserved on it, minus what is reserved, all at one moment. It is below zero where more is reported
-    /// than the link bears. Of the lock it takes as long as reading eight numbers for each link.
+    /// Lists what is left of every link at each of the eight priorities, in bytes per second, by the number of the
+    /// link: the reservable bandwidth minus what is reserved, all at one moment. It is below zero if more is reported
+    /// than the link can carry. It holds the lock while it reads eight numbers for each link.
     pub fn left<R: Wait>(
         &self,
         rt: &R,
@@ -258,7 +261,7 @@ impl<B: Brands> Shared<B> {
         self.look(rt, me, &LeftLook)
     }
 
-    /// The same, of a seat.
+    /// Does the same, for a seat.
     pub fn left_at<R: Wait>(&self, rt: &R, seat: &mut Seat<B>) -> Result<Vec<[i64; 8]>, AllocError>
         ensures sees { SeesMore seat.old seat.new }
         ensures left { IfOk result (λ table. let d = database_at B.text seat.new.seen in table.items ≡ all_left d.state.te.links d.state.base.paths) }
@@ -266,7 +269,7 @@ impl<B: Brands> Shared<B> {
         self.look_at(rt, seat, &LeftLook)
     }
 
-    /// The values of every link, and what is left of it at each of the eight priorities, all at one moment.
+    /// Lists the values of every link, and what is left of it at each of the eight priorities, all at one moment.
     pub fn links<R: Wait>(
         &self,
         rt: &R,
@@ -281,7 +284,7 @@ impl<B: Brands> Shared<B> {
         links_of(self.alloc, held.database())
     }
 
-    /// How many LSPs of the peer are known.
+    /// Counts the known LSPs of the peer.
     pub fn lsp_count<R: Wait>(&self, rt: &R, me: &mut Front<Event, B>, peer: u32) -> usize
         ensures begins { IsPrefix me.old me.new }
         ensures count { result ≡ length (filter (λ r. r.peer == peer) (database_at B.text me.new).state.base.records) }
@@ -291,8 +294,8 @@ impl<B: Brands> Shared<B> {
         lsp_count(held.database(), peer)
     }
 
-    /// Looks at the database: what is seen, all of one moment, is copied out. It is no step. Of the lock it takes as long
-    /// as the look.
+    /// Runs a query: what it sees of the database, all at one moment, is copied out. This is no step. It holds the lock
+    /// while the query runs.
     pub fn look<R: Wait, L: Look>(
         &self,
         rt: &R,
@@ -307,7 +310,7 @@ impl<B: Brands> Shared<B> {
         look.see(self.alloc, held.database())
     }
 
-    /// The same, of a seat.
+    /// Does the same, for a seat.
     pub fn look_at<R: Wait, L: Look>(
         &self,
         rt: &R,
@@ -322,20 +325,20 @@ impl<B: Brands> Shared<B> {
         look.see(self.alloc, held.database())
     }
 
-    /// Wakes the workers, since the end has come.
+    /// Announces the end, which wakes the workers.
     pub fn finish<R: Wait>(&self, rt: &R) {
         let held = acquire(rt, &self.held);
         self.bell.ring_out();
         drop(held);
     }
 
-    /// Whether the end was announced.
+    /// Tests whether the end was announced.
     pub fn is_over(&self) -> bool {
         self.bell.is_over()
     }
 
-    /// Takes the database from behind the lock and audits all of its seats. Where the audit fails everything is
-    /// handed back.
+    /// Takes the database from behind the lock and audits all of its seats. If the audit fails everything is handed
+    /// back.
     pub fn close(self, seats: Vec<Seat<B>>) -> Result<Audit, AuditRefused<B>>
         ensures audited { IfOk result (λ audit. IsAudited B.seats audit.database seats.items) }
         ensures one_history { IfOk result (λ audit. (past : List (Happening Event)) × (audit.database ≡ database_at B.text past) × All (HasSeenOf past) seats.items) }
@@ -370,7 +373,7 @@ impl<B: Brands> Shared<B> {
             });
         }
         let database = held.into_database();
-        // for the proof alone: the history is sound
+        // only for the proof: the history is sound
         let _sound = database.history();
         let steps = database.steps();
         let grants = database.grants();

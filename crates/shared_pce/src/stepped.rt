@@ -12,17 +12,17 @@ use pcep_word::Priority;
 use server_counts::LeftRow;
 use std::alloc::Global;
 
-/// What a step came to.
+/// The result of a step.
 #[derive(Drop)]
 pub(crate) struct Stepped {
     pub reply: Reply,
-    /// The receipts that the seat keeps no longer, to be dropped once the lock is free.
+    /// The receipts that the seat no longer keeps, to be dropped after the lock is freed.
     pub unkept: Vec<Receipt>,
-    /// What was left of the links of the path that the step brought, where it was read.
+    /// What was left of the links of the path that the step added, if it was read.
     pub rows: Vec<LeftRow>,
 }
 
-/// Reads by which priority an event's links are looked at: a report's by its setup priority.
+/// Returns the priority at which an event's links are read: for a report its setup priority.
 pub(crate) fn priority_of(event: &Event) -> Priority
     ensures { IsLookedAt event.now result }
 {

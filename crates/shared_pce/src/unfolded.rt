@@ -21,14 +21,14 @@ impl Unfolded {
         self.bytes = self.bytes.saturating_add(kept);
     }
 
-    /// Takes off the bytes of steps whose receipts a seat has folded.
+    /// Subtracts the bytes of steps whose receipts a seat has folded.
     pub fn fold(&mut self, folded: u64)
         ensures { self.new.bytes ≡ self.old.bytes - folded }
     {
         self.bytes = self.bytes.saturating_sub(folded);
     }
 
-    /// Counts the bytes.
+    /// Returns the bytes.
     pub fn bytes(&self) -> u64
         ensures { result ≡ self.now.bytes }
     {

@@ -283,7 +283,7 @@ empty_consistent te = record { distinct = λ peer plsp. omega arith; numbered = 
 pub empty_none : (te : Ted) → NoneAbove (empty te)
 empty_none te = record { none = λ peer srp lt. refl }
 
--- ---- the same of a call that takes the step, or leaves the state where memory is refused
+-- ---- the same of a call that takes the step, or leaves the state if memory runs out
 
 pub consistent_by : (s t : State) (event : Event) (result : Result Reply AllocError) → IsConsistent s → OnOk result (t ≡ (step s event).state) → OnErr result (t ≡ s) → IsConsistent t
 consistent_by s t event result c ok err = by_step IsConsistent s t event result c (step_keeps s event c).consistent ok err

@@ -129,7 +129,7 @@ granted_is_sound s Take srp is = sound_take s (first_waiting s.tickets) srp is
 granted_is_sound s (Commit id offer) srp is = sound_commit s id offer (ticket_at s.tickets id) srp refl is
 granted_is_sound s (Reload entries) srp is = sound_by s (Reload entries) (must_have_links s.te entries) (done (after_reload s entries)) srp (λ no. absurd (cc (no))) is
 
--- ---- the same of a call that takes the step, or leaves the state where memory is refused
+-- ---- the same of a call that takes the step, or leaves the state if memory runs out
 
 pub sound_by_step : (s t : State) (event : Event) (result : Result Reply AllocError) (srp : ℕ) → OnOk result (t ≡ (step s event).state) → IfOk result (λ reply. reply ≡ (step s event).reply) → result ≡ Ok (Granted srp) → IsSoundGrant s event t
 sound_by_step s t event (Ok reply) srp ok replied is =

@@ -344,7 +344,7 @@ refused_stays s Take why is = refused_take s (first_waiting s.tickets) why is
 refused_stays s (Commit id offer) why is = refused_commit s offer (ticket_at s.tickets id) why is
 refused_stays s (Reload entries) why is = refused_tests s (must_have_links s.te entries) (done (after_reload s entries)) why (λ no. absurd (cc (no))) is
 
--- ---- the same of a call that takes the step, or leaves the state where memory is refused
+-- ---- the same of a call that takes the step, or leaves the state if memory runs out
 
 pub by_step : (P : State → Type 0) (s t : State) (event : Event) (result : Result Reply AllocError) → P s → P (step s event).state → OnOk result (t ≡ (step s event).state) → OnErr result (t ≡ s) → P t
 by_step P s t event (Ok reply) here there ok err = subst P (sym ok) there

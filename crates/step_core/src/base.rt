@@ -9,15 +9,15 @@ use sequence::{PlainData, Sequence};
 use std::alloc::{AllocError, Global};
 use te_base::LinkValues;
 
-/// What was known at one moment over nodes and the ends of links, which stay: a state without the tables by which it finds
-/// things.
+/// What was known at one moment, except nodes and the ends of links, which stay: a state without the tables by which it
+/// finds things.
 #[derive(Debug, Drop)]
 pub struct Base {
     /// The values of all links, in the order of their numbers.
     pub values: Sequence<LinkValues>,
     pub paths: Sequence<Path>,
     pub records: Sequence<Record>,
-    /// The names of granted initiations that no report named yet.
+    /// The names of granted initiations that no report has named yet.
     pub names: Sequence<AwaitedName>,
     pub peers: Sequence<Peer>,
     /// In the order in which they were asked for.
@@ -30,7 +30,7 @@ pub struct Base {
     pub last_ticket: u64,
 }
 
-/// A copy of each element, in order.
+/// Copies each element, in order.
 pub(crate) fn copies<T: PlainData>(alloc: Global, items: &[T]) -> Result<Sequence<T>, AllocError>
     ensures { IfOk result (λ copies. copies ≡ items.now) }
 {

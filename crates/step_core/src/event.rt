@@ -1,4 +1,4 @@
-//! Events, and what the database answers.
+//! Events, and the database's replies to them.
 use crate::job::Job;
 use commit_core::Purpose;
 use link_reload::LinkReload;
@@ -40,7 +40,7 @@ pub enum Event {
         peer: u32,
         purpose: Purpose,
     },
-    /// The ticket of the least number that waits is to be searched for.
+    /// The waiting ticket with the least number is to be searched for.
     Take,
     /// The search for a ticket has answered: with the links of a path, or with none.
     Commit {
@@ -66,7 +66,7 @@ pub enum Event {
         peer: u32,
         plsp: Plsp,
     },
-    /// Links have other values from now on. Of several entries for one link the last counts.
+    /// Links get other values. If there are several entries for one link, the last counts.
     Reload {
         links: Sequence<LinkReload>,
     },
@@ -115,30 +115,30 @@ impl PlainData for Event {
     }
 }
 
-/// What the database answers to an event.
+/// The database's reply to an event.
 #[derive(Debug, Drop)]
 pub enum Reply {
     Done,
-    /// A report was booked. The LSP waits for a path that the PCE may give it: it is delegated and down,
-    /// has no route, and its peer takes updates and isn't synchronizing.
+    /// A report was booked. `wants_path` says that the LSP waits for a path that the PCE may give it: it is delegated
+    /// and down, has no route, and its peer takes updates and isn't synchronizing.
     Booked { wants_path: bool },
-    /// A path is asked for, by the ticket of this number.
+    /// A path is asked for. The ticket has this number.
     Asked(u64),
     /// A ticket was taken, with what its search needs.
     Job(Job),
     /// No ticket waits.
     Idle,
-    /// The offer was granted, and the peer is asked for it under this SRP-ID.
+    /// The offer was granted. The peer is asked for it under this SRP-ID.
     Granted(u32),
     /// The offer answers the peer's request.
     Answered,
-    /// The offer isn't good any more: its ticket waits to be searched for again.
+    /// The offer isn't good any more. Its ticket waits to be searched for again.
     Again,
-    /// There is no path; the ticket has ended.
+    /// There is no path. The ticket has ended.
     NoPath,
-    /// Four searches were in vain, or the grant can't be kept; the ticket has ended.
+    /// Four searches were in vain, or the grant can't be kept. The ticket has ended.
     GivenUp,
-    /// Nobody waits for the path any more; the ticket has ended.
+    /// Nobody waits for the path any more. The ticket has ended.
     Gone,
     /// The peer is asked to remove the LSP, under this SRP-ID.
     Removing(u32),

@@ -1,4 +1,4 @@
-//! What a search is given, and the search.
+//! The input of a search, and the search.
 ghost use Rattle.std.specs.Prelude.{IfOk};
 ghost use Rattle.step_core.specs.Searches.{MayAnswer};
 
@@ -10,10 +10,11 @@ use std::fmt;
 use te_base::LinkNumber;
 use te_snapshot::{OwnShares, Snapshot};
 
-/// What the search for a path is given. It is made outside, of the network as it was when the ticket was taken.
+/// The input of a search for a path. The search runs without the database, on the network as it was when the ticket was
+/// taken.
 #[derive(Drop)]
 pub struct Job {
-    /// The ticket, as it stands once it is taken.
+    /// The ticket as it is once taken.
     pub ticket: Ticket,
     /// The network, with what is left of every link.
     pub snapshot: Snapshot,
@@ -23,8 +24,8 @@ pub struct Job {
 
 impl Job {
     /// Finds the links of a path of least cost on the job's own network that keeps its other bounds, from the source
-    /// on. `None` where the network bears none, or the least one that was found breaks an other bound. It takes no
-    /// lock, and keeps nothing.
+    /// on. Returns `None` if the network has no room for one, or if the least one that was found breaks another bound.
+    /// It takes no lock, and keeps nothing.
     pub fn search(&self, alloc: Global) -> Result<Option<Sequence<LinkNumber>>, AllocError>
         ensures { IfOk result (λ answer. MayAnswer self.now answer) }
     {
@@ -45,7 +46,7 @@ impl PlainData for Job {
     }
 }
 
-/// The ticket, without the numbers of all links.
+/// Writes the ticket, without the numbers of all links.
 impl fmt::Debug for Job {
     fn fmt<W: fmt::Write>(&self, f: &mut fmt::Formatter<W>) -> fmt::Result {
         self.ticket.fmt(f)

@@ -1,13 +1,13 @@
-//! The state: what the database knows at one moment, and what one event does to it: sessions that come up and go
-//! down, the end of synchronization, state reports, peers that expire, LSPs that are given back to their
-//! peers, requests that a peer refuses, and the messages that wait for a peer, which are handed out to be
-//! sent. `State::step` is the definition `step` of `specs/Steps.antt` in
-//! full, the state after it and the reply; a refused event changes nothing, and where memory is refused
-//! nothing has changed. An event changes the paths, the records, the session and the messages of its own
-//! peer alone, if it is of a peer (`specs/Laws.antt`). What is left of a link is the share rule of `lsp_base` over the paths
-//! of the state, read from the stored sums of a book that stands for them (`specs/Networks.antt`). Every state that events
-//! lead to is consistent (`specs/Consistent.antt`), and the order of its paths, records and names makes no difference to
-//! what follows (`order_makes_no_difference`).
+//! The state: what the database knows at one moment, and what one event does to it. Events are sessions that come up
+//! and go down, the end of synchronization, state reports, peers that expire, LSPs that are given back to their peers,
+//! requests that a peer refuses, and handing out the messages that wait for a peer.
+//!
+//! `State::step` is the definition `step` of `specs/Steps.antt` in full, both the state after it and the reply. A
+//! refused event changes nothing, and if memory runs out nothing has changed. An event of a peer changes only the
+//! paths, the records, the session and the messages of that peer (`specs/Laws.antt`). What is left of a link is the
+//! share rule of `lsp_base` over the paths of the state, read from the stored sums of a book that stands for them
+//! (`specs/Networks.antt`). Every state that events lead to is consistent (`specs/Consistent.antt`), and the order of
+//! its paths, records and names makes no difference to what follows (`order_makes_no_difference`).
 //!
 //! ```text
 //! fn left_after(state: &mut State, event: &Event) -> Result<Option<i64>, AllocError>

@@ -12,7 +12,7 @@ use lsp_base::Path;
 use std::alloc::{AllocError, Global};
 use std::marker::Model;
 
-/// The names in one order, under the keys of their grants. A contract sees the list of names, and for how many more there
+/// The names in order, under the keys of their grants. A contract sees the list of names, and for how many more there
 /// is room.
 #[derive(Drop)]
 pub(crate) struct NameTable {
@@ -31,7 +31,7 @@ impl Model for NameTable {
 }
 
 impl NameTable {
-    /// No name. Takes no memory.
+    /// Makes a table of no names. Allocates nothing.
     pub fn new(alloc: Global) -> NameTable
         ensures { result.names ≡ [] }
     {
@@ -40,7 +40,7 @@ impl NameTable {
         }
     }
 
-    /// The names, in one order.
+    /// Lends the names, in order.
     pub fn as_slice(&self) -> &[AwaitedName]
         ensures { result.now ≡ self.now.names }
     {
@@ -63,7 +63,7 @@ impl NameTable {
         Ok(())
     }
 
-    /// Puts the name of a grant that has none at the end, into room that is there.
+    /// Adds the name of a grant that has none at the end, into reserved room.
     pub fn add(&mut self, name: AwaitedName)
         requires room { 0 < self.old.room }
         requires absent { list_any (is_of_grant name.peer name.srp) self.old.names ≡ false }
@@ -76,14 +76,14 @@ impl NameTable {
         let _old = self.map.insert(key, name).unwrap();
     }
 
-    /// Takes the name of a grant away; the last one takes its place.
+    /// Removes the name of a grant. The last one takes its place.
     fn drop_of_grant(&mut self, peer: u32, srp: u32)
         ensures { self.new.names ≡ without_first (is_of_grant peer srp) self.old.names }
     {
         self.map.swap_remove(&GrantKey { peer, srp });
     }
 
-    /// Takes the name of a grant that goes away; another path has none.
+    /// Removes the name of a grant that goes away. Any other path has none.
     fn drop_name(&mut self, gone: &Path)
         ensures { self.new.names ≡ without_first (λ a. is_grant_of_name a gone.now) self.old.names }
     {
@@ -92,7 +92,7 @@ impl NameTable {
         }
     }
 
-    /// Takes the names of the grants away that are among these paths.
+    /// Removes the names of those of these paths that are grants.
     pub fn drop_names(&mut self, gone: &[Path])
         ensures { self.new.names ≡ names_without self.old.names gone.now }
     {
@@ -101,7 +101,7 @@ impl NameTable {
         }
     }
 
-    /// Whether a granted initiation of the peer that no report named yet has the name.
+    /// Tests whether a granted initiation of the peer has the name and no report has named it yet.
     pub fn is_awaited(&self, peer: u32, name: &[u8]) -> bool
         ensures { result ≡ list_any (is_awaited_as peer name.now) self.now.names }
     {

@@ -9,7 +9,7 @@ use lsp_base::{Part, Path};
 use sequence::PlainData;
 use std::alloc::AllocError;
 
-/// The name of an LSP that was granted, and that no report named yet: its grant has no PLSP-ID.
+/// The name of an LSP that was granted and that no report has named yet: its grant has no PLSP-ID.
 #[derive(Debug, Drop)]
 pub struct AwaitedName {
     pub peer: u32,
@@ -35,7 +35,7 @@ pub(crate) struct GrantKey {
     pub srp: u32,
 }
 
-/// The SRP-ID of a grant that no report has bound yet; `None` of any other path.
+/// Returns the SRP-ID of a grant that no report has bound yet. `None` for any other path.
 pub(crate) fn unbound_srp(path: &Path) -> Option<u32>
     ensures grant { IfSome result (λ srp. (a : AwaitedName) → is_grant_of_name a path.now ≡ is_of_grant path.now.peer srp a) }
     ensures none { IfNone result ((a : AwaitedName) → is_grant_of_name a path.now ≡ false) }

@@ -30,8 +30,9 @@ use std::sync::Arc;
 use te_base::{LinkNumber, TeBase};
 use te_snapshot::{OwnShares, Snapshot, Topology};
 
-/// The links and nodes, what is known of the LSPs over them, the names of granted initiations that no report named yet, and the book of what the paths reserve. A contract sees no book: of every value of `Network` it holds that the
-/// book stands for its paths.
+/// The links and nodes, what is known of the LSPs over them, the names of granted initiations that no report has named
+/// yet, and the book of what the paths reserve. A contract doesn't see the book: for every value of `Network` the book
+/// stands for its paths.
 #[derive(Drop)]
 pub struct Network {
     alloc: Global,
@@ -63,7 +64,7 @@ fn make_room(lsps: &mut LspBase, book: &mut Book, effect: &Effect) -> Result<(),
     book.reserve(&effect.change)
 }
 
-/// Carries out an effect on the LSPs of a peer, in room that is there.
+/// Carries out an effect on the LSPs of a peer, in reserved room.
 fn make_change(lsps: &mut LspBase, book: &mut Book, peer: u32, effect: Effect)
     requires room { HasRoom lsps.old effect }
     requires few { IsWithinLimit lsps.old.content effect }
@@ -77,7 +78,7 @@ fn make_change(lsps: &mut LspBase, book: &mut Book, peer: u32, effect: Effect)
     lsps.change(peer, effect);
 }
 
-/// The effect that adds a path, and nothing else.
+/// Makes the effect that adds a path, and nothing else.
 fn granting(alloc: Global, path: Path) -> Result<Effect, AllocError>
     ensures { IfOk result (λ effect. effect ≡ granting path) }
 {
@@ -96,7 +97,7 @@ fn reserve_name(names: &mut NameTable, name: &Option<AwaitedName>) -> Result<(),
     }
 }
 
-/// Holds a name from now on, if there is one, in room that is there.
+/// Holds a name from now on, if there is one, in reserved room.
 fn hold_name(names: &mut NameTable, name: Option<AwaitedName>)
     requires room { IfSome name (λ a. 0 < names.old.room) }
     requires absent { IfSome name (λ a. list_any (is_of_grant a.peer a.srp) names.old.names ≡ false) }
@@ -108,8 +109,7 @@ fn hold_name(names: &mut NameTable, name: Option<AwaitedName>)
 }
 
 impl Network {
-    /// A network of which nothing was reported yet. The links and nodes are dropped where memory is
-    /// refused.
+    /// Makes a network of which nothing was reported yet. Drops the links and nodes if memory runs out.
     pub fn new(alloc: Global, te: TeBase) -> Result<Network, AllocError>
         ensures { IfOk result (λ network. network ≡ record { te = te; base = no_lsps; names = [] }) }
     {
@@ -138,8 +138,7 @@ impl Network {
         Ok(())
     }
 
-    /// The same, and a message that goes with it waits in a queue from then on. Where memory is refused the
-    /// queue is as before too.
+    /// Does what `carry_out` does, and appends a message to a queue. If memory runs out the queue is as before too.
     pub fn carry_out_saying(
         &mut self,
         peer: u32,
@@ -161,8 +160,8 @@ impl Network {
         Ok(())
     }
 
-    /// One path more, which is granted to a peer; the name that its LSP is to have is held, and the message that asks the
-    /// peer for it waits in a queue. It makes all the room that it needs before it changes anything.
+    /// Grants a path to a peer: adds the path, holds the name that its LSP is to have, and appends the message that
+    /// asks the peer for it to a queue. It makes all the room that it needs before it changes anything.
     pub fn grant(
         &mut self,
         peer: u32,
@@ -187,15 +186,15 @@ impl Network {
         Ok(())
     }
 
-    /// Makes the peer's paths stale, and changes nothing else: a stale path reserves what it did.
+    /// Makes the peer's paths stale, and changes nothing else. A stale path reserves what it did.
     pub fn mark_stale(&mut self, peer: u32)
         ensures { self.new ≡ record self.old { base = with_stale self.old.base peer } }
     {
         self.lsps.mark_stale(peer);
     }
 
-    /// Gives links other values, and counts the reload. A list that names a link that isn't there is refused, and changes
-    /// nothing. Takes no memory.
+    /// Gives links other values, and counts the reload. A list that names a link that doesn't exist is refused, and
+    /// changes nothing. Allocates nothing.
     pub fn reload(&mut self, entries: &[LinkReload], changes: &mut u64) -> Result<(), Why>
         requires { changes.old < 2 ^ 62 }
         ensures taken { OnOk result (must_have_links self.old.te entries.now ≡ None) }
@@ -208,8 +207,8 @@ impl Network {
         reload(&mut self.te, &mut self.book, entries, changes)
     }
 
-    /// What is left on a link at a priority, in bytes per second, from the book's stored sums. `None` where
-    /// there is no such link. It takes no memory.
+    /// Reads what is left on a link at a priority, in bytes per second, from the book's stored sums. `None` if there is
+    /// no such link. Allocates nothing.
     pub fn unreserved(&self, link: LinkNumber, priority: Priority) -> Option<i64>
         ensures no_such_link { IsNone result ↔ (length self.now.te.links ≤ link) }
         ensures left { IfSome result (λ left. left ≡ unreserved self.now.te.links self.now.base.paths link priority) }
@@ -218,8 +217,8 @@ impl Network {
         Some(self.book.unreserved(link, priority))
     }
 
-    /// The network with what is left of every link: the last snapshot again where no path and no link changed since. Where
-    /// memory is refused nothing has changed.
+    /// Returns the network with what is left of every link. It is the last snapshot again if no path and no link
+    /// changed since. If memory runs out nothing has changed.
     pub fn snapshot(&mut self) -> Result<Snapshot, AllocError>
         ensures snapshot { IfOk result (λ snapshot. snapshot ≡ snapshot_of self.old.te self.old.base) }
         ensures same { self.new ≡ self.old }
@@ -227,7 +226,7 @@ impl Network {
         self.book.snapshot()
     }
 
-    /// What the tunnel of the ticket's LSP reserves already, link by link.
+    /// Lists what the tunnel of the ticket's LSP reserves already, link by link.
     pub fn own_shares(&self, ticket: &Ticket) -> Result<OwnShares, AllocError>
         ensures { IfOk result (λ own. own ≡ own_of self.now.te self.now.base ticket.now) }
     {
@@ -237,21 +236,21 @@ impl Network {
         }
     }
 
-    /// What a tunnel reserves already, link by link.
+    /// Lists what a tunnel reserves already, link by link.
     pub fn shares_of(&self, tunnel: &Tunnel) -> Result<OwnShares, AllocError>
         ensures { IfOk result (λ own. own ≡ own_shares self.now.base.paths tunnel.now (length self.now.te.links)) }
     {
         self.book.own_shares(tunnel)
     }
 
-    /// What becomes of a ticket whose search has answered. Takes no memory.
+    /// Decides what becomes of a ticket whose search has answered. Allocates nothing.
     pub fn judge(&self, ticket: &Ticket, offer: Option<&Path>, view: PeerView) -> Verdict
         ensures { result ≡ verdict ticket.now (option_copied offer.entry) self.now.base self.now.te view }
     {
         judge(ticket, offer, &self.lsps, &self.book, &self.te, view)
     }
 
-    /// Whether a granted initiation of the peer that no report named yet has the name.
+    /// Tests whether a granted initiation of the peer has the name and no report has named it yet.
     pub fn is_name_awaited(&self, peer: u32, name: &[u8]) -> bool
         ensures { result ≡ list_any (is_awaited_as peer name.now) self.now.names }
     {
@@ -265,21 +264,21 @@ impl Network {
         self.names.of_grant(peer, srp)
     }
 
-    /// The names of granted initiations that no report named yet.
+    /// Lends the names of granted initiations that no report has named yet.
     pub fn names(&self) -> &[AwaitedName]
         ensures { result.now ≡ self.now.names }
     {
         self.names.as_slice()
     }
 
-    /// What is known of the LSPs.
+    /// Lends what is known of the LSPs.
     pub fn lsps(&self) -> &LspBase
         ensures { result.now.content ≡ self.now.base }
     {
         &self.lsps
     }
 
-    /// The links and nodes.
+    /// Lends the links and nodes.
     pub fn te_base(&self) -> &TeBase
         ensures { result.now ≡ self.now.te }
     {

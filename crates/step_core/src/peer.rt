@@ -1,4 +1,4 @@
-//! Peers, and what befalls one of a list.
+//! Peers, and what happens to one of a list.
 ghost use Rattle.std.specs.Prelude.{◌≡◌, ◌<◌, [], true, false, length, OnOk, OnErr};
 ghost use Rattle.step_core.specs.States.{is_known, peer_at, put_peer, in_session, synchronized, out_of_session, emptied, with_message};
 
@@ -17,13 +17,13 @@ pub const PEER_LIMIT: usize = 64;
 pub struct Peer {
     pub number: u32,
     pub up: bool,
-    /// The number of its last session, from 1. No two sessions of the database have the same.
+    /// The number of its last session, from 1. No two sessions of the database have the same number.
     pub session: u64,
     /// What its last session lets the PCE do.
     pub capabilities: Capabilities,
     /// It has not yet reported all of its LSPs (RFC 8231 section 5.6).
     pub syncing: bool,
-    /// The SRP-ID of the last request to it (RFC 8231 section 7.2); 0 where there was none.
+    /// The SRP-ID of the last request to it (RFC 8231 section 7.2), or 0 if there was none.
     pub last_srp: u32,
     /// What waits to be sent to it.
     pub outgoing: Queue,
@@ -48,7 +48,7 @@ const NO_CAPABILITIES: Capabilities = Capabilities {
     create: false,
 };
 
-/// A session of the peer begins: in its place where it is known, else it stands as the last.
+/// Begins a session of the peer: in its place if it is known, else at the end.
 pub(crate) fn begin_session(
     alloc: Global,
     peers: &mut PeerList,
@@ -80,7 +80,7 @@ pub(crate) fn begin_session(
     });
 }
 
-/// The peer has reported all that it has.
+/// Marks that the peer has reported all that it has.
 pub(crate) fn end_sync(peers: &mut PeerList, number: u32)
     requires { is_known peers.old number ≡ true }
     ensures { peers.new ≡ put_peer peers.old (synchronized (peer_at peers.old number)) }
@@ -90,7 +90,7 @@ pub(crate) fn end_sync(peers: &mut PeerList, number: u32)
     }
 }
 
-/// The peer's session ends, and what waits for it is dropped.
+/// Ends the peer's session, and drops what waits for it.
 pub(crate) fn end_session(peers: &mut PeerList, number: u32)
     requires { is_known peers.old number ≡ true }
     ensures { peers.new ≡ put_peer peers.old (out_of_session (peer_at peers.old number)) }
@@ -103,7 +103,7 @@ pub(crate) fn end_session(peers: &mut PeerList, number: u32)
     }
 }
 
-/// A message waits for the peer that takes no number.
+/// Appends a message without a number to what waits for the peer.
 pub(crate) fn queue_for_peer(
     peers: &mut PeerList,
     number: u32,
@@ -121,7 +121,7 @@ pub(crate) fn queue_for_peer(
     Ok(())
 }
 
-/// What waits for the peer is handed out.
+/// Hands out what waits for the peer.
 pub(crate) fn take_outgoing(alloc: Global, peers: &mut PeerList, number: u32) -> Sequence<Message>
     requires { is_known peers.old number ≡ true }
     ensures messages { result ≡ (peer_at peers.old number).outgoing }

@@ -1,4 +1,4 @@
-//! Peers in the order of their coming.
+//! Peers in the order in which they came.
 ghost use Rattle.std.specs.Prelude.{◌≡◌, ◌<◌, ◌≤◌, ◌++◌, ◌∷◌, [], not, find, filter, position, length, vec_capacity, option_copied, IfOk};
 ghost use Rattle.std.specs.List.{list_all};
 ghost use Rattle.step_core.specs.Consistent.{has_srps_left};
@@ -11,7 +11,8 @@ use std::marker::Model;
 /// The greatest SRP-ID that a request has (RFC 8231 section 7.2).
 const GREATEST_SRP: u32 = 0xffff_fffe;
 
-/// Peers in the order of their coming, with room for as many as are known at a time. A contract sees the list alone.
+/// Peers in the order in which they came, with room for as many as can be known at a time. A contract sees only the
+/// list.
 #[derive(Drop)]
 pub(crate) struct PeerList {
     pub items: Vec<Peer>,
@@ -28,7 +29,7 @@ impl Model for PeerList {
     ghost invariant = { λ l. 64 ≤ vec_capacity l.items };
 }
 
-/// The peer goes, and the others stay in their order.
+/// Removes the peer. The others stay in their order.
 fn drop_peer(peers: &mut Vec<Peer>, number: u32)
     ensures items { peers.new.items ≡ filter (λ p. not (is_peer number p)) peers.old.items }
     ensures capacity { vec_capacity peers.new ≡ vec_capacity peers.old }
@@ -44,7 +45,7 @@ fn drop_peer(peers: &mut Vec<Peer>, number: u32)
 }
 
 impl PeerList {
-    /// No peer.
+    /// Makes a list of no peers.
     pub fn new(alloc: Global) -> Result<PeerList, AllocError>
         ensures { IfOk result (λ peers. peers ≡ []) }
     {
@@ -53,28 +54,28 @@ impl PeerList {
         })
     }
 
-    /// The peers in order.
+    /// Lends the peers in order.
     pub fn as_slice(&self) -> &[Peer]
         ensures { result.now ≡ self.now }
     {
         &self.items
     }
 
-    /// How many peers there are.
+    /// Counts the peers.
     pub fn len(&self) -> usize
         ensures { result ≡ length self.now }
     {
         self.items.len()
     }
 
-    /// The place of a peer in the list.
+    /// Finds the place of a peer in the list.
     pub fn place_of(&self, number: u32) -> Option<usize>
         ensures { result ≡ position (is_peer number) self.now }
     {
         self.items.iter().position(|peer| peer.number == number)
     }
 
-    /// The peer, where it is known.
+    /// Finds the peer, if it is known.
     pub fn find(&self, number: u32) -> Option<&Peer>
         ensures { option_copied result ≡ find (is_peer number) self.now }
     {
@@ -88,7 +89,7 @@ impl PeerList {
         self.items.iter().all(|peer| peer.last_srp < GREATEST_SRP)
     }
 
-    /// A peer comes as the last.
+    /// Adds a peer at the end.
     pub fn push(&mut self, peer: Peer)
         requires { length self.old < 64 }
         ensures { self.new ≡ self.old ++ peer ∷ [] }
@@ -96,7 +97,7 @@ impl PeerList {
         self.items.push_reserved(peer);
     }
 
-    /// The peer goes.
+    /// Removes the peer.
     pub fn forget(&mut self, number: u32)
         ensures { self.new ≡ filter (λ p. not (is_peer number p)) self.old }
     {

@@ -25,7 +25,7 @@ impl Model for Queue {
 }
 
 impl Queue {
-    /// Nothing waits. Takes no memory.
+    /// Makes an empty queue. Allocates nothing.
     pub fn new(alloc: Global) -> Queue
         ensures { result ≡ [] }
     {
@@ -34,21 +34,21 @@ impl Queue {
         }
     }
 
-    /// Whether nothing waits.
+    /// Tests whether nothing waits.
     pub fn is_empty(&self) -> bool
         ensures { result ≡ is_nothing self.now }
     {
         self.messages.is_empty()
     }
 
-    /// How many messages wait.
+    /// Counts the waiting messages.
     pub fn len(&self) -> usize
         ensures { result ≡ length self.now }
     {
         self.messages.len()
     }
 
-    /// One more message waits, behind all others.
+    /// Appends a message.
     pub fn push(&mut self, message: Message) -> Result<(), AllocError>
         ensures added { OnOk result (self.new ≡ self.old ++ message ∷ []) }
         ensures unchanged { OnErr result (self.new ≡ self.old) }
@@ -58,7 +58,7 @@ impl Queue {
         Ok(())
     }
 
-    /// All that waits is handed out, in order. Takes no memory.
+    /// Hands out all that waits, in order. Allocates nothing.
     pub fn take(&mut self) -> Sequence<Message>
         ensures taken { result ≡ self.old }
         ensures empty { self.new ≡ [] }

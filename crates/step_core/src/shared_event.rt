@@ -7,7 +7,7 @@ use std::alloc::{AllocError, Global};
 use std::marker::Model;
 use std::sync::Arc;
 
-/// An event that several lists keep, and that stands in memory once. A contract sees the event.
+/// An event that several lists keep, and that is in memory once. A contract sees the event.
 #[derive(Debug, Drop)]
 pub struct SharedEvent {
     event: Arc<Event, Global>,
@@ -23,7 +23,7 @@ impl Model for SharedEvent {
 }
 
 impl SharedEvent {
-    /// The event, to be shared. It is dropped where memory is refused.
+    /// Makes the event one that can be shared. Drops it if memory runs out.
     pub fn new(alloc: Global, event: Event) -> Result<SharedEvent, AllocError>
         ensures { IfOk result (λ shared. shared ≡ event) }
     {
@@ -32,7 +32,7 @@ impl SharedEvent {
         })
     }
 
-    /// The event.
+    /// Lends the event.
     pub fn event(&self) -> &Event
         ensures { result.now ≡ self.now }
     {
@@ -40,7 +40,7 @@ impl SharedEvent {
     }
 }
 
-/// The same event once more. Takes no memory; it is refused where 2^63 lists keep the event.
+/// Shares the event once more. Allocates nothing. Fails if 2^63 lists keep the event.
 impl PlainData for SharedEvent {
     fn copy(&self) -> Result<SharedEvent, AllocError> {
         Ok(SharedEvent {

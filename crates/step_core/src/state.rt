@@ -1,4 +1,4 @@
-//! The whole state, looks at it, and one step of it.
+//! The whole state, queries of it, and one step of it.
 ghost use Rattle.std.specs.Prelude.{ℕ, Ok, true, ◌≡◌, ◌&&◌, ◌<◌, ◌≤◌, ◌^◌, ◌↔◌, length, find, IfOk, OnOk, OnErr, IsNone, IfSome, option_copied};
 ghost use Rattle.std.specs.List.{list_all};
 ghost use Rattle.lsp_base.specs.Shares.{unreserved};
@@ -65,8 +65,7 @@ impl Model for Tables {
 }
 
 impl Tables {
-    /// A network of which nothing was reported yet. The links and nodes are dropped where memory is
-    /// refused.
+    /// Makes tables of a network of which nothing was reported yet. Drops the links and nodes if memory runs out.
     fn new(alloc: Global, te: TeBase) -> Result<Tables, AllocError>
         ensures { IfOk result (λ tables. tables ≡ empty te) }
     {
@@ -80,7 +79,7 @@ impl Tables {
         })
     }
 
-    /// One event. `are_free` says that the SRP-ID which each peer is given next is free.
+    /// Takes one event. `are_free` says that the SRP-ID which each peer is given next is free.
     #[tactic(auto, unfolding(crate::specs::Steps::step))]
     fn step(&mut self, event: &Event, are_free: bool) -> Result<Reply, AllocError>
         requires changes { self.old.changes < 2 ^ 62 }
@@ -109,7 +108,7 @@ impl Tables {
         }
     }
 
-    /// What is known, in plain lists.
+    /// Copies what is known into plain lists.
     fn copy(&self) -> Result<Base, AllocError>
         ensures { IfOk result (λ base. base ≡ known_in self.now) }
     {
@@ -213,19 +212,18 @@ impl Tables {
     }
 }
 
-/// Tests whether the SRP-IDs that the peers are given next are above their last ones, as they were so far.
+/// Tests whether the SRP-IDs that the peers are given next are above their last ones, if they were so far.
 fn do_srps_rise(rose: bool, tables: &Tables) -> bool
     ensures { result ≡ (rose && list_all has_srps_left tables.now.peers) }
 {
     rose && tables.have_srps_left()
 }
 
-/// What the database knows at one moment. A contract sees its lists, and of every value of `State` it holds that they
-/// are consistent.
+/// What the database knows at one moment. A contract sees its lists. For every value of `State` they are consistent.
 #[derive(Drop)]
 pub struct State {
     tables: Tables,
-    /// No peer was ever given the greatest SRP-ID: none in use is above the last that its peer was given.
+    /// No peer was ever given the greatest SRP-ID, so none in use is above the last that its peer was given.
     srps_rise: bool,
 }
 
@@ -242,8 +240,7 @@ impl Model for State {
 }
 
 impl State {
-    /// A network of which nothing was reported yet. The links and nodes are dropped where memory is
-    /// refused.
+    /// Makes the state of a network of which nothing was reported yet. Drops the links and nodes if memory runs out.
     pub fn new(alloc: Global, te: TeBase) -> Result<State, AllocError>
         ensures { IfOk result (λ state. state ≡ empty te) }
     {
@@ -253,7 +250,7 @@ impl State {
         })
     }
 
-    /// One event. It makes all the room that it needs before it changes anything.
+    /// Takes one event. It makes all the room that it needs before it changes anything.
     pub fn step(&mut self, event: &Event) -> Result<Reply, AllocError>
         requires changes { self.old.changes < 2 ^ 62 }
         requires sessions { self.old.last_session < 2 ^ 62 }
@@ -271,10 +268,9 @@ impl State {
         self.tables.step(event, rise)
     }
 
-    /// What is left on a link at a priority, in bytes per second: what may be reserved on it, minus,
-    /// summed over tunnels, the greatest bandwidth of the tunnel's paths there that are held at that
-    /// priority or a better one. It is below zero where more is reported than the link bears. `None`
-    /// where there is no such link. It takes no memory.
+    /// Computes what is left on a link at a priority, in bytes per second: the reservable bandwidth, minus the sum over
+    /// tunnels of the greatest bandwidth of the tunnel's paths there that are held at that priority or a better one. It
+    /// is below zero if more is reported than the link can carry. `None` if there is no such link. Allocates nothing.
     pub fn unreserved(&self, link: LinkNumber, priority: Priority) -> Option<i64>
         ensures no_such_link { IsNone result ↔ (length self.now.te.links ≤ link) }
         ensures left { IfSome result (λ left. left ≡ unreserved self.now.te.links self.now.base.paths link priority) }
@@ -282,70 +278,70 @@ impl State {
         self.tables.unreserved(link, priority)
     }
 
-    /// Whether a session of the peer is up.
+    /// Tests whether a session of the peer is up.
     pub fn is_up(&self, peer: u32) -> bool
         ensures { result ≡ is_up self.now peer }
     {
         self.tables.is_up(peer)
     }
 
-    /// Whether a ticket waits to be searched for.
+    /// Tests whether a ticket waits to be searched for.
     pub fn waiting(&self) -> bool
         ensures { result ≡ has_waiting self.now }
     {
         self.tables.waiting()
     }
 
-    /// Whether messages wait to be sent to the peer.
+    /// Tests whether messages wait to be sent to the peer.
     pub fn queued(&self, peer: u32) -> bool
         ensures { result ≡ is_queued self.now peer }
     {
         self.tables.queued(peer)
     }
 
-    /// The links and nodes.
+    /// Lends the links and nodes.
     pub fn te_base(&self) -> &TeBase
         ensures { result.now ≡ self.now.te }
     {
         self.tables.te_base()
     }
 
-    /// The paths and the records of LSPs.
+    /// Lends the paths and the records of LSPs.
     pub fn lsps(&self) -> &LspBase
         ensures { result.now.content ≡ self.now.base }
     {
         self.tables.lsps()
     }
 
-    /// The name that the LSP of the peer's grant of an SRP-ID is to have, until a report binds the grant.
+    /// Finds the name that the LSP of the peer's grant of an SRP-ID is to have, until a report binds the grant.
     pub fn name_of_grant(&self, peer: u32, srp: u32) -> Option<&AwaitedName>
         ensures { option_copied result ≡ find (is_of_grant peer srp) self.now.names }
     {
         self.tables.name_of_grant(peer, srp)
     }
 
-    /// Whether a ticket of an update of the LSP stands.
+    /// Tests whether there is a ticket that updates the LSP.
     pub fn is_update_asked(&self, peer: u32, plsp: Plsp) -> bool
         ensures { result ≡ is_update_asked self.now.tickets peer plsp }
     {
         self.tables.is_update_asked(peer, plsp)
     }
 
-    /// What a tunnel reserves already on each link, as the search of an update of its LSP is given it.
+    /// Lists what a tunnel reserves already on each link, as a search for an update of its LSP takes it.
     pub fn shares_of(&self, tunnel: &Tunnel) -> Result<OwnShares, AllocError>
         ensures { IfOk result (λ own. own ≡ own_shares self.now.base.paths tunnel.now (length self.now.te.links)) }
     {
         self.tables.shares_of(tunnel)
     }
 
-    /// The peers in the order of their coming, with their sessions and what waits to be sent to each.
+    /// Lends the peers in the order in which they came, with their sessions and what waits to be sent to each.
     pub fn peers(&self) -> &[Peer]
         ensures { result.now ≡ self.now.peers }
     {
         self.tables.peers()
     }
 
-    /// How many tickets stand.
+    /// Counts the tickets.
     pub fn ticket_count(&self) -> usize
         ensures { result ≡ length self.now.tickets }
     {
@@ -359,7 +355,7 @@ impl State {
         self.tables.copy_tickets(alloc)
     }
 
-    /// What is known, in plain lists.
+    /// Copies what is known into plain lists.
     pub fn copy(&self) -> Result<Base, AllocError>
         ensures { IfOk result (λ base. base ≡ known_in self.now) }
     {

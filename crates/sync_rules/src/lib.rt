@@ -1,9 +1,8 @@
-//! What the life of a peer's session does to its paths and records. When a session ends, nothing that the
-//! peer reported is dropped: its paths become stale, and stay in the book. They go where the peer, back in
-//! a new session, ends its synchronization without having reported them again, or where it does not
-//! synchronize at all, or where it is given up. Each rule computes an `Effect` and changes nothing; the
-//! layer above may rely on it that the effect is the definition's in `specs/Peers.antt` and that
-//! `LspBase::change` may carry it out once room was reserved.
+//! What the start and end of a peer's session do to its paths and records. When a session ends, nothing that the peer
+//! reported is dropped: its paths become stale, and stay in the book. They go if the peer, back in a new session, ends
+//! its synchronization without having reported them again, if it doesn't synchronize at all, or if the PCE gives it up.
+//! Each rule computes an `Effect` and changes nothing. The layer above may rely on the effect being the definition's in
+//! `specs/Peers.antt`, and on `LspBase::change` being able to carry it out once room was reserved.
 //!
 //! ```text
 //! let effect = on_marker(alloc, &base, peer)?;

@@ -41,8 +41,8 @@ impl Test<Path> for OfPeer {
     }
 }
 
-/// The end of the peer's synchronization: what it did not report again is gone, with the records that then
-/// have no path (RFC 8231 section 5.6).
+/// Ends the peer's synchronization: removes what it did not report again, and the records that then have no path (RFC
+/// 8231 section 5.6).
 #[tactic(auto, unfolding(crate::specs::Peers::marker_effect))]
 pub fn on_marker(alloc: Global, base: &LspBase, peer: u32) -> Result<Effect, AllocError>
     ensures effect { IfOk result (λ effect. effect ≡ marker_effect base.now.content peer) }
@@ -53,7 +53,7 @@ pub fn on_marker(alloc: Global, base: &LspBase, peer: u32) -> Result<Effect, All
     dropping_of_peer(alloc, base, peer, &StaleOf { peer })
 }
 
-/// The peer is given up: all that it reported or was granted goes, with its records.
+/// Gives the peer up: removes all that it reported or was granted, and its records.
 #[tactic(auto, unfolding(crate::specs::Peers::expire_effect))]
 pub fn on_expire(alloc: Global, base: &LspBase, peer: u32) -> Result<Effect, AllocError>
     ensures effect { IfOk result (λ effect. effect ≡ expire_effect base.now.content peer) }
@@ -64,20 +64,20 @@ pub fn on_expire(alloc: Global, base: &LspBase, peer: u32) -> Result<Effect, All
     dropping_of_peer(alloc, base, peer, &OfPeer { peer })
 }
 
-/// The effect that keeps all paths and sets these records.
+/// Makes the effect that keeps all paths and sets these records.
 #[tactic(auto, unfolding(lsp_base::specs::Lsps::changed))]
 fn keeping_paths(alloc: Global, base: &LspBase, peer: u32, records: Vec<RecordChange>) -> Effect
     ensures effect { result ≡ effect_of [] [] records.items false }
     ensures stay { (changed base.now.content peer result).paths ≡ base.now.content.paths }
     ensures few { IsWithinLimit base.now.content result }
 {
-    // for the proof alone: no more paths stand than there may be
+    // only for the proof: there are no more paths than there may be
     let _few = base.paths();
     Effect::new(Vec::new(alloc), Vec::new(alloc), records, false)
 }
 
-/// A session of the peer is up. With STATEFUL-PCE-CAPABILITY it synchronizes first, and nothing goes yet;
-/// without, it will report nothing again, and what is stale goes at once (RFC 8231 section 5.6).
+/// Begins a session of the peer. With STATEFUL-PCE-CAPABILITY it synchronizes first, and nothing goes yet. Without, it
+/// will report nothing again, and what is stale goes at once (RFC 8231 section 5.6).
 #[tactic(auto, unfolding(crate::specs::Peers::up_effect))]
 pub fn on_up(
     alloc: Global,
@@ -106,7 +106,7 @@ fn left_by_itself(known: &Record) -> Result<RecordChange, AllocError>
     })
 }
 
-/// Leaves each record of the peer by itself.
+/// Changes each record of the peer as the end of its session does.
 #[derive(Drop)]
 struct LeftBy {
     peer: u32,
@@ -129,8 +129,7 @@ impl RecordRule for LeftBy {
     }
 }
 
-/// The session of the peer has ended: its delegations and removals end. No path goes (the caller makes
-/// them stale).
+/// Ends a session of the peer, and with it its delegations and removals. No path goes (the caller makes them stale).
 #[tactic(auto, unfolding(crate::specs::Peers::down_effect))]
 pub fn on_down(alloc: Global, base: &LspBase, peer: u32) -> Result<Effect, AllocError>
     ensures effect { IfOk result (λ effect. effect ≡ down_effect base.now.content peer) }

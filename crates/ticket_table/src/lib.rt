@@ -1,14 +1,13 @@
 //! Tickets: the paths that are asked for, in the order in which they were asked for. A ticket waits, is taken to be
 //! searched for, waits again or ends.
 //!
-//! The layer above may rely on it that a `TicketTable` is the list of `specs/Tickets.antt` with the last number that was
-//! given: the numbers rise, none is above the last, the first ticket that waits has the least number of those that do,
-//! and none was taken more than four times. `push` and `copies` alone take memory, and where it is refused nothing has
-//! changed.
+//! The layer above may rely on a `TicketTable` being the list of `specs/Tickets.antt` with the last number that was
+//! given. The numbers rise and none is above the last. The first waiting ticket has the least number of all that wait.
+//! None was taken more than four times. Only `push` and `copies` allocate, and if memory runs out nothing has changed.
 //!
-//! A ticket stands in the map by its number, in the order in which they were asked for, and in memory of its own: an
-//! entry is a number, a peer and a pointer. One that ends is taken out by `shift_remove`: it is dropped there and then, and
-//! of those behind it the entries alone move up.
+//! The map holds the tickets by number, in the order in which they were asked for. Each ticket is in memory of its own,
+//! so an entry is a number, a peer and a pointer. A ticket that ends is removed by `shift_remove`: it is dropped at
+//! once, and only the entries after it move.
 //!
 //! ```text
 //! tickets.push(ticket)?;

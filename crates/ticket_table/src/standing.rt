@@ -6,11 +6,11 @@ use commit_core::Ticket;
 use std::alloc::{AllocError, Global};
 use std::marker::Model;
 
-/// A ticket that stands in the table, in memory of its own: the table moves its pointer and its peer alone. A contract sees
+/// A ticket in the table, in memory of its own, so that the table moves only its pointer and its peer. A contract sees
 /// the ticket.
 #[derive(Drop)]
 pub struct StandingTicket {
-    /// The ticket's, so that the tickets of other peers can be passed over unread.
+    /// The ticket's peer, kept here so that the tickets of other peers can be passed over unread.
     peer: u32,
     ticket: Box<Ticket>,
 }
@@ -38,22 +38,22 @@ impl StandingTicket {
         })
     }
 
-    /// The peer that it is for.
+    /// Returns the peer that it is for.
     pub fn peer(&self) -> u32
         ensures { result ≡ self.now.peer }
     {
         self.peer
     }
 
-    /// The ticket.
+    /// Returns the ticket.
     pub fn ticket(&self) -> &Ticket
         ensures { result.now ≡ self.now }
     {
         &self.ticket
     }
 
-    /// Begins a search for the ticket; it was taken `tries` times with this one, and paths came or went, or links were
-    /// reloaded, `changes` times so far.
+    /// Begins a search for the ticket. `tries` is how often it was taken, this time included; `changes` is how often
+    /// paths came or went, or links were reloaded, so far.
     pub fn begin_search(&mut self, tries: u32, changes: u64)
         ensures { self.new ≡ record self.old { taken = true; tries = tries; seen = changes } }
     {

@@ -11,11 +11,11 @@ use sequence::PlainData;
 use std::alloc::{AllocError, Global};
 use std::marker::Model;
 
-/// The greatest number of tickets that stand at a time.
+/// The greatest number of tickets at a time.
 pub const TICKET_LIMIT: usize = 1024;
 
-/// The tickets that stand, in the order of their numbers, and the last number that was given. None was taken more than
-/// four times, and one that waits fewer times.
+/// The tickets, in the order of their numbers, and the last number that was given. None was taken more than four times,
+/// and a waiting one fewer times.
 #[derive(Drop)]
 pub struct TicketTable {
     map: IndexMap<u64, StandingTicket>,
@@ -51,7 +51,7 @@ fn is_initiation_of(name: &[u8], purpose: &Purpose) -> bool
     }
 }
 
-/// Whether one of the tickets is to update the LSP.
+/// Tests whether one of the tickets asks for an update of the LSP.
 fn is_any_update(tickets: &[StandingTicket], peer: u32, plsp: Plsp) -> bool
     ensures { result ≡ is_update_asked tickets.now peer plsp }
 {
@@ -59,7 +59,7 @@ fn is_any_update(tickets: &[StandingTicket], peer: u32, plsp: Plsp) -> bool
         && is_update_of(plsp, &standing.ticket().purpose))
 }
 
-/// Whether one of the tickets is to set an LSP of this name up.
+/// Tests whether one of the tickets asks for an LSP of this name.
 fn is_any_initiation(tickets: &[StandingTicket], peer: u32, name: &[u8]) -> bool
     ensures { result ≡ is_name_asked tickets.now peer name.now }
 {
@@ -68,7 +68,7 @@ fn is_any_initiation(tickets: &[StandingTicket], peer: u32, name: &[u8]) -> bool
 }
 
 impl TicketTable {
-    /// No ticket. Takes no memory.
+    /// Makes a table of no tickets. Allocates nothing.
     pub fn new(alloc: Global) -> TicketTable
         ensures { result ≡ record { tickets = []; last = 0 } }
     {
@@ -78,7 +78,7 @@ impl TicketTable {
         }
     }
 
-    /// How many tickets stand.
+    /// Counts the tickets.
     pub fn len(&self) -> usize
         ensures { result ≡ length self.now.tickets }
     {
@@ -97,14 +97,14 @@ impl TicketTable {
         Ok(copies)
     }
 
-    /// The number of the last ticket, 0 where there was none.
+    /// Returns the number of the last ticket, or 0 if there was none.
     pub fn last(&self) -> u64
         ensures { result ≡ self.now.last }
     {
         self.last
     }
 
-    /// Adds a ticket of the next number, behind all others.
+    /// Adds a ticket with the next number at the end.
     pub fn push(&mut self, ticket: Ticket) -> Result<(), AllocError>
         requires number { ticket.id ≡ self.old.last + 1 }
         requires tries { has_tries_left ticket ≡ true }
@@ -118,7 +118,7 @@ impl TicketTable {
         Ok(())
     }
 
-    /// The ticket of the number.
+    /// Finds the ticket of the number.
     pub fn find(&self, id: u64) -> Option<&Ticket>
         ensures { option_copied result ≡ ticket_at self.now.tickets id }
     {
@@ -128,7 +128,7 @@ impl TicketTable {
         }
     }
 
-    /// The waiting ticket of the least number. It was taken fewer than four times.
+    /// Finds the waiting ticket with the least number. It was taken fewer than four times.
     pub fn first_waiting(&self) -> Option<&Ticket>
         ensures first { option_copied result ≡ first_waiting self.now.tickets }
         ensures tries { IfSome result (λ t. t.now.tries < 4) }
@@ -142,7 +142,8 @@ impl TicketTable {
         None
     }
 
-    /// Takes the first that waits, to be searched for; paths came or went, or links were reloaded, `changes` times so far.
+    /// Takes the first waiting ticket, to search for it. `changes` is how often paths came or went, or links were
+    /// reloaded, so far.
     pub fn take_first(&mut self, changes: u64)
         ensures { self.new ≡ record self.old { tickets = take_first self.old.tickets changes } }
     {
@@ -155,7 +156,7 @@ impl TicketTable {
         }
     }
 
-    /// The ticket of the number waits again. It has tries left.
+    /// Lets the ticket of the number wait again. It has tries left.
     pub fn put_back(&mut self, id: u64)
         requires { IfSome (ticket_at self.old.tickets id) (λ t. t.tries < 4) }
         ensures { self.new ≡ record self.old { tickets = put_back self.old.tickets id } }
@@ -165,21 +166,21 @@ impl TicketTable {
         }
     }
 
-    /// The ticket of the number ends.
+    /// Ends the ticket of the number.
     pub fn end(&mut self, id: u64)
         ensures { self.new ≡ record self.old { tickets = without_ticket self.old.tickets id } }
     {
         self.map.shift_remove(&id);
     }
 
-    /// Whether an update of the LSP is asked for.
+    /// Tests whether a ticket asks for an update of the LSP.
     pub fn is_update_asked(&self, peer: u32, plsp: Plsp) -> bool
         ensures { result ≡ is_update_asked self.now.tickets peer plsp }
     {
         is_any_update(self.map.values().as_slice(), peer, plsp)
     }
 
-    /// Whether an LSP of this name is asked for.
+    /// Tests whether a ticket asks for an LSP of this name.
     pub fn is_name_asked(&self, peer: u32, name: &[u8]) -> bool
         ensures { result ≡ is_name_asked self.now.tickets peer name.now }
     {

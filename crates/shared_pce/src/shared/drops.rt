@@ -13,7 +13,7 @@ use pcep_objects::Plsp;
 use short_lock::acquire;
 use std::sync::Wait;
 
-/// Whether the grant of an SRP-ID, which is bound to this LSP, is covered by a report.
+/// Tests whether the grant of an SRP-ID, which is bound to this LSP, is covered by a report.
 fn is_covered<B: Brands>(held: &Held<B>, peer: u32, plsp: Plsp, srp: u32) -> bool
     ensures { result ≡ is_grant_covered (database_at B.text held.now).state.base.paths peer plsp srp }
 {
@@ -21,9 +21,9 @@ fn is_covered<B: Brands>(held: &Held<B>, peer: u32, plsp: Plsp, srp: u32) -> boo
 }
 
 impl<B: Brands> Shared<B> {
-    /// Drops the grant of an SRP-ID, which is bound to this LSP, if a report covers it: the test and the step are under one lock, so
-    /// that no report comes between them. `None` if the grant doesn't stand or isn't covered. After a fault no step was taken.
-    /// `HistoryFull` where no further step could be kept.
+    /// Drops the grant of an SRP-ID, which is bound to this LSP, if a report covers it. The test and the step are under
+    /// one lock, so that no report comes between them. Returns `None` if there is no such grant or it isn't covered.
+    /// After a fault no step was taken. Fails with `HistoryFull` if no further step could be kept.
     pub fn drop_covered<R: Wait>(
         &self,
         rt: &R,

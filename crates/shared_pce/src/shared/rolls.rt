@@ -1,5 +1,5 @@
-//! Rolls: the state becomes the base of the history, and the kept steps are dropped. No memory is left of them once each seat
-//! has folded its receipts.
+//! Rolls: the state becomes the base of the history, and the kept steps are dropped. Their memory is freed once each
+//! seat has folded its receipts.
 ghost use Rattle.std.specs.Prelude.{ℕ, ◌≡◌, true, All, IfOk, OnErr};
 ghost use mathlib.Core.List.{IsPrefix};
 ghost use Rattle.history_core.specs.Histories.{is_full};
@@ -19,8 +19,8 @@ use short_lock::acquire;
 use std::alloc::AllocError;
 use std::sync::Wait;
 
-/// Rolls the history if it is due, while the lock is held, and gives the steps that were kept, to be dropped once it is free.
-/// `None` if it isn't due. If memory is refused nothing has changed.
+/// Rolls the history if it is due, while the lock is held, and returns the steps that were kept, so that they can be
+/// dropped after it is freed. `None` if it isn't due. If memory runs out nothing has changed.
 fn roll_due<B: Brands>(
     held: &mut Held<B>,
     seat: &mut Seat<B>,
@@ -38,15 +38,14 @@ fn roll_due<B: Brands>(
     Ok(Some(unkept))
 }
 
-/// Whether it was due, and was rolled.
+/// Tests whether it was due, and was rolled.
 fn is_rolled(rolled: Result<Option<u64>, AllocError>) -> bool {
     matches!(rolled, Ok(Some(_)))
 }
 
 impl<B: Brands> Shared<B> {
-    /// Rolls the history: the state becomes its base, and the steps that were kept are dropped once the lock is
-    /// free. Gives how many steps were taken before the base. Whoever rolls shows a seat. Where memory is refused nothing has
-    /// changed.
+    /// Rolls the history: makes the state its base, and drops the steps that were kept after the lock is freed. Returns
+    /// how many steps were taken before the base. The caller shows a seat. If memory runs out nothing has changed.
     pub fn roll<R: Wait>(&self, rt: &R, seat: &mut Seat<B>) -> Result<u64, AllocError>
         ensures rolled { IfOk result (RolledUp B.text seat.old seat.new) }
         ensures unchanged_without_memory { OnErr result (SeesMore seat.old seat.new) }
@@ -61,9 +60,9 @@ impl<B: Brands> Shared<B> {
         Ok(steps)
     }
 
-    /// Rolls the history if it is due: if so many steps are kept, or steps of so many bytes. Gives how many were taken before
-    /// its new base. `None` if it isn't due, as when another thread has rolled it: the test and the roll are under one lock. If
-    /// memory is refused nothing has changed.
+    /// Rolls the history if it is due: if so many steps are kept, or steps of so many bytes. Returns how many were
+    /// taken before its new base. Returns `None` if it isn't due, for instance because another thread has rolled it:
+    /// the test and the roll are under one lock. If memory runs out nothing has changed.
     pub fn roll_if<R: Wait>(
         &self,
         rt: &R,
@@ -87,8 +86,9 @@ impl<B: Brands> Shared<B> {
         Ok(Some(steps))
     }
 
-    /// Rolls the history before a step, if it takes as much memory as it may beside the receipts of rolled steps. Gives the steps
-    /// that were kept, to be dropped once the lock is free. If memory is refused, the step comes all the same.
+    /// Rolls the history before a step, if it takes as much memory as it may, given the receipts of rolled steps.
+    /// Returns the steps that were kept, so that they can be dropped after the lock is freed. If memory runs out, the
+    /// step is taken all the same.
     fn make_way<R: Wait>(&self, rt: &R, held: &mut Held<B>, seat: &mut Seat<B>) -> Option<Vec<Step>>
         ensures { SeesMore seat.old seat.new }
     {
@@ -103,8 +103,8 @@ impl<B: Brands> Shared<B> {
         }
     }
 
-    /// One step while the lock is held, before which the history is rolled if that is due. Gives the steps that were kept, to be
-    /// dropped once it is free.
+    /// Takes one step while the lock is held, and rolls the history first if that is due. Returns the steps that were
+    /// kept, so that they can be dropped after it is freed.
     pub(super) fn roll_and_step<R: Wait>(
         &self,
         rt: &R,
@@ -124,7 +124,8 @@ impl<B: Brands> Shared<B> {
         Ok((stepped, rolled))
     }
 
-    /// Rolls the history if it takes as much memory as it may beside the receipts of rolled steps, as each step does first.
+    /// Rolls the history if it takes as much memory as it may, given the receipts of rolled steps, as each step does
+    /// first.
     pub fn roll_if_due<R: Wait>(
         &self,
         rt: &R,
@@ -137,7 +138,7 @@ impl<B: Brands> Shared<B> {
         self.roll_if(rt, seat, at)
     }
 
-    /// The same where no further step can be kept.
+    /// Does the same if no further step can be kept.
     pub fn roll_if_full<R: Wait>(
         &self,
         rt: &R,
@@ -160,14 +161,15 @@ impl<B: Brands> Shared<B> {
         Ok(Some(steps))
     }
 
-    /// Rolls the history for want of memory. Says whether it was rolled.
+    /// Rolls the history because memory ran out. Returns whether it was rolled.
     pub(super) fn spare<R: Wait>(&self, rt: &R, seat: &mut Seat<B>) -> bool
         ensures { SeesMore seat.old seat.new }
     {
         is_rolled(self.roll_if(rt, seat, SPARE_AT))
     }
 
-    /// How many steps lie before the base of the history: a greater number than before says that it was rolled since.
+    /// Returns how many steps are before the base of the history. A greater number than earlier says that it was rolled
+    /// since.
     pub fn rolled_at<R: Wait>(&self, rt: &R, seat: &mut Seat<B>) -> u64
         ensures sees { SeesMore seat.old seat.new }
         ensures rolled { result ≡ (database_at B.text seat.new.seen).rolled }
@@ -177,7 +179,7 @@ impl<B: Brands> Shared<B> {
         held.database().rolled()
     }
 
-    /// Lets a seat that waits keep its receipts of rolled places no longer; they stay counted. It is no step.
+    /// Lets a waiting seat drop its receipts of rolled places. They stay counted. This is no step.
     pub fn fold<R: Wait>(&self, rt: &R, seat: &mut Seat<B>)
         ensures begins { IsPrefix seat.old.seen seat.new.seen }
         ensures folded { seat.new ≡ with_seen seat.new.seen (tidy (database_at B.text seat.new.seen).rolled seat.old) }
@@ -188,15 +190,15 @@ impl<B: Brands> Shared<B> {
         self.drop_folded(rt, unkept);
     }
 
-    /// How many bytes the steps of a seat may take before its thread calls `roll_and_fold`.
+    /// Returns how many bytes the steps of a seat may take before its thread calls `roll_and_fold`.
     pub fn share_of_seat(&self) -> u64
         ensures { result ≡ (of_seat self.now.roll_at).bytes }
     {
         self.roll_at.of_seat().bytes
     }
 
-    /// Rolls the history if its steps take as much as those of one seat may, and lets the seat keep its receipts of rolled places no
-    /// longer: so it goes into no wait with more of them. If memory is refused nothing is rolled.
+    /// Rolls the history if its steps take as much as those of one seat may, and drops the seat's receipts of rolled
+    /// places, so that it doesn't wait with more of them. If memory runs out nothing is rolled.
     pub fn roll_and_fold<R: Wait>(&self, rt: &R, seat: &mut Seat<B>)
         ensures begins { IsPrefix seat.old.seen seat.new.seen }
         ensures folded { seat.new ≡ with_seen seat.new.seen (tidy (database_at B.text seat.new.seen).rolled seat.old) }
@@ -211,7 +213,7 @@ impl<B: Brands> Shared<B> {
         acquire(rt, &self.unfolded).roll(kept);
     }
 
-    /// Drops receipts that a seat has folded, and counts their bytes no longer.
+    /// Drops receipts that a seat has folded, and stops counting their bytes.
     pub(super) fn drop_folded<R: Wait>(&self, rt: &R, folded: Vec<Receipt>) {
         if !folded.is_empty() {
             let bytes = receipt_bytes(&folded);
@@ -220,7 +222,7 @@ impl<B: Brands> Shared<B> {
         drop(folded);
     }
 
-    /// When the history is to be rolled beside the receipts of rolled steps that seats haven't folded yet.
+    /// Returns when the history is to be rolled, given the receipts of rolled steps that seats haven't folded yet.
     fn due_at<R: Wait>(&self, rt: &R) -> RollAt
         ensures { (unfolded : ℕ) × (result ≡ beside unfolded self.now.roll_at) }
     {

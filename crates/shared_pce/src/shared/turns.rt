@@ -18,8 +18,8 @@ use short_lock::acquire;
 use std::sync::{CondvarTimeouts, Wait};
 use std::time::{Clock, Duration};
 
-/// Takes the next ticket while the lock is held, where one waits. `None` too where no further step can be kept, or memory is
-/// refused: then it waits as before.
+/// Takes the next waiting ticket, if there is one, while the lock is held. Returns `None` also if no further step can
+/// be kept or memory runs out: then the ticket waits as before.
 fn take_next<B: Brands>(held: &mut Held<B>, seat: &mut Seat<B>, take: &SharedEvent) -> Option<Job>
     requires { take.now ≡ Event.Take }
     ensures { TakesNext B.text seat.old seat.new result }
@@ -52,8 +52,8 @@ impl<B: Brands> Shared<B> {
         }
     }
 
-    /// Commits what a search found for an LSP of this setup priority, and takes the next ticket, where one waits, before the
-    /// lock is free.
+    /// Commits what a search found for an LSP of this setup priority, and takes the next waiting ticket, if there is
+    /// one, before the lock is freed.
     fn commit_and_take<R: Wait>(
         &self,
         rt: &R,
@@ -99,10 +99,10 @@ impl<B: Brands> Shared<B> {
         self.commit_and_take(rt, seat, commit, setup, &take)
     }
 
-    /// One turn of a worker: the job in the seat's hand, or else a ticket that waits, is searched for and
-    /// committed, and the job of the next ticket that waits comes to the hand. No lock is held while the gate is called, nor
-    /// during the search. After a fault nothing was done, or the ticket was taken and its job is in hand, to be finished by
-    /// the next turn. `HistoryFull` where no further step could be kept.
+    /// Does one turn of a worker: takes the job in the seat's hand, or else a waiting ticket, searches for its path,
+    /// commits it, and takes the job of the next waiting ticket in hand. It holds no lock while it calls the gate, nor
+    /// during the search. After a fault nothing was done, or the ticket was taken and its job is in hand, for the next
+    /// turn to finish. Fails with `HistoryFull` if no further step could be kept.
     pub fn work_one<R: Wait, A: Gate>(
         &self,
         rt: &R,
@@ -134,7 +134,7 @@ impl<B: Brands> Shared<B> {
         }
     }
 
-    /// Waits until a ticket waits, the end was announced or the time is up, and says whether a ticket waits in what was
+    /// Waits until a ticket waits, the end was announced or the time is up. Returns whether a ticket waits in what was
     /// seen then.
     pub fn await_work<R: Wait + Clock>(
         &self,

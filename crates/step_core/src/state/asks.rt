@@ -23,7 +23,7 @@ use te_base::{NodeNumber, TeBase};
 use te_snapshot::node_of;
 use ticket_table::{TICKET_LIMIT, TicketTable};
 
-/// Why the LSP can't be updated.
+/// Says why the LSP can't be updated.
 fn why_not_held(base: &LspBase, peer: u32, plsp: Plsp) -> Option<Why>
     ensures { result ≡ must_be_held base.now.content peer plsp }
 {
@@ -39,7 +39,7 @@ fn why_not_held(base: &LspBase, peer: u32, plsp: Plsp) -> Option<Why>
     }
 }
 
-/// Why no LSP of this name can be initiated.
+/// Says why no LSP of this name can be initiated.
 fn why_not_new(base: &LspBase, peer: u32, name: &[u8], held: bool) -> Option<Why>
     ensures { result ≡ must_be_new base.now.content peer name.now held }
 {
@@ -49,7 +49,7 @@ fn why_not_new(base: &LspBase, peer: u32, name: &[u8], held: bool) -> Option<Why
     }
 }
 
-/// What is asked of the path; `None` where nothing is known of the LSP that is to be updated.
+/// Returns what is asked of the path. `None` if nothing is known of the LSP that is to be updated.
 fn constraints_for(base: &LspBase, peer: u32, purpose: &Purpose) -> Option<Constraints>
     ensures { result ≡ constraints_for base.now.content.records peer purpose.now }
 {
@@ -64,7 +64,7 @@ fn constraints_for(base: &LspBase, peer: u32, purpose: &Purpose) -> Option<Const
     }
 }
 
-/// Which ends no node owns; a path to the node at which it begins has no destination.
+/// Says which ends no node owns. A path to the node at which it begins has no destination.
 fn missing_ends(from: Option<NodeNumber>, to: Option<NodeNumber>) -> Option<Ends>
     ensures { result ≡ missing_ends from to }
 {
@@ -82,7 +82,7 @@ fn missing_ends(from: Option<NodeNumber>, to: Option<NodeNumber>) -> Option<Ends
     }
 }
 
-/// Why the path has no two ends.
+/// Says why the path doesn't have two ends.
 fn why_no_ends(te: &TeBase, constraints: &Constraints) -> Option<Why>
     ensures { result ≡ must_have_ends te.now constraints.now }
 {
@@ -94,7 +94,7 @@ fn why_no_ends(te: &TeBase, constraints: &Constraints) -> Option<Why>
     }
 }
 
-/// Why no further ticket can stand.
+/// Says why there can be no further ticket.
 fn why_no_ticket(tickets: &TicketTable) -> Option<Why>
     ensures { result ≡ may_have_one_more tickets.now.tickets }
 {
@@ -105,7 +105,7 @@ fn why_no_ticket(tickets: &TicketTable) -> Option<Why>
     }
 }
 
-/// The number of the peer's session, 0 where it isn't known.
+/// Returns the number of the peer's session, or 0 if it isn't known.
 fn session_of(peers: &PeerList, peer: u32) -> u64
     ensures { result ≡ (peer_at peers.now peer).session }
 {
@@ -116,7 +116,7 @@ fn session_of(peers: &PeerList, peer: u32) -> u64
 }
 
 impl Tables {
-    /// Why the LSP isn't asked to be updated.
+    /// Says why an update of the LSP isn't asked for.
     fn why_no_update(&self, peer: u32, plsp: Plsp) -> Option<Why>
         ensures { result ≡ may_be_asked self.now peer (Purpose.Update plsp) }
     {
@@ -132,14 +132,15 @@ impl Tables {
         None
     }
 
-    /// Whether the name is that of an LSP which the PCE asks for, or which it granted and no report named yet.
+    /// Tests whether the name is that of an LSP which the PCE asks for, or which it granted and no report has named
+    /// yet.
     fn is_name_held(&self, peer: u32, name: &[u8]) -> bool
         ensures { result ≡ is_name_held self.now peer name.now }
     {
         self.tickets.is_name_asked(peer, name) || self.network.is_name_awaited(peer, name)
     }
 
-    /// Why no LSP of this name is asked for.
+    /// Says why no LSP of this name is asked for.
     fn why_no_initiation(&self, peer: u32, name: &[u8]) -> Option<Why>
         ensures { result ≡ (must_take_initiations self.now.peers peer ⨟ must_be_new self.now.base peer name.now (is_name_held self.now peer name.now)) }
     {
@@ -150,7 +151,7 @@ impl Tables {
         why_not_new(self.network.lsps(), peer, name, held)
     }
 
-    /// Why a path isn't asked for, by the tests that go with its purpose.
+    /// Says why a path isn't asked for, by the tests for its purpose.
     fn why_not_asked(&self, peer: u32, purpose: &Purpose) -> Option<Why>
         ensures { result ≡ may_be_asked self.now peer purpose.now }
     {
@@ -161,7 +162,7 @@ impl Tables {
         }
     }
 
-    /// The next ticket, which waits.
+    /// Makes the next ticket, which waits.
     fn new_ticket(
         &self,
         peer: u32,
@@ -183,7 +184,7 @@ impl Tables {
         })
     }
 
-    /// A path is asked for: it is searched for once its ticket is taken.
+    /// Asks for a path. It is searched for once its ticket is taken.
     pub(super) fn ask(&mut self, peer: u32, purpose: &Purpose) -> Result<Reply, AllocError>
         requires { self.old.last_ticket < 2 ^ 62 }
         ensures reply { IfOk result (λ reply. reply ≡ (ask_step self.old peer purpose.now).reply) }

@@ -27,7 +27,7 @@ use std::alloc::{AllocError, Global};
 use te_base::{LinkNumber, TeBase};
 use te_snapshot::cost_of;
 
-/// What the peer is sent where the offer is good: an update, an initiation, or the reply to its request.
+/// Makes what the peer is sent if the offer is good: an update, an initiation, or the reply to its request.
 fn message_of(
     alloc: Global,
     te: &TeBase,
@@ -52,7 +52,7 @@ fn message_of(
     }
 }
 
-/// The name that an initiation's LSP is to have, held from its grant on.
+/// Makes the name that an initiation's LSP is to have, which is held from its grant on.
 fn name_of_grant(srp: u32, ticket: &Ticket) -> Result<Option<AwaitedName>, AllocError>
     ensures { IfOk result (λ name. name ≡ name_of_grant ticket.now.peer srp ticket.now.purpose) }
 {
@@ -66,8 +66,8 @@ fn name_of_grant(srp: u32, ticket: &Ticket) -> Result<Option<AwaitedName>, Alloc
     }
 }
 
-/// Grants a path to a known peer: it stands from now on, the name that its LSP is to have is held, the message that
-/// asks the peer for it waits to be sent, and the peer's next number is taken.
+/// Grants a path to a known peer: adds the path, holds the name that its LSP is to have, queues the message that asks
+/// the peer for it, and uses the peer's next number.
 fn grant_path(
     network: &mut Network,
     peers: &mut PeerList,
@@ -94,7 +94,7 @@ fn grant_path(
 }
 
 impl Tables {
-    /// The waiting ticket of the least number is taken, and given with what its search needs. Where memory is refused it
+    /// Takes the waiting ticket with the least number, and returns it with what its search needs. If memory runs out it
     /// waits as before.
     pub(super) fn take(&mut self) -> Result<Reply, AllocError>
         ensures reply { IfOk result (λ reply. reply ≡ (take_step self.old).reply) }
@@ -118,7 +118,7 @@ impl Tables {
         }))
     }
 
-    /// What is known of a ticket's peer, and of the whole state.
+    /// Returns what is known of a ticket's peer, and of the whole state.
     fn view_of(&self, peer: u32, are_free: bool) -> PeerView
         requires { are_free ≡ true → AreFree self.now }
         ensures { result ≡ view_of self.now peer }
@@ -143,7 +143,7 @@ impl Tables {
         }
     }
 
-    /// The path that a grant of an offer would add.
+    /// Makes the path that a grant of an offer would add.
     fn path_of(
         &self,
         ticket: &Ticket,
@@ -159,7 +159,7 @@ impl Tables {
         Ok(Some(offered_path(self.network.lsps(), srp, ticket, links)))
     }
 
-    /// The grant stands, and the peer is asked for it.
+    /// Grants the path, and asks the peer for it.
     fn grant(&mut self, ticket: &Ticket, path: Path) -> Result<Reply, AllocError>
         requires few { length self.old.base.paths < 16384 }
         requires short { length path.links ≤ 64 }
@@ -188,7 +188,7 @@ impl Tables {
         Ok(Reply::Granted(srp))
     }
 
-    /// The request is answered, and nothing is booked.
+    /// Answers the request. Nothing is booked.
     fn answer(&mut self, ticket: &Ticket, links: &[LinkNumber]) -> Result<Reply, AllocError>
         requires short { length links.now ≤ 64 }
         requires known { is_known self.old.peers ticket.now.peer ≡ true }
@@ -203,7 +203,7 @@ impl Tables {
         Ok(Reply::Answered)
     }
 
-    /// The ticket ends without a path, and a request is answered so.
+    /// Ends the ticket without a path. If it was for a request, answers that there is none.
     fn end_in_vain(&mut self, ticket: &Ticket) -> Result<(), AllocError>
         requires known { is_known self.old.peers ticket.now.peer ≡ true }
         ensures state { OnOk result (self.new ≡ in_vain self.old ticket.now) }
@@ -256,7 +256,7 @@ impl Tables {
         }
     }
 
-    /// The search for a ticket has answered: what it offers is judged by what stands now.
+    /// Judges what the search for a ticket offers by the state as it is now.
     pub(super) fn commit(
         &mut self,
         id: u64,

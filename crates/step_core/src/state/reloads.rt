@@ -1,4 +1,4 @@
-//! Links that have other values.
+//! Links that get other values.
 ghost use Rattle.std.specs.Prelude.{◌≡◌, ◌<◌, ◌^◌};
 ghost use Rattle.step_core.specs.Reloads.{reload_step};
 
@@ -7,8 +7,8 @@ use crate::event::Reply;
 use link_reload::LinkReload;
 
 impl Tables {
-    /// Links have other values from now on, and no path changes. A list that names a link that isn't there changes
-    /// nothing. Takes no memory.
+    /// Gives links other values. No path changes. A list that names a link that doesn't exist changes nothing.
+    /// Allocates nothing.
     pub(super) fn reload(&mut self, entries: &[LinkReload]) -> Reply
         requires { self.old.changes < 2 ^ 62 }
         ensures reply { result ≡ (reload_step self.old entries.now).reply }

@@ -30,7 +30,7 @@ pub(super) fn moves_a_path(effect: &Effect) -> bool
     }
 }
 
-/// Carries out an effect on the LSPs of a peer, and counts it where it drops or adds a path.
+/// Carries out an effect on the LSPs of a peer, and counts it if it drops or adds a path.
 pub(super) fn change_lsps(
     network: &mut Network,
     changes: &mut u64,
@@ -53,7 +53,7 @@ pub(super) fn change_lsps(
     Ok(())
 }
 
-/// The LSP waits for a path, none is asked for, and the PCE may send the peer one.
+/// Tests whether the LSP waits for a path, none is asked for, and the PCE may send the peer one.
 fn wants_path(known: &Peer, tickets: &TicketTable, peer: u32, plsp: Plsp, effect: &Effect) -> bool
     ensures { result ≡ (effect.now.wants_path && (known.now.capabilities).update && not known.now.syncing && not (is_update_asked tickets.now.tickets peer plsp)) }
 {
@@ -64,8 +64,8 @@ fn wants_path(known: &Peer, tickets: &TicketTable, peer: u32, plsp: Plsp, effect
 }
 
 impl Tables {
-    /// A report is booked whatever it reserves: the links bear what the routers say, also where that is
-    /// more than they can.
+    /// Books a report whatever it reserves: links are charged what the routers say, even if that is more than they can
+    /// carry.
     pub(super) fn report(&mut self, peer: u32, report: &StateReport) -> Result<Reply, AllocError>
         requires { self.old.changes < 2 ^ 62 }
         ensures reply { IfOk result (λ reply. reply ≡ (report_step self.old peer report.now).reply) }

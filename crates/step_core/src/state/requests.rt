@@ -27,7 +27,7 @@ use pcep_objects::Plsp;
 use sequence::PlainData;
 use std::alloc::{AllocError, Global};
 
-/// Why the peer can't be asked for anything about its LSPs.
+/// Says why the peer can't be asked for anything about its LSPs.
 fn why_not_in_sync(known: &Peer) -> Option<Why>
     ensures { result ≡ (unless known.now.up PeerDown ⨟ unless (not known.now.syncing) Syncing) }
 {
@@ -40,7 +40,7 @@ fn why_not_in_sync(known: &Peer) -> Option<Why>
     }
 }
 
-/// Why an event that updates an LSP of the peer is refused.
+/// Says why an event that updates an LSP of the peer is refused.
 pub(super) fn why_not_updated(peers: &PeerList, peer: u32) -> Option<Why>
     ensures { result ≡ must_take_updates peers.now peer }
 {
@@ -54,7 +54,7 @@ pub(super) fn why_not_updated(peers: &PeerList, peer: u32) -> Option<Why>
     }
 }
 
-/// Why an event that initiates or removes an LSP of the peer is refused.
+/// Says why an event that initiates or removes an LSP of the peer is refused.
 pub(super) fn why_not_initiated(peers: &PeerList, peer: u32) -> Option<Why>
     ensures { result ≡ must_take_initiations peers.now peer }
 {
@@ -68,7 +68,7 @@ pub(super) fn why_not_initiated(peers: &PeerList, peer: u32) -> Option<Why>
     }
 }
 
-/// The SRP-ID of the next request to the peer.
+/// Returns the SRP-ID of the next request to the peer.
 pub(super) fn next_number(peers: &PeerList, peer: u32) -> u32
     ensures { result ≡ next_srp (peer_at peers.now peer).last_srp }
 {
@@ -78,8 +78,8 @@ pub(super) fn next_number(peers: &PeerList, peer: u32) -> u32
     }
 }
 
-/// Asks a known peer for something: the effect on its LSPs is carried out and counted, the message waits to be
-/// sent, and the peer's next number is taken.
+/// Asks a known peer for something: carries out and counts the effect on its LSPs, queues the message, and uses the
+/// peer's next number.
 pub(super) fn ask_peer(
     network: &mut Network,
     changes: &mut u64,
@@ -112,7 +112,7 @@ pub(super) fn ask_peer(
     Ok(())
 }
 
-/// The LSP, whose removal is awaited under this SRP-ID.
+/// Copies the LSP, with its removal awaited under this SRP-ID.
 fn removing(lsp: &Lsp, srp: u32) -> Result<Lsp, AllocError>
     ensures { IfOk result (λ new. new ≡ removing srp lsp.now) }
 {
@@ -121,7 +121,7 @@ fn removing(lsp: &Lsp, srp: u32) -> Result<Lsp, AllocError>
     Ok(removed)
 }
 
-/// The removal of the LSP is awaited under this SRP-ID, and nothing else changes.
+/// Makes the effect that the removal of the LSP is awaited under this SRP-ID, and nothing else changes.
 fn removal_asked(
     alloc: Global,
     base: &LspBase,
@@ -132,7 +132,7 @@ fn removal_asked(
     ensures effect { IfOk result (λ effect. effect ≡ removal_asked srp plsp (lsp_at base.now.content.records peer plsp)) }
     ensures few { IfOk result (λ effect. IsWithinLimit base.now.content effect) }
 {
-    // for the proof alone: no more paths stand than there may be
+    // only for the proof: there are no more paths than there may be
     let _few = base.paths();
     let mut records = Vec::new(alloc);
     if let Some(lsp) = base.lsp(peer, plsp) {
@@ -143,8 +143,8 @@ fn removal_asked(
 }
 
 impl Tables {
-    /// Tests whether the SRP-ID of the next request to the peer is still that of one that is awaited. `are_free` says
-    /// that it is of no peer.
+    /// Tests whether the SRP-ID of the next request to the peer is still that of an awaited request. `are_free` says
+    /// that it isn't for any peer.
     pub(super) fn is_number_used(&self, peer: u32, are_free: bool) -> bool
         requires { are_free ≡ true → AreFree self.now }
         ensures { result ≡ is_srp_used self.now.base peer (next_number self.now peer) }
@@ -156,7 +156,7 @@ impl Tables {
         is_srp_used(self.network.lsps(), peer, number)
     }
 
-    /// Why the peer can't be asked for anything, if its next number is still that of another request.
+    /// Says why the peer can't be asked for anything, if its next number is still that of another request.
     fn why_no_number(&self, peer: u32, are_free: bool) -> Option<Why>
         requires { are_free ≡ true → AreFree self.now }
         ensures { result ≡ must_have_a_number self.now peer }
@@ -168,7 +168,7 @@ impl Tables {
         }
     }
 
-    /// Why the LSP isn't removed.
+    /// Says why the LSP isn't removed.
     fn why_not_deleted(&self, peer: u32, plsp: Plsp, are_free: bool) -> Option<Why>
         requires { are_free ≡ true → AreFree self.now }
         ensures { result ≡ (must_take_initiations self.now.peers peer ⨟ may_be_deleted self.now.base peer plsp ⨟ must_have_a_number self.now peer) }
@@ -182,8 +182,8 @@ impl Tables {
         }
     }
 
-    /// A peer refused a request: the grant of its number is dropped, or the removal of its number isn't
-    /// awaited any more. A number that neither has changes nothing.
+    /// Handles a peer's refusal of a request: drops the grant of its number, or ends the wait for the removal of its
+    /// number. A number that neither has changes nothing.
     pub(super) fn refused(&mut self, peer: u32, srp: u32) -> Result<Reply, AllocError>
         requires { self.old.changes < 2 ^ 62 }
         ensures reply { IfOk result (λ reply. reply ≡ (refused_step self.old peer srp).reply) }
@@ -198,7 +198,7 @@ impl Tables {
         Ok(Reply::Done)
     }
 
-    /// An LSP is given back to its peer: the delegation ends, and the message that says so waits to be sent.
+    /// Gives an LSP back to its peer: ends the delegation, and queues the message that says so.
     pub(super) fn give_back(
         &mut self,
         peer: u32,
@@ -235,8 +235,8 @@ impl Tables {
         Ok(Reply::Done)
     }
 
-    /// An LSP that the PCE initiated is to be removed: its removal is awaited from now on, and the message that asks the
-    /// peer for it waits to be sent.
+    /// Asks the peer to remove an LSP that the PCE initiated: awaits its removal, and queues the message that asks for
+    /// it.
     pub(super) fn delete(
         &mut self,
         peer: u32,

@@ -14,7 +14,7 @@ use pcep_objects::Capabilities;
 use std::alloc::AllocError;
 use sync_rules::{on_down, on_expire, on_marker, on_up};
 
-/// Why an event of a peer that is to be up is refused.
+/// Says why an event of a peer that must be up is refused.
 pub(super) fn why_not_up(peers: &PeerList, peer: u32) -> Option<Why>
     ensures { result ≡ must_be_up peers.now peer }
 {
@@ -24,7 +24,7 @@ pub(super) fn why_not_up(peers: &PeerList, peer: u32) -> Option<Why>
     }
 }
 
-/// Why no session of the peer can come up.
+/// Says why no session of the peer can come up.
 fn why_no_session(peers: &PeerList, peer: u32) -> Option<Why>
     ensures { result ≡ (must_be_down peers.now peer ⨟ may_be_known peers.now peer) }
 {
@@ -40,7 +40,7 @@ fn why_no_session(peers: &PeerList, peer: u32) -> Option<Why>
     }
 }
 
-/// Why the peer can't be forgotten.
+/// Says why the peer can't be forgotten.
 fn why_not_forgotten(peers: &PeerList, peer: u32) -> Option<Why>
     ensures { result ≡ (must_be_known peers.now peer ⨟ must_be_down peers.now peer) }
 {
@@ -51,7 +51,7 @@ fn why_not_forgotten(peers: &PeerList, peer: u32) -> Option<Why>
 }
 
 impl Tables {
-    /// A session comes up. What a peer that doesn't synchronize left stale is dropped at once.
+    /// Brings a session up. What a peer that doesn't synchronize left stale is dropped at once.
     pub(super) fn up(&mut self, peer: u32, sent: Option<Capabilities>) -> Result<Reply, AllocError>
         requires changes { self.old.changes < 2 ^ 62 }
         requires sessions { self.old.last_session < 2 ^ 62 }
@@ -69,7 +69,7 @@ impl Tables {
         Ok(Reply::Done)
     }
 
-    /// The peer has reported all that it has: what is still stale is dropped.
+    /// Ends the peer's synchronization: drops what is still stale.
     pub(super) fn marker(&mut self, peer: u32) -> Result<Reply, AllocError>
         requires { self.old.changes < 2 ^ 62 }
         ensures reply { IfOk result (λ reply. reply ≡ (marker_step self.old peer).reply) }
@@ -85,8 +85,8 @@ impl Tables {
         Ok(Reply::Done)
     }
 
-    /// A session ends: the peer's delegations and removals end, what waits to be sent to it is dropped, and
-    /// its paths are stale.
+    /// Ends a session: ends the peer's delegations and removals, drops what waits to be sent to it, and makes its paths
+    /// stale.
     pub(super) fn down(&mut self, peer: u32) -> Result<Reply, AllocError>
         requires { self.old.changes < 2 ^ 62 }
         ensures reply { IfOk result (λ reply. reply ≡ (down_step self.old peer).reply) }
@@ -103,7 +103,7 @@ impl Tables {
         Ok(Reply::Done)
     }
 
-    /// A peer that is down is forgotten, with its paths and records.
+    /// Forgets a peer that is down, with its paths and records.
     pub(super) fn expire(&mut self, peer: u32) -> Result<Reply, AllocError>
         requires { self.old.changes < 2 ^ 62 }
         ensures reply { IfOk result (λ reply. reply ≡ (expire_step self.old peer).reply) }
@@ -119,7 +119,7 @@ impl Tables {
         Ok(Reply::Done)
     }
 
-    /// What waits for the peer is handed out to be sent. It takes no memory.
+    /// Hands out what waits for the peer, to be sent. Allocates nothing.
     pub(super) fn drain(&mut self, peer: u32) -> Reply
         ensures reply { result ≡ (drain_step self.old peer).reply }
         ensures state { self.new ≡ (drain_step self.old peer).state }
