@@ -21,7 +21,7 @@ pub struct Client {
 }
 
 impl Client {
-    /// A session that begins at this moment, in milliseconds. Its Open stands in its output. The fault is
+    /// Makes a session that begins at this moment, in milliseconds. Its Open is in its output. The only fault is
     /// `OutOfMemory`.
     pub fn new(alloc: Global, now_ms: u64) -> Result<Client, Fault>
         ensures begun { IfOk result (λ client. client ≡ new_client now_ms) }
@@ -63,7 +63,7 @@ pub(crate) fn end(
     }
 }
 
-/// Ends a session without a word. Takes no memory.
+/// Ends a session without sending anything. Allocates nothing.
 pub(crate) fn close(client: &mut Client)
     ensures { client.new ≡ ending None None client.old }
 {
@@ -82,7 +82,7 @@ fn refuse_up(client: &mut Client, why: Why) -> Result<(), Fault>
     }
 }
 
-/// What the reply to an Up means for the session.
+/// Does what the reply to an Up means for the session.
 #[tactic(auto, unfolding(crate::specs::Engine::after_up))]
 pub(crate) fn after_up(client: &mut Client, reply: &Reply) -> Result<(), Fault>
     ensures answered { OnOk result (client.new ≡ after_up reply.now client.old) }
@@ -100,7 +100,7 @@ pub(crate) fn after_up(client: &mut Client, reply: &Reply) -> Result<(), Fault>
     }
 }
 
-/// The request that a report answers (RFC 8231 section 7.2).
+/// Returns the request that a report answers (RFC 8231 section 7.2).
 fn srp_about(srp: Option<u32>) -> About
     ensures { result ≡ srp_about srp }
 {
@@ -110,7 +110,7 @@ fn srp_about(srp: Option<u32>) -> About
     }
 }
 
-/// A report that is refused is answered (RFC 8231 section 8.5, Error-Type 20), and the session goes on.
+/// Answers a refused report (RFC 8231 section 8.5, Error-Type 20). The session goes on.
 pub(crate) fn refuse_report(client: &mut Client, srp: Option<u32>) -> Result<(), Fault>
     ensures answered { OnOk result (client.new ≡ saying (cannot_process srp) client.old) }
     ensures unchanged { OnErr result (client.new ≡ client.old) }
@@ -127,7 +127,7 @@ pub(crate) fn refuse_report(client: &mut Client, srp: Option<u32>) -> Result<(),
     }
 }
 
-/// What the session gives next.
+/// Takes what the session gives next.
 pub(crate) fn next(client: &mut Client) -> Result<Option<Input>, Fault>
     ensures given { IfOk result (λ given. given ≡ (next client.old.session).input) }
     ensures turned { OnOk result (client.new ≡ client_with (next client.old.session).after client.old) }
@@ -140,7 +140,7 @@ pub(crate) fn next(client: &mut Client) -> Result<Option<Input>, Fault>
     }
 }
 
-/// Sends a message; one whose lengths don't fit is left out.
+/// Sends a message. A message whose lengths don't fit is left out.
 pub(crate) fn send(client: &mut Client, message: &Message) -> Result<(), Fault>
     ensures sent { OnOk result (client.new ≡ sending_one client.old message.now) }
     ensures unchanged { OnErr result (client.new ≡ client.old) }
@@ -153,7 +153,7 @@ pub(crate) fn send(client: &mut Client, message: &Message) -> Result<(), Fault>
     }
 }
 
-/// Sends messages in order. Where memory runs out, some of them were sent.
+/// Sends messages in order. If memory runs out, some of them were sent.
 pub(crate) fn send_each(client: &mut Client, messages: &[Message]) -> Result<(), Fault>
     ensures sent { OnOk result (client.new ≡ fold sending_one client.old messages.now) }
     ensures some_sent { OnErr result (SomeSent messages.now client.old client.new) }

@@ -18,7 +18,7 @@ use pcep_messages::{Errors, Message, PathRequest, StateReport};
 use pcep_objects::{Capabilities, Plsp};
 use pcep_session::{Input, Session};
 
-/// The store is shown the Open of the session's peer.
+/// Shows the store the Open of the session's peer.
 fn show_open<S: Store>(session: &Session, store: &mut S)
     ensures { S.moves store.old (open_shown session.now.peer) store.new }
 {
@@ -39,7 +39,7 @@ fn join<S: Store>(
     after_up(client, reply(store))
 }
 
-/// The session came up: its peer's Open is shown before its Up is submitted.
+/// Submits the Up of a session, after showing its peer's Open.
 fn on_up<S: Store>(
     client: &mut Client,
     peer: u32,
@@ -52,7 +52,7 @@ fn on_up<S: Store>(
     join(client, peer, capabilities, store)
 }
 
-/// The end of synchronization (RFC 8231 section 5.6), or the report of an LSP.
+/// Returns the event of a report: the end of synchronization (RFC 8231 section 5.6), or the report of an LSP.
 fn event_of(peer: u32, report: StateReport) -> Event
     ensures { result ≡ event_of peer report }
 {
@@ -62,7 +62,7 @@ fn event_of(peer: u32, report: StateReport) -> Event
     Event::Report { peer, report }
 }
 
-/// A path is asked for, to update the LSP. What the store replies means nothing for the session.
+/// Asks for a path, to update the LSP. The store's reply means nothing for the session.
 fn on_wanted<S: Store>(client: &Client, peer: u32, plsp: Plsp, store: &mut S) -> Result<(), Fault>
     ensures { (go_on : Client → Plan Client) → Serves result S.moves S.is_full store.old store.new client.now client.now (on_wanted peer plsp client.now go_on) go_on }
 {
@@ -71,7 +71,7 @@ fn on_wanted<S: Store>(client: &Client, peer: u32, plsp: Plsp, store: &mut S) ->
     Ok(())
 }
 
-/// What the reply to a report means: an LSP that waits for a path is asked for, and a report that is refused is answered.
+/// Does what the reply to a report means: asks for a path for an LSP that waits for one, and answers a refused report.
 #[tactic(auto, unfolding(crate::specs::Engine::after_report))]
 fn after_report<S: Store>(
     client: &mut Client,
@@ -123,7 +123,7 @@ fn on_reports<S: Store>(
     Ok(())
 }
 
-/// The peer refused the request of an SRP-ID.
+/// Submits the peer's refusal of the request of an SRP-ID.
 fn on_refusal<S: Store>(client: &Client, peer: u32, srp: u32, store: &mut S) -> Result<(), Fault>
     ensures { (go_on : Client → Plan Client) → Serves result S.moves S.is_full store.old store.new client.now client.now (on_refusal peer srp client.now go_on) go_on }
 {
@@ -145,7 +145,7 @@ fn on_refusals<S: Store>(
     Ok(())
 }
 
-/// A request that is refused is answered, where the answer says why.
+/// Answers a refused request, if there is an answer that says why.
 fn refuse_request(client: &mut Client, request: u32, why: Why) -> Result<(), Fault>
     ensures answered { OnOk result (client.new ≡ refused_request request why client.old) }
     ensures unchanged { OnErr result (client.new ≡ client.old) }
@@ -158,7 +158,7 @@ fn refuse_request(client: &mut Client, request: u32, why: Why) -> Result<(), Fau
     }
 }
 
-/// What the reply to a request that is asked for means: where there can't be a path it is answered at once.
+/// Does what the reply to a path request means: if there can't be a path it is answered at once.
 #[tactic(auto, unfolding(crate::specs::Engine::after_request))]
 fn after_request<S: Store>(client: &mut Client, request: u32, store: &S) -> Result<(), Fault>
     requires { 0 < length (S.calls store.now) }
@@ -170,7 +170,7 @@ fn after_request<S: Store>(client: &mut Client, request: u32, store: &S) -> Resu
     }
 }
 
-/// A path is asked for, to answer a request.
+/// Asks for a path, to answer a request.
 fn on_request<S: Store>(
     client: &mut Client,
     peer: u32,
@@ -214,7 +214,7 @@ fn take_message<S: Store>(
     }
 }
 
-/// The session delivered a message: it is shown before its events are submitted.
+/// Shows a message that the session delivered, then submits its events.
 fn on_message<S: Store>(
     client: &mut Client,
     peer: u32,
@@ -227,7 +227,7 @@ fn on_message<S: Store>(
     take_message(client, peer, message, store)
 }
 
-/// A peer that is joined goes down.
+/// Submits the Down of a joined peer.
 pub(crate) fn on_down<S: Store>(client: &mut Client, peer: u32, store: &mut S) -> Result<(), Fault>
     ensures went_down { (go_on : Client → Plan Client) → Serves result S.moves S.is_full store.old store.new client.old client.new (on_down peer client.old go_on) go_on }
     ensures unchanged { OnErr result (client.new ≡ client.old) }
@@ -257,7 +257,7 @@ fn on_input<S: Store>(
     }
 }
 
-/// All that the session gives, in order.
+/// Handles all that the session gives, in order.
 pub(crate) fn take_turns<S: Store>(
     client: &mut Client,
     peer: u32,

@@ -2,7 +2,7 @@
 
 ghost use Rattle.engine_core.specs.Laws.{AllHandled};
 
-/// A session is served until it gives nothing more: the bound on its turns cuts nothing off.
+/// Shows that a session is served until it gives nothing more: the bound on its turns cuts nothing off.
 pub fn all_handled()
     ensures { AllHandled }
 {}

@@ -24,7 +24,7 @@ pub struct Lent<'a> {
 }
 
 impl<'a> Lent<'a> {
-    /// The database, with no calls yet. Takes no memory.
+    /// Lends the database, with no calls yet. Allocates nothing.
     pub fn new(alloc: Global, database: &'a mut Database) -> Lent<'a>
         ensures same_loan { result.database.ghost_name ≡ database.entry.ghost_name }
         ensures database { result.database.now ≡ database.old }
@@ -57,7 +57,7 @@ impl<'a> Store for Lent<'a> {
 
     ghost moves_add = { λ a b made h. h.added };
 
-    /// One step of the database. The room for the call is made first, and the event stands in memory once.
+    /// Takes one step of the database. Makes room for the call first. The event is in memory once.
     fn submit(&mut self, event: Event) -> Result<(), Fault> {
         self.calls.reserve(1)?;
         let event = SharedEvent::new(*self.calls.allocator(), event)?;
@@ -109,10 +109,9 @@ fn hang_up_lent(store: &mut Lent, client: &mut Client, peer: u32) -> Result<(), 
     hang_up(client, peer, store)
 }
 
-/// Serves a session over a database, which takes each event as a step, as `serve` does over a `Lent`; the list of
-/// the calls is dropped. After a fault the steps up to then stay, the session has ended where it had come to by
-/// their replies, and no Close is sent. `HistoryFull` is answered where an event was to be taken and the history
-/// was full.
+/// Serves a session over a database, which takes each event as a step, as `serve` does over a `Lent`. The list of the
+/// calls is dropped. After a fault the steps up to then stay, the session has ended in the state that their replies had
+/// led to, and no Close is sent. `HistoryFull` means that an event was to be taken and the history was full.
 pub fn serve_database(
     alloc: Global,
     database: &mut Database,

@@ -8,7 +8,7 @@ use lsp_base::{Constraints, Ends, OtherBounds};
 use pcep_messages::{Answer, Bounds, Message, PathReply, PathRequest};
 use pcep_objects::{MetricType, NoPathVector};
 
-/// The bound on the metric that the path is to have least of.
+/// Returns the bound on the metric that the path is to minimise.
 fn bound_on(minimise: MetricType, bounds: &Bounds) -> Option<u64>
     ensures { result ≡ bound_on minimise bounds.now }
 {
@@ -19,7 +19,7 @@ fn bound_on(minimise: MetricType, bounds: &Bounds) -> Option<u64>
     }
 }
 
-/// The bounds on the other metrics.
+/// Returns the bounds on the other metrics.
 fn bounds_beside(minimise: MetricType, bounds: &Bounds) -> OtherBounds
     ensures { result ≡ bounds_beside minimise bounds.now }
 {
@@ -48,7 +48,7 @@ fn constraints_of(request: &PathRequest) -> Constraints
     }
 }
 
-/// What is asked for to answer a request.
+/// Returns what is asked for to answer a request.
 pub(crate) fn purpose_of(request: &PathRequest) -> Purpose
     ensures { result ≡ purpose_of request.now }
 {
@@ -74,8 +74,8 @@ fn unknown_ends(ends: Ends) -> NoPathVector
     }
 }
 
-/// Why there is no path, where a request is to be answered (RFC 5440 section 7.5): the PCE doesn't know the ends, or it
-/// has too many requests to take another.
+/// Says why there is no path, if a request is to be answered (RFC 5440 section 7.5): the PCE doesn't know the ends, or
+/// it has too many requests to take another.
 pub(crate) fn vector_for(why: Why) -> Option<NoPathVector>
     ensures { result ≡ vector_for why }
 {
@@ -90,7 +90,7 @@ pub(crate) fn vector_for(why: Why) -> Option<NoPathVector>
     }
 }
 
-/// The reply to a request that there is no path, and why.
+/// Makes the reply to a request that there is no path, and why.
 pub(crate) fn no_path_for(request: u32, vector: NoPathVector) -> Message
     ensures { result ≡ no_path_for request vector }
 {

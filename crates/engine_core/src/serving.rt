@@ -44,7 +44,7 @@ fn send_out<S: Store>(client: &mut Client, store: &S) -> Result<(), Fault>
     }
 }
 
-/// The messages that wait for a peer whose session is up are sent.
+/// Sends the messages that wait for a peer whose session is up.
 fn drain<S: Store>(client: &mut Client, peer: u32, store: &mut S) -> Result<(), Fault>
     ensures { (go_on : Client → Plan Client) → Serves result S.moves S.is_full store.old store.new client.old client.new (draining peer client.old go_on) go_on }
 {
@@ -55,7 +55,7 @@ fn drain<S: Store>(client: &mut Client, peer: u32, store: &mut S) -> Result<(), 
     send_out(client, store)
 }
 
-/// All that an open session makes of what it holds.
+/// Handles all that an open session makes of what it holds.
 fn serve_open<S: Store>(client: &mut Client, peer: u32, store: &mut S) -> Result<(), Fault>
     ensures { (go_on : Client → Plan Client) → Serves result S.moves S.is_full store.old store.new client.old client.new (served_from peer client.old go_on) go_on }
 {
@@ -93,13 +93,13 @@ fn serve_piece<S: Store>(
     serve_fed(client, peer, piece, now_ms, store)
 }
 
-/// Serves a session with bytes of its peer at a moment, in milliseconds of one clock of the caller's. What the
-/// session makes of them is submitted to the store as events of the peer, and their replies are answered in the
-/// session's output; last, where the session is up, what waits for the peer is put there too. Does nothing on
-/// a session that has ended.
+/// Serves a session with bytes of its peer at a moment, in milliseconds of one clock of the caller's. What the session
+/// makes of them is submitted to the store as events of the peer, and their replies are answered in the session's
+/// output. Finally, if the session is up, what waits for the peer is put there too. Does nothing on a session that has
+/// ended.
 ///
-/// After a fault the session has ended where it had come to, and no Close is sent: the events that were submitted
-/// stay, and so does all output up to then. `hang_up` is to follow.
+/// After a fault the session has ended in the state that it had come to, and no Close is sent. The events that were
+/// submitted stay, and so does all output up to then. The caller then calls `hang_up`.
 pub fn serve<S: Store>(
     client: &mut Client,
     peer: u32,
@@ -117,8 +117,7 @@ pub fn serve<S: Store>(
     outcome
 }
 
-/// The transport has ended: a peer that is joined goes down, and the session ends. After a fault all is as
-/// before.
+/// Ends the transport: a joined peer goes down, and the session ends. After a fault all is as before.
 #[tactic(auto, unfolding(crate::specs::Engine::hung_up))]
 pub fn hang_up<S: Store>(client: &mut Client, peer: u32, store: &mut S) -> Result<(), Fault>
     ensures hung_up { Serves result S.moves S.is_full store.old store.new client.old client.new (hung_up peer client.old) Returns }

@@ -29,8 +29,8 @@ impl PlainData for Call {
     }
 }
 
-/// Where events go: a database that is lent, or one that is shared. It keeps a list of the calls that were
-/// made, and is shown what its session makes known: a store that notes nothing of that ignores it.
+/// Where events go: a database that is lent, or one that is shared. It keeps a list of the calls that were made. It is
+/// shown what its session learns, which a store may ignore.
 pub trait Store {
     /// The calls since the list was last emptied.
     ghost calls: { Self → List Call };
@@ -38,7 +38,7 @@ pub trait Store {
     /// These deeds, in order, lead from the one to the other.
     ghost moves: { Self → List Deed → Self → Type 0 };
 
-    /// The same store, but for its list.
+    /// The stores are the same, apart from their lists.
     ghost same_but_calls: { Self → Self → Type 0 };
 
     /// No further step can be kept.
@@ -47,7 +47,7 @@ pub trait Store {
     /// The one is the other with its history rolled, and n steps were taken before its base.
     ghost rolls: { Self → ℕ → Self → Type 0 };
 
-    /// Submits an event. It is added to the list with the reply that it got; after a fault nothing is.
+    /// Submits an event. It is added to the list with the reply that it got. After a fault nothing is.
     fn submit(&mut self, event: Event) -> Result<(), Fault>
         ensures submitted { OnOk result ((reply : Reply) × moves self.old (called event reply ∷ []) self.new) }
         ensures unchanged { OnErr result (moves self.old [] self.new) }
@@ -61,7 +61,7 @@ pub trait Store {
     fn show_message(&mut self, message: &Message)
         ensures { moves self.old (Shown (Delivered message.now) ∷ []) self.new };
 
-    /// The calls since the list was last emptied, oldest first.
+    /// Lends the calls since the list was last emptied, oldest first.
     fn calls(&self) -> &[Call]
         ensures { result.now ≡ calls self.now };
 
@@ -70,8 +70,8 @@ pub trait Store {
         ensures empty { calls self.new ≡ [] }
         ensures same { same_but_calls self.old self.new };
 
-    /// Rolls the history, so that more steps can be kept, and gives how many steps were taken before its base.
-    /// No call is made. Where memory is refused nothing has changed.
+    /// Rolls the history, so that more steps can be kept, and returns how many steps were taken before its base. No
+    /// call is made. If memory runs out nothing has changed.
     fn roll(&mut self) -> Result<u64, AllocError>
         ensures rolled { IfOk result (λ steps. rolls self.old steps self.new) }
         ensures unchanged { OnErr result (moves self.old [] self.new) };
@@ -93,7 +93,7 @@ pub(crate) fn hand_in<S: Store>(store: &mut S, event: Event) -> Result<(), Fault
     store.submit(event)
 }
 
-/// The reply to the newest call.
+/// Returns the reply to the newest call.
 pub(crate) fn reply<S: Store>(store: &S) -> &Reply
     requires { 0 < length (S.calls store.now) }
     ensures { result.now ≡ newest_reply (S.calls store.now) }
@@ -101,7 +101,7 @@ pub(crate) fn reply<S: Store>(store: &S) -> &Reply
     last_reply(store)
 }
 
-/// The reply to the last call.
+/// Returns the reply to the last call.
 pub fn last_reply<S: Store>(store: &S) -> &Reply
     requires { 0 < length (S.calls store.now) }
     ensures { (call : Call) → slice_get (S.calls store.now) (length (S.calls store.now) - 1) ≡ Some call → result.now ≡ call.reply }

@@ -79,7 +79,7 @@ close_words c = codes "CLOSE reason " +> decimal c.reason
 abbrev pub fields_of : LspObject → LspFields
 fields_of l = record { plsp = l.plsp; delegate = l.delegate; sync = l.sync; remove = l.remove; admin = l.admin; operational = l.operational; created = l.created }
 
--- a name, where it is there
+-- a name, if there is one
 abbrev pub named : Option (List ℕ) → List ℕ
 named None = []
 named (Some name) = name_words name

@@ -13,7 +13,7 @@ use pcep_word::Bandwidth;
 use std::alloc::{AllocError, Global};
 use std::fmt::Write;
 
-/// Adds the route that is asked for, and what is asked of the path, where the message says it.
+/// Adds the route that is asked for, and what is asked of the path, if the message says it.
 fn add_wishes(
     alloc: Global,
     hops: &[Hop],
@@ -53,7 +53,7 @@ pub fn add_update(alloc: Global, update: &Update, text: &mut String) -> Result<(
     add_wishes(alloc, update.ero.as_slice(), attributes, bandwidth, text)
 }
 
-/// Adds the SRP of a new LSP, and the front of its LSP.
+/// Adds the SRP of a new LSP, and the beginning of its LSP.
 #[tactic(auto, unfolding(crate::specs::Messages::created_srp))]
 fn add_created_srp(srp: u32, text: &mut String) -> Result<(), AllocError>
     ensures { Adds result text.old text.new (created_srp srp) }

@@ -20,7 +20,7 @@ fn error_code(error_type: u8, value: u8) -> ErrorCode
     ErrorCode { error_type, value }
 }
 
-/// The error of an object that is missing, by its class.
+/// Returns the error for a missing object, by its class.
 fn missing_code(class: u8) -> ErrorCode
     ensures { result ≡ missing_code class }
 {
@@ -34,7 +34,7 @@ fn missing_code(class: u8) -> ErrorCode
     }
 }
 
-/// The error of an object's own fault; None: the message is malformed.
+/// Returns the error for an object's own fault. None: the message is malformed.
 pub fn object_code(fault: ObjectFault) -> Option<ErrorCode>
     ensures { result ≡ object_code fault }
 {
@@ -45,7 +45,7 @@ pub fn object_code(fault: ObjectFault) -> Option<ErrorCode>
     }
 }
 
-/// The error that names the fault; None: the message is malformed.
+/// Returns the error that names the fault. None: the message is malformed.
 pub fn fault_code(fault: MessageFault) -> Option<ErrorCode>
     ensures { result ≡ fault_code fault }
 {
@@ -59,7 +59,7 @@ pub fn fault_code(fault: MessageFault) -> Option<ErrorCode>
     }
 }
 
-/// The Error-value of type 6 by which an open session answers what is missing.
+/// Returns the Error-value of type 6 by which an open session answers what is missing.
 fn missing_value(class: u8) -> u8
     ensures { result ≡ missing_value class }
 {
@@ -72,7 +72,7 @@ fn missing_value(class: u8) -> u8
     }
 }
 
-/// The error by which an open session answers.
+/// Returns the error by which an open session answers.
 pub fn answering_code(fault: MessageFault) -> Option<ErrorCode>
     ensures { result ≡ answering_code fault }
 {
@@ -91,7 +91,7 @@ fn is_unknown(fault: ObjectFault) -> bool
     )
 }
 
-/// Whether an open session ends by the fault.
+/// Tests whether the fault ends an open session.
 pub fn ends_session(fault: MessageFault) -> bool
     ensures { result ≡ ends_session fault }
 {
@@ -102,7 +102,7 @@ pub fn ends_session(fault: MessageFault) -> bool
     }
 }
 
-/// The request that a fault is about.
+/// Returns the request that a fault is about.
 pub fn about_of(fault: MessageFault) -> About
     ensures { result ≡ about_of fault }
 {

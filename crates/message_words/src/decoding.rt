@@ -13,7 +13,7 @@ use pcep_messages::{MessageFault, read_message};
 use std::alloc::{AllocError, Global};
 use std::fmt::Write;
 
-/// The name of the type of a message that is read.
+/// Returns the name of the type of a message that is read.
 fn kind_name(kind: u8) -> &'static str
     ensures { result.now ≡ kind_name kind }
 {
@@ -62,7 +62,7 @@ fn add_faulty_at(
     add_answer(answering_code(fault), ends_session(fault), text)
 }
 
-/// Adds the fault of a message, with its place and what answers it.
+/// Adds the fault of a message, with its place and the answer to it.
 fn add_faulty(
     alloc: Global,
     bytes: &[u8],
@@ -75,8 +75,8 @@ fn add_faulty(
     add_faulty_at(fault, kind_in(bytes), place, text)
 }
 
-/// Adds what the bytes of one message say: a line for its kind and one for each object that counts; or its first fault with
-/// the byte at which it stands, and what an open session answers.
+/// Adds what the bytes of one message say: a line for its kind and one for each object that counts; or its first fault
+/// with the byte at which it is, and what an open session answers.
 pub fn add_decoded(alloc: Global, bytes: &[u8], text: &mut String) -> Result<(), AllocError>
     ensures { OnOk result (Says bytes.now (message_in bytes.now) (string_bytes text.old) (string_bytes text.new)) }
 {

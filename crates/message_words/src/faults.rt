@@ -60,7 +60,7 @@ fn add_name_of(fault: MessageFault, text: &mut String) -> Result<(), AllocError>
     }
 }
 
-/// Adds the request that a fault is about, where that is known.
+/// Adds the request that a fault is about, if that is known.
 fn add_about(about: About, text: &mut String) -> Result<(), AllocError>
     ensures { Adds result text.old text.new (about_words about) }
 {
@@ -79,7 +79,7 @@ pub fn add_fault(fault: MessageFault, text: &mut String) -> Result<(), AllocErro
     add_about(about_of(fault), text)
 }
 
-/// Adds the fault of an object that stands alone.
+/// Adds the fault of an object that isn't in a message.
 pub fn add_object_fault(fault: ObjectFault, text: &mut String) -> Result<(), AllocError> {
     match object_code(fault) {
         Some(code) => add_code(code, text),

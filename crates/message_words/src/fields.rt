@@ -40,7 +40,7 @@ impl fmt::Display for Bit {
     }
 }
 
-/// Adds bytes in hexadecimal digits of lower case.
+/// Adds bytes in lower-case hexadecimal digits.
 pub fn add_hex(alloc: Global, bytes: &[u8], text: &mut String) -> Result<(), AllocError>
     ensures { Adds result text.old text.new (encode_lower bytes.now) }
 {
@@ -89,14 +89,14 @@ pub fn add_lsp_fields(fields: LspFields, text: &mut String) -> Result<(), AllocE
     write!(text, " oper {state} create {create}")
 }
 
-/// Whether the byte is a printed character of ASCII or a space, and no quotation mark.
+/// Tests whether the byte is a printed character of ASCII or a space, and not a quotation mark.
 fn is_plain(byte: u8) -> bool
     ensures { result ≡ is_plain byte }
 {
     (0x20..=0x7e).contains(&byte) && byte != b'"'
 }
 
-/// Whether a name is written as it stands.
+/// Tests whether a name is written as it is.
 fn are_plain(name: &[u8]) -> bool
     ensures { result ≡ list_all is_plain name.now }
 {
@@ -116,7 +116,7 @@ pub fn add_name(alloc: Global, name: &[u8], text: &mut String) -> Result<(), All
     add_hex(alloc, name, text)
 }
 
-/// Adds a name of plain bytes, which are UTF-8: the fault doesn't come.
+/// Adds a name of plain bytes. They are UTF-8, so the fault doesn't come.
 fn add_plain(name: &[u8], text: &mut String) -> Result<(), AllocError>
     ensures { Adds result text.old text.new name.now }
 {
@@ -126,7 +126,7 @@ fn add_plain(name: &[u8], text: &mut String) -> Result<(), AllocError>
     }
 }
 
-/// Adds the fields of IPV4-LSP-IDENTIFIERS, where they are there.
+/// Adds the fields of IPV4-LSP-IDENTIFIERS, if there are any.
 pub fn add_identifiers(
     identifiers: Option<Identifiers>,
     text: &mut String,
@@ -142,7 +142,7 @@ pub fn add_identifiers(
     write!(text, " extended-tunnel-id {extended} endpoint {endpoint}")
 }
 
-/// Adds LSP-ERROR-CODE, where it is there.
+/// Adds LSP-ERROR-CODE, if there is one.
 fn add_error_code(error_code: Option<u32>, text: &mut String) -> Result<(), AllocError>
     ensures { Adds result text.old text.new (error_code_words error_code) }
 {
@@ -152,7 +152,7 @@ fn add_error_code(error_code: Option<u32>, text: &mut String) -> Result<(), Allo
     }
 }
 
-/// Adds the fields of RSVP-ERROR-SPEC, where it is there.
+/// Adds the fields of RSVP-ERROR-SPEC, if there is one.
 fn add_rsvp_error(error: Option<RsvpError>, text: &mut String) -> Result<(), AllocError>
     ensures { Adds result text.old text.new (rsvp_error_words error) }
 {
@@ -166,7 +166,7 @@ fn add_rsvp_error(error: Option<RsvpError>, text: &mut String) -> Result<(), All
     )
 }
 
-/// Adds the errors of an LSP, each where it is there.
+/// Adds the errors of an LSP that there are.
 pub fn add_errors(
     error_code: Option<u32>,
     rsvp_error: Option<RsvpError>,
@@ -178,7 +178,7 @@ pub fn add_errors(
     add_rsvp_error(rsvp_error, text)
 }
 
-/// The words of local protection, where it is wanted.
+/// Returns the words of local protection, if it is wanted.
 pub fn protection_words(is_protected: bool) -> &'static str
     ensures { result.now ≡ protection_words is_protected }
 {
@@ -195,8 +195,8 @@ fn loose_mark(loose: bool) -> &'static str
     if loose { "(loose)" } else { "" }
 }
 
-/// Adds a hop: `10.0.1.1/32`, with `(loose)` behind it where it is, or any other subobject by its first byte and
-/// what follows its length.
+/// Adds a hop: `10.0.1.1/32`, followed by `(loose)` if it is, or any other subobject by its first byte and what follows
+/// its length.
 fn add_hop(alloc: Global, hop: &Hop, text: &mut String) -> Result<(), AllocError>
     ensures { Adds result text.old text.new (hop_words hop.now) }
 {
@@ -214,7 +214,7 @@ fn add_hop(alloc: Global, hop: &Hop, text: &mut String) -> Result<(), AllocError
     }
 }
 
-/// Adds the hops of a route, each behind a space.
+/// Adds the hops of a route, each after a space.
 pub fn add_hops(alloc: Global, hops: &[Hop], text: &mut String) -> Result<(), AllocError>
     ensures { Adds result text.old text.new (hops_words hops.now) }
 {
@@ -253,7 +253,7 @@ fn add_included_all(alloc: Global, word: u32, text: &mut String) -> Result<(), A
     add_named_word(alloc, " include-all ", word, text)
 }
 
-/// Adds the colours that bind a path, in digits.
+/// Adds the colours that a path must and must not have, in digits.
 #[tactic(auto, unfolding(crate::specs::Fields::colour_words))]
 pub fn add_colours(alloc: Global, colours: Colours, text: &mut String) -> Result<(), AllocError>
     ensures { Adds result text.old text.new (colour_words colours) }
@@ -263,7 +263,7 @@ pub fn add_colours(alloc: Global, colours: Colours, text: &mut String) -> Result
     add_included_all(alloc, colours.include_all, text)
 }
 
-/// Adds the flags of STATEFUL-PCE-CAPABILITY, where it is there.
+/// Adds the flags of STATEFUL-PCE-CAPABILITY, if there is one.
 pub fn add_capabilities(
     capabilities: Option<Capabilities>,
     text: &mut String,
@@ -277,7 +277,7 @@ pub fn add_capabilities(
     write!(text, " lsp-update {update} lsp-instantiation {create}")
 }
 
-/// Adds the flags of NO-PATH-VECTOR, where it is there.
+/// Adds the flags of NO-PATH-VECTOR, if there is one.
 pub fn add_vector(vector: Option<NoPathVector>, text: &mut String) -> Result<(), AllocError>
     ensures { Adds result text.old text.new (vector_words vector) }
 {

@@ -12,7 +12,7 @@ ghost use Rattle.pcep_messages.specs.declared.fault.MessageFault.{MessageFault};
 
 use pcep_messages::messages_are_read_again;
 
-/// What bytes say that a message is written as are the message's words.
+/// Shows that the words for the bytes of a written message are the message's words.
 pub fn what_is_written_is_said()
     ensures { (message : Message) (old new : List ℕ) → is_written message ≡ true → IsNormal message → fits message ≡ true
         → Says (written message) (message_in (written message)) old new → new ≡ old ++ words_of message }
@@ -20,7 +20,7 @@ pub fn what_is_written_is_said()
     messages_are_read_again();
 }
 
-/// What is said that an open session answers to a fault is what its table has.
+/// Shows that the answer that is said for a fault is that of an open session's table.
 pub fn what_is_said_is_answered()
     ensures { (fault : MessageFault) → IsAnswered fault }
 {}

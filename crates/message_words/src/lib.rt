@@ -1,10 +1,10 @@
 //! Messages of PCEP in words: a line for the kind, and one for each object that counts, with its fields by the names of
 //! the RFCs.
 //!
-//! What is added to a text is by definition: `words_of` of a message (`specs/Messages.antt`), `object_words` of an object
-//! (`specs/Objects.antt`), `fault_words` of a fault (`specs/Faults.antt`). `add_decoded` says which of them the bytes of one
-//! message have: what they read as, or their first fault, with a byte at which an object has it. `specs/Streams.antt` says how
-//! bytes are cut into messages; how a line is read (`streams`) is said by no clause.
+//! The definitions say what is added to a text: `words_of` of a message (`specs/Messages.antt`), `object_words` of an
+//! object (`specs/Objects.antt`), `fault_words` of a fault (`specs/Faults.antt`). `add_decoded` says which of them the
+//! bytes of one message have: what they read as, or their first fault, with the byte at which an object has it.
+//! `specs/Streams.antt` says how bytes are cut into messages. No clause says how a line is read (`streams`).
 #![tactic(auto)]
 
 mod asking;

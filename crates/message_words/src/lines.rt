@@ -58,7 +58,7 @@ fn add_priorities(priorities: Priorities, text: &mut String) -> Result<(), Alloc
     write!(text, "\n  LSPA setup {setup} hold {hold}")
 }
 
-/// Adds the priorities in force, local protection where it is wanted, and the colours.
+/// Adds the priorities in force, local protection if it is wanted, and the colours.
 pub fn add_lspa_line(
     alloc: Global,
     priorities: Priorities,
@@ -73,7 +73,7 @@ pub fn add_lspa_line(
     add_colours(alloc, colours, text)
 }
 
-/// Adds the attributes that are asked for, where a message has them.
+/// Adds the attributes that are asked for, if a message has them.
 pub fn add_attributes(
     alloc: Global,
     attributes: Option<Attributes>,
@@ -95,7 +95,7 @@ pub fn add_attributes(
     }
 }
 
-/// Adds the bandwidth that is asked for, where a message has it.
+/// Adds the bandwidth that is asked for, if a message has it.
 pub fn add_wished_bandwidth(
     bandwidth: Option<Bandwidth>,
     text: &mut String,

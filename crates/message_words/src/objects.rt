@@ -82,7 +82,7 @@ fn existing(kind: BandwidthType) -> &'static str
     }
 }
 
-/// Adds `BANDWIDTH 500000 bytes/s`, or `BANDWIDTH existing 500000 bytes/s` of an LSP that stands.
+/// Adds `BANDWIDTH 500000 bytes/s`, or `BANDWIDTH existing 500000 bytes/s` for an existing LSP.
 fn add_bandwidth(
     kind: BandwidthType,
     bandwidth: Bandwidth,
@@ -183,7 +183,7 @@ fn fields_of(lsp: &LspObject) -> LspFields
     }
 }
 
-/// Adds a name, where it is there.
+/// Adds a name, if there is one.
 pub fn add_named(
     alloc: Global,
     name: &Option<Sequence<u8>>,

@@ -1,4 +1,4 @@
-//! Where in a message its first fault stands.
+//! Where in a message its first fault is.
 
 ghost use Rattle.std.specs.Prelude.{◌≡◌, true, IfOk, option_map};
 ghost use Rattle.message_words.specs.Fields.{Adds};
@@ -13,7 +13,7 @@ use std::fmt::Write;
 /// An object of a message.
 #[derive(Clone, Copy)]
 pub struct ObjectPlace {
-    /// The byte of the message at which it stands.
+    /// The byte of the message at which it begins.
     pub byte: usize,
     /// Its class.
     pub class: u8,
@@ -69,7 +69,7 @@ fn has_fault(fault: MessageFault, object: &Object) -> bool
     }
 }
 
-/// Whether an object's own fault is the message's.
+/// Tests whether an object's own fault is the message's.
 fn is_own(fault: MessageFault, own: ObjectFault) -> bool
     ensures { result ≡ true → IsOwn fault own }
 {
@@ -110,7 +110,7 @@ fn look_in(alloc: Global, fault: MessageFault, bytes: &[u8]) -> Result<Look, All
     }
 }
 
-/// Finds the first object of a message that has the fault; None: something is missing, or the header is bad.
+/// Finds the first object of a message that has the fault. None: something is missing, or the header is bad.
 pub fn find_place(
     alloc: Global,
     fault: MessageFault,
@@ -172,7 +172,7 @@ fn add_byte(byte: usize, text: &mut String) -> Result<(), AllocError>
     write!(text, ", at byte {byte}")
 }
 
-/// Adds where a fault stands: `, at byte 36 in LSPA`.
+/// Adds where a fault is: `, at byte 36 in LSPA`.
 pub fn add_place(place: Option<ObjectPlace>, text: &mut String) -> Result<(), AllocError>
     ensures { Adds result text.old text.new (place_words place) }
 {

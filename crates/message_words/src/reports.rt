@@ -73,7 +73,7 @@ fn add_rro_line(
     }
 }
 
-/// Adds a report, whose LSPA and BANDWIDTH are what the report counts as where it has none.
+/// Adds a report. If it has no LSPA or BANDWIDTH, adds those that it counts as.
 #[tactic(auto, unfolding(crate::specs::Messages::report_words))]
 fn add_report(alloc: Global, report: &StateReport, text: &mut String) -> Result<(), AllocError>
     ensures { Adds result text.old text.new (report_words report.now) }

@@ -10,7 +10,7 @@ use pcep_objects::{MetricType, Plsp};
 use std::alloc::{AllocError, Global};
 use std::fmt::Write;
 
-/// The word for what a path is to have least of.
+/// Returns the word for what a path is to minimise.
 fn metric_name(minimise: MetricType) -> &'static str
     ensures { result.now ≡ metric_name minimise }
 {
@@ -37,7 +37,7 @@ fn add_minimise(minimise: MetricType, text: &mut String) -> Result<(), AllocErro
     write!(text, "\n  METRIC {name} minimise")
 }
 
-/// Adds what the path is to have least of, and its bounds.
+/// Adds what the path is to minimise, and its bounds.
 fn add_metrics(minimise: MetricType, bounds: Bounds, text: &mut String) -> Result<(), AllocError>
     ensures { Adds result text.old text.new (metric_lines minimise bounds) }
 {
@@ -64,7 +64,7 @@ fn add_request_ends(request: &PathRequest, text: &mut String) -> Result<(), Allo
     add_asked_plsp(request.plsp, text)
 }
 
-/// Adds a request, whose LSPA, BANDWIDTH and METRIC are what it counts as where it has none.
+/// Adds a request. If it has no LSPA, BANDWIDTH or METRIC, adds those that it counts as.
 #[tactic(auto, unfolding(crate::specs::Messages::request_words))]
 fn add_request(alloc: Global, request: &PathRequest, text: &mut String) -> Result<(), AllocError>
     ensures { Adds result text.old text.new (request_words request.now) }

@@ -8,7 +8,7 @@ use hex::FromHexError;
 use std::alloc::{AllocError, Global};
 use std::fmt::Write;
 
-/// The bytes of digits with spaces anywhere; None: there are none, or it is something else.
+/// Reads the bytes of digits with spaces anywhere. None: there are none, or it is something else.
 fn bytes_in(alloc: Global, digits: &str) -> Result<Option<Vec<u8>>, AllocError> {
     let plain: Vec<u8> = digits
         .as_bytes()
@@ -34,7 +34,7 @@ struct PeerLine<'a> {
     digits: &'a str,
 }
 
-/// A line `out PEER HEX`, `msg PEER HEX` or `report PEER HEX`.
+/// Reads a line `out PEER HEX`, `msg PEER HEX` or `report PEER HEX`.
 fn peer_line(line: &str) -> Option<PeerLine<'_>> {
     let (word, rest) = line.split_once(' ')?;
     if word != "out" && word != "msg" && word != "report" {
@@ -44,8 +44,8 @@ fn peer_line(line: &str) -> Option<PeerLine<'_>> {
     Some(PeerLine { word, peer, digits })
 }
 
-/// How long the first message is, by the length in its header (RFC 5440 section 6.1). It is all of the bytes if that length
-/// is less than a header or more than there is.
+/// Returns how long the first message is, by the length in its header (RFC 5440 section 6.1). It is all of the bytes if
+/// that length is less than a header or more than there is.
 fn first_length(bytes: &[u8]) -> usize
     ensures length { result ≡ first_length bytes.now }
     ensures fits { result ≤ length bytes.now }
@@ -69,7 +69,7 @@ fn cut_message(bytes: &[u8]) -> (&[u8], &[u8])
     bytes.split_at(first_length(bytes))
 }
 
-/// Adds what each message of the bytes says, each from a line of its own on.
+/// Adds what each message of the bytes says, each beginning on a line of its own.
 fn add_messages(alloc: Global, bytes: &[u8], text: &mut String) -> Result<(), AllocError> {
     let mut rest = bytes;
     while !rest.is_empty() {
@@ -117,7 +117,7 @@ fn add_peer_messages(
     add_messages(alloc, bytes, text)
 }
 
-/// Adds a line whose digits are the messages of a peer, or the line as it stands where they are no bytes.
+/// Adds a line whose digits are the messages of a peer, or the line as it is if they aren't bytes.
 fn add_peer_line(
     alloc: Global,
     line: &str,
@@ -130,7 +130,7 @@ fn add_peer_line(
     }
 }
 
-/// Adds a line of digits alone, or any other line as it stands.
+/// Adds a line that has only digits, or any other line as it is.
 fn add_bare_line(alloc: Global, line: &str, text: &mut String) -> Result<(), AllocError> {
     match bytes_in(alloc, line)? {
         Some(bytes) => add_messages(alloc, &bytes, text),
@@ -138,9 +138,9 @@ fn add_bare_line(alloc: Global, line: &str, text: &mut String) -> Result<(), All
     }
 }
 
-/// Adds what a line of a script or of its output says, to an empty text: its messages in words where it is of digits, alone
-/// or behind `out`, `msg` or `report` and a peer, which stand in front; any other line as it stands. The last line has no
-/// line break.
+/// Adds what a line of a script or of its output says, to an empty text. If the line has digits, alone or after `out`,
+/// `msg` or `report` and a peer, these words stay in front and the messages follow in words. Any other line is added as
+/// it is. The last line has no line break.
 pub fn add_line(alloc: Global, line: &str, text: &mut String) -> Result<(), AllocError> {
     match peer_line(line) {
         Some(found) => add_peer_line(alloc, line, found, text),
@@ -148,7 +148,8 @@ pub fn add_line(alloc: Global, line: &str, text: &mut String) -> Result<(), Allo
     }
 }
 
-/// Adds a line of a script's output, and behind `out PEER HEX` its messages in words, each of their lines as a comment.
+/// Adds a line of a script's output. After `out PEER HEX` it adds the messages in words, each of their lines as a
+/// comment.
 pub fn add_explained(alloc: Global, line: &str, text: &mut String) -> Result<(), AllocError> {
     text.push_str(line)?;
     let Some(found) = peer_line(line) else {

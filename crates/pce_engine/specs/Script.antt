@@ -69,7 +69,7 @@ MayFind answer (Some standing) line = MaySearch answer standing (order_of line)
 
 -- ---- the whole script
 
--- what the search of each line answers, by the line's number: the links of a path, or None where there is none
+-- what the search of each line answers, by the line's number: the links of a path, or None if there is none
 abbrev pub Searches : Type 0
 Searches = ℕ → Option (List ℕ)
 

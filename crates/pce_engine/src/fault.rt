@@ -9,17 +9,17 @@ use te_base::TeFault;
 /// Why a script ended early. `Display` gives the text for standard error.
 #[derive(Clone, Copy, Debug, PartialEq, Eq)]
 pub enum ScriptFault {
-    /// A line that is none of the script's, by its number from 1; without `---`, one past the last.
+    /// A line that isn't one of the script's, by its number from 1. If there is no `---`, this is one past the last.
     BadLine(u64),
-    /// The link text has this fault. Want of memory among them is given as `OutOfMemory` is.
+    /// The link text has this fault. If memory ran out, this is given as `OutOfMemory` is.
     Te(TeFault),
     /// A read failed, or the reader was asked 2^32 times.
     ReadFault,
     /// A write failed.
     WriteFault,
-    /// A growth was refused at this line, by its number from 1; 0 where none was read.
+    /// Memory ran out at this line, by its number from 1, or 0 if none was read.
     OutOfMemory(u64),
-    /// As many steps are kept as a history holds.
+    /// The history holds as many steps as it can.
     HistoryFull,
 }
 

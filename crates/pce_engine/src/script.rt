@@ -16,10 +16,10 @@ use crate::stage::{Stage, answer_line};
 use std::alloc::Global;
 use std::io::{Read, Write};
 
-/// The reader is asked this often at most.
+/// How often the reader is asked at most.
 const MAX_TURNS: u64 = 1 << 32;
 
-/// How far the reader came.
+/// How far the reader got.
 #[derive(Clone, Copy)]
 enum Input {
     /// The input has ended.
@@ -28,7 +28,7 @@ enum Input {
     Endless,
 }
 
-/// What one read of the input came to.
+/// What one read of the input led to.
 #[derive(Clone, Copy)]
 enum Turn {
     /// There were bytes, and what they print was written.
@@ -37,7 +37,7 @@ enum Turn {
     Finished,
 }
 
-/// Where a script is, with the bytes of a line that hasn't ended.
+/// A running script, with the bytes of a line that hasn't ended.
 #[derive(Drop)]
 struct Script {
     stage: Stage,
@@ -88,7 +88,7 @@ fn feed(
     add(script, &bytes[start..])
 }
 
-/// Takes a piece of the input, and writes what it prints, also where a fault comes after it.
+/// Takes a piece of the input, and writes what it prints, even if a fault comes after it.
 fn take_chunk<W: Write>(
     alloc: Global,
     script: &mut Script,
@@ -119,7 +119,7 @@ fn close<W: Write>(stage: &Stage, writer: &mut W) -> Result<(), ScriptFault>
     Ok(())
 }
 
-/// Takes the last line, which no line break ends, and writes what it prints.
+/// Takes the last line, which has no line break, and writes what it prints.
 fn finish_line<W: Write>(
     alloc: Global,
     stage: &mut Stage,
@@ -149,7 +149,7 @@ fn finish<W: Write>(alloc: Global, script: &mut Script, writer: &mut W) -> Resul
     finish_line(alloc, &mut script.stage, &script.pending, writer)
 }
 
-/// Fills the front of `piece` with the next bytes of the input, and says how many: 0 where it has ended.
+/// Fills the front of `piece` with the next bytes of the input, and returns how many: 0 if it has ended.
 fn read_piece<R: Read>(reader: &mut R, piece: &mut [u8]) -> Result<usize, ScriptFault>
     ensures bound { ReadsAtMost result piece.new }
     ensures bytes { ReadConsumes (R.remaining reader.old) (R.remaining reader.new) result piece.new }
@@ -161,7 +161,7 @@ fn read_piece<R: Read>(reader: &mut R, piece: &mut [u8]) -> Result<usize, Script
     }
 }
 
-/// Reads a piece of the input, takes it, and writes what it prints; where the input has ended, its last line.
+/// Reads a piece of the input, takes it, and writes what it prints. If the input has ended, it takes the last line.
 fn take_piece<R: Read, W: Write>(
     alloc: Global,
     reader: &mut R,
@@ -230,12 +230,12 @@ fn take_input<R: Read, W: Write>(
     take_pieces(alloc, reader, &mut piece, &mut script, writer)
 }
 
-/// Reads a link text, a line `---` and lines, and writes what they print (docs/FORMAT.md has them all).
+/// Reads a link text, a line `---` and lines, and writes what they print. docs/FORMAT.md describes all of them.
 ///
-/// `BadLine`, `Te` and `HistoryFull` come where the script has them, and `OutOfMemory` at the line that it
-/// names, one that ends in the last piece of 4,096 bytes that was read or later; each after the output of all
-/// lines before. After `ReadFault` the output of all lines that were read stands; after `WriteFault` how much
-/// went out is not said. The reader is asked 2^32 times at most.
+/// `BadLine`, `Te` and `HistoryFull` come where the script has them. `OutOfMemory` comes at the line that it names,
+/// which ends in the last piece of 4,096 bytes that was read or later. Each comes after the output of all lines before.
+/// After `ReadFault` the output has all lines that were read. After `WriteFault` the output may end anywhere. The
+/// reader is asked 2^32 times at most.
 pub fn run_script<R: Read, W: Write>(
     alloc: Global,
     reader: &mut R,

@@ -31,7 +31,7 @@ fn place(sessions: &mut Sessions, peer: u32, client: Client) -> Result<(), Comma
     Ok(())
 }
 
-/// Bytes of a peer. A bad line where none of its sessions lives.
+/// Takes bytes of a peer. A bad line if it has no open session.
 #[tactic(auto, unfolding(crate::specs::SessionLines::message_line))]
 pub(crate) fn message_line(
     alloc: Global,
@@ -51,7 +51,7 @@ pub(crate) fn message_line(
     Ok(text)
 }
 
-/// The transport of a peer's session has ended. A bad line where none lives.
+/// Ends the transport of a peer's session. A bad line if it has no open session.
 #[tactic(auto, unfolding(crate::specs::SessionLines::end_line))]
 pub(crate) fn end_line(
     alloc: Global,
@@ -69,7 +69,7 @@ pub(crate) fn end_line(
     Ok(text)
 }
 
-/// A session begins. A bad line where one of the peer lives.
+/// Begins a session. A bad line if the peer has one already.
 #[tactic(auto, unfolding(crate::specs::SessionLines::open_line))]
 pub(crate) fn open_line(
     alloc: Global,
@@ -94,7 +94,7 @@ const ROUTER_OPENING: [u8; 24] = [
     0x00, 0x00, 0x00, 0x05, 0x20, 0x02, 0x00, 0x04,
 ];
 
-/// A session begins, and its peer opens it and accepts it at once. A bad line where one of the peer lives.
+/// Begins a session, which its peer opens and accepts at once. A bad line if the peer has one already.
 #[tactic(auto, unfolding(crate::specs::SessionLines::up_line))]
 pub(crate) fn up_line(
     alloc: Global,

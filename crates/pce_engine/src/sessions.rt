@@ -1,4 +1,4 @@
-//! The sessions that live, each at a place of its own, found by its peer.
+//! The open sessions, each at a place of its own, found by its peer.
 
 ghost use Rattle.std.specs.Prelude.{◌≡◌, None, [], IfOk, OnOk, is_some};
 ghost use Rattle.std.specs.BTreeMap.{insert_entry};
@@ -14,9 +14,8 @@ use std::alloc::{AllocError, Global};
 use std::collections::BTreeMap;
 use std::marker::Model;
 
-/// The sessions that live. A slab keeps each where it was put, and a tree of places, by peer, finds it: what the
-/// tree moves is a number, and a place that is left is taken again. Each call takes time logarithmic in their
-/// number.
+/// The open sessions. A slab keeps each where it was put, and a tree of places, by peer, finds it. So the tree moves
+/// only numbers, and a free place is used again. Each call takes time logarithmic in the number of sessions.
 #[derive(Drop)]
 pub(crate) struct Sessions {
     clients: Slab<Client>,
@@ -49,7 +48,7 @@ fn peers_of(alloc: Global, places: &BTreeMap<u32, usize>) -> Result<Vec<u32>, Al
 impl Sessions {
     ghost use Rattle.pce_engine.specs.Lends.{lends_session};
 
-    /// No session lives.
+    /// Makes a list of no sessions.
     pub(crate) fn new(alloc: Global) -> Sessions
         ensures { result ≡ [] }
     {
@@ -59,14 +58,14 @@ impl Sessions {
         }
     }
 
-    /// Whether a session of the peer lives.
+    /// Tests whether the peer has an open session.
     pub(crate) fn lives(&self, peer: u32) -> bool
         ensures { result ≡ is_some (session_of peer self.now) }
     {
         self.places.contains_key(&peer)
     }
 
-    /// The session of a peer, if one lives.
+    /// Finds the session of a peer, if there is one.
     pub(crate) fn get_mut(&mut self, peer: u32) -> Option<&mut Client>
         ensures* writes_back { sem 𝓛 (lends_session self.entry peer result) }
         ensures value { option_copied_mut result ≡ session_of peer self.old }
@@ -75,7 +74,7 @@ impl Sessions {
         self.clients.get_mut(place)
     }
 
-    /// A session is new among them.
+    /// Adds a session.
     pub(crate) fn insert(&mut self, peer: u32, client: Client) -> Result<(), AllocError>
         requires { session_of peer self.old ≡ None }
         ensures { OnOk result (self.new ≡ insert_entry nat_cmp self.old peer client) }
@@ -87,7 +86,7 @@ impl Sessions {
         Ok(())
     }
 
-    /// Takes the session of a peer away and returns it, if one lives.
+    /// Removes the session of a peer and returns it, if there is one.
     pub(crate) fn remove(&mut self, peer: u32) -> Option<Client>
         ensures value { result ≡ session_of peer self.old }
         ensures others { self.new ≡ remove_entry (is_peer peer) self.old }
@@ -96,7 +95,7 @@ impl Sessions {
         self.clients.try_remove(place)
     }
 
-    /// The peers whose sessions live, in rising order.
+    /// Lists the peers with open sessions, in rising order.
     pub(crate) fn peers(&self, alloc: Global) -> Result<Vec<u32>, AllocError>
         ensures { IfOk result (λ peers. peers.items ≡ keys_of self.now) }
     {

@@ -15,14 +15,14 @@ use script_lines::CommandFault;
 use std::alloc::Global;
 use te_base::{TeBase, TeFault};
 
-/// The number of the next line, the link text so far, and what stands once the link text has ended.
+/// The number of the next line, the link text so far, and the database and sessions once the link text has ended.
 pub(crate) struct Stage {
     pub number: u64,
     pub header: Vec<u8>,
     pub standing: Option<Standing>,
 }
 
-/// Drops each part. A derived drop would be proved anew for each owner.
+/// Drops each part. Written by hand because a derived drop would be proved again for every owner.
 impl Drop for Stage {
     fn drop(self) {
         let Stage {

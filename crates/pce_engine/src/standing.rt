@@ -16,14 +16,14 @@ use script_lines::{
 use std::alloc::{AllocError, Global};
 use te_base::TeBase;
 
-/// The database, the sessions that live, and the moment of the script, in milliseconds.
+/// The database, the open sessions, and the moment of the script, in milliseconds.
 pub(crate) struct Standing {
     pub database: Database,
     pub sessions: Sessions,
     pub moment_ms: u64,
 }
 
-/// Drops each part. A derived drop would be proved anew for each owner.
+/// Drops each part. Written by hand because a derived drop would be proved again for every owner.
 impl Drop for Standing {
     fn drop(self) {
         let Standing {
@@ -72,7 +72,7 @@ fn serve_all(alloc: Global, standing: &mut Standing, text: &mut String) -> Resul
     serve_each(alloc, standing, &peers, text)
 }
 
-/// The moment changes, and every session is served with no bytes.
+/// Changes the moment, and serves every session with no bytes.
 #[tactic(auto, unfolding(crate::specs::Standing::tick_line), using(script_lines::proofs::LineAnswers::behind_nothing))]
 fn tick_line(alloc: Global, standing: &mut Standing, now_ms: u64) -> Result<String, CommandFault>
     ensures { AnswersLine string_bytes result (tick_line now_ms standing.old) standing.new }
@@ -83,7 +83,7 @@ fn tick_line(alloc: Global, standing: &mut Standing, now_ms: u64) -> Result<Stri
     Ok(text)
 }
 
-/// Whether messages may wait to be sent after this event of an operator.
+/// Tests whether messages may wait to be sent after this event of an operator.
 fn may_queue(event: &Event) -> bool
     ensures { result ≡ may_queue event.now }
 {
@@ -93,8 +93,8 @@ fn may_queue(event: &Event) -> bool
     }
 }
 
-/// Submits an operator's event, and gives its reply on a line. Where messages may wait to be sent then, every
-/// session is served.
+/// Submits an operator's event, and returns its reply as a line. If messages may then wait to be sent, serves every
+/// session.
 #[tactic(auto, unfolding(crate::specs::Standing::operator_line))]
 fn operator_line(
     alloc: Global,
@@ -112,7 +112,7 @@ fn operator_line(
 }
 
 impl Standing {
-    /// No session lives, and the moment is 0.
+    /// Makes a script with no sessions, at moment 0.
     pub(crate) fn new(alloc: Global, te: TeBase) -> Result<Standing, AllocError>
         ensures { IfOk result (λ standing. standing ≡ at_start te) }
     {
@@ -143,7 +143,7 @@ impl Standing {
         }
     }
 
-    /// What a line prints, or its fault.
+    /// Takes a line, and returns what it prints, or its fault.
     #[tactic(auto, unfolding(crate::specs::Standing::standing_line))]
     pub(crate) fn line(&mut self, alloc: Global, line: &[u8]) -> Result<String, CommandFault>
         ensures { AnswersSearched string_bytes result (order_of line.now) (λ answer. standing_line answer self.old line.now) self.old self.new }

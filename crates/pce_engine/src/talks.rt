@@ -33,7 +33,7 @@ fn add_change(text: &mut String, peer: u32, was_up: bool, state: State) -> Resul
     }
 }
 
-/// What a session leaves to be printed. The bytes that it has to send are taken.
+/// Takes what a session leaves to be printed, with the bytes that it has to send.
 pub(crate) fn take_left_text(
     alloc: Global,
     peer: u32,
@@ -64,7 +64,7 @@ fn serve(
     Ok(())
 }
 
-/// Serves a session with bytes of its peer, and gives what it leaves to be printed.
+/// Serves a session with bytes of its peer, and returns what it leaves to be printed.
 #[tactic(auto, unfolding(crate::specs::Talks::talked))]
 pub(crate) fn talk(
     alloc: Global,
@@ -93,7 +93,7 @@ fn end(
     Ok(())
 }
 
-/// Ends a session whose transport has ended, and gives what it leaves to be printed.
+/// Ends a session whose transport has ended, and returns what it leaves to be printed.
 #[tactic(auto, unfolding(crate::specs::Talks::hung))]
 pub(crate) fn hang_up(
     alloc: Global,

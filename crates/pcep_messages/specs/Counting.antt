@@ -84,6 +84,6 @@ greater_of None other = other
 greater_of (Some bandwidth) None = Some bandwidth
 greater_of (Some bandwidth) (Some other) = Some (max bandwidth other)
 
--- the greatest of the bandwidths that are asked for; None where there is none
+-- the greatest of the bandwidths that are asked for; None if there is none
 abbrev pub greatest_requested : List Object → Option ℕ
 greatest_requested objects = fold greater_of None (map requested_of objects)

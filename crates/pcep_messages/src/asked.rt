@@ -1,4 +1,4 @@
-//! What was read of a request.
+//! What has been read of a request.
 
 ghost use Rattle.std.specs.Prelude.{◌≡◌};
 ghost use Rattle.pcep_messages.specs.RequestSteps.{begun, taken};
@@ -10,7 +10,7 @@ use crate::message::Bounds;
 use pcep_objects::{BandwidthType, EndPoints, Lspa, MetricType, Object, Plsp, Rp};
 use pcep_word::Bandwidth;
 
-/// An RP, and what counts of the objects behind it that were read.
+/// An RP, and what counts of the objects after it that were read.
 #[derive(Clone, Copy, Debug)]
 pub struct Asked {
     pub rp: Rp,
@@ -18,16 +18,16 @@ pub struct Asked {
     pub plsp: Option<Plsp>,
     pub lspa: Option<Lspa>,
     pub has_rro: bool,
-    /// There is a bandwidth above 0, asked for or of an LSP that stands.
+    /// There is a bandwidth above 0, asked for or of an existing LSP.
     pub has_bandwidth: bool,
     /// The greatest bandwidth that is asked for.
     pub bandwidth: Bandwidth,
-    /// What the path is to have least of, where an object says so.
+    /// What the path is to minimise, if an object says so.
     pub minimised: Option<MetricType>,
     pub bounds: Bounds,
 }
 
-/// A request of which its RP was read.
+/// Makes a request of which only the RP was read.
 pub fn begun(rp: Rp) -> Asked
     ensures { result ≡ begun rp }
 {
@@ -65,7 +65,7 @@ pub fn take_bandwidth(asked: &mut Asked, kind: BandwidthType, bandwidth: Bandwid
     asked.bandwidth = greater(asked.bandwidth, bandwidth_asked(kind, bandwidth));
 }
 
-/// Takes in one more object; one that a request doesn't name is ignored.
+/// Takes in one more object. One that a request doesn't name is ignored.
 #[inline(always)]
 pub fn take(asked: &mut Asked, object: &Object)
     ensures { asked.new ≡ taken asked.old object.now }

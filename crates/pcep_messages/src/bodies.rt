@@ -174,8 +174,7 @@ fn put_reason(reason: u8, out: &mut Vec<u8>) -> Result<(), AllocError>
     put_close(Close { reason }, out)
 }
 
-/// Appends the body of a message of a kind that is written. After an `Err` a part of it may stand behind what
-/// was there.
+/// Appends the body of a message of a kind that is written. After an `Err` a part of it may have been appended.
 #[tactic(auto, using(crate::proofs::Fronts::front_same))]
 pub fn put_body(message: &Message, out: &mut Vec<u8>) -> Result<(), WriteFault>
     ensures written { OnOk result (out.new.items ≡ out.old.items ++ objects_spelled (objects_written message.now)) }

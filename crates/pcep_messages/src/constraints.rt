@@ -8,7 +8,7 @@ use crate::message::Bounds;
 use pcep_objects::{BandwidthType, Metric, MetricType};
 use pcep_word::Bandwidth;
 
-/// Returns the bandwidth that is asked for, 0 for that of an LSP that stands.
+/// Returns the bandwidth that is asked for, or 0 for that of an existing LSP.
 pub fn bandwidth_asked(kind: BandwidthType, bandwidth: Bandwidth) -> Bandwidth
     ensures { result ≡ bandwidth_asked (objects.Bandwidth kind bandwidth) }
 {
@@ -29,7 +29,7 @@ fn metric_type(number: u8) -> Option<MetricType>
     }
 }
 
-/// Returns the metric that is to be least.
+/// Returns the metric that is to be minimised.
 pub fn minimised_by(metric: &Metric) -> Option<MetricType>
     ensures { result ≡ minimised_by (objects.Metric metric.now) }
 {

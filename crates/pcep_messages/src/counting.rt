@@ -1,4 +1,4 @@
-//! What counts of several objects: the first of a class, and of bandwidths the greatest.
+//! Which of several objects counts: the first of a class, and the greatest of bandwidths.
 
 ghost use Rattle.std.specs.Prelude.{◌≡◌, max, Some};
 ghost use Rattle.std.specs.Option.{option_or};

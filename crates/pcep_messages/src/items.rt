@@ -1,4 +1,4 @@
-//! What was read of an item of a state report.
+//! What has been read of an item of a state report.
 
 ghost use Rattle.std.specs.Prelude.{◌≡◌};
 ghost use Rattle.pcep_messages.specs.ReportSteps.{no_objects};
@@ -15,16 +15,16 @@ pub struct Item {
     pub ero: Option<Sequence<Hop>>,
     pub rro: Option<Sequence<Hop>>,
     pub lspa: Option<Lspa>,
-    /// The greatest bandwidth; 0 where there is none.
+    /// The greatest bandwidth, or 0 if there is none.
     pub bandwidth: Bandwidth,
 }
 
-/// Where a reader of items stands.
+/// Where a reader of items is.
 #[derive(Clone, Copy, Debug, PartialEq, Eq)]
 pub enum ItemPosition {
-    /// In front of the first item.
+    /// Before the first item.
     InFront,
-    /// Right behind the SRP that started an item.
+    /// Right after the SRP that started an item.
     BehindSrp,
     /// Further on in an item.
     Within,

@@ -25,29 +25,29 @@ pub struct StateReport {
     pub operational: Operational,
     /// The LSP was created by a PCE (flag C of RFC 8281 section 5.3.1).
     pub created: bool,
-    /// The symbolic path name, where the report has one.
+    /// The symbolic path name, if the report has one.
     pub name: Option<Sequence<u8>>,
     /// The identifiers of the LSP. A report that was read lacks them only at PLSP-ID 0.
     pub identifiers: Option<Identifiers>,
-    /// The intended route; empty where the report has none.
+    /// The intended route; empty if the report has none.
     pub ero: Sequence<Hop>,
-    /// The route that the LSP takes, where the report has one.
+    /// The route that the LSP takes, if the report has one.
     pub rro: Option<Sequence<Hop>>,
-    /// The greatest of the report's bandwidths, in bytes per second; 0 where it has none.
+    /// The greatest of the report's bandwidths, in bytes per second, or 0 if it has none.
     pub bandwidth: Bandwidth,
-    /// The setup priority and the holding priority in force; both 7 where the report has no LSPA.
+    /// The setup priority and the holding priority in force. Both are 7 if the report has no LSPA.
     pub priorities: Priorities,
-    /// The link colours that bind the path; none where the report has no LSPA.
+    /// The link colours that the path must and must not have; none if the report has no LSPA.
     pub colours: Colours,
-    /// Local protection is wanted (flag L of LSPA, RFC 5440 section 7.11); not where the report has no LSPA.
+    /// Local protection is wanted (flag L of LSPA, RFC 5440 section 7.11); not if the report has no LSPA.
     pub local_protection: bool,
-    /// Why the LSP isn't up, where the report says it (LSP-ERROR-CODE, RFC 8231 section 7.3.3).
+    /// Why the LSP isn't up, if the report says it (LSP-ERROR-CODE, RFC 8231 section 7.3.3).
     pub error_code: Option<u32>,
-    /// What RSVP found, where the report says it (RSVP-ERROR-SPEC, RFC 8231 section 7.3.4).
+    /// What RSVP found, if the report says it (RSVP-ERROR-SPEC, RFC 8231 section 7.3.4).
     pub rsvp_error: Option<RsvpError>,
 }
 
-/// The least bound that a request sets on each metric; None: it sets none.
+/// The least bound that a request sets on each metric. None: it sets none.
 #[derive(Clone, Copy, Debug, PartialEq, Eq)]
 pub struct Bounds {
     /// On the IGP metric.
@@ -63,17 +63,17 @@ pub struct Bounds {
 pub struct PathRequest {
     /// The Request-ID.
     pub request: u32,
-    /// The LSP that the path is for, where the request has an LSP (RFC 8231 section 6.4).
+    /// The LSP that the path is for, if the request has an LSP (RFC 8231 section 6.4).
     pub plsp: Option<Plsp>,
     pub source: Ipv4,
     pub destination: Ipv4,
-    /// The bandwidth that is asked for, in bytes per second; 0 where the request has none.
+    /// The bandwidth that is asked for, in bytes per second, or 0 if the request has none.
     pub bandwidth: Bandwidth,
-    /// The setup priority and the holding priority in force; both 7 where the request has no LSPA.
+    /// The setup priority and the holding priority in force. Both are 7 if the request has no LSPA.
     pub priorities: Priorities,
-    /// The link colours that bind the path; none where the request has no LSPA.
+    /// The link colours that the path must and must not have; none if the request has no LSPA.
     pub colours: Colours,
-    /// What the path is to have least of: the TE metric where the request names none.
+    /// What the path is to minimise: the TE metric if the request names none.
     pub minimise: MetricType,
     /// The bounds that the METRICs with flag B set on the path.
     pub bounds: Bounds,
@@ -90,9 +90,9 @@ pub struct Cost {
 /// What a reply says of the path that was asked for.
 #[derive(Debug, Drop)]
 pub enum Answer {
-    /// A path, and its cost where the reply has it.
+    /// A path, and its cost if the reply has it.
     Found(Sequence<Hop>, Option<Cost>),
-    /// There is none, and why, where the reply says it.
+    /// There is none, and why, if the reply says it.
     NoPath(Option<NoPathVector>),
 }
 
@@ -130,7 +130,7 @@ pub struct Update {
     /// The SRP-ID.
     pub srp: u32,
     pub plsp: Plsp,
-    /// The delegation stands (flag D).
+    /// The LSP stays delegated (flag D).
     pub delegate: bool,
     /// The LSP is to be active (flag A).
     pub admin: bool,
@@ -145,7 +145,7 @@ pub struct Update {
 pub struct Create {
     /// The SRP-ID.
     pub srp: u32,
-    /// The symbolic path name; empty where the message has none.
+    /// The symbolic path name; empty if the message has none.
     pub name: Sequence<u8>,
     pub source: Ipv4,
     pub destination: Ipv4,
@@ -160,7 +160,7 @@ pub struct Create {
 pub enum Initiate {
     /// To set an LSP up.
     Create(Create),
-    /// To take this LSP away.
+    /// To remove this LSP.
     Remove {
         /// The SRP-ID.
         srp: u32,
@@ -183,7 +183,7 @@ pub enum Message {
     Notify,
     /// PCErr (RFC 5440 section 6.7).
     Error(Errors),
-    /// Close, with its reason (RFC 5440 section 6.8); 1, no explanation, where the message has none.
+    /// Close, with its reason (RFC 5440 section 6.8). It is 1, no explanation, if the message has none.
     Close(u8),
     /// PCRpt: the reports in the order of the message (RFC 8231 section 6.1).
     Report(Sequence<StateReport>),
@@ -191,7 +191,7 @@ pub enum Message {
     Update(Update),
     /// PCInitiate (RFC 8281 section 5.1).
     Initiate(Initiate),
-    /// A message of a type that is not read, by its type. Its body was not looked at.
+    /// A message of a type that is not read, with its type. Its body was not looked at.
     Unknown(u8),
 }
 

@@ -8,8 +8,8 @@ ghost use Rattle.pcep_messages.specs.declared.fault.About.TheVariants as abouts;
 use crate::fault::About;
 use std::alloc::AllocError;
 
-/// A PCErr with one error, and with the request that it is about, where that is known (RFC 5440
-/// section 6.7, RFC 8231 section 6.3).
+/// A PCErr with one error, and with the request that it is about, if that is known (RFC 5440 section 6.7, RFC 8231
+/// section 6.3).
 #[derive(Clone, Copy, Debug, PartialEq, Eq)]
 pub struct PcError {
     pub about: About,
@@ -19,7 +19,7 @@ pub struct PcError {
     pub value: u8,
 }
 
-/// A message that a session sends by itself. It has 4 to 24 bytes, so that writing it can only lack memory.
+/// A message that a session sends by itself. It has 4 to 24 bytes, so writing it can fail only if memory runs out.
 #[derive(Clone, Copy, Debug, PartialEq, Eq)]
 pub enum Notice {
     /// Keepalive (RFC 5440 section 6.3).
@@ -30,7 +30,7 @@ pub enum Notice {
     Close(u8),
 }
 
-/// A PCErr about a request: RP and PCEP-ERROR.
+/// Appends a PCErr about a request: RP and PCEP-ERROR.
 #[tactic(auto, unfolding(crate::specs::Spelling::object_spelled))]
 fn put_request_error(
     out: &mut Vec<u8>,
@@ -48,7 +48,7 @@ fn put_request_error(
     ])
 }
 
-/// A PCErr about a stateful request: SRP and PCEP-ERROR.
+/// Appends a PCErr about a stateful request: SRP and PCEP-ERROR.
 #[tactic(auto, unfolding(crate::specs::Spelling::object_spelled))]
 fn put_srp_error(out: &mut Vec<u8>, id: u32, error_type: u8, value: u8) -> Result<(), AllocError>
     ensures ok { OnOk result (out.new.items ≡ out.old.items ++ written (error_about (abouts.Srp id) error_type value)) }
@@ -76,8 +76,8 @@ fn put_error(out: &mut Vec<u8>, error: PcError) -> Result<(), AllocError>
     }
 }
 
-/// Appends the spelling of a notice, as `write_message` has it of the message that it is. Where memory is
-/// lacking, nothing is appended.
+/// Appends the spelling of a notice, which is that of `write_message` of its message. If memory runs out, nothing is
+/// appended.
 #[tactic(auto, unfolding(crate::specs::Spelling::object_spelled))]
 pub fn put_notice(out: &mut Vec<u8>, notice: Notice) -> Result<(), AllocError>
     ensures written { OnOk result (out.new.items ≡ out.old.items ++ written (message_of_notice notice)) }

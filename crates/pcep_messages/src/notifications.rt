@@ -9,7 +9,7 @@ use crate::message::Message;
 use crate::objects::objects_in;
 use std::alloc::Global;
 
-/// Reads the body of a PCNtf, whose objects only have to be readable.
+/// Reads the body of a PCNtf. Its objects must only be readable.
 #[tactic(auto, unfolding(crate::specs::Notifications::notification_body))]
 #[inline(never)]
 pub fn read_notification(alloc: Global, body: &[u8]) -> Result<Message, MessageFault>

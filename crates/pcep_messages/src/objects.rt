@@ -10,7 +10,7 @@ use std::alloc::{AllocError, Global};
 /// The next object of a message.
 #[derive(Clone, Copy)]
 pub enum Next<'a> {
-    /// An object of a known kind by its header, and the bytes behind it.
+    /// An object of a known kind by its header, and the bytes after it.
     Object(RawObject<'a>, &'a [u8]),
     /// A header with a fault of its own.
     Bad(ObjectFault),
@@ -18,7 +18,7 @@ pub enum Next<'a> {
     End,
 }
 
-/// Returns the length of an object that is skipped in place of a fault; None: it isn't.
+/// Returns the length of an object that is skipped instead of being a fault. None: it isn't skipped.
 fn skipped(fault: ObjectFault, checks_p: bool) -> Option<usize>
     ensures { result ≡ skipped checks_p fault }
 {
@@ -29,8 +29,8 @@ fn skipped(fault: ObjectFault, checks_p: bool) -> Option<usize>
     }
 }
 
-/// Finds the next object. Those of unknown classes and types are skipped, but for those with P set where
-/// P is checked (RFC 5440 section 7.2).
+/// Finds the next object. Those of unknown classes and types are skipped, except those with P set if P is checked (RFC
+/// 5440 section 7.2).
 #[inline(always)]
 pub fn next_object(bytes: &[u8], checks_p: bool) -> Next<'_>
     ensures { IsNext checks_p bytes.now result }

@@ -70,7 +70,7 @@ fn requested(
     }
 }
 
-/// Takes one more object in.
+/// Takes in one more object.
 #[inline(always)]
 fn take_in(parts: &mut Parts, object: Object)
     ensures { parts.new ≡ and_then parts.old object }
@@ -122,7 +122,7 @@ fn take_front(alloc: Global, front: RawObject<'_>, parts: &mut Parts) -> Result<
     ensures own_fault { IfErr result (λ fault. Fails fault (body_of front.entry.kind front.entry.p front.entry.body.now)) }
     ensures unchanged { IfErr result (λ fault. parts.new ≡ parts.old) }
 {
-    // The objects of most messages, each taken in where its class is known.
+    // The objects of most messages, each taken in here since its class is known.
     let (p, body) = (front.p, front.body);
     match front.kind {
         Kind::Rp => keep_first(&mut parts.rp, read_rp(p, body)?),

@@ -1,4 +1,4 @@
-//! The objects of written messages, in place. All but a route and a name have a length that fits.
+//! The objects of written messages, in place. All except a route and a name have a length that fits.
 
 ghost use Rattle.std.specs.Prelude.{◌≡◌, ◌++◌, length, take, true, false, Some, None, IfOk, IfErr, OnOk, OnErr};
 ghost use Rattle.pcep_messages.specs.Spelling.{rp_object, srp_object, lsp_object, end_points_object, no_path_object, attributes_objects, bandwidth_objects, constraint_objects, cost_objects, object_spelled, object_fits, objects_spelled, objects_fit};
@@ -51,7 +51,7 @@ pub fn put_error(error: PcepError, out: &mut Vec<u8>) -> Result<(), AllocError>
     pcep_objects::put_error(error, out)
 }
 
-/// An LSP with flags D and A, and no name.
+/// Makes an LSP with flags D and A, and no name.
 fn lsp_object(plsp: Plsp, delegate: bool, admin: bool) -> LspObject
     ensures { result ≡ lsp_object plsp delegate admin None }
 {

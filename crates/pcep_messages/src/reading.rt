@@ -27,7 +27,7 @@ fn has_header(bytes: &[u8]) -> bool
         && bytes.len() % 4 == 0
 }
 
-// What may be long is made where it is handed out: a message that is moved is copied.
+// What may be long is made where it is handed out, since moving a message copies it.
 #[tactic(auto, unfolding(crate::specs::Messages::message_in, crate::specs::Requests::request_body))]
 #[inline(never)]
 fn read(alloc: Global, bytes: &[u8]) -> Result<Message, MessageFault>
@@ -61,12 +61,12 @@ fn read(alloc: Global, bytes: &[u8]) -> Result<Message, MessageFault>
 
 /// Reads the bytes of one whole message.
 ///
-/// Objects are read from first to last, and the first fault refuses the whole message. At one object its
-/// own fault comes first, then what the item that it ends lacks, then its P flag, its place or its missing
-/// identifiers. Objects that an item doesn't name are skipped, and so are those of unknown classes and
-/// types, but for those of a PCReq that have P set. In a message of one item the first object of each class
-/// counts (of BANDWIDTHs the greatest), and what it lacks is reported in the order SRP, LSP, ERO, RP, END-POINTS.
-/// `OutOfMemory` comes where a growth was refused, and may then stand in place of any answer but `BadHeader`.
+/// Objects are read from first to last, and the first fault refuses the whole message. At one object its own fault
+/// comes first, then what the item that it ends lacks, then its P flag, its place or its missing identifiers. Objects
+/// that an item doesn't name are skipped. So are those of unknown classes and types, except those of a PCReq that have
+/// P set. In a message of one item the first object of each class counts (of BANDWIDTHs the greatest), and what it
+/// lacks is reported in the order SRP, LSP, ERO, RP, END-POINTS. `OutOfMemory` comes if memory runs out, in place of
+/// any answer except `BadHeader`.
 pub fn read_message(alloc: Global, bytes: &[u8]) -> Result<Message, MessageFault>
     ensures reads { IfOk result (Reads bytes.now) }
     ensures first_fault { IfErr result (λ e. e ≢ OutOfMemory → IsFaulty bytes.now e) }
@@ -75,7 +75,7 @@ pub fn read_message(alloc: Global, bytes: &[u8]) -> Result<Message, MessageFault
     read(alloc, bytes)
 }
 
-/// Any bytes either read as one message or have one first fault, and never both.
+/// Shows that any bytes either read as one message or have one first fault, and never both.
 pub fn messages_are_read_or_faulty()
     ensures { (bytes : List ℕ) → ReadsOrIsFaulty bytes }
 {}

@@ -52,7 +52,7 @@ fn answer_of(
     }
 }
 
-/// Returns the reply of the parts that are there, and takes what it says out of them.
+/// Makes the reply of these parts, and takes what it says out of them.
 fn reply_of(parts: &mut Parts) -> Result<Message, MessageFault>
     ensures { Gives (λ x. x) result (reply_of (kept parts.old)) }
 {

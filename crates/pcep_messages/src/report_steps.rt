@@ -49,7 +49,7 @@ fn begun_by_lsp(lsp: LspObject) -> Item
     item
 }
 
-/// Ends the item that was read, and begins one by this SRP.
+/// Ends the item that was read, and begins one with this SRP.
 #[inline(never)]
 fn begin_by_srp(
     alloc: Global,
@@ -63,7 +63,7 @@ fn begin_by_srp(
     end_item(alloc, mem::replace(item, begun_by_srp(srp)), reports)
 }
 
-/// Ends the item that was read, and begins one by this LSP.
+/// Ends the item that was read, and begins one with this LSP.
 #[inline(never)]
 fn begin_by_lsp(
     alloc: Global,
@@ -96,7 +96,7 @@ fn take_srp(
     Ok(ItemPosition::BehindSrp)
 }
 
-/// Takes in an LSP, which starts an item where no SRP stands right in front of it.
+/// Takes in an LSP, which starts an item unless it comes right after an SRP.
 #[inline(always)]
 fn take_lsp(
     alloc: Global,
@@ -116,7 +116,7 @@ fn take_lsp(
     Ok(ItemPosition::Within)
 }
 
-/// Returns the place behind an object that starts no item.
+/// Returns the place after an object that starts no item.
 fn inside(place: ItemPosition) -> Result<ItemPosition, MessageFault>
     ensures { IsInside place result }
 {
@@ -126,7 +126,7 @@ fn inside(place: ItemPosition) -> Result<ItemPosition, MessageFault>
     }
 }
 
-/// Takes in one more object; one that a report doesn't name is skipped.
+/// Takes in one more object. One that a report doesn't name is skipped.
 #[inline(always)]
 fn take_in(
     alloc: Global,
@@ -199,8 +199,8 @@ fn take_any(
     Ok(take_in(alloc, object, place, item, reports))
 }
 
-/// Reads the body of an object and takes the object in. The outer fault is the object's own, and then nothing
-/// has changed.
+/// Reads the body of an object and takes the object in. The outer fault is the object's own, and after it nothing has
+/// changed.
 #[inline(always)]
 fn take_front(
     alloc: Global,
@@ -215,7 +215,7 @@ fn take_front(
     ensures same_item { IfErr result (λ fault. item.new ≡ item.old) }
     ensures same_reports { IfErr result (λ fault. reports.new.items ≡ reports.old.items) }
 {
-    // The objects of most reports, each taken in where its class is known.
+    // The objects of most reports, each taken in here since its class is known.
     let body = front.body;
     Ok(match front.kind {
         Kind::Srp => take_srp(alloc, read_srp(body)?, place, item, reports),
@@ -236,7 +236,7 @@ fn take_front(
     })
 }
 
-/// Returns the first fault, where an object has one of its own.
+/// Returns the first fault, if an object has one of its own.
 fn fault_at(place: ItemPosition, item: &Item, fault: ObjectFault) -> MessageFault
     ensures { (reports : List StateReport) → finished_at place reports item.now (Some fault) ≡ Err result }
 {

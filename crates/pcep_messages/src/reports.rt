@@ -61,7 +61,7 @@ pub fn colours_of(lspa: Option<Lspa>) -> Colours
     }
 }
 
-/// Whether local protection is wanted.
+/// Tests whether local protection is wanted.
 fn is_protected(lspa: Option<Lspa>) -> bool
     ensures { result ≡ is_protected lspa }
 {
@@ -80,7 +80,7 @@ pub fn hops_or_empty(alloc: Global, ero: Option<Sequence<Hop>>) -> Sequence<Hop>
     }
 }
 
-/// Returns the report of an item that has an LSP.
+/// Makes the report of an item that has an LSP.
 #[inline(always)]
 fn report_with(alloc: Global, item: Item, lsp: LspObject) -> StateReport
     ensures { result ≡ report_with item.srp lsp item.ero item.rro item.lspa item.bandwidth }
@@ -111,7 +111,7 @@ fn report_with(alloc: Global, item: Item, lsp: LspObject) -> StateReport
     }
 }
 
-/// Returns the report of an item that has ended.
+/// Makes the report of an item that has ended.
 #[inline(always)]
 pub fn report_from(alloc: Global, mut item: Item) -> Result<StateReport, MessageFault>
     ensures { Gives (λ x. x) result (report_from item None) }
@@ -129,7 +129,7 @@ pub fn report_from(alloc: Global, mut item: Item) -> Result<StateReport, Message
     Ok(report_with(alloc, item, lsp))
 }
 
-/// Returns the first fault, where an object of this item has one of its own.
+/// Returns the first fault, if an object of this item has one of its own.
 pub fn cut_off(item: &Item, fault: ObjectFault) -> MessageFault
     ensures { result ≡ cut_off item.now.srp item.now.lsp fault }
 {

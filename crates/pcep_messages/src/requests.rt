@@ -48,7 +48,7 @@ fn lacks_rro(asked: &Asked) -> bool
     asked.rp.reoptimize && !asked.has_rro && asked.has_bandwidth
 }
 
-/// Returns the request of what was read, at its end.
+/// Makes the request of what was read, at its end.
 fn request_from(asked: &Asked) -> Result<PathRequest, MessageFault>
     ensures { Gives (λ x. x) result (request_from asked.now None) }
 {
@@ -74,7 +74,7 @@ fn fault_of_kept(class: KeptClass, p: bool) -> Option<MessageFault>
     }
 }
 
-/// Returns the fault of an object in front of the first RP.
+/// Returns the fault of an object before the first RP.
 fn fault_in_front(object: &Object) -> Option<MessageFault>
     ensures { result ≡ fault_in_front object.now }
 {
@@ -95,7 +95,7 @@ fn place_fault(about: About, first: Option<EndPoints>, object: &Object) -> Optio
     }
 }
 
-/// Returns the first fault, where an object has one of its own.
+/// Returns the first fault, if an object has one of its own.
 fn cut_off(asked: &Option<Asked>, fault: ObjectFault) -> MessageFault
     ensures { (requests : List PathRequest) → finished_at asked.now requests (Some fault) ≡ Err result }
 {
@@ -105,13 +105,13 @@ fn cut_off(asked: &Option<Asked>, fault: ObjectFault) -> MessageFault
     }
 }
 
-/// Ends the request in front of an RP, where one has begun.
+/// Ends the request before an RP, if one has begun.
 #[inline(never)]
 fn end_before(asked: &Option<Asked>, requests: &mut Vec<PathRequest>) -> Result<(), MessageFault>
     ensures { Ends (ended asked.now requests.old.items) result requests.new.items }
 {
     if let Some(asked) = asked {
-        // for the proof alone: the type of a field that a request has
+        // only for the proof: the type of a field that a request has
         let _plsp: Option<Plsp> = asked.plsp;
         requests.push(request_from(asked)?)?;
     }
@@ -129,7 +129,7 @@ fn finish(
     match asked {
         None => Err(MessageFault::Refused(6, 1, About::Nothing)),
         Some(asked) => {
-            // for the proof alone: the type of a field that a request has
+            // only for the proof: the type of a field that a request has
             let _plsp: Option<Plsp> = asked.plsp;
             requests.push(request_from(&asked)?)?;
             Ok(requests)
@@ -137,7 +137,7 @@ fn finish(
     }
 }
 
-/// Takes in an RP, which ends the request in front of it and begins its own.
+/// Takes in an RP, which ends the request before it and begins its own.
 #[inline(always)]
 fn take_rp(
     rp: Rp,
@@ -156,7 +156,7 @@ fn take_rp(
     Ok(())
 }
 
-/// Takes in END-POINTS, of which the first have to have P set.
+/// Takes in END-POINTS. The first of a request must have P set.
 #[inline(always)]
 fn take_ends(ends: EndPoints, asked: &mut Option<Asked>) -> Result<(), MessageFault>
     ensures { Joins asked.old (objects.EndPoints ends) result asked.new }
@@ -187,7 +187,7 @@ fn take_requested(bandwidth: Bandwidth, asked: &mut Option<Asked>) -> Result<(),
     }
 }
 
-/// Takes in an object that is no RP.
+/// Takes in an object other than an RP.
 #[inline(always)]
 fn take_other(object: &Object, asked: &mut Option<Asked>) -> Result<(), MessageFault>
     ensures { Joins asked.old object.now result asked.new }
@@ -255,7 +255,7 @@ fn take_any(
     Ok(take_in(object, asked, requests))
 }
 
-/// Reads the body of an object and takes the object in. The outer fault is the object's own, and then what was
+/// Reads the body of an object and takes the object in. The outer fault is the object's own, and after it what was
 /// asked has not changed.
 #[inline(always)]
 fn take_front(
@@ -269,7 +269,7 @@ fn take_front(
     ensures same_asked { IfErr result (λ fault. asked.new ≡ asked.old) }
     ensures same_requests { IfErr result (λ fault. requests.new.items ≡ requests.old.items) }
 {
-    // The objects of most requests, each taken in where its class is known.
+    // The objects of most requests, each taken in here since its class is known.
     let (p, body) = (front.p, front.body);
     Ok(match front.kind {
         Kind::Rp => take_rp(read_rp(p, body)?, asked, requests),

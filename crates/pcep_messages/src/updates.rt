@@ -52,7 +52,7 @@ fn update_with(alloc: Global, srp: Srp, lsp: &LspObject, parts: &mut Parts) -> U
     }
 }
 
-/// Returns the update of the parts that are there, and takes what it says out of them.
+/// Makes the update of these parts, and takes what it says out of them.
 fn update_of(alloc: Global, parts: &mut Parts) -> Result<Message, MessageFault>
     ensures { Gives (λ x. x) result (update_of (kept parts.old)) }
 {
@@ -105,7 +105,7 @@ fn create_with(
     }
 }
 
-/// Returns the new LSP of the parts that are there.
+/// Makes the new LSP of these parts.
 fn create_of(
     alloc: Global,
     srp: Srp,
@@ -126,7 +126,7 @@ fn create_of(
     Ok(Message::Initiate(Initiate::Create(create)))
 }
 
-/// Returns what the parts that are there ask for.
+/// Makes what these parts ask for.
 fn initiate_of(alloc: Global, parts: &mut Parts) -> Result<Message, MessageFault>
     ensures { Gives (λ x. x) result (initiate_of (kept parts.old)) }
 {

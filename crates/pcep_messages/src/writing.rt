@@ -1,4 +1,4 @@
-//! Messages as bytes: the one spelling, which is read again.
+//! Messages as bytes: the one spelling, which reads as the message again.
 
 ghost use Rattle.std.specs.Prelude.{◌≡◌, ◌++◌, ℕ, List, true, false, length, take, IfOk, IfErr, OnOk, OnErr};
 ghost use Rattle.std.specs.List.{AllByRecursion};
@@ -14,7 +14,7 @@ use crate::message::Message;
 use pcep_objects::WriteFault;
 
 impl Message {
-    /// Whether `write_message` takes the message: all but PCReq, PCNtf, PCRpt and what is `Unknown`.
+    /// Tests whether `write_message` takes the message: any except PCReq, PCNtf, PCRpt and `Unknown`.
     pub fn is_written(&self) -> bool
         ensures { result ≡ is_written self.now }
     {
@@ -46,7 +46,7 @@ fn kind_number(message: &Message) -> u8
     }
 }
 
-/// Appends a message. After an `Err` a part of it may stand behind what was there.
+/// Appends a message. After an `Err` a part of it may have been appended.
 #[tactic(auto, using(crate::proofs::Fronts::front_same, crate::proofs::Fronts::front_two, crate::proofs::Fronts::front_again, crate::proofs::Mended::mended))]
 fn put_message(message: &Message, out: &mut Vec<u8>) -> Result<(), WriteFault>
     ensures written { OnOk result (out.new.items ≡ out.old.items ++ written message.now) }
@@ -70,9 +70,9 @@ fn put_message(message: &Message, out: &mut Vec<u8>) -> Result<(), WriteFault>
 /// Appends the one spelling of a message (RFC 5440 section 6, RFC 8231 section 6, RFC 8281 section 5). P is
 /// set in the RP of a PCRep and clear in those of a PCErr.
 ///
-/// `TooLong` comes exactly where a length doesn't fit its field: a subobject of a route has 2^8 bytes or
-/// more, or an object or the message 2^16 or more. `OutOfMemory` comes where a growth was refused. After
-/// either the vector is as before.
+/// Fails with `TooLong` exactly if a length doesn't fit its field: a subobject of a route has 2^8 bytes or more, or an
+/// object or the message 2^16 or more. Fails with `OutOfMemory` if memory runs out. After either the vector is as
+/// before.
 pub fn write_message(message: &Message, out: &mut Vec<u8>) -> Result<(), WriteFault>
     requires { is_written message.now ≡ true }
     ensures written { OnOk result (out.new.items ≡ out.old.items ++ written message.now) }
@@ -90,18 +90,18 @@ pub fn write_message(message: &Message, out: &mut Vec<u8>) -> Result<(), WriteFa
     }
 }
 
-/// The spelling of a message that is normal and whose lengths fit reads as it.
+/// Shows that the spelling of a message that is normal and whose lengths fit reads as it.
 ///
-/// Normal is what the wire can have: numbers as the fields' types keep them, hops as an ERO gives them (no `Other`
-/// that would read as a host), and a cost that some word reads as. A cost above 2^24 may have no such word: the
-/// least greater one that has is written.
+/// A normal message is one that the wire can have: numbers as the fields' types keep them, hops as an ERO gives them
+/// (no `Other` that would read as a host), and a cost that some word reads as. A cost above 2^24 may have no such word.
+/// Then the least greater one that has a word is written.
 pub fn messages_are_read_again()
     ensures { (message : Message) → is_written message ≡ true → IsNormal message → fits message ≡ true
         → Reads (written message) message }
 {}
 
-/// Each message that bytes read as is normal: so what was read of a kind that is written, if its lengths fit,
-/// is written as bytes that read as the same.
+/// Shows that each message that was read is normal. So what was read of a kind that is written, if its lengths fit, is
+/// written as bytes that read as the same.
 pub fn what_is_read_is_normal()
     ensures { (bytes : List ℕ) (message : Message) → AllByRecursion IsByte bytes → Reads bytes message → IsNormal message }
 {}

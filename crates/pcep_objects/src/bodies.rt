@@ -17,7 +17,7 @@ use pcep_word::{Bandwidth, Priority};
 use sequence::Sequence;
 use std::alloc::{AllocError, Global};
 
-/// Reads the body of a BANDWIDTH (RFC 5440 section 7.7), which is of the same layout in both types.
+/// Reads the body of a BANDWIDTH (RFC 5440 section 7.7). Both types have the same layout.
 #[tactic(auto, unfolding(crate::specs::Bodies::bandwidth_body))]
 pub fn read_bandwidth(body: &[u8]) -> Result<Bandwidth, BodyFault>
     ensures { (kind : BandwidthType) → Gives (λ bandwidth. objects.Bandwidth kind bandwidth) result (bandwidth_body kind body.now) }
@@ -68,7 +68,7 @@ pub fn read_lspa(body: &[u8]) -> Result<Lspa, BodyFault>
     })
 }
 
-/// IRO, SVEC or LOAD-BALANCING.
+/// Keeps the body of an IRO, SVEC or LOAD-BALANCING.
 pub fn read_kept(alloc: Global, class: KeptClass, p: bool, body: &[u8]) -> Result<Object, BodyFault>
     ensures { Gives (λ x. x) result (Ok (kept class p body.now)) }
 {

@@ -1,4 +1,4 @@
-//! Objects appended from parts that are borrowed, so that no route and no name is copied to be written.
+//! Objects appended from borrowed parts, so that no route and no name is copied to be written.
 
 ghost use Rattle.std.specs.Prelude.{◌≡◌, ◌++◌, true, false, Some, IfOk, IfErr, OnOk, OnErr};
 ghost use Rattle.pcep_objects.specs.Spelling.{written, fits};
@@ -14,8 +14,8 @@ use lsp_words::Hop;
 
 /// Appends an ERO of these hops.
 ///
-/// `TooLong` comes exactly where a subobject has 2^8 bytes or more, or the object, with its header, 2^16 or
-/// more; `OutOfMemory` where a growth was refused. After either the vector is as before.
+/// Fails with `TooLong` exactly if a subobject has 2^8 bytes or more, or the object, with its header, 2^16 or more, and
+/// with `OutOfMemory` if memory runs out. After either the vector is as before.
 pub fn put_ero(hops: &[Hop], out: &mut Vec<u8>) -> Result<(), WriteFault>
     ensures written { OnOk result (out.new.items ≡ out.old.items ++ written (Ero hops.now)) }
     ensures fits { IfOk result (λ _. fits (Ero hops.now) ≡ true) }
@@ -32,10 +32,10 @@ pub fn put_ero(hops: &[Hop], out: &mut Vec<u8>) -> Result<(), WriteFault>
     Ok(())
 }
 
-/// Appends an LSP with this name in place of its own.
+/// Appends an LSP with this name instead of its own.
 ///
-/// `TooLong` comes exactly where the object, with its header, has 2^16 bytes or more; `OutOfMemory` where a
-/// growth was refused. After either the vector is as before.
+/// Fails with `TooLong` exactly if the object, with its header, has 2^16 bytes or more, and with `OutOfMemory` if
+/// memory runs out. After either the vector is as before.
 pub fn put_named_lsp(lsp: &LspObject, name: &[u8], out: &mut Vec<u8>) -> Result<(), WriteFault>
     ensures written { OnOk result (out.new.items ≡ out.old.items ++ written (Lsp (record lsp.now { name = Some name.now }))) }
     ensures fits { IfOk result (λ _. fits (Lsp (record lsp.now { name = Some name.now })) ≡ true) }

@@ -26,7 +26,7 @@ pub enum Kind {
     Srp,
 }
 
-/// The kind of type 1 of a class.
+/// Returns the kind of type 1 of a class.
 fn first_type(class: u8) -> Option<Kind>
     ensures { result ≡ first_type class }
 {
@@ -52,7 +52,7 @@ fn first_type(class: u8) -> Option<Kind>
     }
 }
 
-/// The kind of this class and type; None: it isn't known.
+/// Returns the kind of this class and type, or None if it isn't known.
 pub fn kind_at(class: u8, object_type: u8) -> Option<Kind>
     ensures { result ≡ kind_at class object_type }
 {
@@ -65,14 +65,14 @@ pub fn kind_at(class: u8, object_type: u8) -> Option<Kind>
     None
 }
 
-/// Whether a type of the class is known.
+/// Tests whether a type of the class is known.
 pub fn is_known(class: u8) -> bool
     ensures { result ≡ is_known class }
 {
     first_type(class).is_some()
 }
 
-/// The number of the class.
+/// Returns the number of the class.
 pub fn class_number(kind: Kind) -> u8
     ensures { result ≡ class_number kind }
 {
@@ -97,7 +97,7 @@ pub fn class_number(kind: Kind) -> u8
     }
 }
 
-/// The number of the type within its class.
+/// Returns the number of the type within its class.
 pub fn type_number(kind: Kind) -> u8
     ensures { result ≡ type_number kind }
 {

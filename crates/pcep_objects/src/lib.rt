@@ -1,17 +1,17 @@
 //! The objects of PCEP as values, read from bytes and written as bytes.
 //!
-//! An object is a header of four bytes and a body by its class and type (RFC 5440 section 7, RFC 8231
-//! section 7). `read_object` gives the object at the front of some bytes with its length, or the first
-//! fault; `write_object` appends an object's one spelling. The layer above may rely on it that the answer is
-//! exactly the one of the definitions, for every list of bytes, that bytes never both read and have a fault,
-//! that each object that bytes read as, with P as it is written, is spelled as bytes that read as it, and that
-//! after a refusal to write the vector is as before. `front_of` reads the header alone, and `read_body` or the
-//! `read_` function of a class the body, for a caller that takes the object in where its class is known.
+//! An object is a header of four bytes and a body by its class and type (RFC 5440 section 7, RFC 8231 section 7).
+//! `read_object` returns the object at the front of some bytes with its length, or the first fault. `write_object`
+//! appends an object's one spelling. The layer above may rely on these facts. The answer is exactly the one of the
+//! definitions, for every list of bytes. Bytes never both read and have a fault. Each object that was read, with P as
+//! it is written, is spelled as bytes that read as it. After a refusal to write, the vector is as before. `front_of`
+//! reads only the header, and `read_body` or the `read_` function of a class the body, for a caller that knows the
+//! class.
 //!
-//! The definitions stand in `specs/`: `Kinds` has the classes and types, `Tlvs` and `Routes` cut
-//! an object's lists into pieces, `Bodies`, `SessionObjects`, `RequestObjects` and `Metrics` have the layout
-//! of each class, `Objects` the header, `Reads` and `IsFaulty`, `Spelling` the spelling of each object, the
-//! lengths that fit and the objects that are normal.
+//! The definitions are in `specs/`. `Kinds` has the classes and types. `Tlvs` and `Routes` cut an object's lists into
+//! pieces. `Bodies`, `SessionObjects`, `RequestObjects` and `Metrics` have the layout of each class. `Objects` has the
+//! header, `Reads` and `IsFaulty`. `Spelling` has the spelling of each object, the lengths that fit and the objects
+//! that are normal.
 //!
 //! ```
 //! // The first object of a message's body, and the bytes after it.

@@ -16,7 +16,7 @@ use std::alloc::AllocError;
 /// The header of an RSVP object ERROR_SPEC of IPv4: 12 bytes, class 6, C-Type 1 (RFC 2205 section A.5).
 const ERROR_SPEC: u32 = 0x000c_0601;
 
-/// The value of the first TLV of this type that has this size, where there is one. TLVs of another size are skipped.
+/// Finds the value of the first TLV of this type that has this size, if there is one. TLVs of another size are skipped.
 pub fn fitting_in(number: u16, size: usize, bytes: &[u8]) -> Result<Option<&[u8]>, BodyFault>
     ensures value { Gives option_copied result (fitting_in number size bytes.now) }
     ensures sized { IfOk result (λ found. IfSome found (λ value. length value.now ≡ size)) }
@@ -60,7 +60,7 @@ fn rsvp_error_of(value: &[u8]) -> Option<RsvpError>
     })
 }
 
-/// Reads the value of an RSVP-ERROR-SPEC. None: it is no ERROR_SPEC of IPv4.
+/// Reads the value of an RSVP-ERROR-SPEC. None if it isn't an ERROR_SPEC of IPv4.
 pub fn read_rsvp_error(value: Option<&[u8]>) -> Option<RsvpError>
     requires { IfSome value (λ bytes. length bytes.now ≡ 12) }
     ensures { result ≡ rsvp_error_in (option_copied value.entry) }
@@ -68,7 +68,7 @@ pub fn read_rsvp_error(value: Option<&[u8]>) -> Option<RsvpError>
     rsvp_error_of(value?)
 }
 
-/// Appends LSP-ERROR-CODE, where it is there. Where memory is lacking, nothing is appended.
+/// Appends LSP-ERROR-CODE, if there is one. If memory runs out, nothing is appended.
 #[inline(always)]
 pub fn put_error_code(error_code: Option<u32>, out: &mut Vec<u8>) -> Result<(), AllocError>
     ensures written { OnOk result (out.new.items ≡ out.old.items ++ error_code_written error_code) }
@@ -81,7 +81,7 @@ pub fn put_error_code(error_code: Option<u32>, out: &mut Vec<u8>) -> Result<(), 
     out.extend_from_slice(&[0, 20, 0, 4, a, b, c, d])
 }
 
-/// Appends RSVP-ERROR-SPEC, where it is there. Where memory is lacking, nothing is appended.
+/// Appends RSVP-ERROR-SPEC, if there is one. If memory runs out, nothing is appended.
 #[inline(always)]
 pub fn put_rsvp_error(error: Option<RsvpError>, out: &mut Vec<u8>) -> Result<(), AllocError>
     ensures written { OnOk result (out.new.items ≡ out.old.items ++ rsvp_error_written error) }

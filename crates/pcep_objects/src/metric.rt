@@ -33,7 +33,7 @@ pub fn read_metric(body: &[u8]) -> Result<Metric, BodyFault>
     }
 }
 
-/// Appends a METRIC. A value that no word has is rounded up. Where memory is lacking, nothing is appended.
+/// Appends a METRIC. A value that no word has is rounded up. If memory runs out, nothing is appended.
 pub fn put_metric(object: Metric, out: &mut Vec<u8>) -> Result<(), AllocError>
     ensures written { OnOk result (out.new.items ≡ out.old.items ++ written (objects.Metric object)) }
     ensures unchanged { OnErr result (out.new.items ≡ out.old.items) }

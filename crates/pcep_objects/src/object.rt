@@ -1,4 +1,4 @@
-//! The objects of PCEP and their parts. All numbers are as the wire has them.
+//! The objects of PCEP and their parts. All numbers are as on the wire.
 
 ghost use Rattle.std.specs.Prelude.{◌≡◌, ◌<◌, ◌^◌};
 
@@ -85,18 +85,18 @@ pub struct LspObject {
     pub identifiers: Option<Identifiers>,
     /// The first LSP-ERROR-CODE of 4 bytes (RFC 8231 section 7.3.3).
     pub error_code: Option<u32>,
-    /// The first RSVP-ERROR-SPEC of 12 bytes, where that is an ERROR_SPEC of IPv4.
+    /// The first RSVP-ERROR-SPEC of 12 bytes, if that is an ERROR_SPEC of IPv4.
     pub rsvp_error: Option<RsvpError>,
 }
 
 /// LSPA, the attributes of an LSP (RFC 5440 section 7.11).
 #[derive(Clone, Copy, Debug, PartialEq, Eq)]
 pub struct Lspa {
-    /// The colours that bind the path.
+    /// The colours that the path must and must not have.
     pub colours: Colours,
     /// The setup priority.
     pub setup: Priority,
-    /// The holding priority as it is written, which may be worse than the setup priority.
+    /// The holding priority as written, which may be worse than the setup priority.
     pub hold: Priority,
     /// Local protection is wanted (flag L).
     pub local_protection: bool,
@@ -107,12 +107,12 @@ pub struct Lspa {
 pub enum BandwidthType {
     /// Type 1: the bandwidth that is asked for.
     Requested,
-    /// Type 2: the bandwidth of an LSP that stands.
+    /// Type 2: the bandwidth of an existing LSP.
     Current,
 }
 
-/// The number of a METRIC, from 0 to 2^48 - 1: a word is rounded down to it, and 2^48 - 1 stands for every
-/// greater value too.
+/// The number of a METRIC, from 0 to 2^48 - 1. A word is rounded down to it, and 2^48 - 1 also stands for every greater
+/// value.
 #[derive(Clone, Copy, Debug, PartialEq, Eq, PartialOrd, Ord)]
 pub struct MetricValue {
     value: u64,
@@ -131,7 +131,7 @@ impl Model for MetricValue {
 }
 
 impl MetricValue {
-    /// The metric of this value, which has to be below 2^48.
+    /// Makes the metric of this value, which must be below 2^48.
     pub fn new(value: u64) -> MetricValue
         requires { value < 2 ^ 48 }
         ensures { result ≡ value }
@@ -139,7 +139,7 @@ impl MetricValue {
         MetricValue { value }
     }
 
-    /// The value, below 2^48.
+    /// Returns the value, below 2^48.
     pub fn value(self) -> u64
         ensures value { result ≡ self }
         ensures small { result < 2 ^ 48 }
@@ -164,7 +164,7 @@ pub struct Metric {
 /// The classes of objects that are kept as bytes.
 #[derive(Clone, Copy, Debug, PartialEq, Eq)]
 pub enum KeptClass {
-    /// IRO, nodes that a path has to pass (RFC 5440 section 7.12).
+    /// IRO, nodes that a path must pass (RFC 5440 section 7.12).
     Iro,
     /// SVEC, requests that belong together (RFC 5440 section 7.13).
     Svec,
@@ -177,9 +177,9 @@ pub enum KeptClass {
 pub struct Kept {
     /// Which of the three it is.
     pub class: KeptClass,
-    /// The P flag of the object's header: the object has to be taken into account.
+    /// The P flag of the object's header: the object must be processed.
     pub p: bool,
-    /// All bytes behind the header.
+    /// All bytes after the header.
     pub body: Sequence<u8>,
 }
 

@@ -1,5 +1,5 @@
-//! Objects of any length, in place: routes, and LSPs with their TLVs. Where memory is lacking, what was appended
-//! is taken away again.
+//! Objects of any length, in place: routes, and LSPs with their TLVs. If memory runs out, what was appended is removed
+//! again.
 
 ghost use Rattle.std.specs.Prelude.{◌≡◌, ◌++◌, ◌∷◌, [], ◌+◌, ◌^◌, ◌<◌, length, take, true, false, Some, None, OnOk, OnErr};
 ghost use Rattle.byteorder.specs.Endian.{big_bytes};
@@ -72,7 +72,7 @@ fn put_named_parts(
     put_details(lsp, out)
 }
 
-/// Appends an LSP of this length, header included, with this name in place of its own.
+/// Appends an LSP of this length, header included, with this name instead of its own.
 pub fn put_named(
     lsp: &LspObject,
     name: &[u8],

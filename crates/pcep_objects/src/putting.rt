@@ -12,7 +12,7 @@ use lsp_words::Hop;
 use pcep_word::Bandwidth;
 use std::alloc::AllocError;
 
-/// The kind of a BANDWIDTH.
+/// Returns the kind of a BANDWIDTH.
 #[inline(always)]
 pub fn bandwidth_kind(bandwidth_type: BandwidthType) -> Kind
     ensures { result ≡ bandwidth_kind bandwidth_type }
@@ -23,7 +23,7 @@ pub fn bandwidth_kind(bandwidth_type: BandwidthType) -> Kind
     }
 }
 
-/// Appends a BANDWIDTH. Where memory is lacking, nothing is appended.
+/// Appends a BANDWIDTH. If memory runs out, nothing is appended.
 pub fn put_bandwidth(
     bandwidth_type: BandwidthType,
     bandwidth: Bandwidth,
@@ -36,7 +36,7 @@ pub fn put_bandwidth(
     put_spelled(bandwidth_kind(bandwidth_type), false, &word, out)
 }
 
-/// Appends an LSPA. Where memory is lacking, nothing is appended.
+/// Appends an LSPA. If memory runs out, nothing is appended.
 #[tactic(auto, unfolding(crate::specs::Spelling::colours_written))]
 pub fn put_lspa(object: &Lspa, out: &mut Vec<u8>) -> Result<(), AllocError>
     ensures written { OnOk result (out.new.items ≡ out.old.items ++ written (objects.Lspa object.now)) }
@@ -51,7 +51,7 @@ pub fn put_lspa(object: &Lspa, out: &mut Vec<u8>) -> Result<(), AllocError>
     put_spelled(Kind::Lspa, false, &body, out)
 }
 
-/// Appends an SRP. Where memory is lacking, nothing is appended.
+/// Appends an SRP. If memory runs out, nothing is appended.
 pub fn put_srp(object: Srp, out: &mut Vec<u8>) -> Result<(), AllocError>
     ensures written { OnOk result (out.new.items ≡ out.old.items ++ written (objects.Srp object)) }
     ensures unchanged { OnErr result (out.new.items ≡ out.old.items) }
@@ -61,7 +61,7 @@ pub fn put_srp(object: Srp, out: &mut Vec<u8>) -> Result<(), AllocError>
     put_spelled(Kind::Srp, false, &[a, b, c, d, e, f, g, h], out)
 }
 
-/// Appends a subobject of a route. Where memory is lacking, nothing is appended.
+/// Appends a subobject of a route. If memory runs out, nothing is appended.
 #[inline(always)]
 fn put_hop(hop: &Hop, out: &mut Vec<u8>) -> Result<(), AllocError>
     requires { hop_fits hop.now ≡ true }
@@ -84,7 +84,7 @@ fn put_hop(hop: &Hop, out: &mut Vec<u8>) -> Result<(), AllocError>
     }
 }
 
-/// Appends the body of an ERO or an RRO. Where memory is lacking, a part of it may stand behind what was there.
+/// Appends the body of an ERO or an RRO. If memory runs out, a part of it may have been appended.
 #[tactic(auto, unfolding(crate::specs::Spelling::hops_fit), using(crate::proofs::Fronts::front))]
 pub fn put_hops(hops: &[Hop], out: &mut Vec<u8>) -> Result<(), AllocError>
     requires { hops_fit hops.now ≡ true }
@@ -109,7 +109,7 @@ fn operational_number(operational: Operational) -> u32
     }
 }
 
-/// The PLSP-ID and the flags of an LSP.
+/// Returns the PLSP-ID and the flags of an LSP.
 #[inline(always)]
 pub fn lsp_word(lsp: &LspObject) -> u32
     ensures { result ≡ lsp_word lsp.now }
@@ -123,7 +123,7 @@ pub fn lsp_word(lsp: &LspObject) -> u32
         + 0x080 * u32::from(lsp.created)
 }
 
-/// Appends up to three zeros. Where memory is lacking, nothing is appended.
+/// Appends up to three zeros. If memory runs out, nothing is appended.
 #[inline(always)]
 fn put_zeros(count: usize, out: &mut Vec<u8>) -> Result<(), AllocError>
     requires { count < 4 }
@@ -139,7 +139,7 @@ fn put_zeros(count: usize, out: &mut Vec<u8>) -> Result<(), AllocError>
     }
 }
 
-/// Appends a TLV of less than 2^16 bytes, with its padding. Where memory is lacking, nothing is appended.
+/// Appends a TLV of less than 2^16 bytes, with its padding. If memory runs out, nothing is appended.
 #[inline(always)]
 pub fn put_tlv(tlv_type: u16, value: &[u8], out: &mut Vec<u8>) -> Result<(), AllocError>
     requires { length value.now < 2 ^ 16 }
@@ -156,7 +156,7 @@ pub fn put_tlv(tlv_type: u16, value: &[u8], out: &mut Vec<u8>) -> Result<(), All
     put_zeros(padded - len, out)
 }
 
-/// Appends IPV4-LSP-IDENTIFIERS, where they are there. Where memory is lacking, nothing is appended.
+/// Appends IPV4-LSP-IDENTIFIERS, if there are any. If memory runs out, nothing is appended.
 #[inline(always)]
 fn put_identifiers(identifiers: &Option<Identifiers>, out: &mut Vec<u8>) -> Result<(), AllocError>
     ensures written { OnOk result (out.new.items ≡ out.old.items ++ identifiers_written identifiers.now) }
@@ -173,7 +173,7 @@ fn put_identifiers(identifiers: &Option<Identifiers>, out: &mut Vec<u8>) -> Resu
     out.extend_from_slice(&[0, 18, 0, 16, a, b, c, d, e, f, g, h, i, j, k, l, m, n, o, p])
 }
 
-/// Appends the TLVs of an LSP behind its name. Where memory is lacking, a part of them may stand behind what was there.
+/// Appends the TLVs of an LSP after its name. If memory runs out, a part of them may have been appended.
 #[tactic(auto, using(crate::proofs::Fronts::front, crate::proofs::Fronts::front_two))]
 pub fn put_details(lsp: &LspObject, out: &mut Vec<u8>) -> Result<(), AllocError>
     ensures written { OnOk result (out.new.items ≡ out.old.items ++ details_written lsp.now.identifiers lsp.now.error_code lsp.now.rsvp_error) }

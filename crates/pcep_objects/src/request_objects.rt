@@ -17,11 +17,11 @@ use std::alloc::AllocError;
 /// RP (RFC 5440 section 7.4): the number of a request, and how it is to be met.
 #[derive(Clone, Copy, Debug, PartialEq, Eq)]
 pub struct Rp {
-    /// The P flag of the object's header: the object has to be taken into account.
+    /// The P flag of the object's header: the object must be processed.
     pub p: bool,
     /// Pri, below 8: 7 is the most urgent, 0 says nothing.
     pub priority: u8,
-    /// The request is about a path that stands (flag R).
+    /// The request is about an existing path (flag R).
     pub reoptimize: bool,
     /// The path is wanted in both directions (flag B).
     pub bidirectional: bool,
@@ -31,14 +31,14 @@ pub struct Rp {
     pub id: u32,
 }
 
-/// NO-PATH (RFC 5440 section 7.5): a request that no path meets.
+/// NO-PATH (RFC 5440 section 7.5): the answer to a request that no path meets.
 #[derive(Clone, Copy, Debug, PartialEq, Eq)]
 pub struct NoPath {
     /// Nature of issue; 0: no path meets the constraints.
     pub nature: u8,
-    /// The constraints that no path meets stand behind this object (flag C).
+    /// The constraints that no path meets follow this object (flag C).
     pub constraints: bool,
-    /// NO-PATH-VECTOR, where it is there.
+    /// NO-PATH-VECTOR, if there is one.
     pub vector: Option<NoPathVector>,
 }
 
@@ -125,7 +125,7 @@ pub fn read_end_points(p: bool, body: &[u8]) -> Result<EndPoints, BodyFault>
     })
 }
 
-/// Appends an RP, with P as it has it. Where memory is lacking, nothing is appended.
+/// Appends an RP, with the P that it has. If memory runs out, nothing is appended.
 pub fn put_rp(object: Rp, out: &mut Vec<u8>) -> Result<(), AllocError>
     ensures written { OnOk result (out.new.items ≡ out.old.items ++ written (objects.Rp object)) }
     ensures unchanged { OnErr result (out.new.items ≡ out.old.items) }
@@ -139,7 +139,7 @@ pub fn put_rp(object: Rp, out: &mut Vec<u8>) -> Result<(), AllocError>
     put_spelled(Kind::Rp, object.p, &[a, b, c, d, e, f, g, h], out)
 }
 
-/// Appends a NO-PATH. Where memory is lacking, nothing is appended.
+/// Appends a NO-PATH. If memory runs out, nothing is appended.
 pub fn put_no_path(object: &NoPath, out: &mut Vec<u8>) -> Result<(), AllocError>
     ensures written { OnOk result (out.new.items ≡ out.old.items ++ written (objects.NoPath object.now)) }
     ensures unchanged { OnErr result (out.new.items ≡ out.old.items) }
@@ -157,7 +157,7 @@ pub fn put_no_path(object: &NoPath, out: &mut Vec<u8>) -> Result<(), AllocError>
     }
 }
 
-/// Appends an END-POINTS, with P set. Where memory is lacking, nothing is appended.
+/// Appends an END-POINTS, with P set. If memory runs out, nothing is appended.
 pub fn put_end_points(object: EndPoints, out: &mut Vec<u8>) -> Result<(), AllocError>
     ensures written { OnOk result (out.new.items ≡ out.old.items ++ written (objects.EndPoints object)) }
     ensures unchanged { OnErr result (out.new.items ≡ out.old.items) }

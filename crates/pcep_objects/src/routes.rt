@@ -11,7 +11,7 @@ use pcep_word::Ipv4;
 use sequence::Sequence;
 use std::alloc::Global;
 
-/// The length of the subobject at the front.
+/// Returns the length of the subobject at the front.
 #[tactic(auto, unfolding(crate::specs::Routes::subobject_size))]
 fn size_of_subobject(bytes: &[u8]) -> Result<usize, BodyFault>
     ensures gives { Gives (λ n. n) result (subobject_size bytes.now) }

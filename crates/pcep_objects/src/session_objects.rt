@@ -23,7 +23,7 @@ pub struct Open {
     pub dead_timer: u8,
     /// SID, the number that it gave the session.
     pub sid: u8,
-    /// STATEFUL-PCE-CAPABILITY, where it is there.
+    /// STATEFUL-PCE-CAPABILITY, if there is one.
     pub capabilities: Option<Capabilities>,
 }
 
@@ -121,7 +121,7 @@ pub fn read_error(body: &[u8]) -> Result<PcepError, BodyFault>
     })
 }
 
-/// Appends an OPEN, of version 1. Where memory is lacking, nothing is appended.
+/// Appends an OPEN, of version 1. If memory runs out, nothing is appended.
 pub fn put_open(object: &Open, out: &mut Vec<u8>) -> Result<(), AllocError>
     ensures written { OnOk result (out.new.items ≡ out.old.items ++ written (objects.Open object.now)) }
     ensures unchanged { OnErr result (out.new.items ≡ out.old.items) }
@@ -140,7 +140,7 @@ pub fn put_open(object: &Open, out: &mut Vec<u8>) -> Result<(), AllocError>
     }
 }
 
-/// Appends a CLOSE. Where memory is lacking, nothing is appended.
+/// Appends a CLOSE. If memory runs out, nothing is appended.
 pub fn put_close(object: Close, out: &mut Vec<u8>) -> Result<(), AllocError>
     ensures written { OnOk result (out.new.items ≡ out.old.items ++ written (objects.Close object)) }
     ensures unchanged { OnErr result (out.new.items ≡ out.old.items) }
@@ -148,7 +148,7 @@ pub fn put_close(object: Close, out: &mut Vec<u8>) -> Result<(), AllocError>
     put_spelled(Kind::Close, false, &[0, 0, 0, object.reason], out)
 }
 
-/// Appends a NOTIFICATION. Where memory is lacking, nothing is appended.
+/// Appends a NOTIFICATION. If memory runs out, nothing is appended.
 pub fn put_notification(object: Notification, out: &mut Vec<u8>) -> Result<(), AllocError>
     ensures written { OnOk result (out.new.items ≡ out.old.items ++ written (objects.Notification object)) }
     ensures unchanged { OnErr result (out.new.items ≡ out.old.items) }
@@ -157,7 +157,7 @@ pub fn put_notification(object: Notification, out: &mut Vec<u8>) -> Result<(), A
     put_spelled(Kind::Notification, false, &body, out)
 }
 
-/// Appends a PCEP-ERROR. Where memory is lacking, nothing is appended.
+/// Appends a PCEP-ERROR. If memory runs out, nothing is appended.
 pub fn put_error(object: PcepError, out: &mut Vec<u8>) -> Result<(), AllocError>
     ensures written { OnOk result (out.new.items ≡ out.old.items ++ written (objects.Error object)) }
     ensures unchanged { OnErr result (out.new.items ≡ out.old.items) }

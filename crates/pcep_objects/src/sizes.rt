@@ -1,4 +1,4 @@
-//! The lengths of objects as they are written, before anything is.
+//! The lengths of objects as written, before anything is written.
 
 ghost use Rattle.std.specs.Prelude.{◌≡◌, ◌^◌, ◌-◌, ◌≤◌, min, length, Some, None, if◌then◌else◌};
 ghost use Rattle.pcep_objects.specs.Spelling.{hop_fits, hop_written, hops_fit, hops_written, parts_fit, fits, name_written, identifiers_written, error_code_written, rsvp_error_written, details_written, lsp_written, body_written};
@@ -31,7 +31,7 @@ pub fn hops_fit(hops: &[Hop]) -> bool
     true
 }
 
-/// Whether each part of the object has a length that fits its field.
+/// Tests whether each part of the object has a length that fits its field.
 fn parts_fit(object: &Object) -> bool
     ensures { result ≡ parts_fit object.now }
 {
@@ -42,7 +42,7 @@ fn parts_fit(object: &Object) -> bool
     }
 }
 
-/// The length of a subobject, or the greatest number where it is greater.
+/// Returns the length of a subobject, or the greatest number if that is too great for it.
 fn hop_size(hop: &Hop) -> usize
     ensures { result ≡ min (length (hop_written hop.now)) (2 ^ 64 - 1) }
 {
@@ -52,7 +52,7 @@ fn hop_size(hop: &Hop) -> usize
     }
 }
 
-/// The length of a route, or the greatest number where it is greater.
+/// Returns the length of a route, or the greatest number if that is too great for it.
 pub fn hops_size(hops: &[Hop]) -> usize
     ensures { result ≡ min (length (hops_written hops.now)) (2 ^ 64 - 1) }
 {
@@ -63,7 +63,7 @@ pub fn hops_size(hops: &[Hop]) -> usize
     size
 }
 
-/// The length of a name's TLV, or the greatest number where it is greater.
+/// Returns the length of a name's TLV, or the greatest number if that is too great for it.
 fn name_size(name: &Option<Sequence<u8>>) -> usize
     ensures { result ≡ min (length (name_written name.now)) (2 ^ 64 - 1) }
 {
@@ -103,7 +103,7 @@ fn rsvp_error_size(error: Option<RsvpError>) -> usize
     }
 }
 
-/// The length of the TLVs behind the name.
+/// Returns the length of the TLVs after the name.
 fn details_size(lsp: &LspObject) -> usize
     ensures size { result ≡ length (details_written lsp.now.identifiers lsp.now.error_code lsp.now.rsvp_error) }
     ensures small { result ≤ 44 }
@@ -113,7 +113,7 @@ fn details_size(lsp: &LspObject) -> usize
         + rsvp_error_size(lsp.rsvp_error)
 }
 
-/// The length of an LSP, or the greatest number where it is greater.
+/// Returns the length of an LSP, or the greatest number if that is too great for it.
 pub fn lsp_size(lsp: &LspObject) -> usize
     ensures { result ≡ min (length (lsp_written lsp.now)) (2 ^ 64 - 1) }
 {
@@ -121,7 +121,7 @@ pub fn lsp_size(lsp: &LspObject) -> usize
     name_size(&lsp.name).saturating_add(4 + details)
 }
 
-/// The length of an LSP with this name, or the greatest number where it is greater.
+/// Returns the length of an LSP with this name, or the greatest number if that is too great for it.
 pub fn named_size(lsp: &LspObject, name: &[u8]) -> usize
     ensures { result ≡ min (length (lsp_written (record lsp.now { name = Some name.now }))) (2 ^ 64 - 1) }
 {
@@ -129,8 +129,8 @@ pub fn named_size(lsp: &LspObject, name: &[u8]) -> usize
     (name.len().saturating_add(3) / 4 * 4).saturating_add(8 + details)
 }
 
-/// The length of a route each of whose subobjects fits its length field, or the greatest number where it is
-/// greater.
+/// Returns the length of a route each of whose subobjects fits its length field, or the greatest number if that is too
+/// great for it.
 #[tactic(auto, unfolding(crate::specs::Spelling::hops_fit))]
 pub fn fitting_size(hops: &[Hop]) -> Option<usize>
     ensures { result ≡ (if hops_fit hops.now then Some (min (length (hops_written hops.now)) (2 ^ 64 - 1)) else None) }
@@ -163,7 +163,7 @@ fn vector_size(vector: Option<NoPathVector>) -> usize
     }
 }
 
-/// The length of an object without its header, or the greatest number where it is greater.
+/// Returns the length of an object without its header, or the greatest number if that is too great for it.
 #[tactic(auto, unfolding(crate::specs::Spelling::colours_written))]
 pub fn body_size(object: &Object) -> usize
     ensures { result ≡ min (length (body_written object.now)) (2 ^ 64 - 1) }
@@ -183,7 +183,7 @@ pub fn body_size(object: &Object) -> usize
 }
 
 impl Object {
-    /// Whether each length in the object fits its field: a subobject's is below 2^8, the object's below 2^16.
+    /// Tests whether each length in the object fits its field: a subobject's is below 2^8, the object's below 2^16.
     pub fn fits(&self) -> bool
         ensures { result ≡ fits self.now }
     {

@@ -1,5 +1,4 @@
-//! A body behind its header, in place: room is made for both at once, so nothing is appended where memory is
-//! lacking.
+//! A body after its header, in place. Room is made for both at once, so nothing is appended if memory runs out.
 
 ghost use Rattle.std.specs.Prelude.{◌≡◌, ◌++◌, ◌∷◌, [], ◌*◌, ◌+◌, ◌<◌, ◌^◌, if◌then◌else◌, length, OnOk, OnErr};
 ghost use Rattle.byteorder.specs.Endian.{big_bytes};
@@ -9,7 +8,7 @@ ghost use Rattle.pcep_objects.specs.Spelling.{spelled};
 use crate::kind::{Kind, class_number, type_number};
 use std::alloc::AllocError;
 
-/// The header of an object of this length, header included (RFC 5440 section 7.2).
+/// Returns the header of an object of this length, header included (RFC 5440 section 7.2).
 #[inline(always)]
 pub fn header(kind: Kind, p: bool, size: u16) -> [u8; 4]
     ensures { result ≡ (class_number kind ∷ (type_number kind * 16 + (if p then 2 else 0)) ∷ []) ++ big_bytes 2 size }
@@ -19,7 +18,7 @@ pub fn header(kind: Kind, p: bool, size: u16) -> [u8; 4]
     [class_number(kind), flags, high, low]
 }
 
-/// Appends a body behind its header.
+/// Appends a body after its header.
 #[inline(always)]
 pub fn put_spelled(kind: Kind, p: bool, body: &[u8], out: &mut Vec<u8>) -> Result<(), AllocError>
     requires { length body.now + 4 < 2 ^ 16 }

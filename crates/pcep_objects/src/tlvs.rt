@@ -19,7 +19,7 @@ pub(crate) struct Tlv<'a> {
     pub(crate) value: &'a [u8],
 }
 
-/// The length of the TLV at the front, with its padding.
+/// Returns the length of the TLV at the front, with its padding.
 #[tactic(auto, unfolding(crate::specs::Tlvs::tlv_size))]
 fn size_of_tlv(bytes: &[u8]) -> Result<usize, BodyFault>
     ensures size { IfOk result (λ n. tlv_size bytes.now ≡ Ok n) }
@@ -39,7 +39,7 @@ fn size_of_tlv(bytes: &[u8]) -> Result<usize, BodyFault>
     Ok(size)
 }
 
-/// The TLV at the front, and the bytes behind its padding.
+/// Returns the TLV at the front, and the bytes after its padding.
 pub(crate) fn first_tlv(bytes: &[u8]) -> Result<(Tlv<'_>, &[u8]), BodyFault>
     ensures size { IfOk result (λ x. tlv_size bytes.now ≡ Ok (4 + padded (field 2 2 bytes.now))) }
     ensures number { IfOk result (λ x. x.0.number ≡ field 0 2 bytes.now) }
@@ -57,7 +57,7 @@ pub(crate) fn first_tlv(bytes: &[u8]) -> Result<(Tlv<'_>, &[u8]), BodyFault>
     Ok((Tlv { number, value }, after))
 }
 
-/// Passes TLVs of which none counts: each only has to be there.
+/// Passes TLVs of which none counts. Each must only be complete.
 pub fn skip_tlvs(bytes: &[u8]) -> Result<(), BodyFault>
     ensures { Gives (λ x. x) result (skipped_tlvs bytes.now) }
 {
@@ -78,8 +78,8 @@ fn may_have(size: Option<usize>, len: usize) -> bool
     }
 }
 
-/// The value of the first TLV of this type, where there is one. All values of the type have this size; None:
-/// they may have any.
+/// Finds the value of the first TLV of this type, if there is one. All values of the type have this size; None: they
+/// may have any.
 pub fn value_in(number: u16, size: Option<usize>, bytes: &[u8]) -> Result<Option<&[u8]>, BodyFault>
     ensures value { Gives option_copied result (value_in number size bytes.now) }
     ensures sized { IfOk result (λ found. IfSome found (λ value. may_have size (length value.now) ≡ true)) }
@@ -102,7 +102,7 @@ pub fn value_in(number: u16, size: Option<usize>, bytes: &[u8]) -> Result<Option
     Ok(found)
 }
 
-/// The word of the first TLV of this type, where there is one. All values of the type are words.
+/// Finds the word of the first TLV of this type, if there is one. All values of the type are words.
 #[tactic(auto, unfolding(crate::specs::Tlvs::word_in))]
 pub fn word_in(number: u16, bytes: &[u8]) -> Result<Option<u32>, BodyFault>
     ensures { Gives (λ x. x) result (word_in number bytes.now) }

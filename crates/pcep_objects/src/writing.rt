@@ -1,4 +1,4 @@
-//! Objects as bytes: the one spelling, which is read again.
+//! Objects as bytes: the one spelling, which reads as the object again.
 
 ghost use Rattle.std.specs.Prelude.{◌≡◌, ◌++◌, ◌+◌, ◌<◌, ◌^◌, ℕ, List, length, true, false, IfOk, IfErr, OnOk, OnErr};
 ghost use Rattle.std.specs.List.{AllByRecursion};
@@ -31,7 +31,7 @@ fn kept_kind(class: KeptClass) -> Kind
     }
 }
 
-/// Appends an object whose lengths fit, as `Object::fits` says. Where memory is lacking, nothing is appended.
+/// Appends an object whose lengths fit, as `Object::fits` says. If memory runs out, nothing is appended.
 fn put_fitting(object: &Object, out: &mut Vec<u8>) -> Result<(), AllocError>
     requires { fits object.now ≡ true }
     ensures written { OnOk result (out.new.items ≡ out.old.items ++ written object.now) }
@@ -68,12 +68,12 @@ fn put_whole_route(kind: Kind, hops: &[Hop], out: &mut Vec<u8>) -> Result<(), Al
     put_route(kind, hops, (hops_size(hops) + 4) as u16, out)
 }
 
-/// Appends the one spelling of an object: reserved bits, flags without a name and padding are zero. P is
-/// written as an RP has it, set for END-POINTS, and clear elsewhere.
+/// Appends the one spelling of an object. Reserved bits, unnamed flags and padding are written as zero. P is copied in
+/// an RP, set in END-POINTS, and clear in all other objects.
 ///
-/// `TooLong` comes exactly where a length doesn't fit its field: a subobject of a route has 2^8 bytes or
-/// more, or the object, with its header, 2^16 or more. `OutOfMemory` comes where a growth was refused. After
-/// either the vector is as before.
+/// Fails with `TooLong` exactly if a length doesn't fit its field: a subobject of a route has 2^8 bytes or more, or the
+/// object, with its header, 2^16 or more. Fails with `OutOfMemory` if memory runs out. After either the vector is as
+/// before.
 pub fn write_object(object: &Object, out: &mut Vec<u8>) -> Result<(), WriteFault>
     ensures written { OnOk result (out.new.items ≡ out.old.items ++ written object.now) }
     ensures fits { IfOk result (λ _. fits object.now ≡ true) }
@@ -87,14 +87,14 @@ pub fn write_object(object: &Object, out: &mut Vec<u8>) -> Result<(), WriteFault
     Ok(())
 }
 
-/// The spelling of a normal object whose lengths fit reads as it, whatever follows.
+/// Shows that the spelling of a normal object whose lengths fit reads as it, whatever follows.
 pub fn objects_are_read_again()
     ensures { (object : Object) (rest : List ℕ) → IsNormal object → fits object ≡ true
         → Reads (written object ++ rest) (length (written object)) object }
 {}
 
-/// Each object that bytes read as, with P as it is written, is normal: so what was read is written as bytes
-/// that read as the same.
+/// Shows that each object that was read, with P as it is written, is normal. So what was read is written as bytes that
+/// read as the same.
 pub fn what_is_read_is_normal()
     ensures { (bytes : List ℕ) (size : ℕ) (object : Object) → AllByRecursion IsByte bytes → HasWrittenP object
         → Reads bytes size object → IsNormal object }

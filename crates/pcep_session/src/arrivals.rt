@@ -1,4 +1,4 @@
-//! What comes to a session, by the bytes of a whole message.
+//! What comes to a session, given the bytes of a whole message.
 
 ghost use Rattle.std.specs.Prelude.{◌≡◌, ◌≤◌, ◌-◌, nat_lt, length, IfOk};
 ghost use Rattle.pcep_messages.specs.Messages.{message_in};
@@ -11,7 +11,7 @@ use pcep_objects::{Capabilities, Open};
 use sequence::Sequence;
 use std::alloc::{AllocError, Global};
 
-/// The capabilities of the peer's Open.
+/// Returns the capabilities of the peer's Open.
 pub fn capabilities_of(peer: Option<Open>) -> Option<Capabilities>
     ensures { result ≡ capabilities_of peer }
 {
@@ -37,7 +37,7 @@ fn read(alloc: Global, message: &[u8]) -> Result<Arrival, AllocError>
     }
 }
 
-/// A whole message that comes in this state. `stateful`: the peer's Open had STATEFUL-PCE-CAPABILITY.
+/// Returns how a whole message arrives in this state. `stateful`: the peer's Open had STATEFUL-PCE-CAPABILITY.
 #[tactic(auto, unfolding(crate::specs::Turns::arrival))]
 pub fn arrival(
     alloc: Global,
@@ -81,7 +81,7 @@ fn recent(alloc: Global, now_ms: u64, moments: &[u64]) -> Result<Vec<u64>, Alloc
     Ok(found)
 }
 
-/// Whether an unrecognized message at this moment is the fifth within 60,000 ms.
+/// Tests whether an unrecognized message at this moment is the fifth within 60,000 ms.
 pub fn is_fifth(now_ms: u64, moments: &[u64]) -> bool
     ensures { result ≡ is_fifth now_ms moments.now }
 {
@@ -94,7 +94,7 @@ pub fn is_fifth(now_ms: u64, moments: &[u64]) -> bool
     count > 3
 }
 
-/// The moments with this one, where an unrecognized message came; None: they stay.
+/// Returns the moments with this one, if an unrecognized message came. None: they stay.
 pub fn unrecognized_after(
     alloc: Global,
     arrival: &Arrival,
@@ -113,7 +113,7 @@ pub fn unrecognized_after(
     }
 }
 
-/// The peer's Open, where this is it, or the one that was there.
+/// Returns the peer's Open: this one if it is an Open, else the one that was there.
 pub fn peer_after(arrival: &Arrival, peer: Option<Open>) -> Option<Open>
     ensures { result ≡ peer_after arrival.now peer }
 {

@@ -1,4 +1,4 @@
-//! Bytes that come at the end and go at the front.
+//! Bytes that are added at the end and removed at the front.
 
 ghost use Rattle.std.specs.Prelude.{◌≡◌, ◌≤◌, ◌*◌, [], ◌++◌, ◌∷◌, length, drop, vec_capacity, OnOk, OnErr, IfErr, true, false};
 ghost use Rattle.pcep_messages.specs.Spelling.{is_written, fits, written};
@@ -12,18 +12,18 @@ use std::alloc::{AllocError, Global};
 use std::marker::Model;
 use std::mem;
 
-/// The room that a buffer keeps where nothing waits in it, in bytes: what the longest message takes, rounded up.
+/// The room that a buffer keeps if nothing waits in it, in bytes: what the longest message takes, rounded up.
 const KEPT_ROOM: usize = 65_536;
 
-/// Bytes that were received and not handled yet. Handled ones are kept in front of them, but never more than
-/// wait, and where none wait, no more room than for a message.
+/// Bytes that were received and not handled yet. Handled bytes are kept before them, but never more than wait. If none
+/// wait, no more room is kept than for a message.
 #[derive(Debug, Drop)]
 pub struct ReceivedBytes {
     items: Vec<u8>,
     /// How many of the items are handled.
     start: usize,
-    /// How many bytes must wait until there is something to handle. So one comparison shows that a byte that
-    /// comes alone leaves nothing to handle.
+    /// How many bytes must wait until there is something to handle. So when bytes come one by one, one comparison shows
+    /// that there is nothing to handle yet.
     needed: usize,
 }
 
@@ -48,7 +48,7 @@ fn remove_front(items: &mut Vec<u8>, count: usize)
     items.truncate(len - count);
 }
 
-/// Lets the room of an empty buffer go where it is more than it keeps.
+/// Frees the room of an empty buffer if it is more than it keeps.
 fn release(items: &mut Vec<u8>)
     ensures items { items.new.items ≡ items.old.items }
     ensures released { length items.new.items ≡ 0 → vec_capacity items.new ≤ 65536 }
@@ -76,7 +76,7 @@ impl ReceivedBytes {
         &self.items[self.start..]
     }
 
-    /// Whether there is nothing to handle yet.
+    /// Tests whether there is nothing to handle yet.
     #[tactic(auto, using(crate::proofs::Needed::waits_behind))]
     pub fn is_waiting(&self) -> bool
         ensures { result ≡ is_waiting (front_of self.now) }
@@ -84,7 +84,7 @@ impl ReceivedBytes {
         self.items.len() - self.start < self.needed
     }
 
-    /// How many bytes are kept: those that wait, and handled ones in front of them.
+    /// Returns how many bytes are kept: those that wait, and handled ones before them.
     pub fn kept(&self) -> usize
         ensures at_least { length self.now ≤ result }
         ensures at_most { result ≤ 2 * length self.now }
@@ -92,7 +92,7 @@ impl ReceivedBytes {
         self.items.len()
     }
 
-    /// For how many bytes there is memory.
+    /// Returns for how many bytes there is memory.
     pub fn room(&self) -> usize
         ensures at_least { length self.now ≤ result }
         ensures at_most { self.now ≡ [] → result ≤ 65536 }
@@ -129,8 +129,8 @@ impl ReceivedBytes {
         appended
     }
 
-    /// Handles bytes. Once more are handled than wait, those that wait go to the front: each handled byte pays
-    /// for less than one that is moved, so the moves are linear in the bytes handled.
+    /// Marks bytes as handled. Once more are handled than wait, those that wait move to the front. Each handled byte
+    /// pays for less than one that is moved, so the moves are linear in the bytes handled.
     pub fn skip(&mut self, count: usize)
         requires { count ≤ length self.old }
         ensures { self.new ≡ drop count self.old }
@@ -196,7 +196,7 @@ impl Output {
         write_message(message, &mut self.items)
     }
 
-    /// Hands out the bytes. Takes no memory.
+    /// Hands out the bytes. Allocates nothing.
     pub fn take(&mut self) -> Vec<u8>
         ensures taken { result.items ≡ self.old }
         ensures empty { self.new ≡ [] }

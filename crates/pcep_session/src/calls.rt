@@ -1,4 +1,4 @@
-//! The calls of a session on what it is made of.
+//! The calls of a session on its contents.
 
 ghost use Rattle.std.specs.Prelude.{◌≡◌, ◌++◌, None, false, IsOk, IfOk, OnOk, OnErr};
 ghost use Rattle.pcep_session.specs.Changes.{IsUpOr};
@@ -60,7 +60,7 @@ pub fn feed(contents: &mut Contents, piece: &[u8], now_ms: u64) -> Result<(), Se
     Ok(())
 }
 
-/// Only a session that is up sends.
+/// Tests that the session is up: no other session sends.
 fn test_up(state: State) -> Result<(), SessionFault>
     ensures { IsUpOr result state }
 {
@@ -116,7 +116,7 @@ fn put_reason(out: &mut Vec<u8>, reason: Option<u8>) -> Result<(), AllocError>
     }
 }
 
-/// Takes no memory where there is nothing to write.
+/// Allocates nothing if there is nothing to write.
 fn put_end(
     alloc: Global,
     output: &mut Output,

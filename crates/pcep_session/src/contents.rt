@@ -1,11 +1,11 @@
-//! What a session is made of.
+//! What a session consists of.
 
 use crate::bytes::{Output, ReceivedBytes};
 use crate::table::{EndReason, State};
 use pcep_objects::Open;
 use sequence::Sequence;
 
-/// What a session is made of. All moments are in milliseconds, of one clock of the caller's.
+/// What a session consists of. All moments are in milliseconds, of one clock of the caller's.
 #[derive(Debug, Drop)]
 pub struct Contents {
     pub state: State,
@@ -13,17 +13,17 @@ pub struct Contents {
     pub bytes: ReceivedBytes,
     /// The greatest moment so far.
     pub moment_ms: u64,
-    /// When the last message was handled, at first when the session began.
+    /// When the last message was handled, and at first when the session began.
     pub received_ms: u64,
-    /// When something last went into the output.
+    /// When something was last put into the output.
     pub sent_ms: u64,
-    /// When unrecognized messages came, of the last minute before the last of them.
+    /// When unrecognized messages came, in the minute before the last of them.
     pub unrecognized: Sequence<u64>,
     /// The peer's Open, once it came.
     pub peer: Option<Open>,
     /// Why the session has ended; `None` while it goes on.
     pub end: Option<EndReason>,
-    /// The caller ended the session, and was not given its Down yet.
+    /// The caller ended the session, and has not been given its Down yet.
     pub down_pending: bool,
     /// Bytes to be sent that were not taken yet.
     pub output: Output,

@@ -14,7 +14,7 @@ pub enum SessionFault {
     /// The session has ended.
     #[error("session closed")]
     Closed,
-    /// A growth was refused.
+    /// Memory ran out.
     #[error("out of memory")]
     OutOfMemory,
     /// The session is not up yet.
@@ -26,7 +26,7 @@ pub enum SessionFault {
 }
 
 impl SessionFault {
-    /// The place of the fault in the order of the variants, from 1 to 4.
+    /// Returns the place of the fault in the order of the variants, from 1 to 4.
     pub fn number(self) -> u8
         ensures { result ≡ fault_number self }
     {

@@ -1,11 +1,11 @@
-//! What stands at the front of the received bytes.
+//! What is at the front of the received bytes.
 
 ghost use Rattle.std.specs.Prelude.{◌≡◌, ◌≤◌, length};
 ghost use Rattle.pcep_session.specs.Framing.{is_bad, front_of, message_length, bytes_needed, FitsIn};
 
 use byteorder::{BigEndian, ByteOrder};
 
-/// What stands at the front of the received bytes.
+/// What is at the front of the received bytes.
 #[derive(Clone, Copy, Debug, PartialEq, Eq)]
 pub enum NextMessage {
     /// No whole message, and no bad header.
@@ -34,7 +34,7 @@ fn is_bad(bytes: &[u8]) -> bool
     bytes[0] >> 5 != 1 || size < HEADER || size % 4 != 0
 }
 
-/// Looks at the four bytes of the header alone.
+/// Looks only at the four bytes of the header.
 #[tactic(auto, unfolding(crate::specs::Framing::front_of))]
 pub fn front_in(bytes: &[u8]) -> NextMessage
     ensures front { result ≡ front_of bytes.now }
@@ -53,7 +53,7 @@ pub fn front_in(bytes: &[u8]) -> NextMessage
     NextMessage::Whole(size)
 }
 
-/// How many bytes there must be until there is something to handle. Looks at the four bytes of the header alone.
+/// Returns how many bytes there must be until there is something to handle. Looks only at the four bytes of the header.
 #[tactic(auto, unfolding(crate::specs::Framing::bytes_needed))]
 pub fn needed_in(bytes: &[u8]) -> usize
     ensures { result ≡ bytes_needed bytes.now }

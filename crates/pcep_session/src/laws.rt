@@ -7,30 +7,31 @@ ghost use Rattle.pcep_session.specs.Runs.{CallsAreARun};
 ghost use Rattle.pcep_session.specs.Cuts.{CutAnyWay};
 ghost use Rattle.pcep_session.specs.Ends.{TurnsEnd, TurnsRunOut};
 
-/// A list of calls, each of which did what its contract says, is a run: the inputs, the output taken and the
-/// session after it are those of the definitions. Calls that found no memory don't count.
+/// Shows that a list of calls, each of which did what its contract says, is a run: the inputs, the output taken and the
+/// session after it are those of the definitions. Calls for which memory ran out don't count.
 pub fn calls_are_a_run()
     ensures { CallsAreARun }
 {}
 
-/// The same bytes at the same moments give the same inputs and the same session, with the same output, however
-/// they are cut into pieces, where `next` is called to None after each piece and no timer is due then.
+/// Shows that the same bytes at the same moments give the same inputs and the same session, with the same output,
+/// however they are cut into pieces. This holds if `next` is called after each piece until it returns None, and no
+/// timer is due then.
 pub fn cut_any_way()
     ensures { CutAnyWay }
 {}
 
-/// After `most_turns` calls of `next` one more answers None: nothing is left to handle.
+/// Shows that after `most_turns` calls of `next` one more answers None: nothing is left to handle.
 pub fn turns_end()
     ensures { TurnsEnd }
 {}
 
-/// Each input that `next` gives takes one of the turns that are left, which are `most_turns` at most, and what
-/// the caller sends, ends or takes in between adds none: only `feed` and `tick` do.
+/// Shows that each input that `next` gives uses one of the turns that are left, which are `most_turns` at most. What
+/// the caller sends, ends or takes in between adds none; only `feed` and `tick` do.
 pub fn turns_run_out()
     ensures { TurnsRunOut }
 {}
 
-/// The bytes that a session begins with are the spelling of its Open.
+/// Shows that the bytes that a session begins with are the spelling of its Open.
 pub fn own_open_is_a_message()
     ensures { own_open ≡ written own_opening }
 {}

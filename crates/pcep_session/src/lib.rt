@@ -1,15 +1,13 @@
 //! One PCEP session as a machine over bytes and moments (RFC 5440 section 6, RFC 8231 section 5).
 //!
-//! Bytes of a peer and moments go in, inputs for the layer above and bytes for the peer come out; the crate
-//! touches no clock and no socket. The layer above may rely on it that each call is exactly one step of the
-//! definitions, so that a list of calls is a run of them; that a refused call changes nothing; that the same
-//! bytes at the same moments give the same inputs and the same output however they are cut into pieces; and
-//! that after `most_turns` turns nothing is left to handle.
+//! Bytes of a peer and moments go in; inputs for the layer above and bytes for the peer come out. The crate touches no
+//! clock and no socket. The layer above may rely on these facts. Each call is exactly one step of the definitions, so a
+//! list of calls is a run of them. A refused call changes nothing. The same bytes at the same moments give the same
+//! inputs and the same output however they are cut into pieces. After `most_turns` turns nothing is left to handle.
 //!
-//! The definitions stand in `specs/`: `Table` has the reaction to what comes, state by state, and the timers;
-//! `Framing` knows a whole message, a bad header and a part of a message apart; `Turns` is `next`, `Timers` says
-//! when a timer is due, `Calls` are the other calls, `Runs` lists of calls, `Cuts` the law of pieces, `Ends` that
-//! the turns end.
+//! The definitions are in `specs/`. `Table` has the reaction to what comes, state by state, and the timers. `Framing`
+//! tells a whole message, a bad header and a part of a message apart. `Turns` is `next`, `Timers` says when a timer is
+//! due, `Calls` are the other calls, `Runs` lists of calls, `Cuts` the law of pieces, `Ends` that the turns end.
 //!
 //! ```
 //! // All inputs of a piece, and the bytes to be sent.

@@ -7,7 +7,7 @@ use crate::table::{Arrival, EndReason, Input, Notices, Reaction, State, Timer};
 use pcep_messages::{About, Message, MessageFault, Notice, PcError};
 use pcep_objects::{Capabilities, ObjectFault};
 
-/// The session goes on, and its caller gets nothing.
+/// Makes the reaction of a session that goes on and gives its caller nothing.
 fn goes_on(state: State, notices: Notices) -> Reaction
     ensures { result ≡ goes_on state notices }
 {
@@ -30,14 +30,14 @@ fn ends(notices: Notices, end: EndReason) -> Reaction
     }
 }
 
-/// The session ends itself.
+/// Makes the reaction of a session that ends itself.
 fn closes(notices: Notices) -> Reaction
     ensures { result ≡ closes notices }
 {
     ends(notices, EndReason::Said(notices))
 }
 
-/// The peer ends the session.
+/// Makes the reaction of a session that the peer ends.
 fn closed_by_peer(reason: u8) -> Reaction
     ensures { result ≡ closed_by_peer reason }
 {
@@ -166,7 +166,7 @@ fn in_up(fifth: bool, arrival: Arrival) -> Reaction
     }
 }
 
-/// How a session in this state reacts to what comes. `capabilities`: those of the peer's Open. `fifth`: an
+/// Returns how a session in this state reacts to what comes. `capabilities`: those of the peer's Open. `fifth`: an
 /// unrecognized message is the fifth within a minute.
 pub fn reaction(
     state: State,
@@ -184,7 +184,7 @@ pub fn reaction(
     }
 }
 
-/// The timer that is due. `waited`: the minute of OpenWait or KeepWait is over. `silent`: nothing was received
+/// Returns the timer that is due. `waited`: the minute of OpenWait or KeepWait is over. `silent`: nothing was received
 /// for the peer's DeadTimer. `quiet`: nothing was sent for 30 s.
 pub fn due(state: State, waited: bool, silent: bool, quiet: bool) -> Option<Timer>
     ensures { result ≡ due state waited silent quiet }
@@ -198,7 +198,7 @@ pub fn due(state: State, waited: bool, silent: bool, quiet: bool) -> Option<Time
     }
 }
 
-/// How a session reacts to a timer that is due.
+/// Returns how a session reacts to a timer that is due.
 pub fn on_timer(timer: Timer) -> Reaction
     ensures { result ≡ on_timer timer }
 {

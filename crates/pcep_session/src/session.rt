@@ -20,8 +20,8 @@ use std::marker::Model;
 /// clock and no socket: bytes and moments go in by `feed` and `tick`, `next` says what they mean, and bytes
 /// for the peer come out by `take_output`. Moments are milliseconds of one clock of the caller's.
 ///
-/// Contracts see a session as its `Contents`. Each call is one step on them, in `specs/Calls` and
-/// `specs/Turns`; a call that is refused leaves the session as it was.
+/// Contracts see a session as its `Contents`. Each call is one step on them, in `specs/Calls` and `specs/Turns`. A
+/// refused call leaves the session as it was.
 #[derive(Debug, Drop)]
 pub struct Session {
     alloc: Global,
@@ -37,8 +37,8 @@ impl Model for Session {
 }
 
 impl Session {
-    /// A session that begins at this moment, with its Open in the output: Keepalive 30 s, DeadTimer 120 s,
-    /// SID 0, and the capabilities to update and to create LSPs. The refusal is `OutOfMemory`.
+    /// Makes a session that begins at this moment, with its Open in the output: Keepalive 30 s, DeadTimer 120 s, SID 0,
+    /// and the capabilities to update and to create LSPs. Fails with `OutOfMemory` if memory runs out.
     pub fn new(alloc: Global, now_ms: u64) -> Result<Session, SessionFault>
         ensures begun { IfOk result (λ s. s ≡ begun now_ms) }
         ensures only_memory { IfErr result (λ e. e ≡ OutOfMemory) }
@@ -47,8 +47,9 @@ impl Session {
         Ok(Session { alloc, contents })
     }
 
-    /// Stores bytes of the peer, and the moment at which they came. A moment that is smaller than an earlier
-    /// one is ignored. `Closed` where the session has ended; then neither is stored. Else `OutOfMemory`.
+    /// Stores bytes of the peer, and the moment at which they came. A moment that is smaller than an earlier one is
+    /// ignored. Fails with `Closed` if the session has ended, and stores neither; else with `OutOfMemory` if memory
+    /// runs out.
     pub fn feed(&mut self, piece: &[u8], now_ms: u64) -> Result<(), SessionFault>
         ensures step { Does result self.old self.new (fed_by piece.now now_ms self.old) }
     {
@@ -62,9 +63,9 @@ impl Session {
         calls::tick(&mut self.contents, now_ms);
     }
 
-    /// Handles the next whole message, else the timer that is due, else answers None. It may put bytes into
-    /// the output. The `next` that ends the session answers `Down`; after `end` the first one does. On a
-    /// session that has ended it then answers None, and takes no memory. The refusal is `OutOfMemory`.
+    /// Handles the next whole message, else the timer that is due, else returns None. It may put bytes into the output.
+    /// The `next` that ends the session returns `Down`; after `end` the first one does. On a session that has ended it
+    /// then returns None, and allocates nothing. Fails with `OutOfMemory` if memory runs out.
     pub fn next(&mut self) -> Result<Option<Input>, SessionFault>
         ensures step { IfOk result (λ input. IsTurn (next self.old) input self.new) }
         ensures unchanged_on_refusal { OnErr result (self.new ≡ self.old) }
@@ -74,34 +75,34 @@ impl Session {
         turns::next(self.alloc, &mut self.contents)
     }
 
-    /// Whether `next` has an input to give. It costs less than a `next` that answers None, which pays after each
-    /// small piece of a message.
+    /// Tests whether `next` has an input to give. This costs less than a `next` that returns None, which pays after
+    /// each small piece of a message.
     pub fn has_input(&self) -> bool
         ensures { result ≡ is_some (next self.now).input }
     {
         turns::has_input(&self.contents)
     }
 
-    /// Puts a message into the output. `Closed` where the session has ended; `NotUp` where it isn't up yet;
-    /// `TooLong` where a length doesn't fit its field, or for a kind that isn't written (PCReq, PCRpt, PCNtf
-    /// and unknown types); else `OutOfMemory`, which may come in place of `TooLong`.
+    /// Puts a message into the output. Fails with `Closed` if the session has ended, with `NotUp` if it isn't up yet,
+    /// and with `TooLong` if a length doesn't fit its field or messages of the kind aren't written (PCReq, PCRpt, PCNtf
+    /// and unknown types). Fails with `OutOfMemory` if memory runs out, which may come in place of `TooLong`.
     pub fn send(&mut self, message: &Message) -> Result<(), SessionFault>
         ensures step { Does result self.old self.new (sent message.now self.old) }
     {
         calls::send(&mut self.contents, message)
     }
 
-    /// Puts a PCErr into the output, and the session goes on. `Closed` where the session has ended; `NotUp`
-    /// where it isn't up yet; else `OutOfMemory`.
+    /// Puts a PCErr into the output, and the session goes on. Fails with `Closed` if the session has ended, with
+    /// `NotUp` if it isn't up yet, and with `OutOfMemory` if memory runs out.
     pub fn report_error(&mut self, error: PcError) -> Result<(), SessionFault>
         ensures step { Does result self.old self.new (error_reported error self.old) }
     {
         calls::report_error(self.alloc, &mut self.contents, error)
     }
 
-    /// Puts a PCErr and a Close with this reason into the output, each where it is given, and ends the
-    /// session, in any state. `Closed` where the session has ended already; else `OutOfMemory`, but not where
-    /// neither is given.
+    /// Puts a PCErr and a Close with this reason into the output, as far as they are given, and ends the session, in
+    /// any state. Fails with `Closed` if the session has ended already, and with `OutOfMemory` if memory runs out,
+    /// which can't happen if neither is given.
     pub fn end(&mut self, error: Option<PcError>, reason: Option<u8>) -> Result<(), SessionFault>
         ensures step { Does result self.old self.new (ended_by error reason self.old) }
         ensures no_memory_for_nothing { is_closed self.old.state ≡ false → error ≡ None → reason ≡ None → IsOk result }
@@ -109,7 +110,7 @@ impl Session {
         calls::end(self.alloc, &mut self.contents, error, reason)
     }
 
-    /// Hands out the bytes to be sent. Takes no memory.
+    /// Hands out the bytes to be sent. Allocates nothing.
     pub fn take_output(&mut self) -> Vec<u8>
         ensures output { result.items ≡ self.old.output }
         ensures step { self.new ≡ output_taken self.old }
@@ -117,24 +118,24 @@ impl Session {
         self.contents.output.take()
     }
 
-    /// How often `next` answers Some at most, until more bytes or a later moment come.
+    /// Returns how often `next` returns Some at most, until more bytes or a later moment come.
     pub fn most_turns(&self) -> usize
         ensures { result ≡ most_turns self.now }
     {
         self.contents.bytes.as_slice().len() + 2
     }
 
-    /// The moment from which on a timer is due, if nothing is fed or sent until then: that of the session's Keepalive or
-    /// of the peer's DeadTimer, or of the end of a wait for its Open or Keepalive. `None` where none ever is, as once
-    /// the session has ended.
+    /// Returns the moment from which on a timer is due, if nothing is fed or sent until then: that of the session's
+    /// Keepalive or of the peer's DeadTimer, or of the end of a wait for its Open or Keepalive. `None` if no timer will
+    /// ever be due, for instance once the session has ended.
     pub fn next_due_ms(&self) -> Option<u64>
         ensures { IsNextDue result self.now }
     {
         timers::next_due_ms(&self.contents)
     }
 
-    /// How many received bytes the session keeps: those that wait to be handled, and handled ones that it hasn't
-    /// dropped, never more than wait.
+    /// Returns how many received bytes the session keeps: those that wait to be handled, and handled ones that it
+    /// hasn't dropped, never more than wait.
     pub fn kept_bytes(&self) -> usize
         ensures at_least { length self.now.bytes ≤ result }
         ensures at_most { result ≤ 2 * length self.now.bytes }
@@ -142,8 +143,8 @@ impl Session {
         self.contents.bytes.kept()
     }
 
-    /// For how many received bytes the session holds memory: for those that wait, and for no more than 65,536
-    /// where none do.
+    /// Returns for how many received bytes the session holds memory: for those that wait, and for no more than 65,536
+    /// if none do.
     pub fn room_for_bytes(&self) -> usize
         ensures at_least { length self.now.bytes ≤ result }
         ensures at_most { self.now.bytes ≡ [] → result ≤ 65536 }
@@ -151,21 +152,21 @@ impl Session {
         self.contents.bytes.room()
     }
 
-    /// The peer's Open, once it has come: its timers and capabilities (RFC 5440 section 7.3).
+    /// Returns the peer's Open, once it has come: its timers and capabilities (RFC 5440 section 7.3).
     pub fn peer_open(&self) -> Option<Open>
         ensures { result ≡ self.now.peer }
     {
         self.contents.peer
     }
 
-    /// Why the session has ended; `None` while it goes on.
+    /// Returns why the session has ended. `None` while it goes on.
     pub fn end_reason(&self) -> Option<EndReason>
         ensures { result ≡ self.now.end }
     {
         self.contents.end
     }
 
-    /// The state of the session.
+    /// Returns the state of the session.
     pub fn state(&self) -> State
         ensures { result ≡ self.now.state }
     {

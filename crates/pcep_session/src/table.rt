@@ -22,14 +22,14 @@ impl State {
     ghost use Rattle.std.specs.Prelude.{◌≡◌};
     ghost use Rattle.pcep_session.specs.Turns.{is_up, is_closed};
 
-    /// Whether the session is up.
+    /// Tests whether the session is up.
     pub fn is_up(self) -> bool
         ensures { result ≡ is_up self }
     {
         matches!(self, State::Up)
     }
 
-    /// Whether the session has ended.
+    /// Tests whether the session has ended.
     pub fn is_closed(self) -> bool
         ensures { result ≡ is_closed self }
     {
@@ -40,12 +40,11 @@ impl State {
 /// What a session gives to its caller.
 #[derive(Debug, Drop)]
 pub enum Input {
-    /// The session came up. The peer's STATEFUL-PCE-CAPABILITY, where its Open had it (RFC 8231 section
-    /// 7.1.1).
+    /// The session came up. Has the peer's STATEFUL-PCE-CAPABILITY, if its Open had it (RFC 8231 section 7.1.1).
     Up(Option<Capabilities>),
     /// A message for the caller: a PCReq, PCNtf, PCErr or PCRpt of a session that is up.
     Message(Message),
-    /// The session ended. It comes once.
+    /// The session ended. This comes once.
     Down,
     /// A message or a timer was handled, and there is nothing for the caller.
     Handled,
@@ -69,7 +68,7 @@ pub enum Arrival {
     BadHeader,
     /// A message of a type that isn't read while the session is up.
     Unrecognized,
-    /// A report to a session that is up, of a peer whose Open had no STATEFUL-PCE-CAPABILITY.
+    /// A report to a session that is up, from a peer whose Open had no STATEFUL-PCE-CAPABILITY.
     UnannouncedReport,
     /// A message that is accepted.
     Read(Message),
@@ -90,13 +89,13 @@ pub enum Notices {
 pub enum EndReason {
     /// The peer closed it, with this reason (RFC 5440 section 7.17).
     PeerClose(u8),
-    /// It ended itself, because of what came or didn't come in time, and said this.
+    /// It ended itself, because of what came or didn't come in time, and sent these notices.
     Said(Notices),
-    /// Its caller ended it, with this PCErr and a Close with this reason, each where it is given.
+    /// Its caller ended it, with this PCErr and a Close with this reason, as far as they are given.
     Caller(Option<PcError>, Option<u8>),
 }
 
-/// How a session reacts to what comes: what it sends, the state that it goes to, why it ends, where it does, and what its
+/// How a session reacts to what comes: what it sends, the state that it goes to, why it ends, if it does, and what its
 /// caller gets.
 #[derive(Debug, Drop)]
 pub struct Reaction {
@@ -113,8 +112,8 @@ pub enum Timer {
     OpenWait,
     /// A minute without the peer's Keepalive.
     KeepWait,
-    /// Nothing received for as long as the peer's Open allows.
+    /// Nothing was received for as long as the peer's Open allows.
     Dead,
-    /// Nothing sent for 30 s.
+    /// Nothing was sent for 30 s.
     Keepalive,
 }

@@ -8,7 +8,7 @@ use crate::contents::Contents;
 use crate::table::State;
 use pcep_objects::Open;
 
-/// When a timer that was set at a moment is due. `None` where no clock shows that moment.
+/// Returns when a timer that was set at a moment is due. `None` if no clock shows that moment.
 fn due_after(set_ms: u64, after_ms: u64) -> Option<u64>
     requires { 0 < after_ms }
     ensures { (moment_ms : ℕ) → moment_ms < 2 ^ 64 → is_reached result moment_ms ≡ is_due after_ms (moment_ms - set_ms) }
@@ -16,7 +16,7 @@ fn due_after(set_ms: u64, after_ms: u64) -> Option<u64>
     set_ms.checked_add(after_ms)
 }
 
-/// When a peer that was last heard at a moment is silent for its DeadTimer.
+/// Returns when a peer that was last heard at a moment is silent for its DeadTimer.
 fn silent_after(peer: Option<Open>, received_ms: u64) -> Option<u64>
     ensures { (moment_ms : ℕ) → moment_ms < 2 ^ 64 → is_reached result moment_ms ≡ is_silent peer (moment_ms - received_ms) }
 {
@@ -28,7 +28,7 @@ fn silent_after(peer: Option<Open>, received_ms: u64) -> Option<u64>
     }
 }
 
-/// The sooner of two moments.
+/// Returns the sooner of two moments.
 fn sooner(first: Option<u64>, second: Option<u64>) -> Option<u64>
     ensures { (moment_ms : ℕ) → is_reached result moment_ms ≡ (is_reached first moment_ms || is_reached second moment_ms) }
 {
@@ -39,7 +39,7 @@ fn sooner(first: Option<u64>, second: Option<u64>) -> Option<u64>
     }
 }
 
-/// When the next timer is due.
+/// Returns when the next timer is due.
 pub fn next_due_ms(contents: &Contents) -> Option<u64>
     ensures { IsNextDue result contents.now }
 {

@@ -1,5 +1,5 @@
-//! One turn of a session: its next whole message, else the timer that is due, else nothing. Each function
-//! makes all its growths before it changes anything that a contract sees.
+//! One turn of a session: its next whole message, else the timer that is due, else nothing. Each function makes all its
+//! allocations before it changes anything that a contract sees.
 
 ghost use Rattle.std.specs.Prelude.{◌≡◌, ◌++◌, ◌≤◌, length, Some, is_some, IfOk, IfErr, OnOk, OnErr, IsOk, true};
 ghost use Rattle.pcep_session.specs.Changes.{received_as};
@@ -41,7 +41,7 @@ fn sent_at(notices: Notices, now_ms: u64, sent_ms: u64) -> u64
     }
 }
 
-/// The only step of a turn that grows what the session has.
+/// Sends notices. This is the only step of a turn that grows what the session has.
 fn send_notices(alloc: Global, contents: &mut Contents, notices: Notices) -> Result<(), AllocError>
     ensures ok { OnOk result (contents.new ≡ sending notices contents.old) }
     ensures err { OnErr result (contents.new ≡ contents.old) }
@@ -63,7 +63,7 @@ fn go_to(contents: &mut Contents, state: State, end: Option<EndReason>)
     }
 }
 
-/// Passes the bytes of a message.
+/// Passes over the bytes of a message.
 fn receive(
     contents: &mut Contents,
     size: usize,
@@ -131,7 +131,7 @@ fn due_in(contents: &Contents) -> Option<Timer>
     )
 }
 
-/// Whether a timer is due. A DeadTimer is a second at least.
+/// Tests whether a timer is due. A DeadTimer is at least a second.
 fn is_any_due(contents: &Contents) -> bool
     ensures { result ≡ is_some (due_in contents.now) }
 {
@@ -217,8 +217,8 @@ fn give_down(contents: &mut Contents) -> Option<Input>
     None
 }
 
-/// Whether a turn gives an input. It looks at little and makes none, so that a session that waits costs little,
-/// as after each piece of a message.
+/// Tests whether a turn gives an input. It looks at little and makes no input, so that a session that waits costs
+/// little, for instance after each piece of a message.
 #[tactic(auto, using(crate::proofs::Resting::live_gives, crate::proofs::Resting::shut_gives))]
 pub fn has_input(contents: &Contents) -> bool
     ensures { result ≡ is_some (next contents.now).input }
@@ -242,7 +242,7 @@ fn take_turn(alloc: Global, contents: &mut Contents) -> Result<Option<Input>, Se
     }
 }
 
-/// A session that has ended takes no memory.
+/// Takes a turn. On a session that has ended it allocates nothing.
 #[tactic(auto, using(crate::proofs::Resting::nothing_given))]
 pub fn next(alloc: Global, contents: &mut Contents) -> Result<Option<Input>, SessionFault>
     ensures ok { IfOk result (λ input. IsTurn (next contents.old) input contents.new) }
