@@ -11,7 +11,7 @@ use Rattle.bandwidth_book.specs.Ledgers.{count, has_entry_at, held_at, promised_
 use Rattle.bandwidth_book.specs.Paths.{IsHeldBy, IsPromised}
 use Rattle.bandwidth_book.specs.Promises.{noted}
 
--- the network, with the links as they are now
+-- the network, with its current links
 abbrev pub network_of : Book → Network
 network_of book = with_links book.last.network book.links.items
 

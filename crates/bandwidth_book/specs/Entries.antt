@@ -21,8 +21,8 @@ promised_in (Some e) = e.promised
 abbrev pub IsBusy : Option Holdings → Type 0
 IsBusy o = is_some o ≡ true → held_in o ≡ [] → 0 < promised_in o
 
--- an entry that may be missing, before and after a motion for each of these, of which want of memory may have
--- left some out
+-- an entry that may be missing, before and after a motion for each of these; if memory ran out some may have been left
+-- out
 pub record IsMoved (motion : Motion) (hs : List Reservation) (old new : Option Holdings) : Type 0 where
   pub kept : held_in new ≡ moved_all motion (held_in old) hs
   pub busy : IsBusy old → IsBusy new
@@ -33,12 +33,12 @@ pub record IsShifted (motion : Motion) (hs : List Reservation) (old new : Option
   pub kept : held_in new ≡ moved_all motion (held_in old) hs
   pub below : promised_in new ≤ promised_after motion (length hs) (promised_in old)
 
--- an entry that may be missing, and one in place of it that holds as much and has promised as much room
+-- an entry that may be missing, and one instead of it that holds as much and has promised as much room
 pub record IsSame (old new : Option Holdings) : Type 0 where
   pub kept : held_in new ≡ held_in old
   pub promised : promised_in new ≡ promised_in old
 
--- two lists of entries, the second the other way round, as one
+-- two lists of entries, the second reversed, as one
 abbrev pub joined_with : List LinkEntry → List LinkEntry → List LinkEntry
 joined_with front back = front ++ reverse back
 

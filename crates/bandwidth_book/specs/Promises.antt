@@ -1,4 +1,4 @@
--- Where entries without paths may stand.
+-- Which entries may have no paths.
 use Rattle.std.specs.Prelude.{◌<◌, ◌≤◌, ℕ, List, length}
 use Rattle.lsp_base.specs.declared.path.Path.{Path}
 use Rattle.lsp_base.specs.declared.tunnel.Tunnel.{Tunnel}
@@ -8,6 +8,6 @@ use Rattle.bandwidth_book.specs.Paths.{held_by}
 abbrev pub noted : List Path → ℕ → Tunnel → ℕ
 noted paths l t = length (held_by l t paths)
 
--- on each of n links, room is promised to a tunnel for what these paths hold at most
+-- on each of n links, room is promised to a tunnel for at most what these paths hold
 abbrev pub AreNoted : ℕ → (ℕ → Tunnel → ℕ) → List Path → Type 0
 AreNoted n promised paths = (l : ℕ) (t : Tunnel) → l < n → promised l t ≤ noted paths l t

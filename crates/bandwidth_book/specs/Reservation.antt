@@ -35,7 +35,7 @@ abbrev pub place_in : Reservation → List Reservation → ℕ
 place_in h [] = 0
 place_in h (x ∷ xs) = if is_before x h then suc (place_in h xs) else 0
 
--- where those begin that come after it in the order
+-- where the reservations begin that come after it in the order
 abbrev pub end_in : Reservation → List Reservation → ℕ
 end_in h [] = 0
 end_in h (x ∷ xs) = if is_before h x then 0 else suc (end_in h xs)
@@ -79,7 +79,7 @@ room_for Add n = n
 room_for Drop n = 0
 room_for Withdraw n = 0
 
--- for how many room is promised after n of them, where it was for p
+-- for how many room is promised after n of them, if it was for p
 abbrev pub promised_after : Motion → ℕ → ℕ → ℕ
 promised_after Promise n p = p + n
 promised_after Add n p = p - n
@@ -105,7 +105,7 @@ takes_memory Withdraw = false
 abbrev pub AreMaxima : List ℕ → List Reservation → Type 0
 AreMaxima maxima hs = (p : ℕ) → p < 8 → slice_index maxima p ≡ most hs p
 
--- none stands before an earlier one
+-- none is before an earlier one in the order
 abbrev pub AreInOrder : List Reservation → Type 0
 AreInOrder [] = ⊤
 AreInOrder (x ∷ xs) = AllByRecursion (λ y. is_before y x ≡ false) xs × AreInOrder xs
@@ -115,7 +115,7 @@ abbrev pub most_below : List Reservation → ℕ → ℕ
 most_below [] p = 0
 most_below (h ∷ hs) p = max (if nat_lt h.hold p then h.bandwidth else 0) (most_below hs p)
 
--- it stands after all that is held at the priority or a better one
+-- it comes after all that is held at the priority or a better one
 abbrev pub after_all : ℕ → Reservation
 after_all p = record { hold = p + 1; bandwidth = 0 }
 
@@ -123,6 +123,6 @@ after_all p = record { hold = p + 1; bandwidth = 0 }
 abbrev pub last_counts : Reservation → ℕ → ℕ
 last_counts h p = if h.hold == p then h.bandwidth else 0
 
--- what stands before and after a gap of n
+-- what is before and after a gap of n
 abbrev pub around : ℕ → ℕ → List Reservation → List Reservation
 around gap n hs = take gap hs ++ drop (gap + n) hs

@@ -16,8 +16,7 @@ use Rattle.bandwidth_book.specs.Paths.{IsHeldBy, held_by}
 abbrev pub AreLeft : List Link → List Path → List (List ℤ) → Type 0
 AreLeft links paths table = (l p : ℕ) → l < length links → p < 8 → left table l p ≡ unreserved links paths l p
 
--- the network n, with what is left of its links beside each list of paths that holds `held` on the first `count`
--- of them
+-- the network n, with what is left of its links given each list of paths that holds `held` on the first `count` of them
 pub record IsLeftOver (n : Network) (count : ℕ) (held : ℕ → Tunnel → List Reservation) (s : NetworkState) : Type 0 where
   pub network : s.network ≡ n
   pub left : (paths : List Path) → IsHeldBy count held paths → s.unreserved ≡ all_left n.links paths
@@ -26,7 +25,7 @@ pub record IsLeftOver (n : Network) (count : ℕ) (held : ℕ → Tunnel → Lis
 abbrev pub IsHeldOn : (Tunnel → List Reservation) → ℕ → List Path → Type 0
 IsHeldOn held l paths = (t : Tunnel) (h : Reservation) → times h (held t) ≡ times h (held_by l t paths)
 
--- a row says what is left of the link beside each list of paths that holds this much there
+-- a row says what is left of the link given each list of paths that holds this much there
 abbrev pub IsRowOf : List Link → (ℕ → Tunnel → List Reservation) → ℕ → List ℤ → Type 0
 IsRowOf links held l row = (paths : List Path) → IsHeldOn (held l) l paths → row ≡ left_on links paths l
 

@@ -24,7 +24,7 @@ abbrev pub tunnel_named : List Record → ℕ → Option ℕ → Option Tunnel
 tunnel_named records peer None = None
 tunnel_named records peer (Some plsp) = tunnel_known records peer plsp
 
--- the tunnel whose reservations the path may share: that of the LSP that it is for, where there is one
+-- the tunnel whose reservations the path may share: that of the LSP that it is for, if there is one
 abbrev pub own_tunnel : List Record → ℕ → Purpose → Option Tunnel
 own_tunnel records peer (purposes.Update plsp) = tunnel_known records peer plsp
 own_tunnel records peer (purposes.Initiate name constraints) = None

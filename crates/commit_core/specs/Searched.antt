@@ -1,4 +1,4 @@
--- When what a search was given still says what there is.
+-- When the input of a search still describes the network.
 use Rattle.std.specs.Prelude.{ℕ, ◌≡◌, ◌<◌, ◌≤◌, true, List, length, Option, Some}
 use Rattle.te_base.specs.Ted.{Ted}
 use Rattle.lsp_base.specs.Lsps.{Lsps}
@@ -20,8 +20,8 @@ pub record IsCurrent (te : Ted) (paths : List Path) (tunnel : Tunnel) (s : Netwo
   pub left : AreLeft te.links paths s.unreserved
   pub shares : (l p : ℕ) → l < length te.links → p < 8 → own_share own l p ≤ share paths tunnel l p
 
--- the offer is the path over links that a search for the ticket may find, on a network that still says what
--- there is
+-- the offer is the path over links that a search for the ticket may find, on a network that is still described
+-- correctly
 pub record IsFoundNow (te : Ted) (lsps : Lsps) (t : Ticket) (offer : Option Path) : Type 0 where
   pub links : List ℕ
   pub srp : ℕ

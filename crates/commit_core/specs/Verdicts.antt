@@ -19,7 +19,7 @@ is_moot lsps peer (purposes.Update plsp) = not (is_delegated (lsp_at lsps.record
 is_moot lsps peer (purposes.Initiate name constraints) = false
 is_moot lsps peer (purposes.Answer request plsp constraints) = false
 
--- the peer is not up in the session in which it was asked; or it isn't to be sent an update or an initiation
+-- the peer is not up in the session in which the ticket was asked for; or it can't be sent an update or an initiation
 -- now; or there is nothing to update
 abbrev pub is_gone : Lsps → Ticket → PeerView → Bool
 is_gone lsps t v = not (v.up && v.session == t.session) || (not (is_request t.purpose) && v.syncing || is_moot lsps t.peer t.purpose)
@@ -28,7 +28,7 @@ is_gone lsps t v = not (v.up && v.session == t.session) || (not (is_request t.pu
 abbrev pub unless_tried : Ticket → Verdict → Verdict
 unless_tried t verdict = if nat_lt t.tries 4 then Again else verdict
 
--- 16,384 paths stand, or the next SRP-ID is still in use
+-- there are 16,384 paths, or the next SRP-ID is still in use
 abbrev pub cannot_be_granted : Lsps → PeerView → Bool
 cannot_be_granted lsps v = nat_le 16384 (length lsps.paths) || v.srp_in_use
 
@@ -36,7 +36,8 @@ cannot_be_granted lsps v = nat_le 16384 (length lsps.paths) || v.srp_in_use
 abbrev pub accepted : Lsps → Ticket → PeerView → Verdict
 accepted lsps t v = if is_request t.purpose then Answer else (if cannot_be_granted lsps v then GivenUp else Grant)
 
--- no offer: where paths came or went, or links were reloaded, since the ticket was taken, it is searched for again
+-- if there is no offer, but paths came or went, or links were reloaded, since the ticket was taken, it is searched for
+-- again
 abbrev pub judged : Ticket → Option Path → Lsps → Ted → PeerView → Verdict
 judged t None lsps te v = if v.changes == t.seen then NoPath else unless_tried t NoPath
 judged t (Some g) lsps te v = if is_acceptable te lsps.paths t.constraints g then accepted lsps t v else unless_tried t GivenUp

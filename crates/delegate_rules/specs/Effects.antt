@@ -28,8 +28,8 @@ is_unsignalled (Unsignalled peer plsp) = true
 is_unsignalled (Signalled peer endpoint tunnel extended) = false
 is_unsignalled (Asked peer srp) = false
 
--- a reported part that a report with LSP ID i takes the place of: where its identifiers are all zero every
--- one, else the one of that LSP ID and the one that isn't signalled
+-- a reported part that a report with LSP ID i replaces: every one if the report's identifiers are all zero, else the
+-- one of that LSP ID and the one that isn't signalled
 abbrev pub is_replaced_part : Bool → ℕ → Tunnel → Part → Bool
 is_replaced_part zero i t (Granted s) = false
 is_replaced_part zero i t (Reported j) = zero || j == i || is_unsignalled t
@@ -48,7 +48,7 @@ wants_path r grants old = r.delegate && is_down r.operational && is_nil r.ero &&
 abbrev pub one_record : ℕ → Lsp → List RecordChange
 one_record plsp lsp = record { plsp = plsp; lsp = Some lsp } ∷ []
 
--- by whether the LSP has a grant, and what was known of it
+-- given whether the LSP has a grant, and what was known of it
 unfoldable pub report_effect_by : Bool → Option Lsp → List Path → Ted → ℕ → StateReport → Effect
 report_effect_by granted old paths te peer r =
     let grants = moved_grants granted paths peer r in
@@ -97,7 +97,7 @@ reported_effect lsps te peer r = if r.remove then removal_effect lsps peer r els
 abbrev pub is_reserved : ℕ → Bool
 is_reserved plsp = plsp == 0 || plsp == 0xFFFFF
 
--- more than 16,384 paths would stand after the effect
+-- there would be more than 16,384 paths after the effect
 abbrev pub is_too_many : Lsps → Effect → Bool
 is_too_many lsps e = nat_lt (16384 + length e.change.dropped) (length lsps.paths + length e.change.added)
 

@@ -5,7 +5,7 @@ use Rattle.lsp_base.specs.declared.why.Why.{Why as WhyOf}
 use Rattle.delegate_rules.specs.declared.fault.RuleFault.{RuleFault}
 use Rattle.delegate_rules.specs.declared.fault.RuleFault.TheVariants.{Why, OutOfMemory}
 
--- a refusal is the definition's, and want of memory may come in place of any answer
+-- a refusal is the definition's, unless memory ran out
 abbrev pub IsFaultOf : Result Effect WhyOf → RuleFault → Type 0
 IsFaultOf given (Why why) = given ≡ Err why
 IsFaultOf given OutOfMemory = Unit {0}

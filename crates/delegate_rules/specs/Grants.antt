@@ -1,5 +1,5 @@
--- The grant that a report speaks of: bound by its SRP-ID, moved to the report's tunnel, or settled
--- (RFC 8231 section 7.2, RFC 8281 section 5.4).
+-- The grant that a report is about: bound by its SRP-ID, moved to the report's tunnel, or settled (RFC 8231 section
+-- 7.2, RFC 8281 section 5.4).
 use Rattle.std.specs.Prelude.{ℕ, Bool, true, false, ◌==◌, ◌&&◌, not, List, map, filter, if◌then◌else◌}
 use Rattle.lsp_base.specs.Grants.{is_grant_of, is_unbound_grant, has_srp}
 use Rattle.lsp_base.specs.declared.path.Path.{Path}
@@ -16,15 +16,15 @@ is_settled Active = true
 is_settled GoingDown = false
 is_settled GoingUp = false
 
--- the path is the LSP's grant, or, where the LSP has none (not granted), the unbound grant of the report's SRP-ID
+-- the path is the LSP's grant, or, if the LSP has none (not granted), the unbound grant of the report's SRP-ID
 abbrev pub is_grant_met : Bool → ℕ → StateReport → Path → Bool
 is_grant_met granted peer r x = if granted then is_grant_of peer r.plsp x else is_unbound_grant peer r.srp x
 
--- the report answers the grant for good
+-- the report is the final answer to the grant
 abbrev pub is_grant_settled : StateReport → Path → Bool
 is_grant_settled r x = has_srp r.srp x.part && is_settled r.operational
 
--- the grant is met, and the peer is still at it
+-- the grant is met, and the peer is still working on it
 abbrev pub is_grant_kept : Bool → ℕ → StateReport → Path → Bool
 is_grant_kept granted peer r x = is_grant_met granted peer r x && not (is_grant_settled r x)
 

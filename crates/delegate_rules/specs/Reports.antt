@@ -38,7 +38,7 @@ is_down Active = false
 is_down GoingDown = false
 is_down GoingUp = false
 
--- the route that the LSP takes where it is known, else the intended one
+-- the route that the LSP takes if it is known, else the intended one
 abbrev pub hops_of : StateReport → List Hop
 hops_of r = unwrap_or r.rro r.ero
 

@@ -1,4 +1,4 @@
--- What it does that the PCE gives an LSP back to its peer (RFC 8231 section 5.7.3).
+-- What happens if the PCE gives an LSP back to its peer (RFC 8231 section 5.7.3).
 use Rattle.std.specs.Prelude.{ℕ, false, not, [], Option, Some, None, is_some, Result}
 use Rattle.lsp_base.specs.Lsps.{Lsps, lsp_at, effect_of, no_effect}
 use Rattle.lsp_base.specs.Pending.{is_delegated, is_pending}

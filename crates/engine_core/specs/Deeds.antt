@@ -14,19 +14,19 @@ pub data Deed : Type 0 where
   Called : Call → Deed
   Shown : Sight → Deed
 
--- the calls alone
+-- only the calls
 abbrev pub calls_of : List Deed → List Call
 calls_of [] = []
 calls_of (Called call ∷ deeds) = call ∷ calls_of deeds
 calls_of (Shown sight ∷ deeds) = calls_of deeds
 
--- what was shown alone
+-- only what was shown
 abbrev pub sights_of : List Deed → List Sight
 sights_of [] = []
 sights_of (Called call ∷ deeds) = sights_of deeds
 sights_of (Shown sight ∷ deeds) = sight ∷ sights_of deeds
 
--- the peer's Open is shown, where there is one
+-- the peer's Open is shown, if there is one
 abbrev pub open_shown : Option Open → List Deed
 open_shown None = []
 open_shown (Some open_) = Shown (Opened open_) ∷ []

@@ -1,6 +1,6 @@
--- What the engine does with what a session gives: what it shows the store, the events that it submits for a peer, and by
--- their replies what it sends and when it ends the session. `go_on` is what comes afterwards. `Reaches c` stands wherever memory
--- may run out, with the client as it then is.
+-- What the engine does with what a session gives: what it shows the store, the events that it submits for a peer, and,
+-- given their replies, what it sends and when it ends the session. `go_on` is what comes afterwards. `Reaches c` is
+-- everywhere that memory may run out, with the client as it then is.
 use Rattle.std.specs.Prelude.{ℕ, suc, zero, Bool, true, false, ◌==◌, ◌&&◌, not, List, [], ◌∷◌, Option, Some, None, if◌then◌else◌}
 use Rattle.lsp_words.specs.declared.object.Capabilities.{Capabilities}
 use Rattle.lsp_words.specs.declared.object.Hop.{Hop}
@@ -58,7 +58,8 @@ sending_one c message = client_with (or_same c.session (sent message c.session))
 abbrev pub second_session : PcError
 second_session = record { about = about.Nothing; kind = 9; value = 0 }
 
--- a second session of a peer that is up ends with a PCErr, that of a peer too many with a Close (1: no explanation)
+-- a second session of a peer that is up ends with a PCErr, and a session of one peer too many with a Close (1: no
+-- explanation)
 abbrev pub after_refused_up : Why → Client → Client
 after_refused_up PeerUp c = ending (Some second_session) None c
 after_refused_up TooManyPeers c = ending None (Some 1) c
@@ -133,7 +134,7 @@ on_refusals peer (srp ∷ srps) c go_on = on_refusal peer srp c (λ after. on_re
 
 -- ---- path requests (RFC 5440 section 6.4)
 
--- a request that is refused is answered, where the answer says why
+-- a refused request is answered, if there is an answer that says why
 abbrev pub answered_why : ℕ → Option NoPathVector → Client → Client
 answered_why request None c = c
 answered_why request (Some vector) c = sending_one c (no_path_for request vector)
@@ -141,7 +142,7 @@ answered_why request (Some vector) c = sending_one c (no_path_for request vector
 abbrev pub refused_request : ℕ → Why → Client → Client
 refused_request request why c = answered_why request (vector_for why) c
 
--- the reply to a request that is asked for: where there can't be a path it is answered at once
+-- the reply to a request that is asked for: if there can't be a path it is answered at once
 unfoldable pub after_request : {W : Type 0} → ℕ → Reply → Client → (Client → Plan W) → Plan W
 after_request request (Refused why) c go_on = Reaches c (go_on (refused_request request why c))
 after_request request reply c go_on = go_on c

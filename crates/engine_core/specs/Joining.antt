@@ -6,7 +6,7 @@ use Rattle.step_core.specs.declared.event.Reply.{Reply}
 use Rattle.step_core.specs.declared.event.Reply.TheVariants.{Done}
 use Rattle.engine_core.specs.declared.store.Call.{Call}
 
--- an Up is accepted where its reply is Done
+-- an Up is accepted if its reply is Done
 abbrev pub joined_by_up : Bool → Reply → Bool
 joined_by_up joined Done = true
 joined_by_up joined reply = joined

@@ -17,7 +17,7 @@ use Rattle.lsp_base.specs.declared.why.Why.TheVariants.{UnknownNode, TooManyTick
 use Rattle.commit_core.specs.declared.ticket.Purpose.{Purpose}
 use Rattle.commit_core.specs.declared.ticket.Purpose.TheVariants as purposes
 
--- the bound on the metric that the path is to have least of
+-- the bound on the metric that the path is to minimise
 abbrev pub bound_on : MetricType → Bounds → Option ℕ
 bound_on Igp b = b.igp
 bound_on Te b = b.te
@@ -56,7 +56,7 @@ unknown_ends Both = record { pce_unavailable = false; unknown_destination = true
 abbrev pub unavailable : NoPathVector
 unavailable = record { pce_unavailable = true; unknown_destination = false; unknown_source = false }
 
--- how a request is answered that is refused for this; else it isn't answered
+-- how a request that is refused for this is answered, if it is
 abbrev pub vector_for : Why → Option NoPathVector
 vector_for (UnknownNode ends) = Some (unknown_ends ends)
 vector_for TooManyTickets = Some unavailable

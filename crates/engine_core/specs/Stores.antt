@@ -17,7 +17,7 @@ pub record Carries {S W : Type 0} (moves : S → List Deed → S → Type 0) (ol
   pub leads : LeadsTo plan deeds rest
   pub joined : after.joined ≡ joined_after client.joined (calls_of deeds)
 
--- memory may run out anywhere; the history is full only where an event is to be submitted
+-- memory may run out anywhere; the history is full only if an event is to be submitted
 abbrev pub MayFail : {S W : Type 0} → (S → Type 0) → S → Plan W → Fault → Type 0
 MayFail is_full store rest OutOfMemory = Unit {0}
 MayFail is_full store (Returns w) HistoryFull = ⊥
@@ -52,8 +52,8 @@ ServesOrEnds (Err fault) moves is_full old new client after plan = EndsAt moves 
 
 -- ---- room for more steps
 
--- Some n: with no call made the history was seen full, and then it was rolled, with n steps before its base; None: nothing was
--- done
+-- Some n: with no call made the history was found full, and then rolled, with n steps before its base; None: nothing
+-- was done
 abbrev pub MakesRoom : {S : Type 0} → (S → List Deed → S → Type 0) → (S → Type 0) → (S → ℕ → S → Type 0) → S → S → Option ℕ → Type 0
 MakesRoom {S} moves is_full rolls old new None = moves old [] new
 MakesRoom {S} moves is_full rolls old new (Some steps) = (mid : S) × moves old [] mid × is_full mid × rolls mid steps new

@@ -15,7 +15,7 @@ block bytes = if bytes == 0 then 0 else max (16 * ((bytes + 23) / 16)) 32
 
 -- ---- routes
 
--- a subobject of another kind than an address has a block for its bytes
+-- a subobject that isn't an address has a block for its bytes
 abbrev pub hop_bytes : Hop → ℕ
 hop_bytes (Host address loose) = 0
 hop_bytes (Other kind bytes) = block (length bytes)
@@ -64,7 +64,7 @@ held_bytes (event.Commit ticket offer) = offer_bytes offer
 held_bytes (event.Reload links) = block (32 * length links)
 held_bytes _ = 0
 
--- What a step of the event takes: a block of 224 bytes that the owners of the event share, 24 of the history and 64 of the
--- seat's receipts, with the room for more of them; and what the event holds. No more than 2^40 bytes are counted.
+-- What a step of the event takes: a block of 224 bytes that the owners of the event share, 24 for the history and 64
+-- for the seat's receipts, with the room for more of them; and what the event holds. At most 2^40 bytes are counted.
 unfoldable pub bytes_of : Event → ℕ
 bytes_of e = min (held_bytes e + 312) (2 ^ 40)

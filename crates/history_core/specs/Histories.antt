@@ -26,7 +26,7 @@ abbrev pub IsLegalFrom : State → List Step → Type 0
 IsLegalFrom s [] = Unit {0}
 IsLegalFrom s (x ∷ xs) = (x.brief ≡ brief_of (step s x.event).reply) × IsLegalFrom (step s x.event).state xs
 
--- each step that was granted is sound in the states around it: the grant takes nothing that isn't there
+-- each step that was granted is sound in the states around it: the grant takes no bandwidth that isn't there
 abbrev pub IsSoundFrom : State → List Step → Type 0
 IsSoundFrom s [] = Unit {0}
 IsSoundFrom s (x ∷ xs) = ((srp : ℕ) → x.brief ≡ brief.Granted srp → IsSoundGrant s x.event (step s x.event).state) × IsSoundFrom (step s x.event).state xs
@@ -43,7 +43,7 @@ step_limit = 1048576
 abbrev pub last_step : ℕ
 last_step = 2 ^ 62
 
--- what a database is seen as: a state, with the kept steps that led to it from the base; how many steps were taken
+-- how contracts see a database: a state, with the kept steps that led to it from the base; how many steps were taken
 -- before the base, and how many of them were grants; and the network of the link text, from which all steps began
 pub record Content : Type 0 where
   pub state : State
@@ -82,7 +82,8 @@ pub record Replays (d : Content) : Type 0 where
   pub kept : ReplaysFrom d.base d.history d.state
   pub past : (past : List Step) × IsPast d.text past d.rolled d.rolled_grants d.base
 
--- what holds of every database: it replays, as many steps are kept and were taken as may be, and its grants are counted
+-- what holds of every database: it replays, no more steps are kept or were taken than may be, and its grants are
+-- counted
 pub record IsWhole (d : Content) (grants : ℕ) : Type 0 where
   pub replays : Replays d
   pub kept : length d.history ≤ step_limit

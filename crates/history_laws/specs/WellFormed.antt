@@ -21,7 +21,7 @@ pub record IsQuietIfDown (p : Peer) : Type 0 where
 abbrev pub IsNumbered : Path → Type 0
 IsNumbered x = is_reported x.part ≡ true → x.plsp ≢ 0
 
--- each link that the path takes is one of these, and none stands in it twice
+-- each link that the path takes is one of these, and the path has none twice
 pub record TakesLinksOnce (links : List Link) (x : Path) : Type 0 where
   pub there : All (λ l. l < length links) x.links
   pub once : AllPairs (λ l k. l ≢ k) x.links

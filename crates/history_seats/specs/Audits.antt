@@ -24,7 +24,7 @@ abbrev pub RisesFrom : ℕ → List Receipt → Type 0
 RisesFrom floor [] = Unit {0}
 RisesFrom floor (r ∷ rs) = (floor ≤ r.place) × RisesFrom (r.place + 1) rs
 
--- how often a place stands in the receipts
+-- how often a place is in the receipts
 abbrev pub times : ℕ → List Receipt → ℕ
 times place receipts = count_by (λ r. r.place == place) receipts
 
@@ -55,14 +55,14 @@ grants_received seats = sum_by grants_at seats
 abbrev pub late_received : ℕ → List SeatContent → ℕ
 late_received rolled seats = sum_by (λ s. s.folded + late rolled s.receipts) seats
 
--- how often a place stands in the receipts of all of them
+-- how often a place is in the receipts of all of them
 abbrev pub times_in : ℕ → List SeatContent → ℕ
 times_in place seats = sum_by (λ s. times place s.receipts) seats
 
 abbrev pub AllAgree : Content → List SeatContent → Type 0
 AllAgree d seats = All (SeatAgrees d) seats
 
--- no kept place stands twice
+-- no kept place occurs twice
 abbrev pub AllOnce : Content → List SeatContent → Type 0
 AllOnce d seats = (place : ℕ) → d.rolled ≤ place → times_in place seats ≤ 1
 
@@ -76,8 +76,8 @@ AllDistinct steps seats = (place : ℕ) → sum_by (λ s. drawing.times place s.
 -- ---- the audit
 
 -- All n seats are here, and they received as many steps and grants as there were; each step that ever was, rolled or
--- kept, was received by exactly one of them, once, and the places of each rise; each receipt of a kept step agrees with it, none
--- stands twice, and there are as many receipts of rolled places as steps were rolled
+-- kept, was received by exactly one of them, once, and the places of each rise; each receipt of a kept step agrees with
+-- it, none occurs twice, and there are as many receipts of rolled places as steps were rolled
 pub record IsAudited (n : ℕ) (d : Content) (seats : List SeatContent) : Type 0 where
   pub all : length seats ≡ n
   pub steps : steps_received seats ≡ steps_of d
@@ -89,7 +89,7 @@ pub record IsAudited (n : ℕ) (d : Content) (seats : List SeatContent) : Type 0
   pub distinct : AllDistinct (steps_of d) seats
   pub rising : All (λ s. RiseFrom 0 s.places) seats
 
--- The first test that fails. Where all seats are here, the sums never differ, no place stands twice, and none falls.
+-- The first test that fails. If all seats are here, the sums never differ, no place occurs twice, and none falls.
 abbrev pub Fails : ℕ → Content → List SeatContent → AuditFault → Type 0
 Fails n d seats SeatMissing = length seats ≢ n
 Fails n d seats StepsDiffer = ⊥

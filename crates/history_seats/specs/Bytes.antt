@@ -5,7 +5,7 @@ use Rattle.event_bytes.specs.Bytes.{bytes_of}
 use Rattle.history_core.specs.Histories.{Content}
 use Rattle.history_seats.specs.declared.receipt.Receipt.{Receipt}
 
--- the sum over the kept steps, each with its receipt and all that its event holds; 2^64 - 1 at the most
+-- the sum over the kept steps, each with its receipt and all that its event holds; at most 2^64 - 1
 unfoldable pub kept_bytes : Content → ℕ
 kept_bytes d = min (sum_by (λ s. bytes_of s.event) d.history) (2 ^ 64 - 1)
 

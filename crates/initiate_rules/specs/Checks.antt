@@ -13,11 +13,11 @@ use Rattle.lsp_base.specs.declared.why.Why.TheVariants.{UnknownLsp, NotCreatedHe
 abbrev pub is_named : ℕ → List ℕ → Record → Bool
 is_named peer name r = r.peer == peer && same_links (r.lsp).name name
 
--- held: what the PCE asks for or granted, and no report named yet, has the name
+-- held: what the PCE asks for or granted, and no report has named yet, has the name
 abbrev pub must_be_new : Lsps → ℕ → List ℕ → Bool → Option Why
 must_be_new lsps peer name held = unless (not (list_any (is_named peer name) lsps.records || held)) NameInUse
 
--- the PCE initiated the LSP, holds it still, and awaits nothing of it
+-- the PCE initiated the LSP, still holds it, and awaits nothing of it
 abbrev pub may_be_deleted : Lsps → ℕ → ℕ → Option Why
 may_be_deleted lsps peer plsp =
     let lsp = lsp_at lsps.records peer plsp in

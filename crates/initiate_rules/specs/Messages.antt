@@ -14,7 +14,7 @@ use Rattle.pcep_messages.specs.declared.message.Message.TheVariants as messages
 use Rattle.te_base.specs.declared.network.Link.{Link}
 use Rattle.lsp_base.specs.declared.lsp.Constraints.{Constraints}
 
--- the far end of a link, strict; a link that isn't there is none
+-- the far end of a link, strict; nothing for a link that doesn't exist
 abbrev pub hop_over : Option Link → List Hop
 hop_over None = []
 hop_over (Some link) = Host link.remote false ∷ []
@@ -68,7 +68,7 @@ delete_message srp plsp = messages.Initiate (initiates.Remove srp plsp)
 
 -- ---- what a path request is answered
 
--- a path, and what it costs by the metric that it was to have least of
+-- a path, and its cost by the metric that it was to minimise
 unfoldable pub answer_message : List Link → ℕ → MetricType → ℕ → List ℕ → Message
 answer_message links request minimise cost numbers = messages.Reply (record {
   request = request;

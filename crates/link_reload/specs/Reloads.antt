@@ -1,4 +1,4 @@
--- Links whose metrics, colours and reservable bandwidths are set anew, while paths stand.
+-- Links whose metrics, colours and reservable bandwidths change while there are paths.
 use Rattle.std.specs.Prelude.{◌≡◌, List, [], ◌∷◌, length, nat_lt, Option}
 use Rattle.std.specs.List.{list_all}
 use Rattle.te_base.specs.Ted.{Ted}
@@ -11,11 +11,11 @@ use Rattle.bandwidth_book.specs.Books as books
 use Rattle.bandwidth_book.specs.declared.book.Book.{Book}
 use Rattle.link_reload.specs.declared.entry.LinkReload.{LinkReload}
 
--- each entry's link is there
+-- each entry's link exists
 abbrev pub must_have_links : Ted → List LinkReload → Option Why
 must_have_links te entries = unless (list_all (λ e. nat_lt e.link (length te.links)) entries) UnknownLink
 
--- one entry after the other: of several for one link the last counts
+-- one entry after the other: if there are several for one link the last counts
 abbrev pub with_entries : Ted → List LinkReload → Ted
 with_entries te [] = te
 with_entries te (e ∷ es) = with_entries (with_link_values te e.link e.values) es

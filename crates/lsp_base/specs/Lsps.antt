@@ -23,7 +23,7 @@ is_record_of peer plsp r = r.peer == peer && r.plsp == plsp
 abbrev pub lsp_at : List Record → ℕ → ℕ → Option Lsp
 lsp_at records peer plsp = option_map (λ r. r.lsp) (find (is_record_of peer plsp) records)
 
--- at most one record stands of each LSP
+-- there is at most one record of each LSP
 abbrev pub AreDistinct : List Record → Type 0
 AreDistinct records = (peer plsp : ℕ) → length (filter (is_record_of peer plsp) records) ≤ 1
 
@@ -41,7 +41,7 @@ no_effect = effect_of [] [] [] false
 
 -- ---- the lists after an effect
 
--- the list with its last element in front of the others
+-- the list with its last element before the others
 abbrev pub last_in_front : {X : Type 0} → List X → List X
 last_in_front xs = slice_rotate_right xs 1
 
@@ -68,7 +68,7 @@ occurrences x (y ∷ ys) = (if same_path y x then 1 else 0) + occurrences x ys
 abbrev pub HasAll : List Path → List Path → Type 0
 HasAll paths dropped = (x : Path) → occurrences x dropped ≤ occurrences x paths
 
--- a record set: in its place where there is one, else as the last
+-- a record set: in its place if there is one, else as the last
 abbrev pub put : List Record → ℕ → ℕ → Lsp → List Record
 put [] peer plsp lsp = record { peer = peer; plsp = plsp; lsp = lsp } ∷ []
 put (r ∷ rs) peer plsp lsp = cond (is_record_of peer plsp r) (record { peer = peer; plsp = plsp; lsp = lsp } ∷ rs) (r ∷ put rs peer plsp lsp)
@@ -109,11 +109,11 @@ taking r = record { plsp = r.plsp; lsp = None }
 abbrev pub has_none_left : (Path → Bool) → ℕ → List Path → Record → Bool
 has_none_left test peer paths r = r.peer == peer && not (list_any (λ x. not (test x) && is_path_of peer r.plsp x) paths)
 
--- the peer's records of which no path stays where those that pass the test go
+-- the peer's records of which no path stays if those that pass the test go
 abbrev pub ended_records : Lsps → ℕ → (Path → Bool) → List RecordChange
 ended_records lsps peer test = map taking (filter (has_none_left test peer lsps.paths) lsps.records)
 
--- the LSP's record is taken away where no path of it stays where those that pass the test go
+-- the LSP's record is removed if no path of it stays when those that pass the test go
 abbrev pub ended_record : List Path → ℕ → ℕ → (Path → Bool) → List RecordChange
 ended_record paths peer plsp test = if list_any (λ x. not (test x) && is_path_of peer plsp x) paths then [] else record { plsp = plsp; lsp = None } ∷ []
 

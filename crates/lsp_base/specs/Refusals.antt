@@ -13,7 +13,7 @@ abbrev pub ◌⨟◌ : Option Why → Option Why → Option Why
 Some why ⨟ later = Some why
 None ⨟ later = later
 
--- what is answered where no test fails
+-- what is answered if no test fails
 abbrev pub answered_unless : {A : Type 0} → Option Why → A → Result A Why
 answered_unless (Some why) answer = Err why
 answered_unless None answer = Ok answer

@@ -26,7 +26,7 @@ is_held t l p x = is_of_tunnel t x && nat_le x.hold p && has_link l x
 unfoldable pub share : List Path → Tunnel → ℕ → ℕ → ℕ
 share paths t l p = greatest (map (λ x. x.bandwidth) (filter (is_held t l p) paths))
 
--- the tunnels of the paths, each once: where the last path of it stands
+-- the tunnels of the paths, each once: at its last path
 abbrev pub tunnels_of : List Path → List Tunnel
 tunnels_of [] = []
 tunnels_of (x ∷ xs) = if list_any (is_of_tunnel x.tunnel) xs then tunnels_of xs else x.tunnel ∷ tunnels_of xs
@@ -35,11 +35,11 @@ tunnels_of (x ∷ xs) = if list_any (is_of_tunnel x.tunnel) xs then tunnels_of x
 unfoldable pub reserved : List Path → ℕ → ℕ → ℕ
 reserved paths l p = sum_by (λ t. share paths t l p) (tunnels_of paths)
 
--- a link that isn't there can't be reserved
+-- 0 if there is no such link
 abbrev pub reservable : List Link → ℕ → ℕ
 reservable links l = unwrap_or (option_map (λ k. k.reservable) (slice_get links l)) 0
 
--- what is left; below zero where more was reported than the link bears
+-- what is left; below zero if more was reported than the link can carry
 unfoldable pub unreserved : List Link → List Path → ℕ → ℕ → ℤ
 unreserved links paths l p = pos (reservable links l) -ℤ pos (reserved paths l p)
 
@@ -56,7 +56,7 @@ priorities low high = range_with_len low (high + 1 - low)
 abbrev pub fits_at : List Link → List Path → Path → ℕ → ℕ → Bool
 fits_at links paths g l p = not (rises paths g l p) || int_le (pos 0) (unreserved links (paths ++ g ∷ []) l p)
 
--- the links are there, and with the path none is below zero at a priority from holding to setup at which
--- the path reserves more
+-- the links exist, and with the path none is below zero at a priority from holding to setup at which the path reserves
+-- more
 unfoldable pub fits : List Link → List Path → Path → ℕ → Bool
 fits links paths g setup = list_all (λ l. nat_lt l (length links) && list_all (fits_at links paths g l) (priorities g.hold setup)) g.links

@@ -18,7 +18,7 @@ key_of r = record { peer = r.peer; plsp = r.plsp }
 abbrev pub same_key : LspKey → LspKey → Bool
 same_key a b = a.peer == b.peer && a.plsp == b.plsp
 
--- each record stands under its own key
+-- each record is under its own key
 abbrev pub AreKeyed : List (LspKey × Record) → Type 0
 AreKeyed entries = AllByRecursion (λ e. e.0 ≡ key_of e.1) entries
 

@@ -1,4 +1,4 @@
--- Why bytes can't be read, in words, where in the message it stands, and what an open session answers.
+-- Why bytes can't be read, in words, where in the message it is, and what an open session answers.
 use Rattle.std.specs.Prelude.{ℕ, ◌≡◌, ◌==◌, ◌&&◌, not, ◌++◌, Bool, true, false, List, [], drop, slice_index, codes, Option, Some, None, is_none, IfSome, Result, Ok, Err, if◌then◌else◌}
 use Rattle.std.specs.Fmt.{decimal}
 use Rattle.error_words.specs.Errors.{error_words}
@@ -84,7 +84,7 @@ about_of (Refused kind value a) = a
 about_of BadHeader = about.Nothing
 about_of OutOfMemory = about.Nothing
 
--- the request that a fault is about, where that is known
+-- the request that a fault is about, if that is known
 abbrev pub about_words : About → List ℕ
 about_words about.Nothing = []
 about_words (about.Request id) = codes ", Request-ID " +> decimal id
@@ -137,8 +137,8 @@ abbrev pub is_kept_with_p : Object → Bool
 is_kept_with_p (objects.Kept kept) = kept.p
 is_kept_with_p object = false
 
--- An object that was read has the fault: P is clear in an RP or END-POINTS, an LSP lacks identifiers, or an object that is
--- not supported has P set. A fault of what is missing stands at no object.
+-- An object that was read has the fault: P is clear in an RP or END-POINTS, an LSP lacks identifiers, or an object that
+-- is not supported has P set. A fault of what is missing is at no object.
 abbrev pub has_fault : MessageFault → Object → Bool
 has_fault (BadP a) object = lacks_p object
 has_fault (MissingIdentifiers a) object = lacks_identifiers object
@@ -219,7 +219,7 @@ kind_words fault kind = kind_name kind +> codes "\n  "
 abbrev pub faulty_words : MessageFault → ℕ → Option ObjectPlace → List ℕ
 faulty_words fault kind place = kind_words fault kind +> fault_words fault +> place_words place +> answer_words (answering_code fault) (ends_session fault)
 
--- the text has the words of the fault more, with a byte at which it stands
+-- the text has the words of the fault more, with a byte at which it is
 abbrev pub SaysFault : List ℕ → MessageFault → List ℕ → List ℕ → Type 0
 SaysFault bytes fault old new = (place : Option ObjectPlace) × StandsAt fault bytes place × (new ≡ old ++ faulty_words fault (slice_index bytes 1) place)
 

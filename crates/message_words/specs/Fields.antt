@@ -54,7 +54,7 @@ lsp_field_words f = (codes "LSP plsp-id " +> decimal f.plsp) +> flag_words f +> 
 abbrev pub is_plain : ℕ → Bool
 is_plain byte = nat_le 0x20 byte && nat_le byte 0x7e && not (byte == 34)
 
--- a name in quotation marks, or in digits where it has other bytes
+-- a name in quotation marks, or in digits if it has other bytes
 abbrev pub name_words : List ℕ → List ℕ
 name_words name = if list_all is_plain name then codes " name \"" +> name +> codes "\"" else codes " name 0x" +> encode_lower name
 
@@ -74,7 +74,7 @@ rsvp_error_words (Some e) = codes " rsvp-error node " +> text_of e.node +> codes
 abbrev pub lsp_error_words : Option ℕ → Option RsvpError → List ℕ
 lsp_error_words code error = error_code_words code +> rsvp_error_words error
 
--- local protection (flag L of LSPA) is named where it is set
+-- local protection (flag L of LSPA) is named if it is set
 abbrev pub protection_words : Bool → List ℕ
 protection_words false = []
 protection_words true = codes " local-protection 1"

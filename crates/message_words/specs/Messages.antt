@@ -1,5 +1,5 @@
--- Messages: a line for the kind, and one for each object that counts. A report or a request has an LSPA, a BANDWIDTH and a
--- METRIC also where its bytes have none: what it counts as.
+-- Messages: a line for the kind, and one for each object that counts. If the bytes of a report or a request have no
+-- LSPA, BANDWIDTH or METRIC, the words say what it counts as.
 use Rattle.std.specs.Prelude.{ℕ, Bool, false, List, [], ◌∷◌, codes, Option, Some, None}
 use Rattle.std.specs.Fmt.{decimal}
 use Rattle.pcep_word.specs.Address.{text_of}
@@ -125,7 +125,7 @@ requests_text requests = codes "PCReq" +> requests_words requests
 abbrev pub cost_line : Cost → List ℕ
 cost_line cost = codes "\n  METRIC type " +> decimal cost.metric_type +> codes " value " +> decimal cost.value
 
--- a cost, where the reply has it
+-- a cost, if the reply has it
 abbrev pub found_cost : Option Cost → List ℕ
 found_cost None = []
 found_cost (Some cost) = cost_line cost

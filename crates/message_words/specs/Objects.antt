@@ -42,7 +42,7 @@ no_path_words n = nature_words n +> vector_words n.vector
 abbrev pub end_points_words : EndPoints → List ℕ
 end_points_words ends = codes "END-POINTS " +> text_of ends.source +> codes " " +> text_of ends.destination +> codes " p " +> bit ends.p
 
--- the bandwidth that is asked for, or that of an LSP that stands
+-- the bandwidth that is asked for, or that of an existing LSP
 abbrev pub existing : BandwidthType → List ℕ
 existing Requested = []
 existing Current = codes " existing"

@@ -12,14 +12,14 @@ pub record IsAnswer (s : NetworkState) (c : Constraints) (own : List OwnShare) (
   pub least : IsLeast s c own f.links f.cost
   pub within : keeps_other_bounds s.network.links c f.links ≡ true
 
--- a least path that breaks an other bound
+-- a least path that breaks another bound
 pub record IsOutOfBounds (s : NetworkState) (c : Constraints) (own : List OwnShare) : Type 0 where
   pub path : List ℕ
   pub cost : ℕ
   pub least : IsLeast s c own path cost
   pub breaks : keeps_other_bounds s.network.links c path ≡ false
 
--- nothing is admissible, or a least path breaks an other bound
+-- nothing is admissible, or a least path breaks another bound
 abbrev pub IsRefused : NetworkState → Constraints → List OwnShare → Type 0
 IsRefused s c own = IsImpossible s c own ⊎ IsOutOfBounds s c own
 

@@ -13,7 +13,7 @@ arc_metric Igp a = a.igp
 arc_metric Te a = a.te
 arc_metric Hops a = 1
 
--- what the link adds to the cost, where a path may take it
+-- what the link adds to the cost, if a path may take it
 unfoldable pub fee : Query → Outgoing → Option ℕ
 fee q a =
     if is_open q.unreserved.now q.constraints.now q.own.now a.number a.colour

@@ -20,7 +20,7 @@ abbrev pub Leads : Query → List Link → ℕ → List ℕ → ℕ → ℕ → 
 Leads q links a [] b cost = (a ≡ b) × (cost ≡ 0)
 Leads q links a (n ∷ ns) b cost = (l : Link) × (price : ℕ) × (rest : ℕ) × (slice_get links n ≡ Some l) × (l.from ≡ a) × (toll q n l ≡ Some price) × Leads q links l.to ns b rest × (cost ≡ price + rest)
 
--- from the near end of a link to its far end the label rises by no more than the fee, where a path may take the link
+-- from the near end of a link to its far end the label rises by no more than the fee, if a path may take the link
 abbrev pub Rises : Query → ℕ → ℕ → Outgoing → Type 0
 Rises q near far arc = (price : ℕ) → fee q arc ≡ Some price → far ≤ near + price
 
@@ -28,7 +28,7 @@ Rises q near far arc = (price : ℕ) → fee q arc ≡ Some price → far ≤ ne
 abbrev pub RisesFrom : Query → List ℕ → ℕ → Outgoing → Type 0
 RisesFrom q labels label arc = Rises q label (slice_index labels arc.to) arc
 
--- the same of a link, the other way round, that enters a node with this label
+-- the same of a link, turned round, that enters a node with this label
 abbrev pub RisesInto : Query → List ℕ → ℕ → Outgoing → Type 0
 RisesInto q labels label arc = Rises q (slice_index labels arc.to) label arc
 
@@ -64,7 +64,7 @@ pub record IsMade (q : Query) (links : List Link) (old : List ℕ) (v cost : ℕ
 abbrev pub Reaches : Query → List ℕ → List ℕ → ℕ → ℕ → Link → Type 0
 Reaches q old new limit n l = (price : ℕ) → toll q n l ≡ Some price → price + slice_index old l.to < limit → slice_index new l.from ≤ price + slice_index old l.to
 
--- the new row is the old one with one more link in front, where that is less
+-- the new row is the old one with one more link in front, if that is less
 pub record IsNext (q : Query) (links : List Link) (old new : List ℕ) (limit : ℕ) : Type 0 where
   pub size : length new ≡ length old
   pub below : (v : ℕ) → slice_index new v ≤ slice_index old v

@@ -24,13 +24,13 @@ lesser (Some best) (Some cost) = Some (min best cost)
 abbrev pub standing_cost : MetricType → List Link → List Path → Option ℕ
 standing_cost m links paths = fold (λ best x. lesser best (known_cost m links x)) None paths
 
--- the path is admissible beside what the tunnel holds, and of least cost; and it costs less than each that stands
+-- the path is admissible given what the tunnel holds, and of least cost; and it costs less than each existing one
 pub record IsCheaper (s : NetworkState) (c : Constraints) (own : List OwnShare) (paths : List Path) (x : Cheaper) : Type 0 where
   pub answer : IsAnswer s c own x.path
   pub standing : standing_cost c.minimise s.network.links paths ≡ Some x.standing
   pub less : x.path.cost < x.standing
 
--- what the search answers costs as much at least, if it answers a path
+-- if the search answers a path, it costs at least as much
 pub record IsUnbeatenAt (s : NetworkState) (c : Constraints) (own : List OwnShare) (standing : ℕ) : Type 0 where
   pub found : Option Found
   pub answer : IfSome found (IsAnswer s c own)

@@ -24,7 +24,7 @@ open_row closed table l = if l == closed then no_room else row table l
 unfoldable pub without_link : ℕ → List (List ℤ) → List (List ℤ)
 without_link closed table = map (open_row closed table) (range_with_len 0 (length table))
 
--- nothing is left on the link, at no priority
+-- nothing is left on the link at any priority
 pub record IsClosed (closed : ℕ) (table : List (List ℤ)) : Type 0 where
   pub none : (p : ℕ) → left table closed p ≡ pos 0
 
@@ -61,8 +61,8 @@ pub record IsPlaced (n : Network) (closed : ℕ) (table : List (List ℤ)) (m : 
   pub answer : IsAnswer (state_of n table) m.wanted (held_elsewhere closed m.own) f
   pub avoids : uses closed f ≡ false
 
--- On this table the search answered no path, or the one of least cost that it answered uses the link. For an LSP with
--- bandwidth no path is admissible, or a least one breaks an other bound.
+-- On this table the search found no path, or the one of least cost that it found uses the link. For an LSP with
+-- bandwidth no path is admissible, or a least one breaks another bound.
 pub record IsUnplaced (n : Network) (closed : ℕ) (table : List (List ℤ)) (m : Mover) : Type 0 where
   pub found : Option Found
   pub answer : IfSome found (IsAnswer (state_of n table) m.wanted (held_elsewhere closed m.own))
@@ -73,7 +73,7 @@ pub record IsUnplaced (n : Network) (closed : ℕ) (table : List (List ℤ)) (m 
 abbrev pub moved : Mover → Option Found → Move
 moved m path = record { peer = m.peer; plsp = m.plsp; wanted = m.wanted; path = path }
 
--- From a table on these LSPs were tried, one after the other, and went there; this table is what they leave.
+-- On a table these LSPs were tried, one after the other, and went there; this table is what they leave.
 pub data Tried (n : Network) (closed : ℕ) (start : List (List ℤ)) : List Mover → List Move → List (List ℤ) → Type 0 where
   Begins : Tried n closed start [] [] start
   Goes : (ms : List Mover) (moves : List Move) (table : List (List ℤ)) (m : Mover) (f : Found) → Tried n closed start ms moves table

@@ -1,4 +1,4 @@
--- A path that is looked for on a snapshot, or what stands in its way.
+-- A path that is looked for on a snapshot, or what prevents it.
 use Rattle.std.specs.Prelude.{ℕ, ℤ, Bool, not, List, [], ◌∷◌, ◌++◌, find, option_map, Option, Some, None}
 use Rattle.lsp_words.specs.declared.object.Colours.{Colours}
 use Rattle.lsp_base.specs.Shares.{priorities}
@@ -40,14 +40,14 @@ IsPathAnswer s c (Path found) = IsAnswer s c [] found
 IsPathAnswer s c (Blocked by found) = IsRefused s c [] × RefusesBefore s c by × IsAnswer s (relaxed by c) [] found
 IsPathAnswer s c NoWay = IsRefused s c [] × IsRefused s (relaxed obstacle.Several c) []
 
--- the link doesn't bear the bandwidth at the priority
+-- the bandwidth doesn't fit on the link at the priority
 abbrev pub is_full_at : List (List ℤ) → Constraints → ℕ → ℕ → Bool
 is_full_at unreserved c l p = not (has_room_at unreserved [] c.bandwidth l p)
 
 abbrev pub full_link : ℕ → ℕ → FullLink
 full_link l p = record { link = l; priority = p }
 
--- the best of the priorities from holding to setup at which the link doesn't bear the bandwidth
+-- the best of the priorities from holding to setup at which the bandwidth doesn't fit on the link
 abbrev pub first_full : List (List ℤ) → Constraints → ℕ → Option FullLink
 first_full unreserved c l = option_map (full_link l) (find (is_full_at unreserved c l) (priorities (c.priorities).hold (c.priorities).setup))
 
@@ -55,7 +55,7 @@ abbrev pub one_or_none : Option FullLink → List FullLink
 one_or_none None = []
 one_or_none (Some f) = f ∷ []
 
--- those of the links that don't bear it, in their order
+-- those of the links on which it doesn't fit, in their order
 abbrev pub full_links : List (List ℤ) → Constraints → List ℕ → List FullLink
 full_links unreserved c [] = []
 full_links unreserved c (l ∷ ls) = one_or_none (first_full unreserved c l) ++ full_links unreserved c ls

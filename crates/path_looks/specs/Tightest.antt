@@ -8,7 +8,7 @@ use Rattle.path_looks.specs.declared.link_room.LinkRoom.{LinkRoom}
 abbrev pub room_on : List (List ℤ) → Constraints → ℕ → LinkRoom
 room_on unreserved c l = record { link = l; left = left unreserved l (c.priorities).setup }
 
--- of two links the one on which less is left; of equals the first
+-- the one of two links on which less is left; if both have the same, the first
 abbrev pub tighter : Option LinkRoom → LinkRoom → Option LinkRoom
 tighter None other = Some other
 tighter (Some best) other = if int_le best.left other.left then Some best else Some other

@@ -19,8 +19,8 @@ WritesScript old new fault input = (answers : Searches) × Allowed answers (line
 abbrev pub piece_bound : ℕ
 piece_bound = 4096
 
--- What all lines before the one with this number print was written, for answers that their searches may give: those
--- lines end in a front of the input. Of the bytes that were read, those that the front lacks are of the last piece.
+-- What all lines before the one with this number print was written, for answers that their searches may give. Those
+-- lines are the beginning of the input. The bytes that were read beyond them are of the last piece.
 pub record WritesBefore (number : ℕ) (old new left : Option (List ℕ)) (input : List ℕ) : Type 0 where
   pub front : List ℕ
   pub rest : List ℕ
@@ -42,21 +42,21 @@ pub record WritesRead (old new left : Option (List ℕ)) (input : List ℕ) : Ty
   pub allowed : Allowed answers (cut front).0 start
   pub written : Appends old new (text_of_lines answers front)
 
--- A bad line, a link text's fault and a full history come where they are the script's, after the text of
--- all lines before. Where a read failed, the whole lines that were read stand, and where memory ran out, those
--- before the line at which it did; after a failing write nothing is said.
+-- A bad line, a link text's fault and a full history come where the script has them, after the text of all lines
+-- before. If a read failed, the output has the whole lines that were read. If memory ran out, it has those before the
+-- line at which it did. After a failing write nothing is said.
 abbrev pub EndsBy : ScriptFault → Option (List ℕ) → Option (List ℕ) → Option (List ℕ) → List ℕ → Type 0
 EndsBy (OutOfMemory line) old new left input = WritesBefore line old new left input
 EndsBy ReadFault old new left input = WritesRead old new left input
 EndsBy WriteFault old new left input = Unit {0}
 EndsBy e old new left input = WritesScript old new (Some e) input
 
--- `Ok` comes where the script has no fault. `left` is what the reader has left.
+-- `Ok` comes if the script has no fault. `left` is what the reader has left.
 abbrev pub EndsAs : {X : Type 0} → Result X ScriptFault → Option (List ℕ) → Option (List ℕ) → Option (List ℕ) → List ℕ → Type 0
 EndsAs (Ok x) old new left input = WritesScript old new None input
 EndsAs (Err e) old new left input = EndsBy e old new left input
 
--- the search of the last line, where no line break follows it, may answer this
+-- the search of the last line, if it has no line break, may answer this
 abbrev pub MayClose : Option (List ℕ) → Stage → List ℕ → Type 0
 MayClose answer s [] = Unit {0}
 MayClose answer s (b ∷ bs) = IfOk (answer_of_line answer s (b ∷ bs)) (λ _. MayFind answer s.standing (b ∷ bs))
@@ -65,7 +65,7 @@ MayClose answer s (b ∷ bs) = IfOk (answer_of_line answer s (b ∷ bs)) (λ _. 
 abbrev pub WritesLast : Option (List ℕ) → Option (List ℕ) → Option ScriptFault → Stage → List ℕ → Type 0
 WritesLast old new fault s line = (answer : Option (List ℕ)) × MayClose answer s line × Writes old new fault (closed_with answer [] s line)
 
--- A fault at the end of the input: what the last line prints was written, or nothing where memory ran out.
+-- A fault at the end of the input: what the last line prints was written, or nothing if memory ran out.
 abbrev pub ClosesBy : ScriptFault → Option (List ℕ) → Option (List ℕ) → Stage → List ℕ → Type 0
 ClosesBy (OutOfMemory number) old new s line = (new ≡ old) × (number ≡ s.number)
 ClosesBy ReadFault old new s line = ⊥
@@ -77,7 +77,7 @@ abbrev pub Closes : {X : Type 0} → Result X ScriptFault → Option (List ℕ) 
 Closes (Ok x) old new s line = WritesLast old new None s line
 Closes (Err e) old new s line = ClosesBy e old new s line
 
--- What the end of the input leaves behind its last line, where this fault is the script's: no memory is taken.
+-- What the end of the input leaves after its last line, if this fault is the script's: nothing is allocated.
 abbrev pub ClosesAt : {X : Type 0} → Result X ScriptFault → Option (List ℕ) → Option (List ℕ) → Option ScriptFault → Type 0
 ClosesAt (Ok x) old new fault = Appends old new [] × (fault ≡ None)
 ClosesAt (Err (OutOfMemory number)) old new fault = ⊥

@@ -16,12 +16,12 @@ numbered number line.BadLine = BadLine number
 numbered number (line.Store database.OutOfMemory) = OutOfMemory number
 numbered number (line.Store database.HistoryFull) = HistoryFull
 
--- the fault of a link text, met at the line with this number; want of memory is given as such
+-- the fault of a link text, met at the line with this number; running out of memory is given as such
 abbrev pub te_numbered : ℕ → TeFault → ScriptFault
 te_numbered number te.OutOfMemory = OutOfMemory number
 te_numbered number fault = Te fault
 
--- want of memory is given as such, wherever it came
+-- running out of memory is given as such, wherever it came
 abbrev pub te_text : TeFault → List ℕ
 te_text te.OutOfMemory = codes "out of memory"
 te_text fault = codes "te fault " ++ decimal (fault_number fault)

@@ -27,7 +27,7 @@ abbrev pub after_line : Result (LineAnswer Stage) ScriptFault → Result (LineAn
 after_line (Ok t) = Ok (line_answer t.text (record { stage = t.after; pending = [] }))
 after_line (Err fault) = Err fault
 
--- one byte more, where the search of the line that it ends answers this
+-- one byte more, if the search of the line that it ends answers this
 abbrev pub took : Option (List ℕ) → Machine → ℕ → Result (LineAnswer Machine) ScriptFault
 took answer m byte = if byte == 10 then after_line (answer_of_line answer m.stage m.pending) else Ok (line_answer [] (record { stage = m.stage; pending = m.pending ++ byte ∷ [] }))
 
@@ -56,8 +56,8 @@ Leads answers bytes text m new n = fed answers bytes text m ≡ record { text = 
 abbrev pub Goes : Searches → List ℕ → List ℕ → Machine → List ℕ → Machine → Type 0
 Goes answers bytes text m new n = Leads answers bytes text m new n × AllowedBytes answers bytes m
 
--- What a call on the line with this number answers and leaves, where the script has this: where memory ran out it names
--- the line, and a line meets no fault of a reader or a writer.
+-- What a call on the line with this number answers and leaves, if the script has this. If memory ran out it names the
+-- line, and a line meets no fault of a reader or a writer.
 abbrev pub Fails : {Y : Type 0} → ℕ → ScriptFault → Result Y ScriptFault → Type 0
 Fails number (OutOfMemory line) given = line ≡ number
 Fails number ReadFault given = ⊥
@@ -70,8 +70,8 @@ abbrev pub AnswersLine : {X : Type 0} → (X → List ℕ) → Result X ScriptFa
 AnswersLine view (Ok x) line s t = (answer : Option (List ℕ)) × MayFind answer s.standing line × (answered answer s line ≡ Ok (line_answer (view x) t))
 AnswersLine view (Err e) line s t = Fails s.number e (answered None s line)
 
--- A fault at the line with this number, or at a byte of it: nothing was added. Where memory ran out it names the line,
--- and any other fault is the script's.
+-- A fault at the line with this number, or at a byte of it: nothing was added. If memory ran out it names the line, and
+-- any other fault is the script's.
 abbrev pub Halts : {A : Type 0} → ℕ → ScriptFault → Result A ScriptFault → List ℕ → List ℕ → Type 0
 Halts number (OutOfMemory line) given old new = (new ≡ old) × (line ≡ number)
 Halts number ReadFault given old new = ⊥
@@ -98,7 +98,7 @@ pub record LeadsPartly (bytes text : List ℕ) (m : Machine) (new : List ℕ) (n
   pub leads : Goes answers front text m new machine
   pub numbered : machine.stage.number ≡ number
 
--- A fault among some bytes. Where memory ran out, it did so at the line that it names.
+-- A fault among some bytes. If memory ran out, it did so at the line that it names.
 abbrev pub Breaks : ScriptFault → List ℕ → List ℕ → Machine → List ℕ → Type 0
 Breaks (OutOfMemory line) bytes old m new = LeadsPartly bytes old m new line
 Breaks ReadFault bytes old m new = ⊥
@@ -110,7 +110,7 @@ abbrev pub Feeds : {X : Type 0} → Result X ScriptFault → List ℕ → List �
 Feeds (Ok x) bytes old m new n = (answers : Searches) × Goes answers bytes old m new n
 Feeds (Err e) bytes old m new n = Breaks e bytes old m new
 
--- the last line, where no line break follows it
+-- the last line, if it has no line break
 abbrev pub closed_with : Option (List ℕ) → List ℕ → Stage → List ℕ → Outcome
 closed_with answer text s [] = record { text = text; fault = ending s.number s.standing }
 closed_with answer text s (b ∷ bs) = on_line_answer text (answer_of_line answer s (b ∷ bs)) (λ all t. record { text = all; fault = ending t.number t.standing })

@@ -1,4 +1,4 @@
--- Sessions in the places of a slab, with a list of places that says where each peer's session stands.
+-- Sessions in the places of a slab, with a list of places that says where each peer's session is.
 use Rattle.std.specs.Prelude.{◌≢◌, ℕ, List, [], ◌∷◌, Option, Some, None, IsSome}
 use Rattle.slab.specs.Slab.{Slab, get}
 use Rattle.engine_core.specs.declared.client.Client.{Client}

@@ -11,7 +11,7 @@ use Rattle.pce_engine.specs.Script.{Searches}
 use Rattle.pce_engine.specs.Ends.{piece_bound, WritesScript, WritesRead, WritesLast, EndsBy, ClosesBy}
 use Rattle.pce_engine.specs.Machine.{Machine, started, fed, AllowedBytes, Goes, LeadsPartly}
 
--- A fault stopped it, and what it printed before was written. Where memory ran out, that is what all lines of the piece
+-- A fault stopped it, and what it printed before was written. If memory ran out, that is what all lines of the piece
 -- before the one that it names print.
 abbrev pub Stops : ScriptFault → List ℕ → Machine → Option (List ℕ) → Option (List ℕ) → Type 0
 Stops (OutOfMemory line) bytes m old new = (text : List ℕ) × LeadsPartly bytes [] m text line × Appends old new text
@@ -32,7 +32,7 @@ Chunk (Err e) bytes m old new n = Stops e bytes m old new
 abbrev pub Gave : List ℕ → Option (List ℕ) → Option (List ℕ) → Type 0
 Gave bytes was now = Consumes was now bytes × (0 < length bytes) × (length bytes ≤ piece_bound)
 
--- A read gave nothing, for the input has ended.
+-- A read gave nothing, since the input has ended.
 abbrev pub GaveNothing : Option (List ℕ) → Option (List ℕ) → Type 0
 GaveNothing was now = Consumes was now [] × IsAtEnd now
 

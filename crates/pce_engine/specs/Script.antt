@@ -17,7 +17,7 @@ use Rattle.script_lines.specs.LineAnswer.{LineAnswer, line_answer, ◌>>=◌}
 
 -- ---- one line
 
--- the number of the next line, the link text so far, and what stands once the link text has ended
+-- the number of the next line, the link text so far, and the database and sessions once the link text has ended
 pub record Stage : Type 0 where
   pub number : ℕ
   pub header : List ℕ
@@ -41,7 +41,7 @@ abbrev pub numbered_header : Stage → Result (LineAnswer Stage) TeFault → Res
 numbered_header s (Ok t) = Ok t
 numbered_header s (Err fault) = Err (te_numbered s.number fault)
 
--- what a line behind the link text leaves; its fault gets its number
+-- what a line after the link text leaves; its fault gets its number
 abbrev pub numbered_line : Stage → Result (LineAnswer Standing) CommandFault → Result (LineAnswer Stage) ScriptFault
 numbered_line s (Ok t) = Ok (line_answer t.text (record s { standing = Some t.after }))
 numbered_line s (Err fault) = Err (numbered s.number fault)
@@ -50,7 +50,7 @@ abbrev pub answered_at : Option (List ℕ) → Stage → List ℕ → Option Sta
 answered_at answer s line None = numbered_header s (header_line s line)
 answered_at answer s line (Some standing) = numbered_line s (standing_line answer standing line)
 
--- what the line of the stage's number prints, and what it leaves, where its search answers this
+-- what the line of the stage's number prints, and what it leaves, if its search answers this
 unfoldable pub answered : Option (List ℕ) → Stage → List ℕ → Result (LineAnswer Stage) ScriptFault
 answered answer s line = answered_at answer s line s.standing
 
@@ -92,7 +92,7 @@ abbrev pub printed : Searches → List (List ℕ) → List ℕ → Stage → Out
 printed answers [] text s = record { text = text; fault = ending s.number s.standing }
 printed answers (line ∷ lines) text s = on_line_answer text (answer_of_line (answers s.number) s line) (printed answers lines)
 
--- what a script prints, and how it ends, where the searches of its lines answer this
+-- what a script prints, and how it ends, if the searches of its lines answer this
 abbrev pub script : Searches → List ℕ → Outcome
 script answers bytes = printed answers (lines_of bytes) [] start
 

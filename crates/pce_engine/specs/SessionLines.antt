@@ -9,7 +9,7 @@ use Rattle.script_lines.specs.declared.fault.CommandFault.{CommandFault}
 use Rattle.script_lines.specs.declared.fault.CommandFault.TheVariants.{BadLine}
 use Rattle.pce_engine.specs.declared.standing.Standing.{Standing}
 
--- a session that lives; else the line is bad
+-- an open session; else the line is bad
 abbrev pub live_or_bad : Option Client → Result Client CommandFault
 live_or_bad None = Err BadLine
 live_or_bad (Some c) = Ok c

@@ -1,4 +1,4 @@
--- The sessions that live, by their peers in rising order.
+-- The open sessions, by their peers in rising order.
 use Rattle.std.specs.Prelude.{ℕ, Bool, List, Option, if◌then◌else◌}
 use Rattle.std.specs.BTreeMap.{insert_entry, is_at}
 use Rattle.std.specs.Map.{lookup, set_value, remove_entry}
@@ -23,6 +23,6 @@ gone_if ended peer sessions = if ended then remove_entry (is_peer peer) sessions
 abbrev pub kept : ℕ → Client → Sessions → Sessions
 kept peer c sessions = gone_if (is_closed c.session.state) peer (set_value (is_peer peer) sessions c)
 
--- a session is new among them, unless it has ended
+-- a session is added, unless it has ended
 abbrev pub placed : ℕ → Client → Sessions → Sessions
 placed peer c sessions = if is_closed c.session.state then sessions else insert_entry nat_cmp sessions peer c

@@ -1,4 +1,4 @@
--- A script after its link text: the database, the sessions that live, and the moment.
+-- A script after its link text: the database, the open sessions, and the moment.
 use Rattle.std.specs.Prelude.{◌≡◌, ℕ, Bool, true, false, List, [], Option, Some, None, Result, Ok, Err, if◌then◌else◌}
 use Rattle.std.specs.Map.{keys_of}
 use Rattle.history_core.specs.Histories.{Content, nothing_happened}
@@ -22,11 +22,11 @@ use Rattle.script_lines.specs.declared.orders.Order.{Order}
 use Rattle.script_lines.specs.declared.orders.Order.TheVariants.{Report, Book, History, Open, Up, Bytes, End, Tick, Submit, Take, Roll}
 use Rattle.pce_engine.specs.declared.standing.Standing.{Standing}
 
--- the link text has ended: no session lives
+-- the link text has ended: there are no sessions
 abbrev pub at_start : Ted → Standing
 at_start te = record { database = nothing_happened te; sessions = []; moment_ms = 0 }
 
--- a line that changes the database alone
+-- a line that changes only the database
 abbrev pub with_database : Standing → LineAnswer Content → LineAnswer Standing
 with_database s t = line_answer t.text (record s { database = t.after })
 
@@ -34,7 +34,7 @@ with_database s t = line_answer t.text (record s { database = t.after })
 abbrev pub served_in_turn : List ℕ → Standing → Result (LineAnswer Standing) CommandFault
 served_in_turn peers s = each (λ peer. message_line peer []) peers s
 
--- every session that lives, in rising order of their peers
+-- every open session, in rising order of their peers
 unfoldable pub all_served : Standing → Result (LineAnswer Standing) CommandFault
 all_served s = served_in_turn (keys_of s.sessions) s
 
@@ -49,7 +49,7 @@ may_queue (Return peer plsp) = true
 may_queue (Delete peer plsp) = true
 may_queue event = false
 
--- then every session is served, behind what was printed
+-- then every session is served, after what was printed
 abbrev pub served_if : Bool → LineAnswer Standing → Result (LineAnswer Standing) CommandFault
 served_if queues t = if queues then behind t.text (all_served t.after) else Ok t
 
@@ -57,7 +57,7 @@ served_if queues t = if queues then behind t.text (all_served t.after) else Ok t
 unfoldable pub operator_line : Event → Standing → Result (LineAnswer Standing) CommandFault
 operator_line event s = event_line event s.database >>= λ t. served_if (may_queue event) (with_database s t)
 
--- what a line prints, and what stands after it, where its search answers this
+-- what a line prints, and the script after it, if its search answers this
 unfoldable pub obeyed : Option (List ℕ) → Order → Standing → Result (LineAnswer Standing) CommandFault
 obeyed answer (Report peer reports) s = report_line s.database peer reports >>= λ t. Ok (with_database s t)
 obeyed answer Book s = Ok (line_answer (book_text s.database.state) s)

@@ -22,7 +22,7 @@ is_rro object = false
 abbrev pub is_above_zero : Object → Bool
 is_above_zero object = nat_lt 0 (bandwidth_of object)
 
--- the bandwidth that an object asks for: the type of the bandwidth of an LSP that stands asks for none
+-- the bandwidth that an object asks for: the type for an existing LSP asks for none
 abbrev pub bandwidth_asked : Object → ℕ
 bandwidth_asked (objects.Bandwidth Requested bandwidth) = bandwidth
 bandwidth_asked object = 0
@@ -45,7 +45,7 @@ abbrev pub minimised_by : Object → Option MetricType
 minimised_by (objects.Metric metric) = if metric.bound then None else metric_type metric.metric_type
 minimised_by object = None
 
--- where no object says so, it is the TE metric
+-- if no object says so, it is the TE metric
 abbrev pub or_te : Option MetricType → MetricType
 or_te minimised = unwrap_or minimised Te
 

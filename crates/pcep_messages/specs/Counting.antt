@@ -69,7 +69,7 @@ abbrev pub bandwidth_of : Object → ℕ
 bandwidth_of (objects.Bandwidth kind bandwidth) = bandwidth
 bandwidth_of object = 0
 
--- the greatest of the objects' bandwidths; 0 where there is none
+-- the greatest of the objects' bandwidths, or 0 if there is none
 abbrev pub greatest_of : (Object → ℕ) → List Object → ℕ
 greatest_of bandwidth objects = fold max 0 (map bandwidth objects)
 

@@ -12,7 +12,7 @@ fault_number (BadP about) = 5
 fault_number (Refused kind value about) = 6
 fault_number OutOfMemory = 7
 
--- a fault that was returned is the one of reading, but want of memory may come in place of any answer
+-- a fault that was returned is the one of reading, unless memory ran out
 abbrev pub Fails : {Y : Type 0} → MessageFault → Result Y MessageFault → Type 0
 Fails OutOfMemory read = Unit {0}
 Fails fault read = read ≡ Err fault

@@ -22,7 +22,7 @@ abbrev pub is_srp : Object → Bool
 is_srp (objects.Srp srp) = true
 is_srp object = false
 
--- An SRP starts an item, and so does an LSP that doesn't stand right behind an SRP.
+-- An SRP starts an item, and so does an LSP that isn't right after an SRP.
 abbrev pub starts : (behind_srp : Bool) → Object → Bool
 starts behind_srp (objects.Srp srp) = true
 starts behind_srp (objects.Lsp lsp) = not behind_srp
@@ -33,7 +33,7 @@ abbrev pub up_to_start : (behind_srp : Bool) → List Object → List Object
 up_to_start behind_srp [] = []
 up_to_start behind_srp (object ∷ objects) = if starts behind_srp object then [] else object ∷ up_to_start (is_srp object) objects
 
--- each start with the objects behind it up to the next
+-- each start with the objects after it up to the next
 abbrev pub items_in : (behind_srp : Bool) → List Object → List (List Object)
 items_in behind_srp [] = []
 items_in behind_srp (object ∷ objects) =

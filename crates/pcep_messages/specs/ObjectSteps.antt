@@ -12,7 +12,7 @@ use Rattle.pcep_messages.specs.Objects.{Found, stopped_by, found_by}
 use Rattle.pcep_messages.specs.declared.objects.Next.{Next}
 use Rattle.pcep_messages.specs.declared.objects.Next.TheVariants as next
 
--- the length of an object that is skipped in place of a fault
+-- the length of an object that is skipped instead of being a fault
 abbrev pub skipped : Bool → ObjectFault → Option ℕ
 skipped checks_p (UnknownClass p n) = if checks_p && p then None else Some n
 skipped checks_p (UnknownType p n) = if checks_p && p then None else Some n
@@ -26,7 +26,7 @@ begun_by (Err fault) rest = stopped_by (fault_of fault)
 abbrev pub nothing_found : Found
 nothing_found = record { objects = []; fault = None }
 
--- what stands at the front of the bytes, behind the objects that are skipped
+-- what is at the front of the bytes, after the objects that are skipped
 abbrev pub IsNext : Bool → List ℕ → Next → Type 0
 IsNext checks_p bytes (next.Object front after) = (found_by checks_p bytes ≡ begun_by (body_of front.kind front.p front.body.now) (found_by checks_p after.now)) × (length after.now < length bytes)
 IsNext checks_p bytes (next.Bad fault) = found_by checks_p bytes ≡ stopped_by fault

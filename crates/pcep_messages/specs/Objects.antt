@@ -13,8 +13,8 @@ pub record Found : Type 0 where
 abbrev pub stopped_by : ObjectFault → Found
 stopped_by fault = record { objects = []; fault = Some fault }
 
--- What stands at the front, and the rest behind its bytes. An object of an unknown class or type is skipped; in a message that
--- checks their P flag, one that has to be processed is a fault.
+-- What is at the front, and the rest after its bytes. An object of an unknown class or type is skipped; in a message
+-- that checks their P flag, one that must be processed is a fault.
 abbrev pub followed_by : Bool → Result (Object × ℕ) ObjectFault → (ℕ → Found) → Found
 followed_by checks_p (Ok x) rest = record { objects = x.0 ∷ (rest x.1).objects; fault = (rest x.1).fault }
 followed_by checks_p (Err (UnknownClass p n)) rest = if checks_p && p then stopped_by (UnknownClass p n) else rest n
@@ -30,7 +30,7 @@ found_from checks_p zero (b ∷ bytes) = followed_by checks_p (object_at (b ∷ 
 abbrev pub found_by : Bool → List ℕ → Found
 found_by checks_p bytes = found_from checks_p 0 bytes
 
--- P counts in a request alone (RFC 5440 section 7.2)
+-- P counts only in a request (RFC 5440 section 7.2)
 abbrev pub found_in : List ℕ → Found
 found_in bytes = found_by false bytes
 

@@ -52,6 +52,6 @@ abbrev pub unless_bad : {A : Type 0} → Option ObjectFault → About → Result
 unless_bad None about read = read
 unless_bad (Some fault) about read = Err (BadObject fault about)
 
--- What a body with these objects reads as: about says what a fault behind the parts is about.
+-- What a body with these objects reads as. `about` says what a fault after the parts is about.
 abbrev pub read_parts : {A : Type 0} → (Parts → About) → (Parts → Result A MessageFault) → Found → Result A MessageFault
 read_parts about read found = unless_bad found.fault (about (parts_of found.objects)) (read (parts_of found.objects))

@@ -32,7 +32,7 @@ about_reply parts = about_first_rp parts.rp
 abbrev pub cost_of : Metric → Cost
 cost_of metric = record { metric_type = metric.metric_type; value = metric.value }
 
--- NO-PATH says that there is no path, also where an ERO stands beside it. Without either the ERO is missing.
+-- NO-PATH says that there is no path, even if there is an ERO. Without either the ERO is missing.
 abbrev pub answer_or_missing : About → Option NoPath → Option (List Hop) → Option Metric → Result Answer MessageFault
 answer_or_missing about (Some no_path) ero metric = Ok (answers.NoPath no_path.vector)
 answer_or_missing about None (Some hops) metric = Ok (answers.Found hops (option_map cost_of metric))

@@ -18,7 +18,7 @@ use Rattle.pcep_messages.specs.declared.items.ItemPosition.{ItemPosition}
 use Rattle.pcep_messages.specs.declared.items.ItemPosition.TheVariants.{InFront, BehindSrp, Within}
 use Rattle.pcep_messages.specs.declared.message.StateReport.{StateReport}
 
--- the reports of the items that have ended, what was read of the next, and where in it the reader stands
+-- the reports of the items that have ended, what was read of the next, and where in it the reader is
 pub record State : Type 0 where
   pub reports : List StateReport
   pub item : Item
@@ -43,12 +43,12 @@ abbrev pub ended : ItemPosition → List StateReport → Item → Result (List S
 ended InFront reports item = Ok reports
 ended place reports item = with_report reports (report_from item None)
 
--- an object that starts no item stands in one
+-- an object that starts no item is in one
 abbrev pub inside : ItemPosition → List StateReport → Item → Result State MessageFault
 inside InFront reports item = Err (Refused 6 8 about.Nothing)
 inside place reports item = Ok (record { reports = reports; item = item; place = Within })
 
--- the place behind such an object
+-- the place after such an object
 abbrev pub IsInside : ItemPosition → Result ItemPosition MessageFault → Type 0
 IsInside InFront result = result ≡ Err (Refused 6 8 about.Nothing)
 IsInside place result = result ≡ Ok Within

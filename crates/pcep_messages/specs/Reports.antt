@@ -42,7 +42,7 @@ abbrev pub colours_of : Option Lspa → Colours
 colours_of None = record { exclude_any = 0; include_any = 0; include_all = 0 }
 colours_of (Some lspa) = lspa.colours
 
--- local protection (flag L) is wanted only where an LSPA says so
+-- local protection (flag L) is wanted only if an LSPA says so
 abbrev pub is_protected : Option Lspa → Bool
 is_protected None = false
 is_protected (Some lspa) = lspa.local_protection
@@ -86,7 +86,7 @@ cut_off srp None fault = BadObject fault (about_srp (srp_id srp))
 cut_off srp (Some lsp) fault =
     if lacks_identifiers lsp then MissingIdentifiers (about_srp (srp_id srp)) else BadObject fault (about_srp (srp_id srp))
 
--- the objects of an item, and perhaps an object's own fault behind those
+-- the objects of an item, and perhaps an object's own fault after those
 abbrev pub report_of : List Object → Option ObjectFault → Result StateReport MessageFault
 report_of objects (Some fault) = Err (cut_off (first_of srp_of objects) (first_of lsp_of objects) fault)
 report_of objects None =
@@ -107,7 +107,7 @@ reports_of (item ∷ items) fault = do
   reports ← reports_of items fault
   Ok (report ∷ reports)
 
--- where there is no item, that is 6/8 (LSP missing), unless an object has a fault of its own
+-- if there is no item, that is 6/8 (LSP missing), unless an object has a fault of its own
 abbrev pub no_item : Option ObjectFault → MessageFault
 no_item None = Refused 6 8 about.Nothing
 no_item (Some fault) = BadObject fault about.Nothing

@@ -1,4 +1,5 @@
--- The requests of a PCReq (RFC 5440 section 6.4), or the first fault: SVECs, then requests, each an RP with the objects behind it.
+-- The requests of a PCReq (RFC 5440 section 6.4), or the first fault: SVECs, then requests, each an RP with the objects
+-- after it.
 use Rattle.std.specs.Prelude.{ℕ, Bool, true, false, not, ◌&&◌, List, [], ◌∷◌, Option, Some, None, Result, Ok, Err, if◌then◌else◌}
 use Rattle.std.specs.List.{list_any}
 use Rattle.std.specs.Option.{option_or}
@@ -43,7 +44,8 @@ abbrev pub kept_fault : About → Object → Option MessageFault
 kept_fault about (objects.Kept kept) = if kept.p then Some (Refused 4 1 about) else None
 kept_fault about object = None
 
--- the first fault at a place among a request's objects: its first END-POINTS has P clear (10/1), or such an object stands there
+-- the first fault at a place among a request's objects: its first END-POINTS has P clear (10/1), or there is such an
+-- object
 abbrev pub fault_in_place : About → List Object → Option MessageFault
 fault_in_place about [] = None
 fault_in_place about (objects.EndPoints ends ∷ behind) = if ends.p then first_of (kept_fault about) behind else Some (BadP about)
@@ -64,7 +66,7 @@ request_with rp ends plsp bandwidth lspa minimised bounds = record {
   bounds = bounds;
 }
 
--- a new path for an LSP that stands and has bandwidth needs the path that it takes
+-- a new path for an existing LSP with bandwidth needs the path that it takes
 abbrev pub lacks_rro : Rp → (has_rro : Bool) → (has_bandwidth : Bool) → Bool
 lacks_rro rp has_rro has_bandwidth = rp.reoptimize && not has_rro && has_bandwidth
 
@@ -85,7 +87,7 @@ abbrev pub request_or_fault : Rp → List Object → Option ObjectFault → Opti
 request_or_fault rp objects own (Some fault) = Err fault
 request_or_fault rp objects own None = request_or_own_fault rp objects own
 
--- An RP, the objects behind it up to the next RP, and perhaps an object's own fault behind those. The RP has to have P set.
+-- An RP, the objects after it up to the next RP, and perhaps an object's own fault after those. The RP must have P set.
 abbrev pub request_of : Rp → List Object → Option ObjectFault → Result PathRequest MessageFault
 request_of rp objects own =
     if not rp.p then Err (BadP (about_rp rp))
@@ -95,7 +97,7 @@ request_of rp objects own =
 abbrev pub own_fault : List Object → Option ObjectFault → Option ObjectFault
 own_fault objects fault = if list_any is_rp objects then None else fault
 
--- each RP with the objects behind it up to the next
+-- each RP with the objects after it up to the next
 abbrev pub requests_of : List Object → Option ObjectFault → Result (List PathRequest) MessageFault
 requests_of [] fault = Ok []
 requests_of (objects.Rp rp ∷ behind) fault = do
@@ -104,7 +106,8 @@ requests_of (objects.Rp rp ∷ behind) fault = do
   Ok (request ∷ requests)
 requests_of (object ∷ behind) fault = requests_of behind fault
 
--- In front of the first RP only SVECs may stand, which need not be taken into account: any other object is 6/1 (RP missing), an SVEC with P 4/1.
+-- Before the first RP there may only be SVECs, which need not be processed: any other object is 6/1 (RP missing), an
+-- SVEC with P 4/1.
 abbrev pub fault_of_kept : KeptClass → Bool → Option MessageFault
 fault_of_kept Svec p = if p then Some (Refused 4 1 about.Nothing) else None
 fault_of_kept Iro p = Some (Refused 6 1 about.Nothing)
@@ -114,7 +117,7 @@ abbrev pub fault_in_front : Object → Option MessageFault
 fault_in_front (objects.Kept kept) = fault_of_kept kept.class kept.p
 fault_in_front object = Some (Refused 6 1 about.Nothing)
 
--- where there is no RP, that is 6/1, unless an object has a fault of its own
+-- if there is no RP, that is 6/1, unless an object has a fault of its own
 abbrev pub no_request : Option ObjectFault → MessageFault
 no_request None = Refused 6 1 about.Nothing
 no_request (Some fault) = BadObject fault about.Nothing

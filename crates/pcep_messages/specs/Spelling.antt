@@ -100,7 +100,7 @@ create_objects create =
     ∷ end_points_object create.source create.destination ∷ objects.Ero create.ero
     ∷ constraint_objects create.attributes create.bandwidth
 
--- a deletion: SRP with R set, LSP with flag D alone
+-- a deletion: SRP with R set, LSP with only flag D
 abbrev pub remove_objects : ℕ → ℕ → List Object
 remove_objects srp plsp = srp_object true srp ∷ objects.Lsp (lsp_object plsp true false None) ∷ []
 
@@ -151,7 +151,7 @@ object_fits object = spelling.fits object
 abbrev pub objects_spelled : List Object → List ℕ
 objects_spelled objects = flat_map object_spelled objects
 
--- a body behind its header: version 1 and no flags, the type, the length with the header's
+-- a body after its header: version 1 and no flags, the type, the length with the header's
 abbrev pub message_spelled : ℕ → List ℕ → List ℕ
 message_spelled kind body = (0x20 ∷ kind ∷ []) ++ big_bytes 2 (length body + 4) ++ body
 

@@ -25,7 +25,7 @@ first_type class =
     else (if class == 33 then Some Srp
     else None))))))))))))))))
 
--- by class and type. BANDWIDTH alone has a type 2. None: it isn't known
+-- by class and type. Only BANDWIDTH has a type 2. None: it isn't known
 abbrev pub kind_at : ℕ → ℕ → Option Kind
 kind_at class number =
     if number == 1 then first_type class else (if class == 5 && number == 2 then Some CurrentBandwidth else None)

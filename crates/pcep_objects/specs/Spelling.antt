@@ -29,7 +29,7 @@ use Rattle.pcep_objects.specs.declared.object.Srp.{Srp}
 use Rattle.pcep_objects.specs.declared.object.Object.{Object}
 use Rattle.pcep_objects.specs.declared.object.Object.TheVariants as objects
 
--- a body behind its header: the class, the type with the P flag, the length with the header's
+-- a body after its header: the class, the type with the P flag, the length with the header's
 abbrev pub spelled : ℕ → ℕ → Bool → List ℕ → List ℕ
 spelled class number p body = (class ∷ (number * 16 + (if p then 2 else 0)) ∷ []) ++ big_bytes 2 (length body + 4) ++ body
 
@@ -62,7 +62,7 @@ lsp_word lsp =
     lsp.plsp * 2 ^ 12 + (if lsp.delegate then 0x001 else 0) + (if lsp.sync then 0x002 else 0) + (if lsp.remove then 0x004 else 0)
     + (if lsp.admin then 0x008 else 0) + operational_number lsp.operational * 0x010 + (if lsp.created then 0x080 else 0)
 
--- zeros behind a value, up to a multiple of 4
+-- zeros after a value, up to a multiple of 4
 abbrev pub zeros_after : List ℕ → List ℕ
 zeros_after value = replicate (padded (length value) - length value) 0
 
@@ -93,7 +93,7 @@ abbrev pub rsvp_error_written : Option RsvpError → List ℕ
 rsvp_error_written None = []
 rsvp_error_written (Some error) = (big_bytes 2 21 ++ big_bytes 2 12) ++ rsvp_error_value error
 
--- the TLVs behind the name
+-- the TLVs after the name
 abbrev pub details_written : Option Identifiers → Option ℕ → Option RsvpError → List ℕ
 details_written identifiers error_code rsvp_error =
     identifiers_written identifiers ++ error_code_written error_code ++ rsvp_error_written rsvp_error

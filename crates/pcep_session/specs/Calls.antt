@@ -1,4 +1,4 @@
--- The calls of a session, each one step on its contents. `next` stands in Turns.
+-- The calls of a session, each one step on its contents. `next` is in Turns.
 use Rattle.std.specs.Prelude.{◌≡◌, ℕ, max, true, false, ◌&&◌, List, [], ◌∷◌, ◌++◌, Option, Some, None, Result, Ok, Err, if◌then◌else◌}
 use Rattle.pcep_messages.specs.Notices.{error_text, notice_text}
 use Rattle.pcep_messages.specs.Spelling.{is_written, fits, written}
@@ -49,7 +49,7 @@ fed piece now_ms c = record c { bytes = c.bytes ++ piece; moment_ms = max c.mome
 abbrev pub fed_by : List ℕ → ℕ → Contents → Result Contents SessionFault
 fed_by piece now_ms c = if is_closed c.state then Err faults.Closed else Ok (fed piece now_ms c)
 
--- send: the one spelling of a message, where it has one
+-- send: the one spelling of a message, if it has one
 abbrev pub text_of : Message → Option (List ℕ)
 text_of message = if is_written message && fits message then Some (written message) else None
 
@@ -89,7 +89,7 @@ ended_by error reason c = if is_closed c.state then Err faults.Closed else Ok (e
 abbrev pub output_taken : Contents → Contents
 output_taken c = record c { output = [] }
 
--- memory is asked for only where the state allows the call
+-- memory is asked for only if the state allows the call
 abbrev pub IsAllowed : Result Contents SessionFault → Type 0
 IsAllowed (Err faults.Closed) = ⊥
 IsAllowed (Err faults.NotUp) = ⊥

@@ -19,7 +19,7 @@ abbrev pub NoTimerIsDue : Contents → List Input → Type 0
 NoTimerIsDue c [] = Unit {0}
 NoTimerIsDue c (i ∷ is) = (front_of c.bytes ≢ Waiting) × NoTimerIsDue (next c).after is
 
--- feed, with the session as before where it has ended
+-- feed, with the session as before if it has ended
 abbrev pub fed_or_same : List ℕ → ℕ → Contents → Contents
 fed_or_same piece now_ms c = or_same c (fed_by piece now_ms c)
 

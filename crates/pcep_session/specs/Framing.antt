@@ -1,4 +1,4 @@
--- What stands at the front of the bytes that a session has received (RFC 5440 section 6.1).
+-- What is at the front of the bytes that a session has received (RFC 5440 section 6.1).
 use Rattle.std.specs.Prelude.{ℕ, ◌/◌, ◌%◌, ◌^◌, ◌≤◌, Bool, true, false, not, ◌||◌, List, length, slice_index, nat_lt, ◌==◌, if◌then◌else◌}
 use Rattle.pcep_objects.specs.Steps.{field}
 use Rattle.pcep_session.specs.declared.framing.NextMessage.{NextMessage}
@@ -12,7 +12,7 @@ message_length bytes = field 2 2 bytes
 abbrev pub is_bad : List ℕ → Bool
 is_bad bytes = not (slice_index bytes 0 / 2 ^ 5 == 1) || nat_lt (message_length bytes) 4 || not (message_length bytes % 4 == 0)
 
--- A header is bad by its four bytes alone. Of a message that isn't whole nothing else is looked at.
+-- The four bytes of a header say whether it is bad. Of a message that isn't whole nothing else is looked at.
 unfoldable pub front_of : List ℕ → NextMessage
 front_of bytes =
     if nat_lt (length bytes) 4 then Waiting
@@ -20,7 +20,7 @@ front_of bytes =
     else (if nat_lt (length bytes) (message_length bytes) then Waiting
     else Whole (message_length bytes)))
 
--- How many bytes there must be until there is something to handle: the four of a header, and where it is good, those of
+-- How many bytes there must be until there is something to handle: the four of a header, and if it is good, those of
 -- its message.
 unfoldable pub bytes_needed : List ℕ → ℕ
 bytes_needed bytes =

@@ -90,7 +90,7 @@ on_accepted (messages.Close reason) = closed_by_peer reason
 on_accepted messages.Keepalive = goes_on Up Nothing
 on_accepted message = gives message
 
--- Up: an unrecognized message ends the session where it is the fifth within a minute
+-- Up: an unrecognized message ends the session if it is the fifth within a minute
 abbrev pub on_unrecognized : Bool → Reaction
 on_unrecognized false = goes_on Up (One (error 2 0))
 on_unrecognized true = closes (Two (error 2 0) (Close 5))

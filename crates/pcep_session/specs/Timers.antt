@@ -3,7 +3,7 @@ use Rattle.std.specs.Prelude.{◌≡◌, ◌<◌, ◌^◌, ℕ, Bool, false, not
 use Rattle.pcep_session.specs.Turns.{due_in}
 use Rattle.pcep_session.specs.declared.contents.Contents.{Contents}
 
--- a timer is due at this moment, where nothing comes or goes until then
+-- a timer is due at this moment, if nothing comes or goes until then
 abbrev pub is_due_at : ℕ → Contents → Bool
 is_due_at moment_ms c = is_some (due_in (record c { moment_ms = moment_ms }))
 

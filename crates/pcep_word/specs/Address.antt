@@ -28,7 +28,7 @@ octet_of (a ∷ b ∷ c ∷ []) =
     if is_leading a && is_digit b && is_digit c && nat_le ((a - 48) * 100 + (b - 48) * 10 + (c - 48)) 255 then Some ((a - 48) * 100 + (b - 48) * 10 + (c - 48)) else None
 octet_of _ = None
 
--- what stands before the first dot, and what stands after it
+-- the text before the first dot, and the text after it
 unfoldable pub cut : List ℕ → Option (List ℕ × List ℕ)
 cut [] = None
 cut (byte ∷ text) = if byte == 46 then Some ([], text) else option_map (λ (p : List ℕ × List ℕ). (byte ∷ p.0, p.1)) (cut text)
@@ -37,8 +37,8 @@ infixl 10 ◌>>=◌
 abbrev pub ◌>>=◌ : {A B : Type 0} → Option A → (A → Option B) → Option B
 o >>= f = option_and_then f o
 
--- The address that a text writes. That it is the inverse of text_of, and of nothing more, is in the
--- clauses of Ipv4::parse.
+-- The address that a text writes. The clauses of Ipv4::parse say that it is the inverse of text_of, and of nothing
+-- more.
 unfoldable pub address_of : List ℕ → Option ℕ
 address_of text = do
   first ← cut text

@@ -12,7 +12,7 @@ use Rattle.place_tokens.specs.declared.rule.View.{View}
 abbrev pub times : ℕ → List ℕ → ℕ
 times p xs = count_by (λ x. x == p) xs
 
--- one where the place is below n
+-- one if the place is below n
 abbrev pub once_below : ℕ → ℕ → ℕ
 once_below p n = if nat_lt p n then 1 else 0
 

@@ -65,6 +65,6 @@ row_after s row = record row { after = left_at s row.link row.priority }
 abbrev pub IsBefore : Content → Event → ℕ → LeftRow → Type 0
 IsBefore d e priority row = (row ≡ row_before d priority row.link) × Contains (links_in d.state.te e) row.link
 
--- rows behind others; of 65,536 the older half is dropped
+-- rows after others; of 65,536 the older half is dropped
 abbrev pub with_rows : List LeftRow → List LeftRow → List LeftRow
 with_rows rows old = (if nat_lt (length old) 65536 then old else drop 32768 old) ++ rows

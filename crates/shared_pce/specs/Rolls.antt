@@ -13,8 +13,8 @@ is_due at d = nat_le at.steps (length d.history) || nat_le at.bytes (kept_bytes 
 abbrev pub of_seat : RollAt → RollAt
 of_seat at = record { steps = 18446744073709551615; bytes = max (at.bytes / 16) 1048576 }
 
--- Beside receipts of rolled steps of so many bytes, which seats haven't folded, a history that is rolled at half of what it may
--- take is rolled earlier: once its kept steps take half of what those leave. But a roll drops the kept steps only, so there is a
--- megabyte of them at the least.
+-- Given receipts of rolled steps of so many bytes, which seats haven't folded, a history that is rolled at half of what
+-- it may take is rolled earlier: once its kept steps take half of what those leave. But a roll drops only the kept
+-- steps, so there is at least a megabyte of them.
 abbrev pub beside : ℕ → RollAt → RollAt
 beside unfolded at = record at { bytes = max (at.bytes - unfolded / 2) 1048576 }

@@ -22,11 +22,11 @@ use Rattle.step_core.specs.declared.event.Reply.TheVariants.{Asked, Refused}
 use Rattle.step_core.specs.Outcomes.{Outcome, decided, must_be_up, must_take_updates, must_take_initiations}
 use Rattle.step_core.specs.States.{State, peer_at, is_awaited_as}
 
--- the name is that of an LSP which the PCE asks for, or which it granted and no report named yet
+-- the name is that of an LSP which the PCE asks for, or which it granted and no report has named yet
 abbrev pub is_name_held : State → ℕ → List ℕ → Bool
 is_name_held s n name = is_name_asked s.tickets n name || list_any (is_awaited_as n name) s.names
 
--- the tests that go with the purpose
+-- the tests for the purpose
 abbrev pub may_be_asked : State → ℕ → Purpose → Option Why
 may_be_asked s n (purposes.Update plsp) = must_take_updates s.peers n ⨟ must_be_held s.base n plsp ⨟ unless (not (is_update_asked s.tickets n plsp)) Pending
 may_be_asked s n (purposes.Initiate name constraints) = must_take_initiations s.peers n ⨟ must_be_new s.base n name (is_name_held s n name)
@@ -52,7 +52,7 @@ missing_ends_of te c = missing_ends (node_of te.owners c.source) (node_of te.own
 abbrev pub must_have_ends : Ted → Constraints → Option Why
 must_have_ends te c = option_map UnknownNode (missing_ends_of te c)
 
--- 1,024 tickets stand at most
+-- there are at most 1,024 tickets
 abbrev pub may_have_one_more : List Ticket → Option Why
 may_have_one_more tickets = unless (nat_lt (length tickets) 1024) TooManyTickets
 

@@ -4,7 +4,7 @@ use Rattle.te_base.specs.Values.{values_in, with_all_values}
 use Rattle.step_core.specs.declared.base.Base.{Base}
 use Rattle.step_core.specs.States.{State}
 
--- what a state knows, where nodes, owners, and ends and addresses of links are given: all else of it
+-- what a state knows besides nodes, owners, and ends and addresses of links
 abbrev pub known_in : State → Base
 known_in s = record {
   values = values_in s.te;

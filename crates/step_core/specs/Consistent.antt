@@ -19,10 +19,10 @@ abbrev pub asked_as : Lsps → ℕ → ℕ → ℕ
 asked_as lsps peer srp = count (is_grant_as peer srp) lsps.paths + count (is_removed_as peer srp) lsps.records
 
 pub record IsConsistent (s : State) : Type 0 where
-  -- of each LSP at most one record stands, and none of PLSP-ID 0
+  -- each LSP has at most one record, and none has PLSP-ID 0
   pub distinct : AreDistinct s.base.records
   pub numbered : count (λ r. r.plsp == 0) s.base.records ≡ 0
-  -- of a peer no two grants or awaited removals have one SRP-ID
+  -- no two grants or awaited removals of a peer have the same SRP-ID
   pub asked : (peer srp : ℕ) → asked_as s.base peer srp ≤ 1
   -- an LSP has at most one grant
   pub grants : (peer plsp : ℕ) → (plsp == 0) ≡ false → count (is_grant_of peer plsp) s.base.paths ≤ 1
@@ -30,7 +30,7 @@ pub record IsConsistent (s : State) : Type 0 where
   pub kept : (peer plsp : ℕ) → (plsp == 0) ≡ false → count (is_record_of peer plsp) s.base.records ≤ count (is_path_of peer plsp) s.base.paths
   -- a name is held for each grant that no report has bound yet, and for no other
   pub names : (peer srp : ℕ) → count (is_of_grant peer srp) s.names ≡ count (is_unbound_grant peer (Some srp)) s.base.paths
-  -- a peer stands once
+  -- each peer is listed once
   pub peers : (number : ℕ) → count (is_peer number) s.peers ≤ 1
   -- tickets' numbers rise, none is above the last that was given, and none is searched for more than four times
   pub tickets : AreInOrder s.last_ticket s.tickets

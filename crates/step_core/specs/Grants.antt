@@ -1,4 +1,5 @@
--- What the PCE searches for and grants: a ticket is taken, its search is made outside, and the offer is committed.
+-- What the PCE searches for and grants: a ticket is taken, its search is made without the database, and the offer is
+-- committed.
 use Rattle.std.specs.Prelude.{ℕ, false, List, [], ◌∷◌, ◌++◌, length, option_map, unwrap_or, Option, Some, None}
 use Rattle.te_base.specs.Ted.{Ted}
 use Rattle.te_base.specs.declared.network.Link.{Link}
@@ -63,7 +64,7 @@ take_step s = taken s (first_waiting s.tickets)
 abbrev pub asking : State → ℕ → Effect → Message → State
 asking s n e message = record (affected s n e) { peers = put_peer s.peers (asked (peer_at s.peers n) message) }
 
--- the state after a message to a peer that takes no number
+-- the state after a message without a number to a peer
 abbrev pub saying : State → ℕ → Message → State
 saying s n message = record s { peers = put_peer s.peers (with_message (peer_at s.peers n) message) }
 
@@ -75,7 +76,7 @@ ended s t = record s { tickets = without_ticket s.tickets t.id }
 abbrev pub granting : Path → Effect
 granting g = effect_of [] (g ∷ []) [] false
 
--- what the peer is sent where the offer is good: an update, an initiation, or the reply to its request
+-- what the peer is sent if the offer is good: an update, an initiation, or the reply to its request
 abbrev pub message_of : List Link → ℕ → Constraints → List ℕ → Purpose → Message
 message_of links srp c numbers (purposes.Update plsp) = update_message links srp plsp c numbers
 message_of links srp c numbers (purposes.Initiate name constraints) = initiate_message links srp name c numbers
@@ -103,7 +104,7 @@ path_of s t links = offered_path s.base.records (next_number s t.peer) t links
 abbrev pub verdict_on : State → Ticket → Option (List ℕ) → Verdict
 verdict_on s t offer = verdict t (option_map (path_of s t) offer) s.base s.te (view_of s t.peer)
 
--- the grant stands, and the peer is asked for it
+-- the path is granted, and the peer is asked for it
 abbrev pub granted : State → Ticket → List ℕ → State
 granted s t links =
     let srp = next_number s t.peer in
@@ -114,7 +115,7 @@ granted s t links =
 abbrev pub answered : State → Ticket → List ℕ → State
 answered s t links = saying (ended s t) t.peer (message_of s.te.links (next_number s t.peer) t.constraints links t.purpose)
 
--- there is no path: a request is answered so
+-- there is no path: if it was for a request, that is the answer
 abbrev pub answered_in_vain : State → ℕ → Purpose → State
 answered_in_vain s n (purposes.Update plsp) = s
 answered_in_vain s n (purposes.Initiate name constraints) = s

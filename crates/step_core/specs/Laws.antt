@@ -12,8 +12,8 @@ use Rattle.ticket_table.specs.Tickets.{first_waiting, ticket_at}
 abbrev pub peer_of_ticket : Option Ticket → Option ℕ
 peer_of_ticket ticket = option_map (λ t. t.peer) ticket
 
--- the peer that an event is of, in a state: that of a ticket is the ticket's; where there is no ticket it is of none, and so
--- is a reload of links
+-- The peer of an event in a state: for a ticket it is the ticket's. If there is no such ticket the event has no peer,
+-- and neither has a reload of links.
 abbrev pub peer_of : State → Event → Option ℕ
 peer_of s (Up n sent) = Some n
 peer_of s (Report n r) = Some n
@@ -29,14 +29,14 @@ peer_of s Take = peer_of_ticket (first_waiting s.tickets)
 peer_of s (Commit id offer) = peer_of_ticket (ticket_at s.tickets id)
 peer_of s (Reload entries) = None
 
--- the number is another peer's; where an event is of no peer, each number is
+-- the number is another peer's; if an event has no peer, each number is
 abbrev pub is_other : Option ℕ → ℕ → Bool
 is_other None m = true
 is_other (Some n) m = not (m == n)
 
--- the paths and the records of all other peers and the names of what they were asked for are the same, whatever their
--- order; what is known of each of their LSPs is as it was; and so are their sessions, what waits for them to be sent, and
--- the tickets of what they are to be asked for, in the same order
+-- the paths and the records of all other peers and the names of what they were asked for are the same, in any order;
+-- what is known of each of their LSPs is as it was; and so are their sessions, what waits to be sent to them, and the
+-- tickets of what they are to be asked for, in the same order
 pub record OthersStay (peer : Option ℕ) (old new : State) : Type 0 where
   pub paths : IsPermutation (filter (λ x. is_other peer x.peer) old.base.paths) (filter (λ x. is_other peer x.peer) new.base.paths)
   pub records : IsPermutation (filter (λ r. is_other peer r.peer) old.base.records) (filter (λ r. is_other peer r.peer) new.base.records)
@@ -45,7 +45,7 @@ pub record OthersStay (peer : Option ℕ) (old new : State) : Type 0 where
   pub names : IsPermutation (filter (λ a. is_other peer a.peer) old.names) (filter (λ a. is_other peer a.peer) new.names)
   pub tickets : filter (λ t. is_other peer t.peer) new.tickets ≡ filter (λ t. is_other peer t.peer) old.tickets
 
--- the three counts rise by one at most, and none falls: a number of a session or a ticket is never used again
+-- the three counts rise by at most one, and none falls: the number of a session or a ticket is never used again
 pub record CountsRise (old new : State) : Type 0 where
   pub changes_kept : old.changes ≤ new.changes
   pub changes_rise : new.changes ≤ old.changes + 1
@@ -54,14 +54,14 @@ pub record CountsRise (old new : State) : Type 0 where
   pub tickets_kept : old.last_ticket ≤ new.last_ticket
   pub tickets_rise : new.last_ticket ≤ old.last_ticket + 1
 
--- what is unreserved on the entry's link has moved, at each priority, by the difference of the two reservable bandwidths,
--- and on no other link at all
+-- what is unreserved on the entry's link has moved, at each priority, by the difference of the two reservable
+-- bandwidths, and has moved on no other link
 pub record MovesAlone (entry : LinkReload) (old new : State) : Type 0 where
   pub there : (p : ℕ) → unreserved new.te.links new.base.paths entry.link p ≡ unreserved old.te.links old.base.paths entry.link p +ℤ (pos (entry.values).reservable -ℤ pos (reservable old.te.links entry.link))
   pub elsewhere : (l p : ℕ) → l ≢ entry.link → unreserved new.te.links new.base.paths l p ≡ unreserved old.te.links old.base.paths l p
 
--- the states differ in the order of their lists alone: the same paths, records and names stand in both, and all else is
--- equal, what waits for each peer to be sent too
+-- the states differ only in the order of their lists: both have the same paths, records and names, and all else is
+-- equal, what waits to be sent to each peer too
 pub record AreAlike (s t : State) : Type 0 where
   pub paths : IsPermutation s.base.paths t.base.paths
   pub records : IsPermutation s.base.records t.base.records

@@ -19,6 +19,6 @@ is_of_grant peer srp a = a.peer == peer && a.srp == srp
 abbrev pub key_of : AwaitedName → GrantKey
 key_of a = record { peer = a.peer; srp = a.srp }
 
--- each name stands under its grant's key
+-- each name is under its grant's key
 abbrev pub AreKeyed : List (GrantKey × AwaitedName) → Type 0
 AreKeyed entries = AllByRecursion (λ e. e.0 ≡ key_of e.1) entries

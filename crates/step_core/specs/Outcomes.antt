@@ -1,4 +1,4 @@
--- What an event comes to, and the tests that events share.
+-- The outcome of an event, and the tests that events share.
 use Rattle.std.specs.Prelude.{ℕ, not, List, Option, Some, None}
 use Rattle.lsp_base.specs.Refusals.{unless, ◌⨟◌}
 use Rattle.lsp_base.specs.declared.why.Why.{Why}

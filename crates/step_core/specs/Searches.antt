@@ -5,8 +5,8 @@ use Rattle.step_core.specs.declared.event.Reply.{Reply}
 use Rattle.step_core.specs.declared.event.Reply.TheVariants as reply
 use Rattle.step_core.specs.declared.job.Job.{Job}
 
--- a search may answer this to the job: the links of an admissible path of least cost that keeps the other bounds, or none
--- where there is no such path or a least one breaks an other bound
+-- a search may answer this to the job: the links of an admissible path of least cost that keeps the other bounds, or
+-- none if there is no such path or a least one breaks another bound
 abbrev pub MayAnswer : Job → Option (List ℕ) → Type 0
 MayAnswer job None = IsRefused job.snapshot (job.ticket).constraints job.own
 MayAnswer job (Some links) = (cost : ℕ) × IsAnswer job.snapshot (job.ticket).constraints job.own (record { links = links; cost = cost })

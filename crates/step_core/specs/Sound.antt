@@ -1,4 +1,4 @@
--- A grant takes nothing that isn't there.
+-- A grant takes no bandwidth that isn't there.
 use Rattle.std.specs.Prelude.{ℕ, ◌≡◌, ◌≤◌, ◌++◌, true, List, [], ◌∷◌, Some, pos, ◌≤ℤ◌}
 use Rattle.lsp_base.specs.Shares.{has_link, rises, unreserved}
 use Rattle.lsp_base.specs.declared.path.Path.{Path}
@@ -13,7 +13,7 @@ use Rattle.ticket_table.specs.Tickets.{ticket_at}
 abbrev pub IsCovered : State → State → Path → ℕ → Type 0
 IsCovered old new g setup = (l p : ℕ) → has_link l g ≡ true → p ≤ setup → rises old.base.paths g l p ≡ true → pos 0 ≤ℤ unreserved new.te.links new.base.paths l p
 
--- the event is the commit of an offer for a ticket that stands; the offer's path is one path more, and it is covered
+-- the event is the commit of an offer for an existing ticket; the offer's path is the only new one, and it is covered
 pub record IsSoundGrant (old : State) (event : Event) (new : State) : Type 0 where
   pub ticket : Ticket
   pub links : List ℕ

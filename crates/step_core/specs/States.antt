@@ -17,7 +17,7 @@ use Rattle.step_core.specs.declared.peer.Peer.{Peer}
 pub record State : Type 0 where
   pub te : Ted
   pub base : Lsps
-  -- the names of granted initiations that no report named yet
+  -- the names of granted initiations that no report has named yet
   pub names : List AwaitedName
   pub peers : List Peer
   -- in the order in which they were asked for
@@ -43,7 +43,7 @@ is_known peers n = is_some (find (is_peer n) peers)
 abbrev pub no_capabilities : Capabilities
 no_capabilities = record { update = false; create = false }
 
--- what counts for a peer that isn't known
+-- what holds for a peer that isn't known
 abbrev pub unknown_peer : ℕ → Peer
 unknown_peer n = record { number = n; up = false; session = 0; capabilities = no_capabilities; syncing = false; last_srp = 0; outgoing = [] }
 
@@ -53,12 +53,12 @@ peer_at peers n = unwrap_or (find (is_peer n) peers) (unknown_peer n)
 abbrev pub is_up : State → ℕ → Bool
 is_up s n = (peer_at s.peers n).up
 
--- the peer set: in its place where it is known, else as the last
+-- the peer set: in its place if it is known, else as the last
 abbrev pub put_peer : List Peer → Peer → List Peer
 put_peer [] p = p ∷ []
 put_peer (q ∷ ps) p = if is_peer p.number q then p ∷ ps else q ∷ put_peer ps p
 
--- a peer in a new session; it synchronizes where it sent the capability (RFC 8231 section 5.6)
+-- a peer in a new session; it synchronizes if it sent the capability (RFC 8231 section 5.6)
 abbrev pub in_session : Peer → ℕ → Option Capabilities → Peer
 in_session p session sent = record p { up = true; session = session; capabilities = unwrap_or sent no_capabilities; syncing = is_some sent }
 
@@ -78,7 +78,7 @@ emptied p = record p { outgoing = [] }
 abbrev pub asked : Peer → Message → Peer
 asked p message = record p { last_srp = next_srp p.last_srp; outgoing = p.outgoing ++ message ∷ [] }
 
--- a peer to which a message waits to be sent that takes no number
+-- a peer to which a message without a number waits to be sent
 abbrev pub with_message : Peer → Message → Peer
 with_message p message = record p { outgoing = p.outgoing ++ message ∷ [] }
 
@@ -103,7 +103,7 @@ has_waiting s = is_some (first_waiting s.tickets)
 
 -- ---- names of initiations
 
--- a granted initiation of the peer that no report named yet has the name
+-- a granted initiation of the peer has the name and no report has named it yet
 abbrev pub is_awaited_as : ℕ → List ℕ → AwaitedName → Bool
 is_awaited_as peer name a = a.peer == peer && same_links a.name name
 
@@ -111,7 +111,7 @@ is_awaited_as peer name a = a.peer == peer && same_links a.name name
 abbrev pub is_grant_of_name : AwaitedName → Path → Bool
 is_grant_of_name a x = is_unbound_grant a.peer (Some a.srp) x
 
--- a name goes with its grant: of each path that goes the first, and the last one takes its place
+-- a name goes with its grant: for each path that goes the first such name, and the last one takes its place
 abbrev pub names_without : List AwaitedName → List Path → List AwaitedName
 names_without names [] = names
 names_without names (x ∷ gone) = names_without (without_first (λ a. is_grant_of_name a x) names) gone

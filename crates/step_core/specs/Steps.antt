@@ -1,4 +1,4 @@
--- One event: its tests in their order, and what it does where all of them pass.
+-- One event: its tests in their order, and what it does if all of them pass.
 use Rattle.std.specs.Prelude.{ℕ, ◌+◌, Bool, false, ◌&&◌, ◌||◌, not, List, [], length, filter, Option, Some, None, Result, Ok, Err, nat_lt}
 use Rattle.lsp_words.specs.declared.object.Capabilities.{Capabilities}
 use Rattle.pcep_messages.specs.declared.message.StateReport.{StateReport}

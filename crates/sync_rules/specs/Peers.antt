@@ -1,4 +1,4 @@
--- What the life of a peer's session does to its paths and records (RFC 8231 sections 5.4 and 5.6).
+-- What the start and end of a peer's session do to its paths and records (RFC 8231 sections 5.4 and 5.6).
 use Rattle.std.specs.Prelude.{ℕ, Bool, false, ◌==◌, ◌&&◌, not, [], map, filter, Option, Some, None}
 use Rattle.lsp_base.specs.Lsps.{Lsps, dropping, no_effect, effect_of}
 use Rattle.lsp_base.specs.declared.path.Path.{Path}

@@ -11,7 +11,7 @@ use Rattle.te_base.specs.declared.network.Owner.{Owner}
 abbrev pub node_under : String Global × ℕ → Node
 node_under e = record { name = string_bytes e.0; id = e.1 }
 
--- each owner stands under its own address
+-- each owner is under its own address
 abbrev pub AreKeyed : List (ℕ × Owner) → Type 0
 AreKeyed entries = AllByRecursion (λ e. e.0 ≡ e.1.address) entries
 

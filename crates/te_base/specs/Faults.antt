@@ -22,13 +22,13 @@ abbrev pub ◌>>=◌ : {A B : Type 0} → Result A TeFault → (A → Result B T
 (Ok x) >>= f = f x
 (Err e) >>= f = Err e
 
--- a value that has to be there
+-- a value that must be there
 abbrev pub some_or : {A : Type 0} → TeFault → Option A → Result A TeFault
 some_or fault None = Err fault
 some_or fault (Some x) = Ok x
 
--- What a function answered, seen by view, is what a definition gives. Want of memory alone is no part
--- of a definition, and may come in place of any answer.
+-- What a function answered, seen by view, is what a definition gives. Only running out of memory is no part of a
+-- definition. It may come in place of any answer.
 abbrev pub Fails : {Y : Type 0} → TeFault → Result Y TeFault → Type 0
 Fails OutOfMemory given = Unit {0}
 Fails fault given = given ≡ Err fault
@@ -37,7 +37,7 @@ abbrev pub Gives : {X Y : Type 0} → (X → Y) → Result X TeFault → Result 
 Gives view (Ok x) given = given ≡ Ok (view x)
 Gives view (Err e) given = Fails e given
 
--- the same of a function that changes a value: where it succeeds, the definition gives the value after it
+-- the same for a function that changes a value: if it succeeds, the definition gives the value after it
 abbrev pub Leaves : {X Y : Type 0} → Result X TeFault → Result Y TeFault → Y → Type 0
 Leaves (Ok x) given new = given ≡ Ok new
 Leaves (Err e) given new = Fails e given

@@ -1,4 +1,4 @@
--- The fields of a link text's tables as they stand, of any value.
+-- The fields of a link text's tables, of any value.
 use Rattle.std.specs.Prelude.{ℕ, ℤ, codes, List, [], ◌∷◌, Option, Some, None, Result, Ok, option_and_then}
 use Rattle.toml.specs.Data.{Data, Items, no_items, item, Members, as_str, as_integer, as_array, as_table, get_member}
 use Rattle.te_base.specs.declared.fault.TeFault.{TeFault}
@@ -44,7 +44,7 @@ link_text t = do
   reservable ← number_at (codes "reservable") t
   Ok (record { from = from; to = to; local = near; remote = far; igp = igp; te = te; colour = colour; reservable = reservable })
 
--- each item of an array has to be a table
+-- each item of an array must be a table
 abbrev pub tables_of : Items → Result (List Members) TeFault
 tables_of no_items = Ok []
 tables_of (item d more) = some_or MissingField (as_table d) >>= λ t. tables_of more >>= λ ts. Ok (t ∷ ts)
@@ -53,6 +53,6 @@ abbrev pub tables_in : Option Data → Result (List Members) TeFault
 tables_in None = Ok []
 tables_in (Some d) = some_or MissingField (as_array d) >>= tables_of
 
--- the tables of the array at a key, and none where the key is absent
+-- the tables of the array at a key; none if the key is absent
 abbrev pub tables_at : List ℕ → Members → Result (List Members) TeFault
 tables_at key t = tables_in (get_member key t)

@@ -15,7 +15,7 @@ abbrev pub with_owner : List Owner → ℕ → ℕ → Option ℕ → Result (Li
 with_owner owners address node None = Ok (owners ++ record { address = address; node = node } ∷ [])
 with_owner owners address node (Some other) = if other == node then Ok owners else Err AddressTwice
 
--- the owners, with one more address; it may be there already where the same node owns it
+-- the owners, with one more address; the address may be there already if the same node owns it
 abbrev pub owned : List Owner → ℕ → ℕ → Result (List Owner) TeFault
 owned owners address node = with_owner owners address node (owner_of owners address)
 

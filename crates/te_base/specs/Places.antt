@@ -1,4 +1,4 @@
--- Where the first fault of a link text stands.
+-- Where the first fault of a link text is.
 use Rattle.std.specs.Prelude.{ℕ, ◌≡◌, codes, ◌+◌, List, [], ◌∷◌, length, Result, Ok, Err}
 use Rattle.toml.specs.Data.{Members}
 use Rattle.toml.specs.Parse.{parse_document}
@@ -12,7 +12,7 @@ use Rattle.te_base.specs.Faults.{some_or}
 use Rattle.te_base.specs.Fields.{tables_at}
 use Rattle.te_base.specs.LinkText.{with_node, with_link, few_enough}
 
--- a step's fault stands here
+-- a step's fault is here
 abbrev pub placed : {A : Type 0} → FaultPlace → Result A TeFault → Result A PlacedFault
 placed place (Ok x) = Ok x
 placed place (Err fault) = Err (record { fault = fault; place = place })
@@ -51,7 +51,7 @@ abbrev pub unplaced : {A : Type 0} → Result A PlacedFault → Result A TeFault
 unplaced (Ok x) = Ok x
 unplaced (Err e) = Err e.fault
 
--- What a function answered, seen by view, is what a definition gives; want of memory may come in place of any answer.
+-- What a function answered, seen by view, is what a definition gives, unless memory ran out.
 abbrev pub FailsAt : {Y : Type 0} → TeFault → PlacedFault → Result Y PlacedFault → Type 0
 FailsAt OutOfMemory e given = Unit {0}
 FailsAt fault e given = given ≡ Err e

@@ -12,7 +12,7 @@ use Rattle.te_base.specs.Values.{Values, checked_values}
 abbrev pub name_of : List ℕ → Result (List ℕ) TeFault
 name_of text = if nat_le 1 (length text) && nat_le (length text) 64 then Ok text else Err OutOfRange
 
--- a dotted address other than 0.0.0.0, which is no node's
+-- a dotted address other than 0.0.0.0, which no node has
 abbrev pub address_in : List ℕ → Result ℕ TeFault
 address_in text = some_or OutOfRange (address_of text) >>= λ address. if address == 0 then Err OutOfRange else Ok address
 
@@ -27,7 +27,7 @@ node_value t = do
   id ← address_in t.id
   Ok (record { name = name; id = id })
 
--- the addresses of a link; the names of its ends have to be names, whether or not a node has them
+-- the addresses of a link; the names of its ends must be names, whether or not a node has them
 unfoldable pub link_addresses : LinkText → Result (ℕ × ℕ) TeFault
 link_addresses t = do
   from ← name_of t.from

@@ -23,7 +23,7 @@ same_ends l k = (l.from == k.from && l.to == k.to) && (l.local == k.local && l.r
 abbrev pub same_network : Ted → Ted → Bool
 same_network a b = pointwise same_node a.nodes b.nodes && pointwise same_ends a.links b.links
 
--- the values where the text has the nodes and the ends of the links of the network
+-- the values, if the text has the nodes and the ends of the links of the network
 abbrev pub values_for : Ted → Ted → Result (List Values) TeFault
 values_for base other = if same_network base other then Ok (values_in other) else Err OtherLinks
 

@@ -1,4 +1,4 @@
--- A network as its link text says it: nodes and links by their numbers, and who owns which address.
+-- A network as its link text describes it: nodes and links by their numbers, and who owns which address.
 use Rattle.std.specs.Prelude.{ℕ, ◌≢◌, ◌<◌, ◌≤◌, ◌^◌, List, [], length, All}
 use Rattle.te_base.specs.declared.network.Node.{Node}
 use Rattle.te_base.specs.declared.network.Link.{Link}

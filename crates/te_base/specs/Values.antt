@@ -1,4 +1,5 @@
--- The values of a link that may change while its network stands: its metrics, its colours and how much may be reserved.
+-- The values of a link that may change while its network stays the same: its metrics, its colours and how much may be
+-- reserved.
 use Rattle.std.specs.Prelude.{ℕ, zero, suc, ◌≡◌, ◌<◌, ◌^◌, ◌&&◌, Bool, nat_le, List, [], ◌∷◌, Option, Some, None, if◌then◌else◌, map}
 use Rattle.te_base.specs.declared.network.Link.{Link}
 use Rattle.te_base.specs.Ted.{Ted}
@@ -20,7 +21,7 @@ pub record AreInRange (v : Values) : Type 0 where
 abbrev pub is_metric : ℕ → Bool
 is_metric n = nat_le 1 n && nat_le n 16777215
 
--- these numbers as values of a link, none where one is out of its range
+-- these numbers as values of a link; none if one is out of its range
 unfoldable pub checked_values : (igp te colour reservable : ℕ) → Option Values
 checked_values igp te colour reservable =
     if is_metric igp && is_metric te && nat_le colour 4294967295 && nat_le reservable 281474976710655
@@ -48,7 +49,7 @@ ends_in l = record { from = l.from; to = l.to; local = l.local; remote = l.remot
 
 -- ---- of all links, each at its number
 
--- the link of this number with other values; nothing changes where there is none
+-- the link of this number with other values; nothing changes if there is none
 abbrev pub set_values : List Link → ℕ → Values → List Link
 set_values [] n v = []
 set_values (l ∷ ls) zero v = with_values l v ∷ ls
@@ -74,7 +75,7 @@ values_in b = map values_of b.links
 abbrev pub with_all_values : Ted → List Values → Ted
 with_all_values b vs = with_links_of b (set_all_values b.links vs)
 
--- both are one network, but for the values of its links
+-- both are the same network, apart from the values of its links
 pub record IsSameNetwork (a b : Ted) : Type 0 where
   pub nodes : a.nodes ≡ b.nodes
   pub owners : a.owners ≡ b.owners

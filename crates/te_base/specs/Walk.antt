@@ -1,7 +1,7 @@
--- The links that a route uses, from the start's owner hop by hop. A route names addresses: of an explicit
--- route (RFC 3209 section 4.3.3) or of a recorded one (section 4.4). An address of the current node, as that
--- of the interface that the route leaves it by, is remembered; one of another node leads there. Loose hops
--- are walked like strict ones, so a hop that passes several links uses none.
+-- The links that a route uses, from the start's owner hop by hop. A route names addresses: of an explicit route (RFC
+-- 3209 section 4.3.3) or of a recorded one (section 4.4). An address of the current node, for instance of the interface
+-- by which the route leaves it, is remembered. One of another node leads there. Loose hops are walked like strict ones,
+-- so a hop that passes several links uses none.
 use Rattle.std.specs.Prelude.{ℕ, Bool, ◌==◌, ◌&&◌, List, [], ◌∷◌, ◌++◌, Option, Some, None, if◌then◌else◌, position, fold, length, slice_index_or, false, ◌≡◌, ◌<◌}
 use Rattle.std.specs.List.{list_any}
 use Rattle.std.specs.Option.{option_or}
@@ -43,8 +43,8 @@ with_link_once links (Some link) = if list_any (λ l. l == link) links then link
 abbrev pub AreMarks : List Bool → List ℕ → Type 0
 AreMarks marks links = (l : ℕ) → l < length marks → slice_index_or marks l false ≡ list_any (λ k. k == l) links
 
--- An address that no node owns does nothing. One of the current node is remembered in place of an
--- earlier one. One of another node leads there, where nothing is remembered.
+-- An address that no node owns does nothing. One of the current node is remembered instead of an earlier one. One of
+-- another node leads there, and then nothing is remembered.
 abbrev pub moved : Ted → Position → ℕ → Option ℕ → Position
 moved base p address None = p
 moved base p address (Some node) =

@@ -14,8 +14,8 @@ use Rattle.te_snapshot.specs.Room.{has_room}
 
 -- ---- links
 
--- the link's colours are none of the excluded ones, one of those to include unless none is named, and all
--- of those to include wholly (RFC 3209 section 4.7.4)
+-- the link has none of the excluded colours, one of those of which any must be included (unless there are none), and
+-- all of those that must all be included (RFC 3209 section 4.7.4)
 abbrev pub colours_pass : Colours → ℕ → Bool
 colours_pass c colour =
     bit_and colour c.exclude_any == 0
@@ -34,7 +34,7 @@ metric Hops l = 1
 
 -- ---- paths, as lists of link numbers
 
--- the links are there, and lead from a to b, each from where the one before it ends
+-- the links exist and lead from a to b, each from where the one before it ends
 abbrev pub IsJoined : List Link → ℕ → List ℕ → ℕ → Type 0
 IsJoined links a [] b = a ≡ b
 IsJoined links a (n ∷ ns) b = (l : Link) × (slice_get links n ≡ Some l) × (l.from ≡ a) × IsJoined links l.to ns b
@@ -63,12 +63,12 @@ abbrev pub nodes_of : List Link → ℕ → List ℕ → List ℕ
 nodes_of links a [] = a ∷ []
 nodes_of links a (n ∷ ns) = a ∷ nodes_of links (end_of (slice_get links n)) ns
 
--- no number stands there twice
+-- no number is in the list twice
 abbrev pub is_distinct : List ℕ → Bool
 is_distinct [] = true
 is_distinct (x ∷ xs) = not (list_any (λ y. y == x) xs) && is_distinct xs
 
--- the node that owns the address of an end; none where the end isn't given
+-- the node that owns the address of an end; none if the end isn't given
 abbrev pub node_of : List Owner → Option ℕ → Option ℕ
 node_of owners None = None
 node_of owners (Some address) = owner_of owners address

@@ -1,4 +1,4 @@
--- What a topology holds, without where it lies in memory.
+-- What a topology holds, wherever it is in memory.
 use Rattle.std.specs.Prelude.{ℕ, ◌≡◌, length}
 use Rattle.std.specs.Arc.{arc_value}
 use Rattle.te_snapshot.specs.declared.topology.Topology.TheInside.{Inside}

@@ -5,7 +5,7 @@ use Rattle.std.specs.declared.alloc.Global.{Global}
 use Rattle.te_base.specs.declared.network.Link.{Link}
 use Rattle.te_snapshot.specs.declared.outgoing.Outgoing.{Outgoing}
 
--- a link as the node that it leaves sees it
+-- a link as seen from the node that it leaves
 abbrev pub arc_of : ℕ → Link → Outgoing
 arc_of number l = record { number = number; to = l.to; igp = l.igp; te = l.te; colour = l.colour }
 
@@ -18,12 +18,12 @@ leaving_from number (l ∷ ls) node =
 abbrev pub leaving : List Link → ℕ → List Outgoing
 leaving links node = leaving_from 0 links node
 
--- a link the other way round
+-- a link turned round
 abbrev pub turned : Link → Link
 turned l = record { from = l.to; to = l.from; local = l.remote; remote = l.local; igp = l.igp; te = l.te; colour = l.colour; reservable = l.reservable }
 
--- the links that enter the node, in the order of their numbers, each the other way round: it reaches the node
--- that the link leaves
+-- the links that enter the node, in the order of their numbers, each turned round: it reaches the node that the link
+-- leaves
 abbrev pub entering : List Link → ℕ → List Outgoing
 entering links node = leaving (map turned links) node
 
@@ -31,7 +31,7 @@ abbrev pub revalued : Option Link → Outgoing → Outgoing
 revalued None a = a
 revalued (Some l) a = record { number = a.number; to = a.to; igp = l.igp; te = l.te; colour = l.colour }
 
--- a link as a node at its end sees it, with the values that it has among these links
+-- a link as seen from a node at its end, with the values that it has among these links
 abbrev pub arc_now : List Link → Outgoing → Outgoing
 arc_now links a = revalued (slice_get links a.number) a
 

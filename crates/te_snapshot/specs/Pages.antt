@@ -9,12 +9,12 @@ use Rattle.te_base.specs.declared.network.Link.{Link}
 use Rattle.te_snapshot.specs.declared.marks.Marks.{Marks}
 use Rattle.te_snapshot.specs.declared.table.Table.TheInside.{Inside}
 
--- the row at a place of a page, none where the page is missing
+-- the row at a place of a page; none if the page is missing
 abbrev pub row_in : Option (Arc (List (List ℤ)) Global) → ℕ → List ℤ
 row_in None place = []
 row_in (Some page) place = slice_index_or (arc_value page) place []
 
--- 64 links that follow one another have their rows in one page
+-- 64 consecutive links have their rows in one page
 abbrev pub row_at : List (Arc (List (List ℤ)) Global) → ℕ → List ℤ
 row_at pages l = row_in (slice_get pages (l / 64)) (l % 64)
 

@@ -1,5 +1,5 @@
--- Whether links bear a bandwidth. The paths of one tunnel share what they reserve on a common link, so a
--- path adds to a link only what its tunnel's share rises by (RFC 3209 section 2.4.3).
+-- Whether a bandwidth fits on links. The paths of one tunnel share what they reserve on a common link, so a path adds
+-- to a link only what its tunnel's share rises by (RFC 3209 section 2.4.3).
 use Rattle.std.specs.Prelude.{ℕ, ℤ, pos, ◌==◌, ◌||◌, ◌-◌, Bool, nat_le, int_le, List, [], Option, Some, None, find, slice_index, slice_index_or}
 use Rattle.std.specs.List.{list_all}
 use Rattle.lsp_base.specs.Shares.{priorities}
@@ -22,6 +22,6 @@ abbrev pub has_room_at : List (List ℤ) → List OwnShare → ℕ → ℕ → �
 has_room_at unreserved own bandwidth l p =
     nat_le bandwidth (own_share own l p) || int_le (pos (bandwidth - own_share own l p)) (left unreserved l p)
 
--- the link bears the bandwidth at each priority from holding to setup
+-- the bandwidth fits on the link at each priority from holding to setup
 abbrev pub has_room : List (List ℤ) → List OwnShare → ℕ → ℕ → ℕ → ℕ → Bool
 has_room unreserved own bandwidth hold setup l = list_all (has_room_at unreserved own bandwidth l) (priorities hold setup)

@@ -1,4 +1,4 @@
--- What a snapshot holds, without where it lies in memory.
+-- What a snapshot holds, wherever it is in memory.
 use Rattle.std.specs.Prelude.{◌≡◌, length}
 use Rattle.std.specs.Arc.{arc_value}
 use Rattle.te_snapshot.specs.declared.snapshot.Snapshot.TheInside.{Inside}

@@ -1,4 +1,4 @@
--- Paths that are asked for: tickets, in the order in which they were asked for, so in rising order of their numbers.
+-- Tickets, which are paths that are asked for, in the order in which they were asked for. So their numbers rise.
 use Rattle.std.specs.Prelude.{ℕ, ◌≡◌, ◌+◌, ◌≤◌, Bool, true, false, ◌==◌, ◌&&◌, not, nat_lt, nat_le, List, [], ◌∷◌, find, Option, if◌then◌else◌}
 use Rattle.std.specs.List.{AllByRecursion, list_any, list_all}
 use Rattle.std.specs.Map.{values_of}
@@ -59,7 +59,7 @@ abbrev pub drop_first : {X : Type 0} → (X → Bool) → List X → List X
 drop_first test [] = []
 drop_first test (x ∷ xs) = if test x then xs else x ∷ drop_first test xs
 
--- a search for it begins, where paths came or went, or links were reloaded, this often so far
+-- a search for it begins; paths came or went, or links were reloaded, this often so far
 abbrev pub searched_for : ℕ → Ticket → Ticket
 searched_for changes t = record t { taken = true; tries = t.tries + 1; seen = changes }
 
@@ -108,11 +108,11 @@ pub record TicketTable : Type 0 where
 
 -- ---- the table: a map of the tickets by their numbers
 
--- each ticket stands under its own number
+-- each ticket is under its own number
 abbrev pub AreNumbered : List (ℕ × Ticket) → Type 0
 AreNumbered entries = AllByRecursion (λ e. e.0 ≡ e.1.id) entries
 
--- what a table keeps: its tickets stand under their numbers, and in order
+-- what a table keeps: its tickets are under their numbers, and in order
 pub record IsKept (last : ℕ) (entries : List (ℕ × Ticket)) : Type 0 where
   pub numbered : AreNumbered entries
   pub order : AreInOrder last (values_of entries)
