@@ -1,4 +1,4 @@
--- What a seat ends as if its hand was lent.
+-- What a seat is after its hand was lent.
 use Rattle.std.specs.Prelude.{Option}
 use Rattle.std.specs.Borrow.{Lends, Fml, RattleType, MutBor}
 use Rattle.std.specs.contracts.option.Option as option
