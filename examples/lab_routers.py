@@ -3,6 +3,7 @@
 They live as long as the process that made them: it has namespaces of its own for mounts, networks and processes, so nothing of them is
 on the machine's disk, among its interfaces or among its processes after it has ended, however it ends.
 """
+import json
 import os
 import subprocess
 import time
@@ -110,6 +111,8 @@ class Routers:
             self.add_namespace(name)
         for trunk in TRUNKS:
             self.add_trunk(trunk)
+        # FRR's isisd never advertises the link-params of an interface that was still down when isisd heard of it
+        wait_until("the interfaces don't come up", lambda: all(self.are_up(name) for name in NAMES))
         for name in NAMES:
             self.add_daemons(name)
 
@@ -125,6 +128,11 @@ class Routers:
         for end in trunk.ends:
             run("ip", "-n", end, "address", "add", f"{trunk.address(end)}/30", "dev", trunk.interface(end))
             run("ip", "-n", end, "link", "set", trunk.interface(end), "up")
+
+    def are_up(self, name):
+        """Whether the kernel has all interfaces of a router up: it notices within a second that the other end is there."""
+        states = {link["ifname"]: link["operstate"] for link in json.loads(run("ip", "-n", name, "-json", "link"))}
+        return all(states[trunk.interface(name)] == "UP" for trunk in trunks_of(name))
 
     def add_daemons(self, name):
         folder = f"{RUN}/{name}"
