@@ -1,49 +1,30 @@
-"""Routers, and a running server, for `bench/serve`, `bench/replies`, `bench/soak`, `bench/storm`, `bench/http` and `bench/loop`."""
+"""Routers, and a running server, for the programs of bench.
+
+This is where bench finds the packages of tests (`pcep`, `harness`): its programs import this module before them.
+"""
 import multiprocessing
 import os
 import socket
-import struct
 import subprocess
+import sys
 import time
 
 ROOT = os.path.dirname(os.path.dirname(os.path.realpath(__file__)))
+sys.path.append(f"{ROOT}/tests")
+import pcep
+from pcep import diamond
+
 PORT, ECHO_PORT = 41890, 41891
 fork = multiprocessing.get_context("fork")
 
 
-def message(kind, body):
-    return struct.pack(">BBH", 0x20, kind, 4 + len(body)) + body
-
-
-def thing(kind, sort, body, must=0):
-    return struct.pack(">BBH", kind, sort << 4 | must, 4 + len(body)) + body
-
-
-OPEN = message(1, bytes.fromhex("01100010201e78000010000400000005"))
-KEEPALIVE = message(2, b"")
-A, B, D = (bytes([10, 0, 0, n]) for n in (1, 2, 4))
-
-
-def lsp(number, flags, ends):
-    return thing(32, 1, struct.pack(">I", number << 12 | flags) + ends)
-
-
-END_OF_SYNC = message(10, lsp(0, 0, struct.pack(">HH16s", 0x12, 16, bytes(16))) + thing(7, 1, b""))
-
-
-def report(number, flags, bandwidth):
-    """Of the LSP with this PLSP-ID over B, up and not delegated; bandwidth in bytes a second."""
-    ends = struct.pack(">HH4sHH4s4s", 0x12, 16, A, 1, number, A, D)
-    route = b"".join(bytes([1, 8, 10, link, 0, 2, 32, 0]) for link in (1, 2))
-    attributes = struct.pack(">III4B", 0, 0, 0, 7, 0, 0, 0)
-    body = lsp(number, flags, ends) + thing(7, 1, route) + thing(9, 1, attributes)
-    return message(10, body + thing(5, 1, struct.pack(">f", bandwidth)))
+def say(text):
+    print(text, file=sys.stderr, flush=True)
 
 
 def request(number):
     """A path from A to D, for 1,000 bytes a second."""
-    asked = thing(2, 1, struct.pack(">II", 0, number), 2) + thing(4, 1, A + D, 2)
-    return message(3, asked + thing(5, 1, struct.pack(">f", 1000.0), 2))
+    return diamond.request(number, 1000.0)
 
 
 class Router:
@@ -73,24 +54,23 @@ class Router:
         """The next message of this type. Others are passed over."""
         while True:
             head = self.take(4)
-            _, kind, length = struct.unpack(">BBH", head)
-            body = self.take(length - 4)
-            if kind == 6:
+            kind, body = head[1], self.take(int.from_bytes(head[2:], "big") - 4)
+            if kind == pcep.PCERR:
                 raise SystemExit(f"a PCErr: {body.hex()}")
             if kind == wanted:
                 return head + body
 
     def come_up(self):
-        self.send(OPEN + KEEPALIVE)
-        self.hear(1)
-        self.hear(2)
+        self.send(pcep.OPEN + pcep.KEEPALIVE)
+        self.hear(pcep.OPEN_TYPE)
+        self.hear(pcep.KEEPALIVE_TYPE)
 
     def synchronize(self):
-        self.send(END_OF_SYNC)
+        self.send(pcep.END_OF_SYNC)
 
     def ask(self, number):
         self.send(request(number))
-        self.hear(4)
+        self.hear(pcep.PCREP)
 
 
 class Server:

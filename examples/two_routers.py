@@ -3,7 +3,7 @@
 # route yet, 127.0.1.2 has none. They stay up and do nothing that they are asked. Look at what `pced tell` shows (docs/OPERATOR.md,
 # "Lines that show"); at Enter a third LSP is delegated, by C. `pced decode` says the messages in words.
 #
-#   two_routers.py [ADDR:PORT [SECONDS]]     (127.0.0.1:4189; SECONDS between two messages, 0.2)
+#   two_routers.py [ADDR:PORT [SECONDS]]     (127.0.0.1:4189; SECONDS between two messages, 0.2; `enter`: Enter after each)
 import socket
 import sys
 import time
@@ -13,8 +13,8 @@ SECONDS = sys.argv[2] if len(sys.argv) > 2 else "0.2"
 HOST, _, PORT = SERVER.rpartition(":")
 if not PORT.isdecimal():
     sys.exit(f"the server is an ADDR:PORT, and not {SERVER}")
-if not SECONDS.replace(".", "", 1).isdecimal():
-    sys.exit(f"SECONDS is a number, and not {SECONDS}")
+if SECONDS != "enter" and not SECONDS.replace(".", "", 1).isdecimal():
+    sys.exit(f"SECONDS is a number or `enter`, and not {SECONDS}")
 # (Keepalive and DeadTimer 0: the routers may be silent)
 OPEN, KEEPALIVE = "20010014 01100010 20000000 00100004 00000005", "20020004"
 SYNCHRONIZED = "200a0024 2010001c 00000000 00120010 00000000 00000000 00000000 00000000 07100004"
@@ -26,12 +26,20 @@ LSP_8 = """200a0050 2010001c 00008019 00120010 0a000001 00010008 0a000001 0a0000
     07100014 01080a03 00022000 01080a04 00022000 09100014 00000000 00000000 00000000 07000000 05100008 48435000"""
 
 
+def pause():
+    """Waits between two messages."""
+    if SECONDS == "enter":
+        input("Enter: the next message ")
+    else:
+        time.sleep(float(SECONDS))
+
+
 def connected(address, *pieces):
     """A router that sends these pieces, one after the other."""
     router = socket.create_connection((HOST, int(PORT)), source_address=(address, 0))
     for piece in pieces:
         router.sendall(bytes.fromhex(piece))
-        time.sleep(float(SECONDS))
+        pause()
     return router
 
 

@@ -30,10 +30,10 @@ end_server() {
 reload() {
     heard=yes
     answer=$("$program" tell "$control" reload 2>&1)
-    [ "$answer" = done ] || echo "pced: reload: $answer" >&2
+    [ "$answer" = "done" ] || echo "pced: reload: $answer" >&2
 }
 
-server= heard= folder= ends=
+server='' heard='' folder='' ends=''
 trap 'ends=yes; end_server' TERM INT
 trap '[ -z "$server" ] || reload' HUP
 

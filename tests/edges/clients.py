@@ -5,7 +5,12 @@ import subprocess
 import threading
 import time
 
-from .base import CLOSE, KEEPALIVE, OPEN, SOON, Router, comes, descriptors, end, http, paced, serve, tell, threads, time_of_request, up
+import pcep
+from harness.clock import SOON, Timed, comes, paced
+from harness.process import descriptors, threads
+from harness.router import Router, time_of_request, up
+from harness.server import ENDED, ControlledServer, ViewedServer, all_of, end, line_of
+from pcep import diamond
 
 REFUSED = b"refused 1\n"
 
@@ -19,18 +24,18 @@ def tells(server, line, within=SOON):
 
 def idle_operators(program):
     """Beside four operators who say nothing others are heard, and `end` is; who has been idle longest makes room."""
-    server = tell.Server(program)
+    server = ControlledServer(program)
     idle = [server.connect() for _ in range(4)]
     idle[1].sendall(b"update 10.0.0.9 ")
     time.sleep(1.5)
     for place in (0, 2, 3):
         idle[place].sendall(b"update 10.0.0.9 1\n")
-        yield tell.line_of(idle[place]), REFUSED
+        yield line_of(idle[place]), REFUSED
     yield tells(server, "update 10.0.0.9 1", 5), (REFUSED, 0, True)
-    yield tell.all_of(idle[1]), b""
+    yield all_of(idle[1]), b""
     time.sleep(1.5)
     idle[0].sendall(b"update 10.0.0.9 1\n")
-    yield tell.line_of(idle[0]), REFUSED
+    yield line_of(idle[0]), REFUSED
     again = [server.connect() for _ in range(6)]
     time.sleep(0.1)
     begun = paced()
@@ -42,7 +47,7 @@ def idle_operators(program):
 
 def operators_who_trickle(program):
     """Operators who send a byte now and then, or ask and ask and read nothing, don't keep `end` from being heard."""
-    server = tell.Server(program)
+    server = ControlledServer(program)
     is_over = threading.Event()
     hogs = [server.connect() for _ in range(4)]
 
@@ -77,7 +82,7 @@ def operators_who_trickle(program):
 
 def idle_viewers(program):
     """Beside eight viewers who ask each half second, or hang in a request, another one is answered soon."""
-    server = http.Server(program)
+    server = ViewedServer(program)
     viewers = [server.view() for _ in range(8)]
     is_over = threading.Event()
 
@@ -105,12 +110,12 @@ def idle_viewers(program):
         late.close()
     is_over.set()
     [act.join() for act in acts]
-    yield end(server), tell.ENDED
+    yield end(server), ENDED
 
 
 def a_crowd_that_left(program):
     """After a crowd has gone there are as many descriptors and threads as before."""
-    server = http.Server(program)
+    server = ViewedServer(program)
     first = up(server, 1), server.connect(), server.view()
     time.sleep(0.3)
     [each.close() for each in first]
@@ -120,7 +125,7 @@ def a_crowd_that_left(program):
         router = Router(server, 1 + number % 100)
         try:
             if number % 3:
-                router.send(bytes(4) if number % 3 == 1 else OPEN[:9])
+                router.send(bytes(4) if number % 3 == 1 else pcep.OPEN[:9])
         except OSError:
             pass
         if number % 5:
@@ -132,7 +137,7 @@ def a_crowd_that_left(program):
     [each.close() for each in [*silent, *operators, *viewers]]
     yield comes(lambda: (descriptors(server.process), threads(server.process)) <= before, 15) or (
         descriptors(server.process), threads(server.process), before), True
-    yield end(server), tell.ENDED
+    yield end(server), ENDED
 
 
 def connect_fast(port, place, until):
@@ -150,18 +155,18 @@ def connect_fast(port, place, until):
 
 def a_flood(program):
     """Beside two processes that connect and drop as fast as they can, a router has its Open within two seconds, and comes up."""
-    server = tell.Server(program)
+    server = ControlledServer(program)
     floods = [multiprocessing.Process(target=connect_fast, args=(server.port, place, time.monotonic() + 10)) for place in range(2)]
     [flood.start() for flood in floods]
     time.sleep(1)
     greeted, waits = [], []
-    with serve.Timed() as timed:
+    with Timed() as timed:
         for number in range(1, 7):
             begun = time.monotonic()
             router = Router(server, number)
             try:
-                router.send(OPEN + KEEPALIVE)
-                greeted.append(router.hear() == OPEN and router.hear() == KEEPALIVE)
+                router.send(pcep.OPEN + pcep.KEEPALIVE)
+                greeted.append(router.hear() == pcep.OPEN and router.hear() == pcep.KEEPALIVE)
             except OSError as fault:
                 greeted.append(repr(fault))
             waits.append(time.monotonic() - begun)
@@ -169,32 +174,32 @@ def a_flood(program):
     [flood.join() for flood in floods]
     yield greeted, [True] * 6
     yield timed.is_within(2, max(waits)), True
-    yield end(server), tell.ENDED
+    yield end(server), ENDED
 
 
 def a_quick_answer(program):
     """What an operator asks of a router is sent at once, and a run of five routers ends soon."""
-    server = tell.Server(program)
+    server = ControlledServer(program)
     routers = [up(server, number) for number in range(1, 6)]
     router = routers[0]
     yield server.asked(f"initiate {router.address} t1 10.0.0.1 10.0.0.4 500000 7 0")[0][:6], b"asked "
-    yield router.hear_of(serve.PCINITIATE)[:2], bytes([0x20, serve.PCINITIATE])
-    router.send(serve.report(5, 500000.0, flags=0x99, request=1))
+    yield router.hear_of(pcep.PCINITIATE)[:2], bytes([0x20, pcep.PCINITIATE])
+    router.send(diamond.report(5, 500000.0, flags=0x99, request=1))
     time_of_request(router, 1)
     begun = paced()
     yield server.asked(f"delete {router.address} 5"), (b"removing 2\n", 0)
-    yield router.hear_of(serve.PCINITIATE)[:2], bytes([0x20, serve.PCINITIATE])
+    yield router.hear_of(pcep.PCINITIATE)[:2], bytes([0x20, pcep.PCINITIATE])
     yield paced() - begun < 5, True
-    router.send(serve.report(6, 1000.0, flags=0x19))
+    router.send(diamond.report(6, 1000.0, flags=0x19))
     time_of_request(router, 2)
     begun = paced()
     yield server.asked(f"return {router.address} 6"), (b"done\n", 0)
-    yield router.hear_of(serve.PCUPD)[:2], bytes([0x20, serve.PCUPD])
+    yield router.hear_of(pcep.PCUPD)[:2], bytes([0x20, pcep.PCUPD])
     yield paced() - begun < 5, True
     begun = paced()
     ending = threading.Thread(target=server.asked, args=("end",))
     ending.start()
-    yield [each.hear_of(7) for each in routers], [CLOSE] * 5
+    yield [each.hear_of(7) for each in routers], [pcep.CLOSE] * 5
     yield paced() - begun < 5, True
     ending.join()
     yield end(server)[1], (0, [])

@@ -6,9 +6,10 @@ import socket
 import subprocess
 import tempfile
 
-from .base import SOON, comes, end, paced, resident, serve, tell
-
-TE = serve.TE
+from harness.clock import SOON, comes, paced
+from harness.logs import STAMPED
+from harness.process import resident
+from harness.server import BOOK, ENDED, TE, ControlledServer, all_of, asked, end
 
 
 def started(program, *words, te=TE, **how):
@@ -29,13 +30,13 @@ def others_files(program):
     os.makedirs(f"{folder}/other")
     os.symlink(f"{folder}/theirs", f"{folder}/other/pced.new")
     before = sorted(os.listdir(folder))
-    server = tell.Server(program, folder=folder)
-    yield server.asked("book"), (tell.BOOK, 0)
+    server = ControlledServer(program, folder=folder)
+    yield server.asked("book"), (BOOK, 0)
     yield server.asked("end"), (b"", 0)
     yield server.process.wait(timeout=SOON), 0
     yield sorted(os.listdir(folder)), before
-    server = tell.Server(program, folder=f"{folder}/other")
-    yield server.asked("book"), (tell.BOOK, 0)
+    server = ControlledServer(program, folder=f"{folder}/other")
+    yield server.asked("book"), (BOOK, 0)
     yield server.asked("end"), (b"", 0)
     yield server.process.wait(timeout=SOON), 0
     yield [os.path.exists(f"{folder}/{name}") for name in ("theirs/s", "pced.new/s", "pced.lock", "other/pced.new")], [True] * 4
@@ -51,11 +52,11 @@ def two_on_one_path(program):
                 dead.bind(f"{folder}/pced")
         words = [program, "serve", "--te", TE, "--listen", "127.0.0.1:0", "--endless", "--control", f"{folder}/pced"]
         servers = [subprocess.Popen(words, stdin=subprocess.DEVNULL, stdout=subprocess.DEVNULL, stderr=subprocess.DEVNULL) for _ in range(6)]
-        comes(lambda: sum(each.poll() is None for each in servers) <= 1, 12)
+        comes(lambda: sum(each.poll() is None for each in servers) <= 1)
         alive = [each for each in servers if each.poll() is None]
         yield len(alive), 1
-        yield tell.asked(program, f"{folder}/pced", "end"), (b"", 0)
-        yield comes(lambda: all(each.poll() is not None for each in servers), 10), True
+        yield asked(program, f"{folder}/pced", "end"), (b"", 0)
+        yield comes(lambda: all(each.poll() is not None for each in servers)), True
         yield sorted(each.wait() for each in servers if each.poll() is not None), [0, 3, 3, 3, 3, 3]
         yield os.listdir(folder), []
         for each in servers:
@@ -67,14 +68,14 @@ def two_on_one_path(program):
 def anothers_socket(program):
     """A server whose socket was replaced by another server's leaves that where it is when it ends."""
     folder = tempfile.mkdtemp()
-    first = tell.Server(program, folder=folder, stdin=subprocess.PIPE)
+    first = ControlledServer(program, folder=folder, stdin=subprocess.PIPE)
     os.remove(first.path)
-    second = tell.Server(program, folder=folder)
+    second = ControlledServer(program, folder=folder)
     first.process.stdin.write(b"end\n")
     yield first.process.wait(timeout=SOON), 0
     yield os.path.exists(second.path), True
-    yield second.asked("book"), (tell.BOOK, 0)
-    yield end(second), tell.ENDED
+    yield second.asked("book"), (BOOK, 0)
+    yield end(second), ENDED
 
 
 def a_reload_of_a_pipe(program):
@@ -82,7 +83,7 @@ def a_reload_of_a_pipe(program):
     folder = tempfile.mkdtemp()
     te = f"{folder}/te"
     shutil.copy(TE, te)
-    server = tell.Server(program, te=te)
+    server = ControlledServer(program, te=te)
     for make in (lambda: os.mkfifo(te), lambda: os.mkdir(te), lambda: os.symlink("/dev/zero", te), lambda: large_file(te)):
         (os.rmdir if os.path.isdir(te) else os.remove)(te)
         make()
@@ -92,7 +93,7 @@ def a_reload_of_a_pipe(program):
             operator.sendall(line.encode() + b"\n")
             operator.shutdown(socket.SHUT_WR)
             try:
-                yield tell.all_of(operator)[:12], b"device fault"
+                yield all_of(operator)[:12], b"device fault"
             except TimeoutError as fault:
                 yield repr(fault), b"device fault"
             operator.close()
@@ -157,7 +158,7 @@ def why_it_cannot_start(program):
         file.write("stays")
     with open(f"{folder}/bad.toml", "w") as file:
         file.write(open(TE).read().replace("10.1.0.1", "10.1.0.300"))
-    live = tell.Server(program, folder=folder)
+    live = ControlledServer(program, folder=folder)
     cases = [
         (["--te", f"{folder}/none.toml"], 3, "device fault", [f"{folder}/none.toml", "No such file or directory"]),
         (["--te", folder], 3, "device fault", [folder]),
@@ -183,7 +184,7 @@ def why_it_cannot_start(program):
     yield open(f"{folder}/file").read(), "stays"
     os.remove(f"{folder}/file")
     os.remove(f"{folder}/bad.toml")
-    yield end(live), tell.ENDED
+    yield end(live), ENDED
 
 
 def a_settle_that_waits_for_nothing(program):
@@ -203,7 +204,7 @@ def many_links(program):
             file.write(nodes + links)
 
     write(1000)
-    server = tell.Server(program, te=f"{folder}/te")
+    server = ControlledServer(program, te=f"{folder}/te")
     write(2000)
     changes = server.asked("reload check")[0].decode().splitlines()
     yield changes, [f"link {n} reservable 1000 2000" for n in range(300)] + ["below zero 0"]
@@ -211,18 +212,18 @@ def many_links(program):
     links = [link for document in server.shown("links") for link in document["links"]]
     yield sorted({link["reservable_bytes_per_second"] for link in links}), [2000]
     yield server.asked("reload check"), (b"nothing changes\n", 0)
-    yield end(server), tell.ENDED
+    yield end(server), ENDED
     shutil.rmtree(folder)
 
 
 def the_log_of_a_file(program):
-    """Lines of the log have their times where JOURNAL_STREAM is set, but standard error is a file."""
+    """Lines of the log have their times if JOURNAL_STREAM is set, but standard error is a file."""
     with tempfile.TemporaryFile() as log:
         subprocess.run([program, "serve", "--te", TE, "--listen", "127.0.0.1:0", "--endless"], stdin=subprocess.DEVNULL,
                        stdout=subprocess.DEVNULL, stderr=log, env={**os.environ, "JOURNAL_STREAM": "8:12345"}, timeout=SOON)
         log.seek(0)
         lines = log.read().decode().splitlines()
-    yield len(lines) > 1 and all(serve.STAMPED.match(line) for line in lines), True
+    yield len(lines) > 1 and all(STAMPED.match(line) for line in lines), True
 
 
 CASES = [

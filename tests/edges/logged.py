@@ -4,11 +4,16 @@ import re
 import socket
 import time
 
-from .base import CLOSE, END_OF_SYNC, KEEPALIVE, OPEN, comes, end_with_log, serve, tell, threads, time_of_request, up
+import pcep
+from harness.clock import SOON, comes
+from harness.exposition import ends_of
+from harness.router import time_of_request, up
+from harness.server import ControlledServer, ViewedServer, end_with_log
+from pcep import diamond
 
 # the kinds of lines of a session that comes, has a report refused, and goes, on a server that keeps nothing
 KINDS = ("up", "in sync", "refused", "ended", "forgotten")
-REFUSED = serve.report(0, 1000.0)
+REFUSED = diamond.report(0, 1000.0)
 
 
 def counted(texts, *kinds):
@@ -21,7 +26,7 @@ def counted(texts, *kinds):
 def from_address(server, number):
     """A connection from an address that no other number has."""
     each = socket.socket()
-    each.settimeout(serve.SOON)
+    each.settimeout(SOON)
     each.bind((f"127.1.{number // 250}.{1 + number % 250}", 0))
     each.connect(("127.0.0.1", server.port))
     return each
@@ -30,14 +35,14 @@ def from_address(server, number):
 def come_and_go(server, number):
     """A session of an address of its own, up to its end."""
     with from_address(server, number) as router:
-        router.sendall(OPEN + KEEPALIVE + REFUSED + END_OF_SYNC + CLOSE)
+        router.sendall(pcep.OPEN + pcep.KEEPALIVE + REFUSED + pcep.END_OF_SYNC + pcep.CLOSE)
         while router.recv(4096):
             pass
 
 
 def lost_lines(program):
     """While nobody reads the log, lines that find no room are lost; how many is said once, and then the log goes on."""
-    server = tell.Server(program, "--endless", "--keep", "0", "--log", "debug")
+    server = ControlledServer(program, "--endless", "--keep", "0", "--log", "debug")
     fcntl.fcntl(server.process.stderr, fcntl.F_SETPIPE_SZ, 4096)
     # (1,024 lines wait at most. Of a kind less than a hundred come in a second, so that none is withheld)
     for number in range(280):
@@ -59,14 +64,14 @@ def lost_lines(program):
 
 def a_hundred_lines_over_all(program):
     """Of lines of one kind a hundred are written in a second at most, whatever routers they are about."""
-    server = tell.Server(program, "--endless")
+    server = ViewedServer(program, "--endless")
     server.keep_log()
     router = up(server, 1)
     time_of_request(router, 1)
-    before, begun = threads(server.process), time.monotonic()
+    begun = time.monotonic()
     for number in range(600):
         from_address(server, number).close()
-    yield comes(lambda: threads(server.process) <= before), True
+    yield comes(lambda: ends_of(server) == 600) or ends_of(server), True
     most = 100 * (time.monotonic() - begun + 2)
     time.sleep(1.5)
     said, status, texts = end_with_log(server)

@@ -2,41 +2,48 @@
 import threading
 import time
 
-from .base import (CLOSE, END_OF_SYNC, HASTY, KEEPALIVE, OPEN, SOON, Router, comes, end, end_with_log, message, metrics, peers, reset,
-                   paced, serve, tell, texts_of, thing, time_of_request, up)
+import pcep
+from harness.clock import SOON, comes, paced
+from harness.exposition import family, metrics_of, text_of
+from harness.logs import texts_of
+from harness.router import Deaf, Router, time_of_request, up
+from harness.server import BOOK, ENDED, ControlledServer, Server, ViewedServer, end, end_with_log
+from pcep import diamond
+
+from .base import HASTY
 
 DEAF, UNANNOUNCED = "answers not taken", "a report that its Open doesn't announce"
 # the Open of a router that isn't stateful
-STATELESS = message(1, thing(1, 1, OPEN[8:12]))
+STATELESS = pcep.opening(capabilities=None)
 # how each session ends, and the reason that the log has
 WAYS = {
-    "Close": (OPEN, lambda router: router.send(CLOSE), "closed by the peer"),
-    "FIN": (OPEN, Router.close, "closed by the peer"),
-    "reset": (OPEN, reset, "read failed"),
-    "malformed message": (OPEN, lambda router: router.send(bytes(4)), "malformed message"),
-    "another version": (OPEN, lambda router: router.send(bytes([0x40, 2, 0, 4])), "malformed message"),
-    "half a message": (OPEN, lambda router: (router.send(KEEPALIVE[:3]), router.close()), "closed by the peer"),
-    "six unknown messages": (OPEN, lambda router: router.send(message(99) * 6), "closed for reason 5: PCErr 2/0, capability not supported"),
+    "Close": (pcep.OPEN, lambda router: router.send(pcep.CLOSE), "closed by the peer"),
+    "FIN": (pcep.OPEN, Router.close, "closed by the peer"),
+    "reset": (pcep.OPEN, Router.reset, "read failed"),
+    "malformed message": (pcep.OPEN, lambda router: router.send(bytes(4)), "malformed message"),
+    "another version": (pcep.OPEN, lambda router: router.send(bytes([0x40, 2, 0, 4])), "malformed message"),
+    "half a message": (pcep.OPEN, lambda router: (router.send(pcep.KEEPALIVE[:3]), router.close()), "closed by the peer"),
+    "six unknown messages": (pcep.OPEN, lambda router: router.send(pcep.message(99) * 6), "closed for reason 5: PCErr 2/0, capability not supported"),
     "DeadTimer": (HASTY, lambda router: None, "DeadTimer"),
     UNANNOUNCED: (STATELESS, lambda router: None, "closed for reason 1: PCErr 19/5, state report without the stateful capability"),
-    DEAF: (OPEN, serve.Deaf.ask_without_end, "write not taken"),
+    DEAF: (pcep.OPEN, Deaf.ask_without_end, "write not taken"),
 }
 
 
 def every_end_is_an_end(program):
     """However its session ends, a router is forgotten `--keep` seconds later, its LSP leaves the book, and the log says so."""
-    server, routers = tell.Server(program, "--endless", "--keep", "1"), {}
+    server, routers = ControlledServer(program, "--endless", "--keep", "1"), {}
 
     def begin(name):
-        routers[name] = up(server, 1 + list(WAYS).index(name), WAYS[name][0], kind=serve.Deaf if name == DEAF else Router)
-        routers[name].send(serve.report(1, 50000.0))
+        routers[name] = up(server, 1 + list(WAYS).index(name), WAYS[name][0], kind=Deaf if name == DEAF else Router)
+        routers[name].send(diamond.report(1, 50000.0))
 
     late = "DeadTimer", UNANNOUNCED  # which end by themselves as soon as they begin
     for name in WAYS:
         if name not in late:
             begin(name)
     booked = {router.address: 1 for router in routers.values()}
-    yield comes(lambda: {peer: seen["lsps"] for peer, seen in peers(server).items()} == booked) or peers(server), True
+    yield comes(lambda: {peer: seen["lsps"] for peer, seen in server.peers().items()} == booked) or server.peers(), True
     gone, begun = {}, {}
     for name in late:
         begun[name] = time.monotonic()
@@ -46,7 +53,7 @@ def every_end_is_an_end(program):
         act(routers[name])
 
     def look():
-        known = peers(server)
+        known = server.peers()
         for name, router in routers.items():
             if router.address not in known:
                 gone.setdefault(name, time.monotonic() - begun[name])
@@ -54,10 +61,10 @@ def every_end_is_an_end(program):
 
     comes(look, 8)
     yield [name for name in WAYS if name != DEAF and name not in gone], []
-    while not look() and routers[DEAF].waited() < SOON:
+    while not look() and routers[DEAF].waited() < 5 * SOON:
         time.sleep(0.1)
     yield list(WAYS.keys() - gone), []
-    yield comes(lambda: server.asked("book")[0] == tell.BOOK), True
+    yield comes(lambda: server.asked("book")[0] == BOOK), True
     yield all(seconds > 0.9 for seconds in gone.values()), True
     said, status, texts = end_with_log(server)
     yield (said, status), ((b"", 0), 0)
@@ -70,21 +77,21 @@ def every_end_is_an_end(program):
 
 def ends_that_are_none(program):
     """A second session, and a connection that makes room, leave the router's session and its LSP as they are."""
-    server = tell.Server(program, "--endless", "--keep", "0")
+    server = ControlledServer(program, "--endless", "--keep", "0")
     first = up(server, 1)
-    first.send(serve.report(1, 500000.0))
+    first.send(diamond.report(1, 500000.0))
     down = up(server, 2)
     second = Router(server, 1)
-    second.send(OPEN + KEEPALIVE)
-    yield second.hear_of(serve.PCERR)[-2:], bytes([9, 0])
+    second.send(pcep.OPEN + pcep.KEEPALIVE)
+    yield second.hear_of(pcep.PCERR)[-2:], bytes([9, 0])
     held = [Router(server, 3) for _ in range(70)]
     time.sleep(1)
-    yield {peer: seen["is_up"] for peer, seen in peers(server).items()}, {first.address: True, down.address: True}
+    yield {peer: seen["is_up"] for peer, seen in server.peers().items()}, {first.address: True, down.address: True}
     yield server.asked("book")[0].split()[2], b"500000"
     time_of_request(first, 1)
-    first.send(CLOSE)
-    yield comes(lambda: first.address not in peers(server), 5), True
-    yield server.asked("book")[0], tell.BOOK
+    first.send(pcep.CLOSE)
+    yield comes(lambda: first.address not in server.peers(), 5), True
+    yield server.asked("book")[0], BOOK
     [router.close() for router in held]
     said, status, texts = end_with_log(server)
     yield (said, status), ((b"", 0), 0)
@@ -94,50 +101,50 @@ def ends_that_are_none(program):
 
 def a_connection_of_a_router_that_went(program):
     """A router that is down is forgotten in time, though a later connection of its address is refused or makes room."""
-    server = tell.Server(program, "--endless", "--keep", "2")
+    server = ControlledServer(program, "--endless", "--keep", "2")
     router = up(server, 1)
-    router.send(serve.report(1, 500000.0) + CLOSE)
+    router.send(diamond.report(1, 500000.0) + pcep.CLOSE)
     held = [Router(server, 1) for _ in range(70)]
     began = paced()
-    yield comes(lambda: server.asked("book")[0] == tell.BOOK, 8), True
+    yield comes(lambda: server.asked("book")[0] == BOOK, 8), True
     yield paced() - began < 7, True
     [each.close() for each in held]
-    yield end(server), tell.ENDED
+    yield end(server), ENDED
 
 
 def short_sessions(program):
     """64 routers that came for a moment and left, without an LSP, don't keep others out: who has been down longest makes room."""
-    server = tell.Server(program, "--endless", "--keep", "3600")
+    server = ControlledServer(program, "--endless", "--keep", "3600")
     # (the first one holds an LSP, the second one is up)
     first, second = up(server, 1), up(server, 2)
-    first.send(serve.report(1, 1000.0) + CLOSE)
+    first.send(diamond.report(1, 1000.0) + pcep.CLOSE)
     first.close()
     for number in range(3, 65):
         router = up(server, number)
-        router.send(CLOSE)
+        router.send(pcep.CLOSE)
         # (each is down before the next one comes)
         while router.hear():
             pass
         router.close()
-    yield comes(lambda: len(peers(server)) == 64 and sum(peer["is_up"] for peer in peers(server).values()) == 1, 10), True
+    yield comes(lambda: len(server.peers()) == 64 and sum(peer["is_up"] for peer in server.peers().values()) == 1, 10), True
     began = paced()
     for number in (100, 101):
         late = Router(server, number)
-        late.send(OPEN + KEEPALIVE)
-        yield [late.hear(), late.hear()], [OPEN, KEEPALIVE]
-        late.send(END_OF_SYNC)
+        late.send(pcep.OPEN + pcep.KEEPALIVE)
+        yield [late.hear(), late.hear()], [pcep.OPEN, pcep.KEEPALIVE]
+        late.send(pcep.END_OF_SYNC)
         try:
             time_of_request(late, 1)
             yield paced() - began < 5, True
         except ValueError as fault:
             yield repr(fault), "it is answered"
     time_of_request(second, 1)
-    known = set(peers(server))
+    known = set(server.peers())
     yield [number for number in range(1, 65) if f"127.0.1.{number}" not in known], [3, 4]
     # (one that is known needs no room)
     back = up(server, 1)
     time_of_request(back, 1)
-    yield len(peers(server)), 64
+    yield len(server.peers()), 64
     said, status, texts = end_with_log(server)
     yield (said, status), ((b"", 0), 0)
     yield [text for text in texts if text.startswith(("forgotten", "not forgotten"))], ["forgotten 127.0.1.3", "forgotten 127.0.1.4"]
@@ -145,27 +152,27 @@ def short_sessions(program):
 
 def routers_with_lsps_stay(program):
     """64 routers that are down and hold an LSP each are kept, and another one is refused, since each is still to come back."""
-    server = tell.Server(program, "--endless", "--keep", "3600")
+    server = ControlledServer(program, "--endless", "--keep", "3600")
     for number in range(1, 64):
         router = up(server, number)
-        router.send(serve.report(1, 1000.0))
-        router.send(CLOSE)
+        router.send(diamond.report(1, 1000.0))
+        router.send(pcep.CLOSE)
         router.close()
     # (the last one was granted a path, and hasn't reported it)
     router = up(server, 64)
     time_of_request(router, 1)
     yield server.asked(f"initiate {router.address} t1 10.0.0.1 10.0.0.4 1000 7 0")[0][:6], b"asked "
-    yield router.hear_of(serve.PCINITIATE)[:2], bytes([0x20, serve.PCINITIATE])
-    router.send(CLOSE)
+    yield router.hear_of(pcep.PCINITIATE)[:2], bytes([0x20, pcep.PCINITIATE])
+    router.send(pcep.CLOSE)
     router.close()
-    yield comes(lambda: sum(peer["lsps"] for peer in peers(server).values()) == 63 and not any(peer["is_up"] for peer in peers(server).values()), 10), True
+    yield comes(lambda: sum(peer["lsps"] for peer in server.peers().values()) == 63 and not any(peer["is_up"] for peer in server.peers().values()), 10), True
     late = Router(server, 100)
-    late.send(OPEN + KEEPALIVE)
+    late.send(pcep.OPEN + pcep.KEEPALIVE)
     heard = [late.hear() for _ in range(3)]
-    yield late.address in peers(server), False
-    yield heard[2][:2] in (CLOSE[:2], bytes([0x20, serve.PCERR]), b""), True
-    yield len(peers(server)), 64
-    yield end(server), tell.ENDED
+    yield late.address in server.peers(), False
+    yield heard[2][:2] in (pcep.CLOSE[:2], bytes([0x20, pcep.PCERR]), b""), True
+    yield len(server.peers()), 64
+    yield end(server), ENDED
 
 
 def come_and_go(server, number, times, begun):
@@ -173,7 +180,7 @@ def come_and_go(server, number, times, begun):
         router = Router(server, number)
         begun.append(number)
         try:
-            router.send(OPEN + KEEPALIVE + END_OF_SYNC)
+            router.send(pcep.OPEN + pcep.KEEPALIVE + pcep.END_OF_SYNC)
             router.hear(), router.hear()
         except OSError:
             pass
@@ -183,10 +190,10 @@ def come_and_go(server, number, times, begun):
 def rest_of(server, begun):
     """How many connections and steps there were, if each of those that were begun was accepted and has ended, each router is forgotten, and
     all of that is counted, which is done a moment later. A connection that its router has closed already may still wait to be accepted."""
-    if peers(server):
+    if server.peers():
         return None
-    numbers = metrics.metrics_of(metrics.text_of(server))
-    sums = [sum(metrics.family(numbers, f"pced_{name}_total").values()) for name in ("connection_ends", "events")]
+    numbers = metrics_of(text_of(server))
+    sums = [sum(family(numbers, f"pced_{name}_total").values()) for name in ("connection_ends", "events")]
     is_over = numbers["pced_connections_total", None] >= len(begun)
     return sums if is_over and sums == [numbers["pced_connections_total", None], numbers["pced_steps_total", None]] else None
 
@@ -202,14 +209,14 @@ def is_at_rest(server, begun):
 
 def forgotten_is_said_truly(program):
     """With --keep 0 routers that come back at once are said to be forgotten, or not to be, as often as they were."""
-    server = metrics.Server(program, "--endless", "--keep", "0")
+    server = ViewedServer(program, "--endless", "--keep", "0")
     server.keep_log()
     begun = []
     threads = [threading.Thread(target=come_and_go, args=(server, number, 150, begun)) for number in range(1, 7)]
     [thread.start() for thread in threads]
     [thread.join() for thread in threads]
     yield comes(lambda: is_at_rest(server, begun)), True
-    events = metrics.family(metrics.metrics_of(metrics.text_of(server)), "pced_events_total")
+    events = family(metrics_of(text_of(server)), "pced_events_total")
     said, status, texts = end_with_log(server)
     yield (said, status), ((b"", 0), 0)
     lines = [sum(text.startswith(f"{word} 127.0.1.") for text in texts) for word in ("forgotten", "not forgotten")]
@@ -222,9 +229,9 @@ def forgotten_is_said_truly(program):
 
 def in_sync_counts_what_came_before(program):
     """`in sync` counts the LSPs that came before the end of synchronization, not those in the bytes after it."""
-    server = serve.Server(program, "--endless")
+    server = Server(program, "--endless")
     router = Router(server, 1)
-    router.send(OPEN + KEEPALIVE + serve.report(1, 1000.0) + END_OF_SYNC + b"".join(serve.report(plsp, 1000.0) for plsp in range(2, 20)))
+    router.send(pcep.OPEN + pcep.KEEPALIVE + diamond.report(1, 1000.0) + pcep.END_OF_SYNC + b"".join(diamond.report(plsp, 1000.0) for plsp in range(2, 20)))
     router.hear(), router.hear()
     time_of_request(router, 1)
     _, texts = texts_of(server)
@@ -232,8 +239,8 @@ def in_sync_counts_what_came_before(program):
 
 
 def many_that_leave_at_once(program):
-    """Where 64 routers leave at once, the log has a line for each."""
-    server = serve.Server(program, "--endless")
+    """If 64 routers leave at once, the log has a line for each."""
+    server = Server(program, "--endless")
     routers = [up(server, number) for number in range(1, 65)]
     [router.close() for router in routers]
     comes(lambda: server.tell("json status")[0].find('"sessions_up":0') >= 0 or False, 3)

@@ -7,33 +7,37 @@ import subprocess
 import tempfile
 import time
 
-from .base import CLOSE, ROOT, SOON, comes, serve, tell, time_of_request, up
+import pcep
+from harness.cases import ROOT
+from harness.clock import SOON, comes
+from harness.ports import free_port, listens_at
+from harness.router import time_of_request, up
+from harness.server import BOOK, TE, Server, asked
 
 WRAPPER = f"{ROOT}/tools/pced.sh"
-TE = serve.TE
 
 
 class Wrapped:
     """A server behind the shell program."""
 
     def __init__(self, program, *words, te=TE, shell="/bin/sh", **how):
-        self.port = serve.free_port()
+        self.port = free_port()
         self.room = tempfile.mkdtemp()
         environment = {**os.environ, "PCED_PROGRAM": program, "TMPDIR": self.room}
         self.process = subprocess.Popen(
             [shell, WRAPPER, "serve", "--te", te, "--listen", f"127.0.0.1:{self.port}", "--endless", *words],
-            env=environment, stdin=subprocess.DEVNULL, stdout=subprocess.DEVNULL, stderr=subprocess.PIPE, **how)
-        serve.Server.begun.append(self)
+            env=environment, stdin=subprocess.DEVNULL, stdout=subprocess.DEVNULL, stderr=subprocess.PIPE, bufsize=0, **how)
+        Server.begun.append(self)
+
+    logs = Server.logs
 
     def is_up(self):
         """Whether it listens for routers soon."""
-        return comes(lambda: serve.listens_at(self.port) or self.process.poll() is not None)
+        return comes(lambda: listens_at(self.port) or self.process.poll() is not None)
 
     def ended(self):
         """The status, the last line of the log without its time and numbers, and what is left in its folder."""
-        try:
-            self.process.wait(timeout=SOON)
-        except subprocess.TimeoutExpired:
+        if not comes(lambda: self.process.poll() is not None):
             self.kill()
         lines = self.process.stderr.read().decode().splitlines()
         left = os.listdir(self.room)
@@ -57,7 +61,7 @@ def signals_that_end(program):
         routers = [up(server, place) for place in (1, 2, 3)]
         time_of_request(routers[0], 1)
         server.process.send_signal(number)
-        yield [router.hear_of(7) for router in routers], [CLOSE] * 3
+        yield [router.hear_of(7) for router in routers], [pcep.CLOSE] * 3
         yield server.ended(), IN_ORDER
         yield os.listdir(folder), []
         shutil.rmtree(folder)
@@ -76,9 +80,9 @@ def a_signal_to_all(program):
     router = up(server, 1)
     time_of_request(router, 1)
     os.killpg(server.process.pid, signal.SIGINT)
-    yield router.hear_of(7), CLOSE
+    yield router.hear_of(7), pcep.CLOSE
     yield server.ended(), IN_ORDER
-    port, room = serve.free_port(), tempfile.mkdtemp()
+    port, room = free_port(), tempfile.mkdtemp()
     child, terminal = pty.fork()
     if child == 0:
         os.environ.update(PCED_PROGRAM=program, TMPDIR=room)
@@ -119,17 +123,14 @@ def a_signal_that_reloads(program):
     with open(te, "w") as file:
         file.write(text.replace("reservable=1000000", "reservable=500000"))
     server.process.send_signal(signal.SIGHUP)
-    yield comes(lambda: tell.asked(program, f"{folder}/pced", "book")[0] == tell.BOOK.replace(b"1000000", b"500000"), 10), True
+    yield comes(lambda: asked(program, f"{folder}/pced", "book")[0] == BOOK.replace(b"1000000", b"500000"), 10), True
     with open(te, "w") as file:
         file.write("[")
     server.process.send_signal(signal.SIGHUP)
-    time.sleep(1)
+    yield server.logs(b"pced: reload: te fault 1\n"), True
     time_of_request(router, 1)
     server.process.terminate()
-    server.process.wait(timeout=SOON)
-    lines = server.process.stderr.read().decode().splitlines()
-    yield "pced: reload: te fault 1" in lines, True
-    yield server.process.returncode, 0
+    yield server.process.wait(timeout=SOON), 0
     shutil.rmtree(folder)
 
 
@@ -146,7 +147,7 @@ def statuses_behind_the_shell(program):
     yield ran("script", input=b"---\nbooks\n")[::2], (2, [b"bad line 2"])
     yield ran("serve", "--te", "/nowhere", "--listen", "127.0.0.1:0", stdin=subprocess.DEVNULL)[::2], (3, [b"device fault"])
     yield ran("serve", "--te", TE, "--listen", "nowhere", stdin=subprocess.DEVNULL)[::2], (2, [b"bad argument"])
-    yield ran("serve", "--te", TE, "--listen", "127.0.0.1:0", "--sessions", "1", input=b"book\nend\n")[:2], (0, tell.BOOK)
+    yield ran("serve", "--te", TE, "--listen", "127.0.0.1:0", "--sessions", "1", input=b"book\nend\n")[:2], (0, BOOK)
     yield subprocess.run(["/bin/sh", "-n", WRAPPER]).returncode, 0
 
 

@@ -1,5 +1,5 @@
 """Many paths, peers, tickets and steps."""
-from .pcep import MARKER, found, initiation, message, refusal, report, reports, request, too_many, unknown_ends
+from .network import MARKER, found, initiation, message, refusal, report, reports, request, too_many, unknown_ends
 from .scripts import PATHS, PEERS, STEPS, TICKETS, Script, batches, chain, filled, knows, limit, pair
 
 
@@ -138,7 +138,7 @@ def _():
 def _():
     script = Script(pair())
     script.comes_up(1)
-    text = message(3, "".join(request(n, (0, 1)) for n in range(1, 2001)))
+    text = message(3, *(request(n, (0, 1)) for n in range(1, 2001)))
     script.does(f"msg 1 {text}", "out 1 " + "".join(too_many(n) for n in range(TICKETS + 1, 2001)))
     for n in range(1, TICKETS + 1):
         script.does("take", f"job {n} 0")

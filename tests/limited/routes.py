@@ -1,7 +1,7 @@
 """Long routes, wide networks and searches."""
 from functools import partial
 
-from .pcep import MOST, dotted, found, initiation, message, network, report, reports, request, update
+from .network import MOST, dotted, found, initiation, message, network, report, reports, request, update
 from .scripts import HOPS, LINKS, NODES, Script, chain, limit
 
 

@@ -1,7 +1,9 @@
 """Scripts of `pced script`, and the register of limits."""
 import subprocess
 
-from .pcep import GREETING, MARKER, MOST, network, report, reports, thing
+import pcep
+
+from .network import GREETING, MARKER, MOST, network, report, reports
 
 SECONDS = 600
 
@@ -85,9 +87,9 @@ def longest_report():
     """A message of 65,532 bytes, and how many LSPs it reports. The last fills it up, by an SRP and by hops that are said
     again.
     """
-    size = len(down(1)) // 2
+    size = len(down(1))
     count, rest = divmod(LONGEST - 4, size)
-    last = thing(33, "00" * 8) + report(count, [0] * (1 + (rest - 12) // 8), tunnel=7, flags=0x08)
+    last = pcep.srp(0) + report(count, [0] * (1 + (rest - 12) // 8), tunnel=7, flags=0x08)
     text = reports([down(n) for n in range(1, count)] + [last])
     assert len(text) == 2 * LONGEST
     return text, count

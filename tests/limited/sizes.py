@@ -1,5 +1,5 @@
 """Long messages, and bytes that wait."""
-from .pcep import reports
+from .network import reports
 from .scripts import PEERS, Script, down, knows, limit, longest_report, pair
 
 
@@ -24,7 +24,7 @@ def _():
 
 @limit("a message of 8,192 bytes in a session")
 def _():
-    count = 8188 // (len(down(1)) // 2)
+    count = 8188 // len(down(1))
     script = Script(pair())
     script.comes_up(1)
     script.does(f"msg 1 {reports(down(n) for n in range(1, count + 1))}")

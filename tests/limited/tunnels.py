@@ -1,5 +1,5 @@
 """Tunnels on many links, and links with many tunnels."""
-from .pcep import MOST, network, report, reports, update
+from .network import MOST, network, report, reports, update
 from .routes import widest
 from .scripts import LINKS, NODES, PATHS, Script, batches, limit, pair
 

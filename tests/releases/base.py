@@ -1,17 +1,15 @@
 """A copy of the repository in which releases are made, with a stand-in for the toolchain, and what the cases share."""
 import functools
 import hashlib
-import importlib.machinery
-import importlib.util
 import os
 import re
 import shutil
 import subprocess
-import sys
 import tempfile
 
-sys.dont_write_bytecode = True
-ROOT = os.path.dirname(os.path.dirname(os.path.dirname(os.path.realpath(__file__))))
+from harness import clock
+from harness.cases import ROOT, NotTried
+
 SOON = 300
 AUTHOR = ["-c", "user.name=Maintainers of pced", "-c", "user.email=maintainers@pced.example"]
 MADE = ["pced_0.1.0_amd64.deb", "pced-0.1.0-linux-x86_64.tar.gz", "EVIDENCE", "SHA256SUMS"]
@@ -19,20 +17,16 @@ GATE = ["rt ci: 900 passed, 0 failed", "tests/run: 300 passed, 0 failed", "clock
 TO_CLEAN = []
 
 
-class Missing(Exception):
-    """What a case needs, and the machine lacks."""
-
-
 def needs(*tools):
     """That these tools are there."""
     lacking = [tool for tool in tools if shutil.which(tool) is None]
     if lacking:
-        raise Missing(f"there is no {' and no '.join(lacking)}")
+        raise NotTried(f"there is no {' and no '.join(lacking)}")
 
 
 def needs_root():
     if os.geteuid() != 0:
-        raise Missing("only root may make and enter a root of its own")
+        raise NotTried("only root may make and enter a root of its own")
 
 
 def room():
@@ -49,15 +43,6 @@ def clean():
         for path in reversed(mounted):
             ran("umount", "--lazy", path)
         shutil.rmtree(folder, ignore_errors=True)
-
-
-def serve():
-    """The test program of the server, as a module: its routers, and how messages are written."""
-    if "serve" not in sys.modules:
-        loader = importlib.machinery.SourceFileLoader("serve", f"{ROOT}/tests/serve")
-        sys.modules["serve"] = importlib.util.module_from_spec(importlib.util.spec_from_loader("serve", loader))
-        loader.exec_module(sys.modules["serve"])
-    return sys.modules["serve"]
 
 
 def ran(*words, **how):
@@ -193,8 +178,8 @@ def tried(*words):
     """Has root do what it may not on each machine."""
     out, err, status = ran(*words)
     if status != 0:
-        raise Missing(f"{words[0]} fails here: {(out + err).strip().partition(chr(10))[0]}")
+        raise NotTried(f"{words[0]} fails here: {(out + err).strip().partition(chr(10))[0]}")
 
 
 def comes(is_so, within=60):
-    return serve().comes(is_so, within)
+    return clock.comes(is_so, within)

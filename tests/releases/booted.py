@@ -2,6 +2,11 @@
 import os
 import subprocess
 
+import pcep
+from harness.cases import NotTried
+from harness.ports import free_port
+from harness.router import Router
+
 from . import base, roots, running
 from .base import comes, ran, text_of
 
@@ -15,7 +20,7 @@ class Booted(roots.Machine):
     def __init__(self, *more):
         base.needs("systemd-nspawn", "nsenter", "chroot")
         if not roots.IS_LOADED:
-            raise base.Missing("systemd is run with --debootstrap")
+            raise NotTried("systemd is run with --debootstrap")
         super().__init__(*more)
         self.group, words = None, ["systemd-nspawn", "--quiet", "--link-journal=no", "--boot", "--directory", self.root]
         if not os.path.isdir("/run/systemd/system"):
@@ -25,12 +30,12 @@ class Booted(roots.Machine):
                                         start_new_session=True, preexec_fn=self.joins)
         Booted.running.append(self)
         if not comes(lambda: self.first() and self.says("systemctl", "is-system-running")[0].strip() in ("running", "degraded"), 180):
-            raise base.Missing("systemd doesn't come up in a root of its own here")
+            raise NotTried("systemd doesn't come up in a root of its own here")
 
     @staticmethod
     def new_group():
         if not os.path.isdir(PROCESSES):
-            raise base.Missing("no systemd runs here, and there is no group of processes for one")
+            raise NotTried("no systemd runs here, and there is no group of processes for one")
         group = f"{PROCESSES}/pced-release-{os.getpid()}"
         os.makedirs(group, exist_ok=True)
         return group
@@ -83,8 +88,8 @@ class Booted(roots.Machine):
 
 def under_systemd(program):
     """Started, reloaded, killed, upgraded, stopped and removed by systemctl and dpkg: routers come up again each time."""
-    machine, serve = Booted(), base.serve()
-    machine.port = serve.free_port()
+    machine = Booted()
+    machine.port = free_port()
 
     def comes_up():
         return comes(lambda: machine.is_active() == "active" and "steps" in machine.told("status"))
@@ -110,10 +115,10 @@ def under_systemd(program):
     yield machine.systemctl("kill", "--signal=KILL")[2], 0
     yield comes(lambda: machine.first_process() not in (started, "0")), True
     yield comes_up(), True
-    router = serve.Router(machine, 1)
+    router = Router(machine, 1)
     yield router.come_up(), True
     yield machine.installs(roots.package_of(program, "0.1.1")), (0, [])
-    yield router.hear_of(7), serve.CLOSE
+    yield router.hear_of(7), pcep.CLOSE
     yield comes_up(), True
     yield [machine.text(path) for path in (roots.NETWORK, roots.OPTIONS)], [network, options]
     yield from running.serves_a_router(machine)
@@ -127,10 +132,10 @@ def under_systemd(program):
     base.put(machine.root + roots.OPTIONS, options)
     yield machine.systemctl("start")[2], 0
     yield comes_up(), True
-    router = serve.Router(machine, 1)
+    router = Router(machine, 1)
     yield router.come_up(), True
     yield machine.dpkg("--remove", "pced")[2], 0
-    yield router.hear_of(7), serve.CLOSE
+    yield router.hear_of(7), pcep.CLOSE
     yield machine.says("test", "-e", "/run/pced")[2], 1
     yield machine.dpkg("--purge", "pced")[2], 0
     yield os.path.exists(machine.root + roots.NETWORK), False
@@ -144,8 +149,8 @@ VTYSH = """#!/bin/sh
 
 def a_network_that_is_followed(program):
     """pced-network.timer brings a running server the changes of FRR's database, also over an upgrade, and goes with the package."""
-    machine, serve = Booted("python3"), base.serve()
-    machine.port = serve.free_port()
+    machine = Booted("python3")
+    machine.port = free_port()
     frr = f"{base.ROOT}/tests/frr"
 
     def leads(igp, database):

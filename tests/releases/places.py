@@ -4,6 +4,10 @@ import re
 import shutil
 import subprocess
 
+from harness.ports import free_port
+from harness.router import Router
+from pcep import diamond
+
 from . import base, running
 from .base import MADE, ran, text_of, well
 
@@ -27,7 +31,7 @@ def what_is_installed(program):
     unit = text_of(f"{prefix}/{UNIT}")
     yield unit.replace(f"{prefix}/etc", "/etc").replace(prefix, "/usr"), text_of(f"{base.unpacked(program)}/usr/{UNIT}")
     yield ran(f"{prefix}/bin/pced", "--version"), (f"pced 0.1.0 logic {repository.logic} commit {repository.git('rev-parse', 'HEAD')}\n", "", 0)
-    port = base.serve().free_port()
+    port = free_port()
     network = running.makes_known(text_of(f"{prefix}/{CONFIGURATION[0]}"))
     options = running.options_of(text_of(f"{prefix}/{CONFIGURATION[1]}"), port)
     base.put(f"{prefix}/{CONFIGURATION[0]}", network)
@@ -73,7 +77,7 @@ def the_tar_file_serves(program):
     base.unpack(f"{folder}/{MADE[1]}", into)
     top = f"{into}/pced-0.1.0-linux-x86_64"
     unit = f"{top}/lib/systemd/system/pced.service"
-    port = base.serve().free_port()
+    port = free_port()
     base.put(unit, text_of(unit).replace("/run/pced", into).replace("/usr/local/bin", f"{top}/bin").replace("/etc/", f"{top}/etc/"))
     base.put(f"{top}/etc/pced/network.toml", running.makes_known(text_of(f"{top}/etc/pced/network.toml")))
     base.put(f"{top}/etc/default/pced", running.options_of(text_of(f"{top}/etc/default/pced"), port))
@@ -104,7 +108,7 @@ def the_tar_file_as_a_service(program):
     unit = f"{local}/{UNIT}"
     base.put(unit, text_of(unit).replace("/run/pced", into).replace("/usr/local/bin", f"{local}/bin").replace("/etc/", f"{root}/etc/"))
     network = running.makes_known(text_of(f"{root}/etc/pced/network.toml"))
-    options = running.options_of(text_of(f"{root}/etc/default/pced"), base.serve().free_port())
+    options = running.options_of(text_of(f"{root}/etc/default/pced"), free_port())
     base.put(f"{root}/etc/pced/network.toml", network)
     base.put(f"{root}/etc/default/pced", options)
     service = running.Service(root, unit, enters=False)
@@ -122,7 +126,7 @@ def with_the_c_library_alone(program):
     """The program serves a router in a root that holds the C library and nothing else, and ends by `tell`."""
     base.needs("ldd", "chroot")
     base.needs_root()
-    serve, root = base.serve(), base.room()
+    root = base.room()
     binary = f"{base.unpacked(program)}/usr/libexec/pced"
     libraries = re.findall(r"(/\S+) \(0x", well("ldd", binary))
     yield [re.sub(r"[-.].*", "", os.path.basename(path)) for path in libraries if "vdso" not in path], ["libc", "ld"]
@@ -134,17 +138,17 @@ def with_the_c_library_alone(program):
     yield ran("chroot", root, "/pced", "check", "/te")[2], 0
 
     class Server:
-        port = serve.free_port()
+        port = free_port()
 
     server = Server()
     process = subprocess.Popen([shutil.which("chroot"), root, "/pced", "serve", "--te", "/te", "--listen", f"127.0.0.1:{server.port}", "--http",
-                                f"127.0.0.1:{serve.free_port()}", "--endless", "--control", "/control"], text=True, stdin=subprocess.DEVNULL,
+                                f"127.0.0.1:{free_port()}", "--endless", "--control", "/control"], text=True, stdin=subprocess.DEVNULL,
                                stdout=subprocess.DEVNULL, stderr=subprocess.PIPE, env={})
     try:
         yield base.comes(lambda: os.path.exists(f"{root}/control") or process.poll() is not None), True
-        router = serve.Router(server, 1)
+        router = Router(server, 1)
         yield router.come_up(), True
-        router.send(serve.report(1, 750000.0))
+        router.send(diamond.report(1, 750000.0))
         yield base.comes(lambda: "link 0 250000 " in ran("chroot", root, "/pced", "tell", "/control", "book")[0]), True
         yield ran("chroot", root, "/pced", "tell", "/control", "reload"), ("done\n", "", 0)
         yield ran("chroot", root, "/pced", "tell", "/control", "end")[2], 0

@@ -4,6 +4,9 @@ import os
 import re
 import shutil
 
+from harness.cases import NotTried
+from harness.ports import free_port
+
 from . import base, running
 from .base import MADE, ran, text_of, well
 
@@ -72,7 +75,7 @@ def base_root(*more):
     suite = re.search(r"^VERSION_CODENAME=(\w+)$", text_of("/etc/os-release"), re.M)
     ran("debootstrap", "--variant=minbase", f"--include={','.join(('systemd-sysv', 'dbus', *more))}", suite[1] if suite else "stable", root, timeout=1000)
     if not os.path.exists(f"{root}/usr/bin/systemctl"):
-        raise base.Missing("debootstrap doesn't reach a mirror")
+        raise NotTried("debootstrap doesn't reach a mirror")
     return root
 
 
@@ -148,7 +151,7 @@ def a_life_of_the_package(program):
     yield os.path.lexists(f"{machine.root}/etc/systemd/system/multi-user.target.wants/pced.service"), False
     yield [name for name in ("rt", "python3", "git") if os.path.exists(f"{machine.root}/usr/bin/{name}")], []
     network = machine.edit(NETWORK, running.makes_known)
-    options = machine.edit(OPTIONS, lambda text: running.options_of(text, base.serve().free_port()))
+    options = machine.edit(OPTIONS, lambda text: running.options_of(text, free_port()))
     os.makedirs(f"{machine.root}/run/pced", mode=0o700)  # (as RuntimeDirectory=pced has it)
     service = running.Service(machine.root)
     yield (service.check[1], service.is_up), (0, True)

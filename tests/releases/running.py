@@ -3,6 +3,10 @@ import re
 import shlex
 import subprocess
 
+import pcep
+from harness.router import Router
+from pcep import diamond
+
 from . import base
 from .base import comes, text_of
 
@@ -101,10 +105,9 @@ def options_of(text, port):
 
 def serves_a_router(service):
     """A router comes up, reports an LSP, and its bandwidth stands in the book."""
-    serve = base.serve()
-    router = serve.Router(service, 1)
+    router = Router(service, 1)
     yield router.come_up(), True
-    router.send(serve.report(1, 750000.0))
+    router.send(diamond.report(1, 750000.0))
     yield comes(lambda: "link 0 250000 " in service.told("book")), True
     yield [row.split()[0] for row in service.told("lsps").splitlines()[1:]], [router.address]
     yield service.told("peers").splitlines()[1].split()[:2], ["127.0.1.1", "up"]
@@ -112,9 +115,8 @@ def serves_a_router(service):
 
 def hears_its_close(service):
     """A router that comes up hears a Close as the server ends in order."""
-    serve = base.serve()
-    router = serve.Router(service, 1)
+    router = Router(service, 1)
     yield router.come_up(), True
     yield comes(lambda: "127.0.1.1" in service.told("peers")), True
     yield service.ended(), (0, "audited")
-    yield router.hear_of(7), serve.CLOSE
+    yield router.hear_of(7), pcep.CLOSE

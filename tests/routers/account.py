@@ -6,7 +6,7 @@ The paths of one tunnel share what they reserve on a link: the greatest bandwidt
 import bisect
 from collections import Counter, defaultdict
 
-from . import wire
+import pcep
 
 # how many asks for one LSP a router may get within these numbers of seconds; and half as many more for each report of an LSP that is
 # up, in that time or the second before, since pauses begin anew then
@@ -27,7 +27,7 @@ def holdings_of(router):
     """What a router holds, as far as its reports say where."""
     for lsp in router.lsps.values():
         for path in lsp.paths.values():
-            if path.state != wire.DOWN:
+            if path.state != pcep.DOWN:
                 yield (router.address, lsp.destination, lsp.tunnel, lsp.source), path.shown_way, path.bandwidth, lsp.hold
 
 
@@ -51,7 +51,7 @@ def is_covered(network, router, plsp, ask):
         return False
     way = network.way_of(lsp.source, ask.hops, lsp.destination)
     return way is not None and any(
-        path.state != wire.DOWN and set(way) <= set(path.shown_way) and path.bandwidth >= ask.bandwidth for path in lsp.paths.values())
+        path.state != pcep.DOWN and set(way) <= set(path.shown_way) and path.bandwidth >= ask.bandwidth for path in lsp.paths.values())
 
 
 def age_of(router, ask, now):
@@ -75,7 +75,7 @@ def faults_of_update(router, ask, known):
         return
     if not any(lsp.delegated for lsp in known):
         yield f"PCUpd {ask.srp}: PLSP-ID {ask.plsp} was never delegated in this session"
-    if ask.flags & (wire.SYNC | wire.REMOVE | 0x70):
+    if ask.flags & (pcep.SYNC | pcep.REMOVE | 0x70):
         yield f"PCUpd {ask.srp}: one of the flags S, R and O is set (RFC 8231 section 7.3)"
     if ask.hops is None:
         yield f"PCUpd {ask.srp}: no ERO"
@@ -123,16 +123,16 @@ def reports_of(router):
 
 def wire_faults(router):
     """What is wrong with what a router was sent."""
-    asks, reports = [ask for ask in router.heard if ask.kind in (wire.PCUPD, wire.PCINITIATE)], reports_of(router)
+    asks, reports = [ask for ask in router.heard if ask.kind in (pcep.PCUPD, pcep.PCINITIATE)], reports_of(router)
     found = [*faults_of_numbers(asks), *faults_of_pace(asks, router.shown_up)]
     for ask in asks:
         known = reports[ask.session, ask.plsp]
-        found += faults_of_update(router, ask, known) if ask.kind == wire.PCUPD else faults_of_initiation(ask, known)
+        found += faults_of_update(router, ask, known) if ask.kind == pcep.PCUPD else faults_of_initiation(ask, known)
     return [f"{router.address}: {text}" for text in found]
 
 
 def unprotected(router):
     """The updates that change the wish for local protection of an LSP (RFC 3209 section 4.7.1)."""
     reports = reports_of(router)
-    return [ask.srp for ask in router.heard if ask.kind == wire.PCUPD and ask.delegates
+    return [ask.srp for ask in router.heard if ask.kind == pcep.PCUPD and ask.delegates
             and any(lsp.protects != ask.protects for lsp in reports[ask.session, ask.plsp])]

@@ -2,9 +2,10 @@
 import time
 from dataclasses import replace
 
-from edges.base import comes, metrics
+import pcep
+from harness.clock import comes
+from harness.exposition import metrics_of, text_of
 
-from . import wire
 from .lsp import Temper
 from .zoo import A, D, FREE, LATE, OVER_B, OVER_C, WELL, Zoo, pathless
 
@@ -12,7 +13,7 @@ ANSWER = 3
 
 
 def a_grant_ends_once_its_path_is_up(program):
-    """A router names the SRP-ID in its first report alone (RFC 8231 section 6.2): once the new path is up, no grant is left."""
+    """A router names the SRP-ID in its first report only (RFC 8231 section 6.2): once the new path is up, no grant is left."""
     zoo = Zoo(program)
     for number, temper in enumerate((Temper("first"), Temper("first", records="nodes"), Temper("first", late=1.5)), 1):
         router = zoo.router(temper)
@@ -39,15 +40,15 @@ def a_grant_stays_until_it_is_covered(program):
     plsps = [router.lsp(name, A, D, 100_000, setup=5, hold=4) for name in ("less", "worse", "elsewhere")]
     asks = {ask.plsp: ask for ask in router.waits_for_asks(3, within=5)}
     yield sorted(asks), plsps
-    for plsp in plsps:
-        router.show(plsp, wire.GOING_UP, OVER_B, 1_000, asks[plsp].srp)
     begun = time.monotonic()
-    router.show(plsps[0], wire.UP, OVER_B, 99_999, 0)
+    for plsp in plsps:
+        router.show(plsp, pcep.GOING_UP, OVER_B, 1_000, asks[plsp].srp)
+    router.show(plsps[0], pcep.UP, OVER_B, 99_999, 0)
     router.lsps[plsps[1]].hold = 5
-    router.show(plsps[1], wire.UP, OVER_B, 100_000, 0)
-    router.show(plsps[2], wire.UP, OVER_C, 100_000, 0)
+    router.show(plsps[1], pcep.UP, OVER_B, 100_000, 0)
+    router.show(plsps[2], pcep.UP, OVER_C, 100_000, 0)
     time.sleep(1.7)
-    yield zoo.fallen(router, [asks[plsp].srp for plsp in plsps], begun + 2 * ANSWER - 0.3), []
+    yield zoo.fallen(router, [asks[plsp].srp for plsp in plsps], begun + 2 * ANSWER), []
     yield zoo.is_settled(2 * ANSWER + LATE), True
     yield zoo.end(), WELL
 
@@ -77,8 +78,8 @@ def another_end_of_synchronization(program):
     plsp = router.lsp("waits", A, D, 400_000)
     yield len(router.waits_for_asks(1, within=5)), 1
     yield zoo.said(f"initiate {router.address} t1 {A} {D} 100000 7 7")[:6], "asked "
-    yield len(router.waits_for_asks(1, wire.PCINITIATE, within=5)), 1
-    router.send(wire.END_OF_SYNC)
+    yield len(router.waits_for_asks(1, pcep.PCINITIATE, within=5)), 1
+    router.send(pcep.END_OF_SYNC)
     time.sleep(1.5)
     yield sorted(bound for bound, _ in zoo.grants().values()), [0, plsp]
     yield zoo.end(), WELL
@@ -89,23 +90,25 @@ def requests_that_nobody_answers(program):
     zoo = Zoo(program, answer=ANSWER, retry=0)
     router, other = zoo.router(Temper("never")), zoo.router(Temper("every"))
     yield zoo.said(f"initiate {other.address} gone {A} {D} 100000 7 7")[:6], "asked "
-    yield comes(lambda: 1 in other.lsps and list(other.lsps[1].paths) == [1] and other.lsps[1].current.state == wire.UP, 5), True
+    yield comes(lambda: 1 in other.lsps and list(other.lsps[1].paths) == [1] and other.lsps[1].current.state == pcep.UP, 5), True
     yield zoo.is_settled(), True
     other.temper = replace(other.temper, answers="never")
+    made = time.monotonic()
     plsp = router.lsp("waits", A, D, 400_000)
     yield len(router.waits_for_asks(1, within=5)), 1
     yield zoo.said(f"initiate {router.address} t1 {A} {D} 300000 7 7")[:6], "asked "
-    asks = router.waits_for_asks(1, within=5) + router.waits_for_asks(1, wire.PCINITIATE, within=5)
+    asks = router.waits_for_asks(1, within=5) + router.waits_for_asks(1, pcep.PCINITIATE, within=5)
     yield zoo.said(*[f"delete {other.address} 1"] * 2), "removing 2\nrefused 6"
     begun = time.monotonic()
     time.sleep(1.5)
-    yield zoo.fallen(router, [ask.srp for ask in asks], asks[0].moment + ANSWER - 0.3), []
+    yield zoo.fallen(router, [ask.srp for ask in asks], made + ANSWER), []
     yield zoo.differences(), []
     yield zoo.is_settled(max(begun + ANSWER - time.monotonic(), 0) + LATE), True
+    # (what is asked from here on may not be answered in time either)
+    yield comes(lambda: metrics_of(text_of(zoo.server)).get(("pced_unanswered_total", None)) == 3, LATE), True
     yield zoo.said(f"update {router.address} {plsp}")[:6], "asked "
     yield zoo.said(f"initiate {router.address} t1 {A} {D} 300000 7 7")[:6], "asked "
     yield comes(lambda: zoo.said(f"delete {other.address} 1")[:9] == "removing ", LATE), True
-    yield metrics.metrics_of(metrics.text_of(zoo.server)).get(("pced_unanswered_total", None)), 3
     *well, texts = zoo.ended()
     yield tuple(well), WELL
     yield sorted(text for text in texts if text.startswith("no answer"))[:2], [
@@ -119,12 +122,13 @@ def an_answer_is_waited_for_anew(program):
     first = router.lsp("first", A, D, 200_000)
     one = router.waits_for_asks(1, within=5)[0]
     time.sleep(3)
+    made = time.monotonic()
     second = router.lsp("second", A, D, 200_000)
     two = router.waits_for_asks(1, within=5, plsp=second)[0]
-    router.show(first, wire.GOING_UP, OVER_B, 1_000, one.srp)
+    router.show(first, pcep.GOING_UP, OVER_B, 1_000, one.srp)
     begun = time.monotonic()
     time.sleep(max(0, one.moment + 2 * ANSWER + 0.7 - begun))
-    yield zoo.fallen(router, [one.srp, two.srp], two.moment + 2 * ANSWER - 0.3), []
+    yield zoo.fallen(router, [one.srp, two.srp], made + 2 * ANSWER), []
     yield zoo.is_settled(max(begun + 2 * ANSWER - time.monotonic(), 0) + LATE), True
     yield zoo.end(), WELL
 
@@ -156,7 +160,7 @@ def since_when_a_grant_is_unanswered(program):
     yield sorted(said), sorted([one.srp, two.srp])
     yield [1000 * known <= said[ask.srp] <= 1000 * (time.monotonic() - made) for ask in (one, two)], [True, True]
     named = time.monotonic()
-    router.show(first, wire.GOING_UP, OVER_B, 1_000, one.srp)
+    router.show(first, pcep.GOING_UP, OVER_B, 1_000, one.srp)
     yield comes(lambda: unanswered(zoo, router)[one.srp] < said[one.srp], 5), True
     later = unanswered(zoo, router)
     # (the server's two moments are rounded down to milliseconds)
@@ -167,15 +171,18 @@ def since_when_a_grant_is_unanswered(program):
 
 def a_router_that_is_away_keeps_its_grants(program):
     """While a router is down no grant of it ends by --answer: its end of synchronization decides, or --keep."""
-    zoo = Zoo(program, answer=1, retry=0, keep=300)
+    zoo = Zoo(program, answer=ANSWER, retry=0, keep=300)
     router = zoo.router(Temper("never"))
+    made = time.monotonic()
     router.lsp("waits", A, D, 400_000)
     router.waits_for_asks(1, within=5)
     router.lose_connection(comes_back=None)
     yield comes(lambda: zoo.peers() == {router.address: (False, False)}, 5), True
-    time.sleep(3)
-    yield len(zoo.grants()), 1
-    yield zoo.book()[0], [1_000_000] * 7 + [600_000]
+    is_in_time = time.monotonic() < made + ANSWER  # (else the grant may have ended before the router was away)
+    time.sleep(ANSWER + 2)
+    if is_in_time:
+        yield len(zoo.grants()), 1
+        yield zoo.book()[0], [1_000_000] * 7 + [600_000]
     router.lsps.clear()
     router.returns_at = time.monotonic()
     router.waits_until_up(session=2)
@@ -192,7 +199,7 @@ def an_operator_drops_a_grant(program):
     yield zoo.said(f"update {router.address} 1")[:6], "asked "
     yield len(router.waits_for_asks(1, within=5)), 1
     yield zoo.said(f"initiate {router.address} t1 {A} {D} 300000 7 7")[:6], "asked "
-    router.waits_for_asks(1, wire.PCINITIATE, within=5)
+    router.waits_for_asks(1, pcep.PCINITIATE, within=5)
     shown = zoo.shown("grants")[0]["grants"]
     yield sorted((grant["peer"], grant["srp_id"]) for grant in shown), [(router.address, 1), (router.address, 2)]
     yield [word in zoo.said("grants") for word in ("t1", router.address)], [True] * 2
@@ -208,7 +215,7 @@ def an_operator_drops_a_grant(program):
 
 def grants_that_answers_end(program):
     """Routers that repeat the SRP-ID, refuse by a PCErr or a report, or report DOWN first end grants by what they say."""
-    tempers = Temper("every"), Temper("every", records="nodes"), Temper("every", begins=wire.DOWN), Temper("every", begins=wire.UP), Temper("error"), \
+    tempers = Temper("every"), Temper("every", records="nodes"), Temper("every", begins=pcep.DOWN), Temper("every", begins=pcep.UP), Temper("error"), \
         Temper("every", refuses=True), Temper("every", late=1)
     zoo = Zoo(program, retry=0)
     routers = [zoo.router(temper) for temper in tempers]
@@ -218,7 +225,7 @@ def grants_that_answers_end(program):
     for router in routers:
         yield zoo.said(f"update {router.address} 1")[:6], "asked "
         yield zoo.said(f"initiate {router.address} t2 {A} {D} 10000 7 7")[:6], "asked "
-    yield [len(router.waits_for_asks(1, kind, within=5)) for router in routers for kind in (wire.PCUPD, wire.PCINITIATE)], [1, 1] * len(routers)
+    yield [len(router.waits_for_asks(1, kind, within=5)) for router in routers for kind in (pcep.PCUPD, pcep.PCINITIATE)], [1, 1] * len(routers)
     time.sleep(1.5)
     yield zoo.is_settled(), True
     for router in routers:

@@ -3,9 +3,10 @@ import random
 import time
 from dataclasses import replace
 
-from edges.base import comes
+import pcep
+from harness.clock import comes
 
-from . import account, wire
+from . import account
 from .lsp import Temper
 from .zoo import ABILENE, WELL, Zoo
 
@@ -20,7 +21,7 @@ BANDWIDTHS = 50_000_000, 100_000_000, 200_000_000, 400_000_000
 def a_temper(draw):
     answers = draw.choices(("first", "every", "never", "error"), (6, 3, 1, 1))[0]
     return Temper(
-        answers, draw.choice((wire.GOING_UP, wire.GOING_UP, wire.DOWN, wire.UP)), draw.choice((0.01, 0.05, 0.3)), draw.choice((0.01, 0.05, 1.0)),
+        answers, draw.choice((pcep.GOING_UP, pcep.GOING_UP, pcep.DOWN, pcep.UP)), draw.choice((0.01, 0.05, 0.3)), draw.choice((0.01, 0.05, 1.0)),
         draw.random() < 0.15, draw.choice((None, "interfaces", "interfaces", "nodes", "labels")), draw.random() < 0.3, draw.choice((0, 0, 0, 1, 2)),
         draw.random() < 0.3)
 
@@ -55,14 +56,14 @@ class Herd:
 
     def change(self, router):
         with router.lock:
-            plsps = [plsp for plsp, lsp in router.lsps.items() if lsp.current and lsp.current.state in (wire.UP, wire.DOWN)]
+            plsps = [plsp for plsp, lsp in router.lsps.items() if lsp.current and lsp.current.state in (pcep.UP, pcep.DOWN)]
             if plsps:
                 plsp = self.draw.choice(plsps)
                 lsp = router.lsps[plsp]
                 if self.draw.random() < 0.2:
                     router.remove(plsp)
-                elif lsp.current.state == wire.UP and self.draw.random() < 0.3:
-                    router.say_state(plsp, wire.DOWN)
+                elif lsp.current.state == pcep.UP and self.draw.random() < 0.3:
+                    router.say_state(plsp, pcep.DOWN)
                 else:
                     router.move(plsp, self.way(lsp.source, lsp.destination), self.draw.choice(BANDWIDTHS))
 
@@ -122,5 +123,18 @@ def a_herd(program, seed):
         time.sleep(1)
     yield [fault for router in zoo.routers for fault in account.unprotected(router)], []
     # (9: a second session, of a router that is back before its first one has ended)
-    yield [(router.address, ask.error) for router in zoo.routers for ask in router.asks(wire.PCERR) if ask.error[0] != 9], []
+    yield [(router.address, ask.error) for router in zoo.routers for ask in router.asks(pcep.PCERR) if ask.error[0] != 9], []
     yield zoo.end(), WELL
+
+
+def herds(program, seconds, seed):
+    """Herds of routers whose tempers are drawn from a seed, one after another: each look with its seed."""
+    begun, number = time.monotonic(), 0
+    while number == 0 or time.monotonic() < begun + seconds:
+        drawn = str(seed + number)
+        try:
+            for came, wanted in a_herd(program, drawn):
+                yield (drawn, came), (drawn, wanted)
+        except (OSError, ValueError, LookupError) as fault:
+            yield f"seed {drawn}: {fault!r}"
+        number += 1

@@ -1,7 +1,7 @@
 """What a router has: its temper, and its LSPs with their paths."""
 from dataclasses import dataclass, field
 
-from .wire import DOWN, GOING_DOWN, GOING_UP, UP
+import pcep
 
 
 @dataclass(frozen=True)
@@ -11,7 +11,7 @@ class Temper:
     # "never", or by a PCErr ("error")
     answers: str = "first"
     # the state of its first report of a new path: going up, DOWN as FRR's pathd has it, or at once UP
-    begins: int = GOING_UP
+    begins: int = pcep.GOING_UP
     # seconds from its first report of a new path to the next one, and from then until the old path is removed
     signals: float = 0.05
     late: float = 0.05
@@ -63,9 +63,9 @@ class Lsp:
 
 def settle(lsp):
     """Ends what was begun: a path that is being set up is up, and one that it takes the place of is gone."""
-    standing = [lsp_id for lsp_id, path in lsp.paths.items() if path.state != DOWN]
-    if lsp.current.state == DOWN and standing:
+    standing = [lsp_id for lsp_id, path in lsp.paths.items() if path.state != pcep.DOWN]
+    if lsp.current.state == pcep.DOWN and standing:
         lsp.lsp_id = standing[-1]
     lsp.paths = {lsp.lsp_id: lsp.current}
-    if lsp.current.state in (GOING_UP, GOING_DOWN):
-        lsp.current.state = UP
+    if lsp.current.state in (pcep.GOING_UP, pcep.GOING_DOWN):
+        lsp.current.state = pcep.UP

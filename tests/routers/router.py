@@ -13,14 +13,14 @@ import time
 from collections import defaultdict
 from dataclasses import replace
 
-from edges.base import paced
+import pcep
+from harness.clock import SOON, paced
+from pcep.reading import asks_of
 
-from . import wire
 from .lsp import Lsp, Path, Temper, settle
-from .wire import ACTIVE, ADMIN, CREATE, DELEGATE, DOWN, GOING_DOWN, REMOVE, SYNC, UP
 
-# how long a connection may take, in seconds, and after how long a router tries again
-SOON, AGAIN = 30, 0.2
+# after how many seconds a router whose connection has ended tries again
+AGAIN = 0.2
 
 
 class Router:
@@ -54,11 +54,11 @@ class Router:
             self.lsps[self.last_plsp] = lsp
             return self.last_plsp
 
-    def lsp(self, name, source, destination, bandwidth, way=None, state=UP, **more):
+    def lsp(self, name, source, destination, bandwidth, way=None, state=pcep.UP, **more):
         """A new LSP, over a way or without a route. Its PLSP-ID; it is reported where the session is up."""
         with self.lock:
             new = Lsp(name, source, destination, next(self.tunnels), bandwidth, protects=self.temper.protects, **more)
-            new.paths[1] = Path(state, tuple(way), bandwidth) if way else Path(DOWN, (), bandwidth)
+            new.paths[1] = Path(state, tuple(way), bandwidth) if way else Path(pcep.DOWN, (), bandwidth)
             plsp = self.hold(new)
             if self.is_up:
                 self.report(plsp)
@@ -69,11 +69,11 @@ class Router:
         with self.lock:
             lsp, temper = self.lsps[plsp], self.temper
             old = lsp.lsp_id
-            if lsp.current is not None and lsp.current.state != DOWN:
+            if lsp.current is not None and lsp.current.state != pcep.DOWN:
                 lsp.lsp_id = max(lsp.paths) % 0xFFFF + 1
             lsp.bandwidth = lsp.bandwidth if bandwidth is None else bandwidth
             lsp.why = ()
-            new, final = lsp.lsp_id, ACTIVE if after == "active" else UP
+            new, final = lsp.lsp_id, pcep.ACTIVE if after == "active" else pcep.UP
             self.show(plsp, temper.begins, way, lsp.bandwidth, srp)
             again = 0 if srp is None or temper.answers == "first" else srp
 
@@ -86,7 +86,7 @@ class Router:
                 if self.lsps.get(plsp) is lsp and old in lsp.paths and old != lsp.lsp_id:
                     self.remove_path(plsp, old)
 
-            if temper.begins not in (UP, ACTIVE):
+            if temper.begins not in (pcep.UP, pcep.ACTIVE):
                 self.later(temper.signals, is_up_now)
             if old != new:
                 self.later(temper.signals + temper.late, is_gone)
@@ -142,12 +142,12 @@ class Router:
     def is_up(self):
         return self.socket is not None and self.session in self.synced
 
-    def asks(self, kind=wire.PCUPD, plsp=None):
+    def asks(self, kind=pcep.PCUPD, plsp=None):
         """What it was asked for so far, of this kind and, if given, of this LSP."""
         with self.lock:
             return [ask for ask in self.heard if ask.kind == kind and plsp in (None, ask.plsp)]
 
-    def waits_for_asks(self, count, kind=wire.PCUPD, within=SOON, plsp=None):
+    def waits_for_asks(self, count, kind=pcep.PCUPD, within=SOON, plsp=None):
         """The asks, once there are so many, or what there is after these seconds of `paced`."""
         until = paced() + within
         while len(self.asks(kind, plsp)) < count and paced() < until:
@@ -178,7 +178,7 @@ class Router:
                     if session == self.session and self.socket is not None:
                         act()
                 if self.socket is not None and now - self.sent_at > min(10, self.temper.timers[1] / 4 or 10):
-                    self.send(wire.message(wire.KEEPALIVE))
+                    self.send(pcep.message(pcep.KEEPALIVE_TYPE))
                 source = self.socket
             # (due acts of a case's are looked for a hundred times a second)
             if source is None:
@@ -207,7 +207,7 @@ class Router:
             self.reasons.append(repr(fault))
             self.returns_at = time.monotonic() + AGAIN
             return
-        self.send(wire.opening(*self.temper.timers))
+        self.send(pcep.opening(*self.temper.timers))
         if self.temper.renumbers and self.session > 1:
             # the LSPs in the other order, under numbers that others had
             self.lsps = dict(enumerate(reversed(list(self.lsps.values())), 1))
@@ -250,19 +250,19 @@ class Router:
 
     def take(self, heard):
         kind = heard[1]
-        if kind == wire.OPEN:
-            self.send(wire.message(wire.KEEPALIVE))
-        elif kind == wire.KEEPALIVE and not self.has_greeted:
+        if kind == pcep.OPEN_TYPE:
+            self.send(pcep.message(pcep.KEEPALIVE_TYPE))
+        elif kind == pcep.KEEPALIVE_TYPE and not self.has_greeted:
             self.has_greeted = True
             self.synchronize()
-        elif kind in (wire.PCUPD, wire.PCINITIATE, wire.PCERR):
-            for ask in wire.asks_of(heard, time.monotonic(), self.session):
+        elif kind in (pcep.PCUPD, pcep.PCINITIATE, pcep.PCERR):
+            for ask in asks_of(heard, time.monotonic(), self.session):
                 self.heard.append(ask)
-                if kind != wire.PCERR:
+                if kind != pcep.PCERR:
                     self.answer(ask)
                 elif ask.error[0] in (1, 9):
                     self.hang_up(f"PCErr {ask.error}")
-        elif kind == wire.CLOSE:
+        elif kind == pcep.CLOSE_TYPE:
             self.hang_up("Close of the PCE")
 
     def synchronize(self):
@@ -271,40 +271,40 @@ class Router:
             for lsp_id in lsp.paths:
                 self.report(plsp, None, lsp_id, sync=True)
         self.synced[self.session] = time.monotonic()
-        self.send(wire.END_OF_SYNC)
+        self.send(pcep.END_OF_SYNC)
 
     def report(self, plsp, srp=None, lsp_id=None, sync=False, removed=False):
         """Reports one path (RFC 8231 section 6.1), under an SRP-ID (0: the reserved one)."""
         lsp = self.lsps[plsp]
         lsp_id = lsp.lsp_id if lsp_id is None else lsp_id
         path = lsp.paths[lsp_id]
-        flags = (DELEGATE * lsp.delegated | SYNC * sync | REMOVE * removed | ADMIN * lsp.admin | CREATE * lsp.created
+        flags = (pcep.DELEGATE * lsp.delegated | pcep.SYNC * sync | pcep.REMOVE * removed | pcep.ADMIN * lsp.admin | pcep.CREATE * lsp.created
                  | (0 if removed else path.state) << 4)
-        parts = [] if srp is None else [wire.srp(srp)]
-        parts.append(wire.lsp_object(plsp, flags, lsp.name.encode(), lsp.source, lsp.destination, lsp_id, lsp.tunnel, *lsp.why))
-        parts.append(wire.route(wire.ERO, () if removed else self.network.interfaces(path.way)))
+        parts = [] if srp is None else [pcep.srp(srp)]
+        parts.append(pcep.lsp(plsp, flags, pcep.identifiers(lsp.source, lsp_id, lsp.tunnel, lsp.destination), pcep.tlv(pcep.NAME, lsp.name.encode()), *lsp.why))
+        parts.append(pcep.route(pcep.ERO, () if removed else self.network.interfaces(path.way)))
         if not removed:
-            parts += [wire.attributes(lsp.setup, lsp.hold, lsp.protects), wire.bandwidth(path.bandwidth), *self.record_of(path)]
+            parts += [pcep.attributes(lsp.setup, lsp.hold, lsp.protects), pcep.bandwidth(path.bandwidth), *self.record_of(path)]
             is_hidden = self.temper.records == "labels" and self.is_recorded(path)
             path.shown_way = self.network.links_between(lsp.source, lsp.destination)[:1] if is_hidden else path.way
         if srp:
             self.named.append((self.session, srp, time.monotonic()))
-        if not removed and path.state in (UP, ACTIVE):
+        if not removed and path.state in (pcep.UP, pcep.ACTIVE):
             self.shown_up[self.session].append(time.monotonic())
         self.reported.append((self.session, plsp, replace(lsp)))
-        self.send(wire.message(wire.PCRPT, *parts))
+        self.send(pcep.message(pcep.PCRPT, *parts))
 
     def is_recorded(self, path):
         """Whether a report of the path has an RRO: it is up, and isn't only being set up."""
-        return path.state in (UP, ACTIVE, GOING_DOWN) and path.way != () and self.temper.records is not None
+        return path.state in (pcep.UP, pcep.ACTIVE, pcep.GOING_DOWN) and path.way != () and self.temper.records is not None
 
     def record_of(self, path):
         if not self.is_recorded(path):
             return []
         if self.temper.records == "labels":
-            return [wire.labels(len(path.way))]
+            return [pcep.labels(len(path.way))]
         hops = self.network.node_ids if self.temper.records == "nodes" else self.network.interfaces
-        return [wire.route(wire.RRO, hops(path.way))]
+        return [pcep.route(pcep.RRO, hops(path.way))]
 
     # ---- how it answers
 
@@ -315,11 +315,11 @@ class Router:
         elif temper.answers == "never":
             pass
         elif temper.answers == "error":
-            self.send(wire.error(24, 1, ask.srp) if ask.kind == wire.PCINITIATE else wire.error(19, 1, ask.srp))
-        elif ask.kind == wire.PCINITIATE and not ask.removes:
+            self.send(pcep.error(24, 1, ask.srp) if ask.kind == pcep.PCINITIATE else pcep.error(19, 1, ask.srp))
+        elif ask.kind == pcep.PCINITIATE and not ask.removes:
             self.create(ask)
         elif ask.plsp not in self.lsps:
-            self.send(wire.error(19, 3, ask.srp))
+            self.send(pcep.error(19, 3, ask.srp))
         elif ask.removes:
             self.remove(ask.plsp, ask.srp)
         elif not ask.delegates:
@@ -331,10 +331,10 @@ class Router:
         lsp = self.lsps[ask.plsp]
         way = self.network.way_of(lsp.source, ask.hops, lsp.destination)
         if way is None:
-            self.send(wire.error(19, 1, ask.srp))
+            self.send(pcep.error(19, 1, ask.srp))
         elif self.temper.refuses:
             # it stays as it is, and the report says why (RFC 8231 section 7.3.3)
-            failed = wire.tlv(wire.ERROR_CODE, struct.pack(">I", 8)), wire.rsvp_error(self.network.node_ids(way)[0], 1, 2)
+            failed = pcep.tlv(pcep.ERROR_CODE, struct.pack(">I", 8)), pcep.rsvp_error(self.network.node_ids(way)[0], 1, 2)
             self.say_state(ask.plsp, lsp.current.state, ask.srp, why=failed)
         else:
             lsp.protects, lsp.setup, lsp.hold = ask.protects, ask.setup, ask.hold
@@ -344,8 +344,8 @@ class Router:
         source, destination = ask.ends
         way = self.network.way_of(source, ask.hops, destination)
         if way is None or self.temper.refuses:
-            self.send(wire.error(24, 3, ask.srp))
+            self.send(pcep.error(24, 3, ask.srp))
             return
         new = Lsp(ask.name.decode(), source, destination, next(self.tunnels), int(ask.bandwidth), ask.setup, ask.hold, created=True)
-        new.paths[1] = Path(DOWN, (), new.bandwidth)
+        new.paths[1] = Path(pcep.DOWN, (), new.bandwidth)
         self.move(self.hold(new), way, None, ask.srp)

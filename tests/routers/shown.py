@@ -3,9 +3,10 @@ import socket
 import struct
 import time
 
-from edges.base import comes, metrics
+import pcep
+from harness.clock import comes
+from harness.exposition import family, metrics_of, text_of
 
-from . import wire
 from .lsp import Path, Temper
 from .zoo import A, B, C, D, OVER_B, OVER_C, WELL, Zoo
 
@@ -14,24 +15,24 @@ MOST_PATHS = 16_384
 
 
 def states_are_the_routers_words(program):
-    """An LSP is shown in the state that its router reports, and as unplaced where it is up and no link is booked."""
+    """An LSP is shown in the state that its router reports, and as unplaced if it is up and no link is booked."""
     zoo = Zoo(program, retry=0)
     router, marked = zoo.router(), zoo.router(Temper(records="labels"))
-    plsps = {name: router.lsp(name.replace(" ", "-"), A, D, 1_000, OVER_B, state, delegated=False) for state, name in enumerate(wire.STATES)}
+    plsps = {name: router.lsp(name.replace(" ", "-"), A, D, 1_000, OVER_B, state, delegated=False) for state, name in enumerate(pcep.STATES)}
     labelled = marked.lsp("labels", A, D, 1_000, OVER_B, delegated=False)
     yield comes(lambda: len(zoo.lsps()) == 6, 5), True
     yield {name: zoo.state(router, plsp) for name, plsp in plsps.items()}, {name: name for name in plsps}
     yield zoo.state(marked, labelled), "unplaced"
     table = zoo.said("lsps").splitlines()
     place = table[0].index("STATE")
-    yield sorted(line[place:].split("  ")[0] for line in table[1:]), sorted([*wire.STATES, "unplaced"])
-    numbers = metrics.metrics_of(metrics.text_of(zoo.server))
-    yield metrics.family(numbers, "pced_lsps_by_state"), dict.fromkeys([*wire.STATES, "unplaced"], 1)
+    yield sorted(line[place:].split("  ")[0] for line in table[1:]), sorted([*pcep.STATES, "unplaced"])
+    numbers = metrics_of(text_of(zoo.server))
+    yield family(numbers, "pced_lsps_by_state"), dict.fromkeys([*pcep.STATES, "unplaced"], 1)
     # no link is booked of these two
     yield [name for (_, plsp), lsp in sorted(zoo.lsps().items()) if lsp["is_down"] for name in [lsp["name"]]], ["down", "labels"]
     # the best of its paths counts: one that is up beside one that is going up
     plsp = plsps["up"]
-    router.lsps[plsp].paths[2] = Path(wire.GOING_UP, OVER_C, 1_000)
+    router.lsps[plsp].paths[2] = Path(pcep.GOING_UP, OVER_C, 1_000)
     router.report(plsp, None, 2)
     time.sleep(0.5)
     yield zoo.state(router, plsp), "up"
@@ -43,15 +44,15 @@ def why_an_lsp_failed(program):
     zoo = Zoo(program, retry=0)
     router = zoo.router()
     preempted, failed = (router.lsp(name, A, D, 1_000, OVER_B, delegated=False) for name in ("first", "second"))
-    code = wire.tlv(wire.ERROR_CODE, struct.pack(">I", 7))
-    router.say_state(preempted, wire.DOWN, why=(code,))
-    router.say_state(failed, wire.DOWN, why=(wire.tlv(wire.ERROR_CODE, struct.pack(">I", 8)), wire.rsvp_error(B, 1, 2)))
+    code = pcep.tlv(pcep.ERROR_CODE, struct.pack(">I", 7))
+    router.say_state(preempted, pcep.DOWN, why=(code,))
+    router.say_state(failed, pcep.DOWN, why=(pcep.tlv(pcep.ERROR_CODE, struct.pack(">I", 8)), pcep.rsvp_error(B, 1, 2)))
     yield comes(lambda: zoo.book()[0] == [1_000_000] * 8, 5), True
     texts = [zoo.said(f"lsp {router.address} {plsp}").lower() for plsp in (preempted, failed)]
     yield ["preempted" in text for text in texts], [True, False]
     yield ["rsvp" in text and B in text for text in texts], [False, True]
     # it goes with the path
-    router.say_state(preempted, wire.UP)
+    router.say_state(preempted, pcep.UP)
     yield comes(lambda: "preempted" not in zoo.said(f"lsp {router.address} {preempted}").lower(), 5), True
     yield zoo.end(), WELL
 
@@ -65,8 +66,8 @@ def a_routers_refusal_is_shown(program):
     yield zoo.said(f"update {router.address} {plsp}")[:6], "asked "
     yield comes(lambda: len(router.asks()) == 1 and not zoo.grants(), 5), True
     yield "19/1" in zoo.said(f"lsp {router.address} {plsp}"), True
-    numbers = metrics.metrics_of(metrics.text_of(zoo.server))
-    yield metrics.family(numbers, "pced_errors_received_total"), {"19 1": 1}
+    numbers = metrics_of(text_of(zoo.server))
+    yield family(numbers, "pced_errors_received_total"), {"19 1": 1}
     *well, texts = zoo.ended()
     yield tuple(well), WELL
     wanted = f"router refused {router.address} srp=1 lsp=refused PCErr 19/1"
@@ -90,7 +91,7 @@ def a_gap_is_shown(program):
     place = table[0].index("STATE")
     yield [line[place:].split("  ")[0] for line in table[1:]], ["up partly placed"] * 3 + ["up"] * 2
     yield [zoo.state(router, plsp) for plsp in plsps], ["up"] * 5
-    yield metrics.metrics_of(metrics.text_of(zoo.server))["pced_partly_placed_paths", None], 3
+    yield metrics_of(text_of(zoo.server))["pced_partly_placed_paths", None], 3
     yield zoo.end(), WELL
 
 
@@ -105,7 +106,7 @@ def local_protection_stays(program):
         yield zoo.said(f"update {router.address} {plsp}")[:6], "asked "
         yield zoo.said(f"initiate {router.address} t3 {A} {D} 1000 7 7")[:6], "asked "
         yield [ask.protects for ask in router.waits_for_asks(2, within=5)], [router is safe] * 2
-        yield [ask.protects for ask in router.waits_for_asks(1, wire.PCINITIATE, within=5)], [False]
+        yield [ask.protects for ask in router.waits_for_asks(1, pcep.PCINITIATE, within=5)], [False]
     yield zoo.end(), WELL
 
 
@@ -114,9 +115,9 @@ def why_a_session_was_ended(program):
     zoo = Zoo(program)
     router = zoo.router()
     six = struct.pack(">16sHH4s16s", bytes(15) + b"\1", 1, 1, bytes(4), bytes(15) + b"\2")
-    lsp = wire.thing(wire.LSP, struct.pack(">I", 1 << 12 | 0x18) + wire.tlv(19, six) + wire.tlv(wire.NAME, b"six"))
+    lsp = pcep.lsp(1, 0x18, pcep.tlv(19, six), pcep.tlv(pcep.NAME, b"six"))
     with router.lock:
-        router.send(wire.message(wire.PCRPT, lsp, wire.thing(wire.ERO, bytes([4, 20]) + socket.inet_pton(socket.AF_INET6, "2001:db8::1") + bytes([128, 0]))))
+        router.send(pcep.message(pcep.PCRPT, lsp, pcep.make_object(pcep.ERO, bytes([4, 20]) + socket.inet_pton(socket.AF_INET6, "2001:db8::1") + bytes([128, 0]))))
     yield comes(lambda: [ask.error for ask in router.heard if ask.error] == [(6, 11)], 5), True
     router.lose_connection(None)
     *well, texts = zoo.ended()
@@ -127,25 +128,22 @@ def why_a_session_was_ended(program):
 
 def reported(plsp, lsp_id, state, *flags):
     """A report of an LSP's path without a route; LSP-ID 0: it isn't signalled (RFC 8231 section 7.3.1)."""
-    if lsp_id:
-        what = wire.lsp_object(plsp, state << 4 | sum(flags), b"churned", A, D, lsp_id, plsp % 0xFFFF + 1)
-    else:
-        zero = wire.tlv(wire.IDENTIFIERS, bytes(16)) + wire.tlv(wire.NAME, b"churned")
-        what = wire.thing(wire.LSP, struct.pack(">I", plsp << 12 | state << 4 | sum(flags)) + zero)
-    return wire.message(wire.PCRPT, what, wire.route(wire.ERO, ()))
+    path = pcep.identifiers(A, lsp_id, plsp % 0xFFFF + 1, D) if lsp_id else pcep.NO_IDENTIFIERS
+    what = pcep.lsp(plsp, state << 4 | sum(flags), path, pcep.tlv(pcep.NAME, b"churned"))
+    return pcep.message(pcep.PCRPT, what, pcep.route(pcep.ERO, ()))
 
 
 def what_is_replaced_is_forgotten(program):
     """What is said of a path is forgotten once another one replaces it, so that there is room for what is said of those that stand."""
     zoo = Zoo(program, retry=0)
     router = zoo.router()
-    forth = (0, wire.DOWN), (1, wire.DOWN)
-    back = (1, wire.DOWN), (2, wire.DOWN), (0, wire.DOWN)
+    forth = (0, pcep.DOWN), (1, pcep.DOWN)
+    back = (1, pcep.DOWN), (2, pcep.DOWN), (0, pcep.DOWN)
     for plsp in range(1, MOST_PATHS + 1):
         reports = [reported(plsp, *report) for report in (forth if plsp % 2 else back)]
-        last = reported(plsp, 1 if plsp % 2 else 0, 0, wire.REMOVE)
+        last = reported(plsp, 1 if plsp % 2 else 0, 0, pcep.REMOVE)
         router.send(b"".join([*reports, last]))
-    router.send(reported(MOST_PATHS + 1, 0, wire.GOING_UP) + reported(MOST_PATHS + 2, 3, wire.GOING_DOWN))
+    router.send(reported(MOST_PATHS + 1, 0, pcep.GOING_UP) + reported(MOST_PATHS + 2, 3, pcep.GOING_DOWN))
     yield comes(lambda: len(zoo.lsps()) == 2, 100), True
     yield [zoo.state(router, MOST_PATHS + number) for number in (1, 2)], ["going up", "going down"]
     yield zoo.end(), WELL

@@ -6,11 +6,14 @@ import subprocess
 import tempfile
 import time
 
-from edges.base import ROOT, comes, end_with_log, http
+import pcep
+from harness.cases import ROOT
+from harness.clock import comes
+from harness.server import ViewedServer, end_with_log
 
-from . import account, wire
-from .network import network_of
+from . import account
 from .lsp import Lsp, Path, Temper
+from .network import network_of
 from .router import Router
 
 DIAMOND, ABILENE = f"{ROOT}/examples/diamond.toml", f"{ROOT}/examples/abilene.toml"
@@ -24,10 +27,10 @@ LATE = 2.5
 
 def pathless(name, bandwidth, **more):
     """An LSP from A to D that is down and has no route."""
-    return held(name, bandwidth, (), wire.DOWN, **more)
+    return held(name, bandwidth, (), pcep.DOWN, **more)
 
 
-def held(name, bandwidth, way, state=wire.UP, tunnel=None, **more):
+def held(name, bandwidth, way, state=pcep.UP, tunnel=None, **more):
     """An LSP from A to D over a way."""
     return Lsp(name, A, D, tunnel or 1000 + sum(name.encode()), bandwidth, paths={1: Path(state, tuple(way), bandwidth)}, **more)
 
@@ -43,7 +46,7 @@ class Zoo:
 
     def __init__(self, program, te=DIAMOND, **flags):
         self.answer = flags.get("answer", 120)
-        self.server = http.Server(program, "--endless", *flags_of(program, **flags), te=te)
+        self.server = ViewedServer(program, "--endless", *flags_of(program, **flags), te=te)
         self.network = network_of(te)
         self.routers = []
 
@@ -105,7 +108,7 @@ class Zoo:
 
     def ask_of(self, router, srp):
         """The request of the server's that the router last got under this SRP-ID."""
-        return next((ask for ask in reversed(router.heard) if ask.srp == srp and ask.kind != wire.PCERR), None)
+        return next((ask for ask in reversed(router.heard) if ask.srp == srp and ask.kind != pcep.PCERR), None)
 
     def accounted(self, grants):
         """What is left of the links, by what the routers hold and these grants."""

@@ -2,6 +2,8 @@
 
 import subprocess
 
+from harness import cases
+
 from .laws import Broken
 
 SECONDS = 600
@@ -36,7 +38,7 @@ def first_difference(expected, output):
 
 
 def difference_in_lines(number, line, wanted, got):
-    return f"  line {number}: {line[:200]}\n  wanted: {wanted[:400]}\n  got:    {got[:400]}"
+    return f"line {number}: {line[:200]}\nwanted {wanted[:400]}\ncame   {got[:400]}"
 
 
 def fault_of(program, text, expected):
@@ -44,31 +46,38 @@ def fault_of(program, text, expected):
     try:
         run = subprocess.run([program, "script"], input=text, capture_output=True, text=True, timeout=SECONDS)
     except subprocess.TimeoutExpired:
-        return f"  no end within {SECONDS} s"
+        return f"no end within {SECONDS} s"
     except OSError as fault:
-        return f"  {fault}"
+        return str(fault)
     fault = first_difference(expected, run.stdout.splitlines())
     if fault is None and run.returncode:
-        fault = f"  status {run.returncode}: {run.stderr[:400]}"
+        fault = f"status {run.returncode}: {run.stderr[:400]}"
     return fault
 
 
 class Tally:
-    """Counts runs, and leaves the scripts of those that fail."""
+    """Runs scenarios, counts how they went, and leaves the scripts of those that fail."""
 
-    def __init__(self, programs, folder):
-        self.programs, self.folder = programs, folder
-        self.passed = self.failed = 0
+    def __init__(self, programs, folder, chosen=()):
+        self.programs, self.folder, self.chosen = programs, folder, chosen
+        self.count = cases.Count(is_silent=True)
 
     def run(self, kind, seed, amount, scenario):
+        """Runs a scenario of this kind and seed through each program, unless others are chosen. Whether it did."""
+        name = f"{kind}_{seed}"
+        if self.chosen and name not in self.chosen:
+            return False
         text, expected = play(scenario)
-        for program in self.programs:
+        left = self.folder / f"{kind}-{seed}.txt"
+
+        def compare(program):
             fault = fault_of(program, text, expected)
-            if fault is None:
-                self.passed += 1
-                continue
-            self.failed += 1
-            self.folder.mkdir(parents=True, exist_ok=True)
-            left = self.folder / f"{kind}-{seed}.txt"
-            left.write_text(text)
-            print(f"FAIL  seed {seed}: {amount} {kind}, {program}, script in {left}\n{fault}", flush=True)
+            if fault is not None:
+                self.folder.mkdir(parents=True, exist_ok=True)
+                left.write_text(text)
+                yield f"{program}\n{fault}"
+
+        case = cases.Case(name, f"{amount} {kind} of seed {seed}, script in {left} if it fails.", compare)
+        for program in self.programs:
+            self.count.take(cases.run_case(case, (program,), None))
+        return True

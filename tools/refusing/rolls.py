@@ -1,7 +1,7 @@
 """A server whose history is full, while no roll finds memory."""
 import time
 
-from reader import messages as m
+import pcep
 
 from .served import REMOVAL, Gone, Served, wants
 
@@ -34,7 +34,7 @@ def refuse_rolls(program, refusals):
     served = Served(program, network, refusals, words=("--history", "65536"))
     try:
         served.come()
-        many = m.message(m.M_PCRPT, REMOVAL[4:] * 100) * (EACH // 100)
+        many = pcep.message(pcep.PCRPT, REMOVAL[4:] * 100) * (EACH // 100)
         for _ in range(BEFORE):
             served.send(many)
         served.is_answered()
@@ -54,7 +54,7 @@ def refuse_rolls(program, refusals):
         refusals.lift()
         served.come()
         wants(served.end(), (0, ""))
-        return f"{tried} tries in {SECONDS} s"
+        print(f"      {tried} tries in {SECONDS} s", flush=True)
     finally:
         served.process.kill()
         served.process.wait()

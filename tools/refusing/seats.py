@@ -2,9 +2,11 @@
 a snapshot that was given is given again without memory."""
 import subprocess
 
+from harness import cases
+
 TESTS = {
-    "tests::shared::a_call_is_made_again": "Each call of a seat is made again where it was refused",
-    "tests::copies::a_snapshot_is_given_again": "A snapshot is given again without memory",
+    "tests::shared::a_call_is_made_again": "Each call of a seat is made again where it was refused.",
+    "tests::copies::a_snapshot_is_given_again": "A snapshot is given again without memory.",
 }
 MOST, SECONDS = 5000, 60
 # the status of a test that fails by itself
@@ -35,17 +37,12 @@ def refuse_each(program, test, refusals, with_all_after):
     raise ValueError(f"more than {MOST} allocations")
 
 
-def is_borne(program, test, claim, refusals, with_all_after):
-    """Tries a test under refusals, and prints how it went."""
-    try:
-        said = f"{refuse_each(program, test, refusals, with_all_after)} refusals were borne"
-        well = True
-    except (OSError, ValueError, subprocess.TimeoutExpired) as problem:
-        said, well = repr(problem), False
-    print(f"{'ok   ' if well else 'WRONG'} {claim}: {said}", flush=True)
-    return well
+def case_of(test, claim, refusals, with_all_after):
+    """A case of a test under refusals, of the program of tests."""
+    def looks(program):
+        print(f"      {refuse_each(program, test, refusals, with_all_after)} refusals were borne", flush=True)
+    return cases.Case(test.rpartition(":")[2], claim, looks)
 
 
-def results_of(program, refusals, with_all_after):
-    """How each test went."""
-    return [is_borne(program, test, claim, refusals, with_all_after) for test, claim in TESTS.items()]
+def cases_of(refusals, with_all_after):
+    return [case_of(test, claim, refusals, with_all_after) for test, claim in TESTS.items()]

@@ -1,40 +1,35 @@
 """A server whose allocations are refused while it is called: the call that is answered so is made again."""
 import shutil
 import socket
-import struct
 import subprocess
 import time
 
-from ports import free_port
-from reader import messages as m
-from reader.numbers import word_of
+import pcep
+from harness.ports import free_port
+from harness.server import FREE, book_of
+from pcep import diamond
 
 MOST, SECONDS = 1000, 20
-A, D = bytes([10, 0, 0, 1]), bytes([10, 0, 0, 4])
 OUT_OF_MEMORY = "out of memory"
-END_OF_SYNCHRONIZATION = m.message(m.M_PCRPT, m.thing(32, bytes(4) + struct.pack(">HH", 18, 16) + bytes(16)), m.thing(7, b""))
-OVER_C = bytes.fromhex("01080a0300022000 01080a0400022000")
-FREE = [[1_000_000] * 8 for _ in range(4)]
-HELD = [[500_000] * 8 for _ in range(2)] + FREE[2:]
+OVER_C = diamond.route(*diamond.OVER_C)[4:]
+HELD = book_of(500_000, 500_000, 1_000_000, 1_000_000)
 
 
 def report(flags, lsp_id=1):
     """The LSP 5, over the links 0 and 1 with half of what they bear."""
-    ends = A + struct.pack(">HH", lsp_id, 1) + A + D
-    over_b = bytes.fromhex("01080a0100022000 01080a0200022000")
-    attributes = m.thing(9, struct.pack(">III4B", 0, 0, 0, 7, 0, 0, 0)), m.thing(5, struct.pack(">I", word_of(500_000)))
-    return m.message(m.M_PCRPT, m.thing(32, struct.pack(">IHH", 5 << 12 | flags, 18, 16) + ends), m.thing(7, over_b), *attributes)
+    lsp = pcep.lsp(5, flags, pcep.identifiers(diamond.A, lsp_id, 1, diamond.D))
+    return pcep.message(pcep.PCRPT, lsp, diamond.route(*diamond.OVER_B), diamond.ATTRIBUTES, pcep.bandwidth(500_000))
 
 
-REMOVAL = m.message(m.M_PCRPT, m.thing(32, struct.pack(">IHH", 5 << 12 | 4, 18, 16) + bytes(16)), m.thing(7, b""))
+REMOVAL = pcep.message(pcep.PCRPT, pcep.lsp(5, pcep.REMOVE, pcep.NO_IDENTIFIERS), diamond.route())
 
 
 def request(number):
-    return m.message(m.M_PCREQ, m.thing(2, struct.pack(">II", 0, number), flags=2), m.thing(4, A + D, flags=2))
+    return pcep.message(pcep.PCREQ, pcep.rp(number), pcep.end_points(diamond.A, diamond.D))
 
 
 def refusal(srp):
-    return m.message(m.M_PCERR, m.thing(33, struct.pack(">II", 0, srp)), m.thing(13, bytes([0, 0, 24, 1])))
+    return pcep.error(24, 1, srp)
 
 
 class Gone(Exception):
@@ -58,7 +53,7 @@ class Served:
         while time.monotonic() < until:
             try:
                 self.connect()
-                self.send(m.OWN_OPEN + m.KEEPALIVE + END_OF_SYNCHRONIZATION)
+                self.send(pcep.OPEN + pcep.KEEPALIVE + pcep.END_OF_SYNC)
                 self.is_answered()
                 return
             except (OSError, Gone):
@@ -93,7 +88,7 @@ class Served:
         """The next message of this type."""
         while True:
             head = self.take(4)
-            message = head + self.take(struct.unpack(">H", head[2:])[0] - 4)
+            message = head + self.take(int.from_bytes(head[2:], "big") - 4)
             if message[1] == kind:
                 return message
 
@@ -102,8 +97,8 @@ class Served:
         self.number += 1
         self.send(request(self.number))
         while True:
-            reply = self.hear_of(m.M_PCREP)
-            if reply[8:16] == struct.pack(">II", 0, self.number):
+            reply = self.hear_of(pcep.PCREP)
+            if diamond.number_of(reply) == self.number:
                 return reply
 
     def tell(self, line, answers=1):
@@ -142,7 +137,7 @@ class Call:
     def hears(self, kind):
         """The number (SRP-ID) of the request that comes."""
         message = self.served.hear_of(kind)
-        return struct.unpack_from(">I", message, 12)[0]
+        return int.from_bytes(message[12:16], "big")
 
     def reset(self):
         """No LSP stands, and the router is up."""
@@ -174,7 +169,7 @@ class Initiation(Call):
     def run(self, place):
         answer = self.answer_of(f"initiate {self.address} t{place} 10.0.0.1 10.0.0.4 500000 7 0", FREE)
         wants(answer.split()[0], "asked")
-        srp = self.hears(m.M_PCINITIATE)
+        srp = self.hears(pcep.PCINITIATE)
         wants(self.served.book(), HELD)
         self.served.send(refusal(srp))
 
@@ -188,7 +183,7 @@ class Update(Call):
 
     def run(self, place):
         wants(self.answer_of(f"update {self.address} 5", FREE).split()[0], "asked")
-        srp = self.hears(m.M_PCUPD)
+        srp = self.hears(pcep.PCUPD)
         wants(self.served.book(), HELD)
         self.served.send(refusal(srp))
 
@@ -202,7 +197,7 @@ class Return(Call):
 
     def run(self, place):
         wants(self.answer_of(f"return {self.address} 5", HELD), "done")
-        self.hears(m.M_PCUPD)
+        self.hears(pcep.PCUPD)
 
 
 class Removal(Call):
@@ -214,7 +209,7 @@ class Removal(Call):
 
     def run(self, place):
         wants(self.answer_of(f"delete {self.address} 5", HELD).split()[0], "removing")
-        self.hears(m.M_PCINITIATE)
+        self.hears(pcep.PCINITIATE)
 
 
 class Report(Call):
@@ -238,7 +233,7 @@ class Coming(Call):
     def run(self, place):
         self.served.router.close()
         self.served.connect()
-        self.served.send(m.OWN_OPEN + m.KEEPALIVE + END_OF_SYNCHRONIZATION)
+        self.served.send(pcep.OPEN + pcep.KEEPALIVE + pcep.END_OF_SYNC)
         self.served.is_answered()
 
 
@@ -321,7 +316,8 @@ def refuse_each_of_a_start(program, network, refusals):
         # (what a thread lacked that can't be started isn't named)
         wants(end, end if end in (*ENDS, (3, "device fault")) else ENDS)
         if refusals.met() == 0:
-            return f"{place} refusals"
+            print(f"      {place} refusals", flush=True)
+            return
     raise ValueError(f"more than {MOST} allocations")
 
 
@@ -335,7 +331,8 @@ def refuse_each_of_an_end(program, network, refusals):
         wants(end, end if end in ENDS else ENDS)
         served.router.close()
         if refusals.met() == 0:
-            return f"{place} refusals"
+            print(f"      {place} refusals", flush=True)
+            return
     raise ValueError(f"more than {MOST} allocations")
 
 
@@ -352,7 +349,6 @@ def refuse_each_of_the_calls(program, network, refusals):
             print(f"      {kind.__doc__} {places} refusals: {call.met} answered to the operator, {ended} ended the session", flush=True)
         refusals.lift()
         wants(served.end(), (0, ""))
-        return "the audit passes"
     finally:
         served.process.kill()
         served.process.wait()
@@ -364,7 +360,7 @@ def grant_that_ends(served, place):
     served.send(report(0x09))
     served.is_answered()
     wants(served.tell("update 127.0.0.1 5")[0].split()[0], "asked")
-    served.hear_of(m.M_PCUPD)
+    served.hear_of(pcep.PCUPD)
     wants(served.book(), HELD)
     served.refusals.order(place)
     time.sleep(2.2)
@@ -397,22 +393,10 @@ def refuse_each_of_upkeep(program, network, refusals):
         told = sum("memory refused" in line for line in said)
         wants(sum("no answer 127.0.0.1" in line for line in said) >= place + 1 - ended, True)
         wants(0 < told <= place or place == 0, True)
-        return f"{place} refusals, {told} of them logged, {ended} ended the session"
+        print(f"      {place} refusals, {told} of them logged, {ended} ended the session", flush=True)
     finally:
         served.process.kill()
         served.process.wait()
 
 
-def result_of(case, *given):
-    """Tries a server under refusals, and prints how it went."""
-    try:
-        said, is_well = case(*given), True
-    except (OSError, ValueError, Gone, subprocess.TimeoutExpired) as problem:
-        said, is_well = repr(problem), False
-    print(f"{'ok   ' if is_well else 'WRONG'} {case.__doc__} {said}", flush=True)
-    return is_well
-
-
-def results_of(program, network, refusals):
-    cases = refuse_each_of_a_start, refuse_each_of_the_calls, refuse_each_of_upkeep, refuse_each_of_an_end
-    return [result_of(case, program, network, refusals) for case in cases]
+CASES = refuse_each_of_a_start, refuse_each_of_the_calls, refuse_each_of_upkeep, refuse_each_of_an_end

@@ -1,4 +1,5 @@
-"""A grid of 32 x 32 nodes whose ends meet, with 4,096 links, for `bench/storm`, `bench/http`, `bench/loop` and `tools/page`."""
+"""A grid of 32 x 32 nodes whose ends meet, with 4,096 links, and reports of LSPs in it."""
+import pcep
 
 SIDE = 32
 RESERVABLE = 1000000000
@@ -37,3 +38,10 @@ def grid():
                 f"igp=10\nte=10\ncolour=0\nreservable={RESERVABLE}"
             )
     return "\n".join(lines) + "\n"
+
+
+def report(number, start, end, bandwidth, flags=0x18, hops=(), hold=0, srp=None):
+    """The state report of an LSP between two nodes, over these addresses; setup at 7. It answers the request of an SRP-ID if one is given."""
+    first = [] if srp is None else [pcep.srp(srp)]
+    lsp = pcep.lsp(number, flags, pcep.identifiers(address(start), 1, number, address(end)))
+    return pcep.message(pcep.PCRPT, *first, lsp, pcep.route(pcep.ERO, hops), pcep.attributes(7, hold), pcep.bandwidth(bandwidth))

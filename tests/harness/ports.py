@@ -5,7 +5,7 @@ import socket
 GIVEN = set()
 
 
-def free_port():
+def free_port() -> int:
     """A port that nobody has, another each time, and none that the system may give to somebody else meanwhile."""
     with open("/proc/sys/net/ipv4/ip_local_port_range") as file:
         above = int(file.read().split()[0])
@@ -17,7 +17,7 @@ def free_port():
             return port
 
 
-def is_free(port):
+def is_free(port: int) -> bool:
     try:
         socket.create_server(("127.0.0.1", port)).close()
         return True
@@ -25,7 +25,8 @@ def is_free(port):
         return False
 
 
-def listens_at(port):
-    """Whether somebody listens at this port."""
+def listens_at(port: int, addresses=("0100007F",)) -> bool:
+    """Whether somebody listens at this port, of 127.0.0.1 or of another of these addresses as the system writes them."""
     with open("/proc/net/tcp") as file:
-        return f"0100007F:{port:04X} 00000000:0000 0A" in file.read()
+        text = file.read()
+    return any(f"{address}:{port:04X} 00000000:0000 0A" in text for address in addresses)

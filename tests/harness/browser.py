@@ -16,7 +16,8 @@ FLAGS = [
     "--disable-background-networking", "--disable-component-update", "--disable-default-apps", "--hide-scrollbars",
     "--host-resolver-rules=MAP * ~NOTFOUND, EXCLUDE 127.0.0.1", "--remote-debugging-port=0",
 ]
-SOON = 30
+# how many seconds Chromium may take to start, and a page for what it is asked
+SOON = 60
 
 
 class Browser:
