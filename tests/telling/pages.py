@@ -2,8 +2,9 @@
 import threading
 import time
 
+import pcep
 from harness.clock import comes
-from harness.router import Router
+from harness.router import Router, up
 from harness.server import ENDED, ControlledServer
 from pcep import diamond
 
@@ -47,8 +48,8 @@ def pages_of_better(program):
 def pages_of_all_lsps(program):
     """16,384 LSPs come in pages while reports come, and none that stays is skipped; other lines are answered meanwhile."""
     server = ControlledServer(program)
-    routers = [Router(server, number) for number in range(1, 5)]
-    yield [router.come_up() for router in routers], [True] * 4
+    # (without timers: each is silent while the others report, however long that takes)
+    routers = [up(server, number, pcep.opening(0, 0)) for number in range(1, 5)]
     for router in routers:
         for start in range(1, 4097, 256):
             router.send(b"".join(diamond.report(plsp, 10.0, flags=0x19) for plsp in range(start, start + 256)))
