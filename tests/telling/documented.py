@@ -90,25 +90,40 @@ def differences(server, start, end):
     return found
 
 
-# how many messages examples/two_routers.py has sent after each piece of it
-MESSAGES = 1, 3, 5, 6, 7, 8
+# how many messages examples/two_routers.py has sent after each piece of it, and how many steps the server has taken then
+PIECES = (1, 0), (3, 3), (5, 10), (6, 10), (7, 12), (8, 14)
 
 
-def has_heard(server, count):
-    """Whether the server has soon heard so many messages."""
-    return comes(lambda: sum(family(metrics_of(text_of(server)), "pced_messages_received_total").values()) == count)
+def counts(server):
+    """How many messages the server has heard, and how many steps it has taken."""
+    metrics = metrics_of(text_of(server))
+    return tuple(sum(family(metrics, name).values()) for name in ("pced_messages_received_total", "pced_steps_total"))
+
+
+class OtherOrder(Exception):
+    """The worker committed its search before the router's thread had asked what to send: the documents show the other order, with a step more."""
+
+
+def follow(server, routers):
+    """Has each piece of the example sent once all that follows from the one before is done: messages that come at once take fewer steps."""
+    for piece in PIECES:
+        if not comes(lambda: counts(server) == piece, 5):
+            raise OtherOrder(f"{counts(server)} messages and steps, and not {piece}")
+        print("", file=routers.stdin, flush=True)
 
 
 def examples_of_two_routers(program):
-    """How the server of examples/two_routers.py answers otherwise than docs/OPERATOR.md says, before its third LSP and after it. Each of
-    its messages comes once the one before has been heard: two that come at once would take fewer steps."""
+    """How the server of examples/two_routers.py answers otherwise than docs/OPERATOR.md says, before its third LSP and after it."""
     server = ViewedServer(program)
     words = [sys.executable, f"{ROOT}/examples/two_routers.py", f"127.0.0.1:{server.port}", "enter"]
     routers = subprocess.Popen(words, stdin=subprocess.PIPE, stdout=subprocess.DEVNULL, text=True)
-    for count in MESSAGES:
-        if not has_heard(server, count):
-            raise ValueError(f"{count} messages aren't heard")
-        print("", file=routers.stdin, flush=True)
+    try:
+        follow(server, routers)
+    except OtherOrder:
+        routers.kill()
+        routers.wait()
+        server.end()
+        raise
     comes(lambda: [peer["is_synchronizing"] for peer in server.shown("peers")[0]["peers"]] == [False, False])
     comes(lambda: all(grant["unanswered_ms"] is not None for grant in server.shown("grants")[0]["grants"]))
     first = differences(server, "examples/two_routers.py\n", "If the priorities of a link differ")
@@ -120,11 +135,21 @@ def examples_of_two_routers(program):
     return first, second, server.end()
 
 
+def in_the_order_shown(program):
+    """A run in which the router's thread is before the worker, as it nearly always is on a machine that isn't busy."""
+    for _ in range(4):
+        try:
+            return examples_of_two_routers(program)
+        except OtherOrder as order:
+            print(f"      the other order: {order}")
+    return examples_of_two_routers(program)
+
+
 def the_examples_of_the_documents(program):
     """Beside examples/two_routers.py lines are answered as docs/OPERATOR.md says."""
     count = len(list(examples_between("examples/two_routers.py\n", "A ticket exists as long")))
     yield count > 15, True
-    yield examples_of_two_routers(program), ([], [], ENDED)
+    yield in_the_order_shown(program), ([], [], ENDED)
 
 
 CASES = [the_example_router, the_examples_of_the_documents]
