@@ -52,6 +52,13 @@ def what_is_shown(program):
     yield server.shown("lsps 127.0.1.2")[0]["lsps"], []
     yield server.shown("lsp 127.0.1.1 7"), [page["lsps"][1]]
     yield [server.shown(line) for line in ("lsp 127.0.1.1 9", "lsp 127.0.1.9 1", "link 4")], [[None]] * 3
+    (tunnels,) = server.shown("tunnels")
+    yield [chosen(tunnel, "peer", "plsp_id") for tunnel in tunnels["tunnels"]], [["127.0.1.1", 1], ["127.0.1.1", 7]]
+    yield [[path["links"] for path in tunnel["paths"]] for tunnel in tunnels["tunnels"]], [[[0, 1]], [[], [0, 1]]]
+    yield [[chosen(held, "link", "reserved_bytes_per_second") for held in tunnel["holds"]] for tunnel in tunnels["tunnels"]], [
+        [[0, 500_000], [1, 500_000]], [[0, 250_000], [1, 250_000]]]
+    yield server.shown("tunnels 127.0.1.1"), [tunnels]
+    yield server.shown("tunnels 127.0.1.2")[0]["tunnels"], []
     yield server.shown("tickets"), [{"tickets": []}]
     (steps,) = server.shown("history 3")
     yield [step["step"] for step in steps["steps"]], list(range(before["steps"] - 3, before["steps"]))
@@ -64,10 +71,10 @@ def what_is_shown(program):
     yield chosen(server.shown("path 10.0.0.1 10.0.0.4 2000000 7 7")[0], "is_found", "obstacle"), [False, "bandwidth"]
     yield chosen(server.shown("path 10.0.0.1 10.9.9.9 1 7 7")[0], "is_found", "obstacle"), [False, None]
     for line in ("status", "links", "links 1", "link 0", "peers", "lsps", "lsp 127.0.1.1 1", "tickets", "history 9", "path 10.0.0.1 10.0.0.4 1 7 7",
-                 "why 127.0.1.1 7", "better", "better 127.0.1.1", "without 0", "grants", "grants 127.0.1.1"):
+                 "why 127.0.1.1 7", "better", "better 127.0.1.1", "without 0", "grants", "grants 127.0.1.1", "tunnels", "tunnels 127.0.1.1"):
         text, status = server.asked(line)
         yield (status, text[-1:], text[:1] not in (b"{", b"b")), (0, b"\n", True)
-    for line in ("statu", "status ", "links x", "why 127.0.1.1", "better x", "better 1 2", "without", "without x", "lsp 1", "link x", "history", "path 1 2", "json book", "json end", "json", "json json status"):
+    for line in ("statu", "status ", "links x", "why 127.0.1.1", "better x", "better 1 2", "without", "without x", "tunnels x", "lsp 1", "link x", "history", "path 1 2", "json book", "json end", "json", "json json status"):
         yield server.asked(line), (b"bad line 1\n", 2)
     yield server.asked("book", words=["--json"]), server.asked("book")
     yield server.asked("books", words=["--json"]), (b"bad line 1\n", 2)

@@ -84,7 +84,7 @@ fn table_now(
 impl Book {
     /// Returns the network with the current links: that of the last snapshot, or a new one if a link has other values
     /// since.
-    fn topology_now(&self) -> Result<Arc<Topology, Global>, AllocError>
+    pub fn topology_now(&self) -> Result<Arc<Topology, Global>, AllocError>
         ensures { IfOk result (λ topology. arc_value topology ≡ network_of self.now) }
     {
         if self.is_current {

@@ -23,6 +23,6 @@ mod verdict;
 
 pub use judging::judge;
 pub use name::LspName;
-pub use offers::{is_request, offered_path, own_tunnel};
+pub use offers::{offered_path, own_tunnel};
 pub use ticket::{Purpose, TRY_LIMIT, Ticket};
 pub use verdict::{PeerView, Verdict};

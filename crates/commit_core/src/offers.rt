@@ -9,7 +9,7 @@ use sequence::Sequence;
 use te_base::LinkNumber;
 
 /// Tests whether a path is asked for to answer a request, and not to be granted.
-pub fn is_request(purpose: &Purpose) -> bool
+pub(crate) fn is_request(purpose: &Purpose) -> bool
     ensures { result ≡ is_request purpose.now }
 {
     matches!(purpose, Purpose::Answer { .. })

@@ -1,33 +1,12 @@
 -- Grants and awaited deletions as they are seen, with the names of initiations; and what the server looks at to keep them up.
-use Rattle.std.specs.Prelude.{ℕ, ◌+◌, ◌≡◌, max, nat_lt, List, length, map, filter, find, take, drop, option_map, Option, Some, None, if◌then◌else◌}
+use Rattle.std.specs.Prelude.{ℕ, ◌+◌, ◌≡◌, max, nat_lt, List, length, map, filter, take, drop, Option, Some, None, if◌then◌else◌}
 use Rattle.lsp_base.specs.declared.path.Path.{Path}
 use Rattle.lsp_base.specs.declared.tunnel.Part.{Part}
 use Rattle.lsp_base.specs.declared.tunnel.Part.TheVariants.{Reported, Granted}
-use Rattle.step_core.specs.Names.{is_of_grant}
-use Rattle.step_core.specs.States.{State}
-use Rattle.history_core.specs.Histories.{Content, steps_of}
-use Rattle.pce_seen.specs.Grants.{deletion_of, is_covered, is_deletion_asked, is_grant_asked, known_grant, IsGrantSpan}
-use Rattle.pce_seen.specs.Lsps.{passed}
-use Rattle.pce_seen.specs.declared.grants.GrantPage.{GrantPage}
+use Rattle.history_core.specs.Histories.{Content}
+use Rattle.pce_seen.specs.Grants.{deletion_of, is_covered, is_deletion_asked, is_grant_asked}
 use Rattle.database_looks.specs.declared.upkeep.SeenGrant.{SeenGrant}
 use Rattle.database_looks.specs.declared.upkeep.UpkeepPage.{UpkeepPage}
-
-abbrev pub name_by : State → ℕ → Part → Option (List ℕ)
-name_by s peer (Reported id) = None
-name_by s peer (Granted srp) = option_map (λ a. a.name) (find (is_of_grant peer srp) s.names)
-
--- the name that the LSP of a granted initiation is to have, until a report binds the grant
-abbrev pub name_for : State → Path → Option (List ℕ)
-name_for s x = name_by s x.peer x.part
-
--- a page of the grants that stand and of the deletions that are awaited
-pub record SeesGrants (peer : Option ℕ) (from : ℕ) (d : Content) (seen : GrantPage) : Type 0 where
-  pub grants : seen.grants.items ≡ map (known_grant (name_for d.state)) (filter (is_grant_asked peer) (passed d.state.base.paths from seen.next))
-  pub deletions : seen.deletions.items ≡ map deletion_of (filter (is_deletion_asked peer) (passed d.state.base.records from seen.next))
-  pub span : IsGrantSpan d.state.base peer from seen.next
-  pub steps : seen.steps ≡ steps_of d
-
--- ---- what is to be kept up
 
 abbrev pub srp_of : Part → ℕ
 srp_of (Reported id) = 0

@@ -1,5 +1,4 @@
 pub mod Steps
-pub mod Origins
 pub mod Moves
 pub mod Grants
 pub mod Looks

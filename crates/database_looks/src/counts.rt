@@ -3,9 +3,11 @@ ghost use Rattle.std.specs.Prelude.{◌≡◌, None, length, filter};
 ghost use Rattle.pce_seen.specs.Grants.{is_grant_asked};
 ghost use Rattle.database_looks.specs.Looks.{counts_in};
 
+use crate::look::Look;
 use history_core::Database;
 use lsp_base::Path;
 use pce_seen::{Counts, is_grant_asked};
+use std::alloc::{AllocError, Global};
 use step_core::Peer;
 
 /// Counts the peers whose session is up.
@@ -35,7 +37,7 @@ fn waiting_grants(paths: &[Path]) -> u64
 }
 
 /// Counts steps, grants, sessions, LSPs, paths and tickets.
-pub(crate) fn see_counts(database: &Database) -> Counts
+pub fn see_counts(database: &Database) -> Counts
     ensures { result ≡ counts_in database.now }
 {
     let state = database.state();
@@ -51,5 +53,22 @@ pub(crate) fn see_counts(database: &Database) -> Counts
         paths: state.lsps().paths().len() as u64,
         waiting_grants: waiting_grants(state.lsps().paths()),
         tickets: state.ticket_count() as u64,
+    }
+}
+
+/// Looks at how much there is of what.
+#[derive(Clone, Copy)]
+pub struct CountsLook;
+
+impl Look for CountsLook {
+    ghost use Rattle.std.specs.Prelude.{◌≡◌};
+    ghost use Rattle.database_looks.specs.Looks.{counts_in};
+
+    type Seen = Counts;
+
+    ghost sees = { λ _ d seen. seen ≡ counts_in d };
+
+    fn see(&self, _alloc: Global, database: &Database) -> Result<Counts, AllocError> {
+        Ok(see_counts(database))
     }
 }

@@ -1,7 +1,7 @@
 //! Looks at a database. A look borrows it, so it takes no step and changes nothing, and copies out what it sees; what is
 //! made of that, texts and searches, is made with the lock free. `Look` says by a ghost member what is seen in which
-//! content; `specs/Looks.antt` has that for each look, by the definitions of the crates below. An operator's question
-//! (`pce_seen::Ask`) is a look itself.
+//! content (`specs/Looks.antt`). Here are the looks that the server takes by itself, and what several questions see; each
+//! question of an operator is a look of its own (`pce_view`).
 //!
 //! ```text
 //! fn left_of(alloc: Global, database: &Database) -> Result<Vec<[i64; 8]>, AllocError>
@@ -12,24 +12,24 @@
 //! ```
 #![tactic(auto)]
 
-mod ask;
 mod book;
 mod counts;
-mod grants;
 mod left;
 mod look;
 mod lsps;
 mod moves;
 mod nodes;
 mod numbers;
-mod origins;
-mod peers;
 mod steps;
 mod upkeep;
 
-pub use book::BookLook;
+pub use book::{see_book, snapshot_of};
+pub use counts::{CountsLook, see_counts};
 pub use left::LeftLook;
 pub use look::Look;
+pub use lsps::{page_at, see_link};
+pub use moves::{own_of_each, with_own};
+pub use nodes::nodes_of;
 pub use numbers::NumbersLook;
 pub use steps::kind_of;
 pub use upkeep::{SeenGrant, UpkeepLook, UpkeepPage};

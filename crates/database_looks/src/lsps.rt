@@ -1,24 +1,19 @@
 //! LSPs with their paths, and a link with the paths over it.
-ghost use Rattle.std.specs.Prelude.{◌≡◌, ◌<◌, [], Some, length, option_map, slice_get, IfOk, if◌then◌else◌};
+ghost use Rattle.std.specs.Prelude.{◌≡◌, ◌<◌, [], Some, length, slice_get, IfOk, if◌then◌else◌};
 ghost use Rattle.te_base.specs.Ted.{IsLinkAmong};
 ghost use Rattle.history_core.specs.Histories.{steps_of};
-ghost use Rattle.pce_seen.specs.Gaps.{placed};
-ghost use Rattle.pce_seen.specs.Lsps.{held_on, lsp_in, IsPage};
-ghost use Rattle.database_looks.specs.Looks.{IsUse, SeesLink, SeesLsps};
+ghost use Rattle.pce_seen.specs.Lsps.{held_on, IsPage};
+ghost use Rattle.database_looks.specs.Looks.{IsUse, SeesLink};
 
 use crate::left::left_on;
 use crate::nodes::node_at;
 use history_core::Database;
-use pce_seen::{
-    HeldPath, KnownLsp, LinkUse, LspPage, PlacedLsp, PlacedPage, gaps_of_each, held_on, lsp_of,
-    page_of, placed,
-};
-use pcep_objects::Plsp;
+use pce_seen::{HeldPath, LinkUse, LspPage, held_on, page_of};
 use std::alloc::{AllocError, Global};
 use te_base::{Link, LinkNumber, Node, TeBase};
 
 /// Copies a page of LSPs, of one peer or of all, from a place on.
-pub(crate) fn page_at(
+pub fn page_at(
     alloc: Global,
     database: &Database,
     peer: Option<u32>,
@@ -28,52 +23,6 @@ pub(crate) fn page_at(
     ensures steps { IfOk result (λ page. page.steps ≡ steps_of database.now) }
 {
     page_of(alloc, database.state().lsps(), database.steps(), peer, from)
-}
-
-/// Sees a page of LSPs, of one peer or of all, from a place on, and where the routes of their paths have gaps.
-pub(crate) fn see_lsps(
-    alloc: Global,
-    database: &Database,
-    peer: Option<u32>,
-    from: u64,
-) -> Result<PlacedPage, AllocError>
-    ensures { IfOk result (SeesLsps peer from database.now) }
-{
-    let page = page_at(alloc, database, peer, from)?;
-    match gaps_of_each(alloc, database.te_base(), &page.lsps) {
-        Ok(gaps) => Ok(PlacedPage { page, gaps }),
-        Err(error) => {
-            drop(page);
-            Err(error)
-        }
-    }
-}
-
-/// Joins an LSP, if there is one, with where the routes of its paths have gaps.
-fn placed_or_none(
-    alloc: Global,
-    te: &TeBase,
-    lsp: Option<KnownLsp>,
-) -> Result<Option<PlacedLsp>, AllocError>
-    ensures { IfOk result (λ seen. seen ≡ option_map (placed te.now) lsp) }
-{
-    match lsp {
-        Some(lsp) => Ok(Some(placed(alloc, te, lsp)?)),
-        None => Ok(None),
-    }
-}
-
-/// Sees one LSP.
-pub(crate) fn see_lsp(
-    alloc: Global,
-    database: &Database,
-    peer: u32,
-    plsp: Plsp,
-) -> Result<Option<PlacedLsp>, AllocError>
-    ensures { IfOk result (λ seen. seen ≡ option_map (placed database.now.state.te) (lsp_in database.now.state.base peer plsp)) }
-{
-    let lsp = lsp_of(alloc, database.state().lsps(), peer, plsp)?;
-    placed_or_none(alloc, database.te_base(), lsp)
 }
 
 /// Copies the ends of a link.
@@ -142,7 +91,7 @@ fn see_use(
 }
 
 /// Sees a link, with the paths over it where they are to be listed; `None` where there is no such link.
-pub(crate) fn see_link(
+pub fn see_link(
     alloc: Global,
     database: &Database,
     link: u64,

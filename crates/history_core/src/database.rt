@@ -1,7 +1,9 @@
 //! A state with its history.
 ghost use Rattle.std.specs.Prelude.{◌≡◌, ◌<◌, ◌≤◌, ◌+◌, ◌^◌, ◌↔◌, if◌then◌else◌, IsTrue, List, [], ◌∷◌, ◌++◌, length, vec_len, vec_capacity, IfOk, OnOk, OnErr, IsNone, IfSome};
+ghost use Rattle.std.specs.Arc.{arc_value};
 ghost use Rattle.lsp_base.specs.Shares.{unreserved};
 ghost use Rattle.te_base.specs.Values.{values_in};
+ghost use Rattle.te_snapshot.specs.Network.{network_of};
 ghost use Rattle.step_core.specs.Bases.{known_in, state_over};
 ghost use Rattle.step_core.specs.States.{is_up, is_queued, has_waiting};
 ghost use Rattle.step_core.specs.Steps.{step};
@@ -16,8 +18,10 @@ use sequence::{PlainData, Sequence};
 use std::alloc::{AllocError, Global};
 use std::marker::Model;
 use std::mem;
+use std::sync::Arc;
 use step_core::{Base, Event, Reply, SharedEvent, State};
 use te_base::{LinkNumber, LinkValues, TeBase};
+use te_snapshot::Topology;
 
 /// The greatest number of steps that are kept.
 pub const STEP_LIMIT: usize = 1_048_576;
@@ -288,6 +292,14 @@ impl Database {
         ensures replays { Replays self.now }
     {
         self.state.queued(peer)
+    }
+
+    /// Returns the network with the current links: that of the last snapshot, or a new one if a link has other values
+    /// since.
+    pub fn topology_now(&self) -> Result<Arc<Topology, Global>, AllocError>
+        ensures { IfOk result (λ topology. arc_value topology ≡ network_of self.now.state.te) }
+    {
+        self.state.topology_now()
     }
 
     /// Lends the links and nodes.

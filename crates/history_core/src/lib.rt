@@ -27,6 +27,4 @@ pub use database::{Database, LAST_STEP, STEP_LIMIT};
 pub use fault::Fault;
 pub use laws::{network_stays, one_history, order_makes_no_difference};
 pub use step::{Brief, Step};
-pub use step_core::{
-    Base, Event, Job, LinkReload, LspName, Purpose, Reply, SharedEvent, Ticket, Why,
-};
+pub use step_core::{Event, Job, LinkReload, LspName, Purpose, Reply, SharedEvent, Why};

@@ -42,7 +42,7 @@ pub use brands::Brands;
 pub use bytes::receipt_bytes;
 pub use fault::AuditFault;
 pub use held::Held;
-pub use history_tokens::{Front, Happening, Unnamed};
+pub use history_tokens::{Front, Unnamed};
 pub use laws::{all_steps, each_replays, fold_counts, one_receipt_each, received_once};
 pub use receipt::Receipt;
 pub use seat::Seat;

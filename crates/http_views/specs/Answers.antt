@@ -3,7 +3,7 @@ use Rattle.std.specs.Prelude.{◌≡◌, ℕ, List, [], ◌∷◌, ◌++◌, cod
 use Rattle.http1.specs.Fields.{Header}
 use Rattle.http_server.specs.declared.response.Response.{Response}
 use Rattle.http_server.specs.Response.{IsResponse}
-use Rattle.pce_seen.specs.declared.ask.Ask.{Ask}
+use Rattle.asks.specs.declared.ask.Ask.{Ask}
 use Rattle.http_views.specs.declared.asked.Asked.{Asked}
 use Rattle.http_views.specs.declared.asked.Asked.TheVariants.{Page, Metrics, Places, Document, NotFound, NotAllowed}
 use Rattle.http_views.specs.declared.asked.Asked.TheVariants as asked

@@ -4,7 +4,8 @@ use Rattle.http.specs.declared.request.Request.{Request}
 use Rattle.http.specs.Request.{head_of}
 use Rattle.http_uri.specs.Uri.{uri_path, uri_query}
 use Rattle.pcep_word.specs.Priority.{in_force}
-use Rattle.pce_seen.specs.declared.ask.Ask.TheVariants as ask
+use Rattle.asks.specs.declared.ask.Ask.TheVariants as ask
+use Rattle.asks.specs.declared.ask.PeerPage.{PeerPage}
 use Rattle.http_views.specs.Hosts.{is_own}
 use Rattle.http_views.specs.Queries.{link_query, lsps_query, path_query}
 use Rattle.http_views.specs.declared.asked.Asked.{Asked}
@@ -30,9 +31,13 @@ wrong_text wrong.Number = codes "bad number\n"
 abbrev pub alone : List ℕ → Asked → Asked
 alone query a = if length query == 0 then a else asked.Wrong wrong.Query
 
--- a page of LSPs, of all peers and from the first on where nothing else is given
+-- of all peers and from the first on, if nothing else is given
+abbrev pub page_of : LspsQuery → PeerPage
+page_of query = record { peer = query.peer; from = unwrap_or query.from 0 }
+
+-- a page of LSPs
 abbrev pub lsps_given : Result LspsQuery Wrong → Asked
-lsps_given (Ok query) = Document (ask.Lsps query.peer (unwrap_or query.from 0))
+lsps_given (Ok query) = Document (ask.Lsps (page_of query))
 lsps_given (Err w) = asked.Wrong w
 
 abbrev pub lsps_asked : List ℕ → Asked
@@ -40,7 +45,7 @@ lsps_asked query = lsps_given (lsps_query query)
 
 -- a page of grants, likewise
 abbrev pub grants_given : Result LspsQuery Wrong → Asked
-grants_given (Ok query) = Document (ask.Grants query.peer (unwrap_or query.from 0))
+grants_given (Ok query) = Document (ask.Grants (page_of query))
 grants_given (Err w) = asked.Wrong w
 
 abbrev pub grants_asked : List ℕ → Asked
@@ -59,7 +64,7 @@ abbrev pub path_with : Option ℕ → Option ℕ → Option ℕ → ℕ → ℕ 
 path_with None to bandwidth setup hold = asked.Wrong wrong.From
 path_with (Some from) None bandwidth setup hold = asked.Wrong wrong.To
 path_with (Some from) (Some to) None setup hold = asked.Wrong wrong.Bandwidth
-path_with (Some from) (Some to) (Some bandwidth) setup hold = Document (ask.Path from to bandwidth (in_force setup hold))
+path_with (Some from) (Some to) (Some bandwidth) setup hold = Document (ask.Path (record { from = from; to = to; bandwidth = bandwidth; priorities = in_force setup hold }))
 
 unfoldable pub path_of_query : PathQuery → Asked
 path_of_query query = path_with query.from query.to query.bandwidth (unwrap_or query.setup 7) (unwrap_or query.hold 7)
@@ -78,7 +83,7 @@ asked_at path query =
     else if bytes_eq path (codes "/metrics") then alone query Metrics
     else if bytes_eq path (codes "/api/places") then alone query Places
     else if bytes_eq path (codes "/api/status") then alone query (Document ask.Status)
-    else if bytes_eq path (codes "/api/links") then alone query (Document ask.Book)
+    else if bytes_eq path (codes "/api/links") then alone query (Document ask.Links)
     else if bytes_eq path (codes "/api/peers") then alone query (Document ask.Peers)
     else if bytes_eq path (codes "/api/tickets") then alone query (Document ask.Tickets)
     else if bytes_eq path (codes "/api/lsps") then lsps_asked query

@@ -7,7 +7,8 @@ use Rattle.http_header.specs.HeaderMap.{Entries, get}
 use Rattle.http_uri.specs.Grammar.{authority_host}
 use Rattle.http_uri.specs.Uri.{uri_authority}
 use Rattle.http_uri.specs.declared.uri.Uri.{Uri}
-use Rattle.http_views.specs.Words.{address_in, cut_at}
+use Rattle.pcep_word.specs.Address.{address_of}
+use Rattle.http_views.specs.Words.{cut_at}
 
 -- what stands before the port
 abbrev pub name_or : Option (List ℕ × List ℕ) → List ℕ → List ℕ
@@ -23,7 +24,7 @@ is_localhost name = bytes_eq (map to_ascii_lowercase name) (codes "localhost")
 
 -- `localhost`, or an address of IPv4
 abbrev pub is_own_name : List ℕ → Bool
-is_own_name name = is_localhost name || is_some (address_in name)
+is_own_name name = is_localhost name || is_some (address_of name)
 
 -- `[` opens an address of IPv6: `http_server` refuses any other text in brackets
 abbrev pub is_bracketed : List ℕ → Bool

@@ -2,7 +2,9 @@
 use Rattle.std.specs.Prelude.{ℕ, ◌==◌, List, length, fold, codes, Option, Some, None, Result, Ok, Err, if◌then◌else◌}
 use Rattle.std.specs.List.{slice_split}
 use Rattle.std.specs.Str.{bytes_eq}
-use Rattle.http_views.specs.Words.{address_in, bandwidth_in, cut_at, number_in, priority_in}
+use Rattle.pcep_word.specs.Address.{address_of}
+use Rattle.asks.specs.Words.{bandwidth_in, long_number_in, priority_in}
+use Rattle.http_views.specs.Words.{cut_at}
 use Rattle.http_views.specs.declared.query.LspsQuery.{LspsQuery}
 use Rattle.http_views.specs.declared.query.PathQuery.{PathQuery}
 use Rattle.http_views.specs.declared.query.Wrong.{Wrong}
@@ -35,8 +37,8 @@ with_part f (Ok query) part = if length part == 0 then Ok query else with_field 
 
 unfoldable pub with_lsps_value : LspsQuery → List ℕ → List ℕ → Result LspsQuery Wrong
 with_lsps_value query name value =
-    if bytes_eq name (codes "peer") then result_map (λ v. record query { peer = v }) (once query.peer (address_in value) wrong.Peer)
-    else if bytes_eq name (codes "from") then result_map (λ v. record query { from = v }) (once query.from (number_in value) wrong.From)
+    if bytes_eq name (codes "peer") then result_map (λ v. record query { peer = v }) (once query.peer (address_of value) wrong.Peer)
+    else if bytes_eq name (codes "from") then result_map (λ v. record query { from = v }) (once query.from (long_number_in value) wrong.From)
     else Err wrong.Query
 
 abbrev pub with_lsps_part : Result LspsQuery Wrong → List ℕ → Result LspsQuery Wrong
@@ -52,8 +54,8 @@ lsps_query query = fold with_lsps_part (Ok no_lsps_query) (parts query)
 
 unfoldable pub with_path_value : PathQuery → List ℕ → List ℕ → Result PathQuery Wrong
 with_path_value query name value =
-    if bytes_eq name (codes "from") then result_map (λ v. record query { from = v }) (once query.from (address_in value) wrong.From)
-    else if bytes_eq name (codes "to") then result_map (λ v. record query { to = v }) (once query.to (address_in value) wrong.To)
+    if bytes_eq name (codes "from") then result_map (λ v. record query { from = v }) (once query.from (address_of value) wrong.From)
+    else if bytes_eq name (codes "to") then result_map (λ v. record query { to = v }) (once query.to (address_of value) wrong.To)
     else if bytes_eq name (codes "bandwidth") then result_map (λ v. record query { bandwidth = v }) (once query.bandwidth (bandwidth_in value) wrong.Bandwidth)
     else if bytes_eq name (codes "setup") then result_map (λ v. record query { setup = v }) (once query.setup (priority_in value) wrong.Setup)
     else if bytes_eq name (codes "hold") then result_map (λ v. record query { hold = v }) (once query.hold (priority_in value) wrong.Hold)
@@ -71,7 +73,7 @@ path_query query = fold with_path_part (Ok no_path_query) (parts query)
 -- ---- a link
 
 unfoldable pub with_link_value : Option ℕ → List ℕ → List ℕ → Result (Option ℕ) Wrong
-with_link_value number name value = if bytes_eq name (codes "number") then once number (number_in value) wrong.Number else Err wrong.Query
+with_link_value number name value = if bytes_eq name (codes "number") then once number (long_number_in value) wrong.Number else Err wrong.Query
 
 abbrev pub with_link_part : Result (Option ℕ) Wrong → List ℕ → Result (Option ℕ) Wrong
 with_link_part so_far part = with_part with_link_value so_far part

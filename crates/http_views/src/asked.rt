@@ -1,13 +1,13 @@
 //! What a request asks for, by its host, its method, its path and its query.
 ghost use Rattle.std.specs.Prelude.{◌≡◌, ◌||◌, bytes_eq, codes};
-ghost use Rattle.http_views.specs.Asked.{allowed, alone, asked_at, asked_by, asked_of, grants_asked, link_asked, lsps_asked, only_reads, path_asked, path_of_query, wrong_text};
+ghost use Rattle.http_views.specs.Asked.{allowed, alone, asked_at, asked_by, asked_of, grants_asked, link_asked, lsps_asked, only_reads, page_of, path_asked, path_of_query, wrong_text};
 
 use crate::host::is_own;
 pub use crate::query::Wrong;
-use crate::query::{PathQuery, link_query, lsps_query, path_query};
+use crate::query::{LspsQuery, PathQuery, link_query, lsps_query, path_query};
+use asks::{Ask, PathWanted, PeerPage};
 use bytes::Bytes;
 use http::Request;
-use pce_seen::Ask;
 use pcep_word::{Priorities, Priority};
 
 /// What a request asks for.
@@ -59,35 +59,42 @@ fn alone(query: &str, asked: Asked) -> Asked
     }
 }
 
+/// Gives the first page, from the place that is given on, of the peer that is given.
+fn page_of(given: LspsQuery) -> PeerPage
+    ensures { result ≡ page_of given }
+{
+    PeerPage {
+        peer: given.peer,
+        from: given.from.unwrap_or(0),
+    }
+}
+
+/// What is asked for by the query of a page of LSPs.
 fn lsps_asked(query: &str) -> Asked
     ensures { result ≡ lsps_asked query.now }
 {
     match lsps_query(query) {
-        Ok(given) => Asked::Document(Ask::Lsps {
-            peer: given.peer,
-            from: given.from.unwrap_or(0),
-        }),
+        Ok(given) => Asked::Document(Ask::Lsps(page_of(given))),
         Err(wrong) => Asked::Wrong(wrong),
     }
 }
 
+/// What is asked for by the query of a page of grants.
 fn grants_asked(query: &str) -> Asked
     ensures { result ≡ grants_asked query.now }
 {
     match lsps_query(query) {
-        Ok(given) => Asked::Document(Ask::Grants {
-            peer: given.peer,
-            from: given.from.unwrap_or(0),
-        }),
+        Ok(given) => Asked::Document(Ask::Grants(page_of(given))),
         Err(wrong) => Asked::Wrong(wrong),
     }
 }
 
+/// What is asked for by the query of a link.
 fn link_asked(query: &str) -> Asked
     ensures { result ≡ link_asked query.now }
 {
     match link_query(query) {
-        Ok(Some(link)) => Asked::Document(Ask::Link { link }),
+        Ok(Some(link)) => Asked::Document(Ask::Link(link)),
         Ok(None) => Asked::Wrong(Wrong::Number),
         Err(wrong) => Asked::Wrong(wrong),
     }
@@ -110,12 +117,12 @@ fn path_of_query(query: PathQuery) -> Asked
     let lowest = Priority::capped(7);
     let setup = query.setup.unwrap_or(lowest);
     let hold = query.hold.unwrap_or(lowest);
-    Asked::Document(Ask::Path {
+    Asked::Document(Ask::Path(PathWanted {
         from,
         to,
         bandwidth,
         priorities: Priorities::new(setup, hold),
-    })
+    }))
 }
 
 fn path_asked(query: &str) -> Asked
@@ -137,7 +144,7 @@ fn asked_at(path: &str, query: &str) -> Asked
         "/metrics" => alone(query, Asked::Metrics),
         "/api/places" => alone(query, Asked::Places),
         "/api/status" => alone(query, Asked::Document(Ask::Status)),
-        "/api/links" => alone(query, Asked::Document(Ask::Book)),
+        "/api/links" => alone(query, Asked::Document(Ask::Links)),
         "/api/peers" => alone(query, Asked::Document(Ask::Peers)),
         "/api/tickets" => alone(query, Asked::Document(Ask::Tickets)),
         "/api/lsps" => lsps_asked(query),

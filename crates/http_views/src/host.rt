@@ -5,8 +5,9 @@ ghost use Rattle.http_header.specs.HeaderMap.{get};
 ghost use Rattle.std.specs.Prelude.{codes};
 ghost use Rattle.http_views.specs.Hosts.{host_name, is_bracketed, is_own, is_localhost, is_own_host, is_own_name, is_own_of, is_own_value};
 
-use crate::words::{address_in, cut_at_colon};
+use crate::words::cut_at_colon;
 use http::{HeaderMap, HeaderValue, Uri, header};
+use pcep_word::Ipv4;
 
 /// What stands before the port.
 fn host_name(host: &str) -> &str
@@ -28,7 +29,7 @@ fn is_localhost(name: &str) -> bool
 fn is_own_name(name: &str) -> bool
     ensures { result ≡ is_own_name name.now }
 {
-    is_localhost(name) || address_in(name).is_some()
+    is_localhost(name) || Ipv4::parse(name).is_some()
 }
 
 fn is_bracketed(host: &[u8]) -> bool

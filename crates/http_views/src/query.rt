@@ -2,7 +2,8 @@
 ghost use Rattle.std.specs.Prelude.{◌≡◌, fold, Ok};
 ghost use Rattle.http_views.specs.Queries.{link_query, lsps_query, no_lsps_query, no_path_query, once, parts, path_query, with_link_part, with_link_value, with_lsps_part, with_lsps_value, with_path_part, with_path_value};
 
-use crate::words::{address_in, bandwidth_in, cut_at_equals, number_in, priority_in};
+use crate::words::cut_at_equals;
+use asks::{bandwidth_in, long_number_in, priority_in};
 use pcep_word::{Bandwidth, Ipv4, Priority};
 
 /// What is wrong in a request. `text` has the words.
@@ -54,11 +55,11 @@ fn with_lsps_value(query: LspsQuery, name: &str, value: &str) -> Result<LspsQuer
 {
     match name {
         "peer" => {
-            let peer = once(query.peer, address_in(value).map(|a| a.0), Wrong::Peer)?;
+            let peer = once(query.peer, Ipv4::parse(value).map(|a| a.0), Wrong::Peer)?;
             Ok(LspsQuery { peer, ..query })
         }
         "from" => {
-            let from = once(query.from, number_in(value), Wrong::From)?;
+            let from = once(query.from, long_number_in(value), Wrong::From)?;
             Ok(LspsQuery { from, ..query })
         }
         _ => Err(Wrong::Query),
@@ -97,11 +98,11 @@ fn with_path_value(query: PathQuery, name: &str, value: &str) -> Result<PathQuer
 {
     match name {
         "from" => {
-            let from = once(query.from, address_in(value), Wrong::From)?;
+            let from = once(query.from, Ipv4::parse(value), Wrong::From)?;
             Ok(PathQuery { from, ..query })
         }
         "to" => {
-            let to = once(query.to, address_in(value), Wrong::To)?;
+            let to = once(query.to, Ipv4::parse(value), Wrong::To)?;
             Ok(PathQuery { to, ..query })
         }
         "bandwidth" => {
@@ -154,7 +155,7 @@ fn with_link_value(number: Option<u64>, name: &str, value: &str) -> Result<Optio
     ensures { result ≡ with_link_value number name.now value.now }
 {
     match name {
-        "number" => once(number, number_in(value), Wrong::Number),
+        "number" => once(number, long_number_in(value), Wrong::Number),
         _ => Err(Wrong::Query),
     }
 }

@@ -1,6 +1,6 @@
 //! Where what is shown comes from.
+use asks::Ask;
 use http_server::Response;
-use pce_seen::Ask;
 use std::alloc::AllocError;
 
 /// A server that can be looked at. Each call looks anew, and changes nothing of the server. A source knows what it has shown so
@@ -8,7 +8,7 @@ use std::alloc::AllocError;
 pub trait ViewSource {
     ghost use Rattle.std.specs.Prelude.{ℕ, List, ◌≡◌, OnOk, OnErr};
     ghost use Rattle.http_server.specs.Response.{IsBlank, IsResponse};
-    ghost use Rattle.pce_seen.specs.declared.ask.Ask.{Ask};
+    ghost use Rattle.asks.specs.declared.ask.Ask.{Ask};
     ghost use Rattle.http_views.specs.Answers.{json_kind, metrics_kind, text_fields};
 
     /// From the first state on, this text may be the document to what is asked, and leaves the second state.

@@ -39,7 +39,6 @@ fn between(
     query: &Query<'_>,
     source: NodeNumber,
     destination: NodeNumber,
-    fallbacks: &mut u64,
 ) -> Result<Option<Found>, AllocError>
     requires from { node_of query.now.topology.now.owners query.now.constraints.now.source ≡ Some source }
     requires to { node_of query.now.topology.now.owners query.now.constraints.now.destination ≡ Some destination }
@@ -58,13 +57,7 @@ fn between(
         destination,
         limit: limit_of(query.constraints.bound),
     };
-    match least_walk(
-        alloc,
-        query,
-        ends,
-        hops_of(query.constraints.hop_bound),
-        fallbacks,
-    )? {
+    match least_walk(alloc, query, ends, hops_of(query.constraints.hop_bound))? {
         Some(found) => Ok(Some(found)),
         None => Ok(None),
     }
@@ -75,7 +68,6 @@ fn leaving(
     alloc: Global,
     query: &Query<'_>,
     source: NodeNumber,
-    fallbacks: &mut u64,
 ) -> Result<Option<Found>, AllocError>
     requires from { node_of query.now.topology.now.owners query.now.constraints.now.source ≡ Some source }
     requires source { source < query.now.topology.now.nodes }
@@ -84,35 +76,27 @@ fn leaving(
 {
     match query.topology.node_of(query.constraints.destination) {
         None => Ok(None),
-        Some(destination) => between(alloc, query, source, destination, fallbacks),
+        Some(destination) => between(alloc, query, source, destination),
     }
 }
 
 /// Finds a least path between the ends that are asked for.
-fn least_path(
-    alloc: Global,
-    query: &Query<'_>,
-    fallbacks: &mut u64,
-) -> Result<Option<Found>, AllocError>
+fn least_path(alloc: Global, query: &Query<'_>) -> Result<Option<Found>, AllocError>
     ensures some { IfOk result (λ r. IfSome r (λ f. IsLeast (searched query.now) query.now.constraints.now query.now.own.now f.links f.cost)) }
     ensures none { IfOk result (λ r. IfNone r (IsImpossible (searched query.now) query.now.constraints.now query.now.own.now)) }
 {
     match query.topology.node_of(query.constraints.source) {
         None => Ok(None),
-        Some(source) => leaving(alloc, query, source, fallbacks),
+        Some(source) => leaving(alloc, query, source),
     }
 }
 
 /// Answers a query.
-fn answer(
-    alloc: Global,
-    query: &Query<'_>,
-    fallbacks: &mut u64,
-) -> Result<Option<Found>, AllocError>
+fn answer(alloc: Global, query: &Query<'_>) -> Result<Option<Found>, AllocError>
     ensures some { IfOk result (λ r. IfSome r (IsAnswer (searched query.now) query.now.constraints.now query.now.own.now)) }
     ensures none { IfOk result (λ r. IfNone r (IsRefused (searched query.now) query.now.constraints.now query.now.own.now)) }
 {
-    match least_path(alloc, query, fallbacks)? {
+    match least_path(alloc, query)? {
         None => Ok(None),
         Some(found) => {
             if found.links.as_slice().len() > 64 {
@@ -131,27 +115,6 @@ fn answer(
     }
 }
 
-/// Does what `find` does, and adds 1 to `fallbacks` if the quick search couldn't show its answer, so that the second
-/// search ran. That happens if the cheapest walk has too many links.
-fn find_counting(
-    alloc: Global,
-    snapshot: &Snapshot,
-    constraints: &Constraints,
-    own: &OwnShares,
-    fallbacks: &mut u64,
-) -> Result<Option<Found>, AllocError>
-    ensures found { IfOk result (λ r. IfSome r (IsAnswer snapshot.now constraints.now own.now)) }
-    ensures none { IfOk result (λ r. IfNone r (IsRefused snapshot.now constraints.now own.now)) }
-{
-    let query = Query {
-        topology: snapshot.topology(),
-        unreserved: snapshot.table(),
-        constraints,
-        own: own.as_slice(),
-    };
-    answer(alloc, &query, fallbacks)
-}
-
 /// Finds a path from the source to the destination that the snapshot admits, of least cost, and returns it with its
 /// cost, if it keeps the other bounds.
 ///
@@ -167,5 +130,11 @@ pub fn find(
     ensures found { IfOk result (λ r. IfSome r (IsAnswer snapshot.now constraints.now own.now)) }
     ensures none { IfOk result (λ r. IfNone r (IsRefused snapshot.now constraints.now own.now)) }
 {
-    find_counting(alloc, snapshot, constraints, own, &mut 0)
+    let query = Query {
+        topology: snapshot.topology(),
+        unreserved: snapshot.table(),
+        constraints,
+        own: own.as_slice(),
+    };
+    answer(alloc, &query)
 }

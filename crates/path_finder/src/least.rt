@@ -69,14 +69,12 @@ fn by_labels(
     Ok(judge(query, ends, hops, cost, path))
 }
 
-/// Finds a least walk of at most `hops` links, if one costs less than the limit. It counts how often the second search
-/// runs.
+/// Finds a least walk of at most `hops` links, if one costs less than the limit.
 pub(crate) fn least_walk(
     alloc: Global,
     query: &Query<'_>,
     ends: Ends,
     hops: usize,
-    fallbacks: &mut u64,
 ) -> Result<Option<Found>, AllocError>
     requires source { ends.source < query.now.topology.now.nodes }
     requires destination { ends.destination < query.now.topology.now.nodes }
@@ -88,9 +86,6 @@ pub(crate) fn least_walk(
     match by_labels(alloc, query, ends, hops)? {
         QuickAnswer::Least(found) => Ok(Some(found)),
         QuickAnswer::Nothing => Ok(None),
-        QuickAnswer::Unknown => {
-            *fallbacks = fallbacks.wrapping_add(1);
-            by_rounds(alloc, query, ends, hops)
-        }
+        QuickAnswer::Unknown => by_rounds(alloc, query, ends, hops),
     }
 }

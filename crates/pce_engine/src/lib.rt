@@ -29,8 +29,6 @@ mod stage;
 mod standing;
 mod talks;
 
-pub use engine_core::{Call, Client, Lent, Store, hang_up, serve};
 pub use fault::ScriptFault;
 pub use script::run_script;
-pub use script_lines::{CommandFault, command};
 pub use te_base::TeFault;

@@ -1,4 +1,3 @@
-pub mod Asks
 pub mod Lsps
 pub mod Grants
 pub mod Gaps

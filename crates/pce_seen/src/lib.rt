@@ -1,14 +1,13 @@
-//! What an operator asks of a running server (`Ask`), and what is seen of its database in one look (`Seen`), as plain
-//! data. `database_looks` says what of a database is seen, `pce_view` what is shown of it.
+//! What is seen of a database in one look, as plain data, and walks over the LSP-DB for it. `database_looks` and the questions of
+//! `pce_view` say what of a database is seen.
 //!
-//! - `ask`: what is asked for
 //! - `lsps`: LSPs with their paths, and the paths over a link
 //! - `grants`: grants that stand and deletions that are awaited, in pages; `covers`: whether a report covers a grant
 //!   (`specs/Grants.antt`)
 //! - `gaps`, `places`: where the routes of paths have gaps (`specs/Gaps.antt`)
 //! - `paging`: pages of a list
 //! - `peers`, `steps`: routers with their sessions, kept steps of the history
-//! - `seen`: the network, its counts, and one type for all that is seen
+//! - `seen`: the network and its counts
 //! - `origins`: by which steps the paths of an LSP came
 //! - `moves`: LSPs with what a path search for them reads
 //! - `over`: the LSPs over a link
@@ -16,13 +15,12 @@
 //! - `taking`: LSPs taken out of the LSP-DB, in pages (`specs/Lsps.antt`)
 //!
 //! ```text
-//! fn first_page(peer: u32) -> Ask {
-//!     Ask::Lsps { peer: Some(peer), from: 0 }
+//! fn first_page(alloc: Global, lsps: &LspBase) -> Result<LspPage, AllocError> {
+//!     page_of(alloc, lsps, 0, None, 0)
 //! }
 //! ```
 #![tactic(auto)]
 
-mod ask;
 mod covers;
 mod gaps;
 mod grants;
@@ -38,7 +36,6 @@ mod steps;
 mod taking;
 mod tunnels;
 
-pub use ask::Ask;
 pub use covers::{covered_grants_hold_nothing, has_way, is_covered, is_grant_covered};
 pub use gaps::Gap;
 pub use grants::{
@@ -51,7 +48,7 @@ pub use over::lsps_over;
 pub use paging::page_from;
 pub use peers::{KnownPeer, LspOwner, SeenPeers};
 pub use places::{PlacedLsp, PlacedPage, gaps_of_each, placed};
-pub use seen::{Book, Counts, Network, Seen};
+pub use seen::{Book, Counts, Network};
 pub use steps::{EventKind, KnownStep, LastSteps, Outcome};
 pub use taking::{held_on, lsp_of, page_of, paths_of};
 pub use tunnels::tunnels_on;

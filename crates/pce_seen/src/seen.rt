@@ -1,12 +1,4 @@
-//! The network, its counts, and all that is seen.
-use crate::grants::GrantPage;
-use crate::lsps::LinkUse;
-use crate::moves::{Displaced, Movable};
-use crate::origins::LspOrigins;
-use crate::peers::SeenPeers;
-use crate::places::{PlacedLsp, PlacedPage};
-use crate::steps::LastSteps;
-use commit_core::Ticket;
+//! The network and its counts.
 use te_base::{Link, Node};
 use te_snapshot::Snapshot;
 
@@ -44,22 +36,4 @@ pub struct Book {
 pub struct Network {
     pub nodes: Vec<Node>,
     pub snapshot: Snapshot,
-}
-
-/// What is seen in one look.
-#[derive(Drop)]
-pub enum Seen {
-    Counts(Counts),
-    Book(Book),
-    Peers(SeenPeers),
-    Tickets(Vec<Ticket>),
-    Lsps(PlacedPage),
-    Lsp(Option<PlacedLsp>),
-    Link(Option<LinkUse>),
-    Steps(LastSteps),
-    Origins(Option<LspOrigins>),
-    Movable(Movable),
-    Displaced(Option<Displaced>),
-    Network(Network),
-    Grants(GrantPage),
 }

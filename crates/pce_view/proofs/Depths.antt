@@ -39,13 +39,26 @@ use Rattle.server_rules.specs.declared.path_words.PathWords.{PathWords}
 use Rattle.pce_view.specs.declared.age.Age.{Age}
 use Rattle.pce_view.specs.declared.heard.Heard.{Heard}
 use Rattle.pce_view.specs.declared.moments.Moments.{Moments}
-use Rattle.pce_view.specs.declared.moves.BetterLsp.{BetterLsp}
+use Rattle.pce_view.specs.declared.better.BetterLsp.{BetterLsp}
 use Rattle.pce_view.specs.declared.notes.LspNotes.{LspNotes}
 use Rattle.pce_view.specs.declared.notes.PathNotes.{PathNotes}
 use Rattle.pce_view.specs.Fields.{address_or_null, amounts, end_json, left_or_null, lsp_id, name_or_null, obstacle_json, refusal_words, srp_id, text_or_null, whole_or_null, wholes, word_or_null}
 use Rattle.pce_view.specs.States.{gap_at, gaps_at, lsp_notes, path_notes, word_on}
 use Rattle.pce_view.specs.Unanswered.{unanswered_ms}
-use Rattle.pce_view.specs.Views.{age_of, better_items, better_json, better_page_json, book_json, counted_json, delegated_of, deletion_items, deletion_json, full_items, full_json, grant_items, grant_json, grants_json, held_items, held_json, left_by, left_row_items, left_row_json, left_rows_or_null, line_items, line_json, lines_json, link_json, links_json, lsp_items, lsp_or_null, lsps_of, moments_of, move_items, move_json, node_json, nodes_json, noted_lsp_json, origins_or_null, page_json, path_answer_json, path_items, path_json, peer_items, peers_json, run_json, status_json, step_items, step_json, steps_json, ticket_items, ticket_json, tickets_json, traced_items, traced_json, use_json}
+use Rattle.pce_view.specs.Why.{age_of, left_by, left_row_items, left_row_json, left_rows_or_null, origins_or_null, traced_items, traced_json}
+use Rattle.pce_view.specs.Better.{better_items, better_json, better_page_json}
+use Rattle.pce_view.specs.Links.{book_json, link_json, links_json, node_json, nodes_json}
+use Rattle.pce_view.specs.Peers.{counted_json, delegated_of, lsps_of, moments_of, peer_items, peers_json}
+use Rattle.pce_view.specs.Grants.{deletion_items, deletion_json, grant_items, grant_json, grants_json}
+use Rattle.pce_view.specs.Path.{full_items, full_json, path_answer_json}
+use Rattle.pce_view.specs.Link.{held_items, held_json, use_json}
+use Rattle.pce_view.specs.LinkLine.{line_items, line_json, lines_json}
+use Rattle.pce_view.specs.Lsps.{lsp_items, noted_lsp_json, page_json, path_items, path_json}
+use Rattle.pce_view.specs.Lsp.{lsp_or_null}
+use Rattle.pce_view.specs.Without.{move_items, move_json, run_json}
+use Rattle.pce_view.specs.Status.{status_json}
+use Rattle.pce_view.specs.History.{step_items, step_json, steps_json}
+use Rattle.pce_view.specs.Tickets.{ticket_items, ticket_json, tickets_json}
 use Rattle.pce_view.specs.Words.{cost_in, cost_of_path, link_in, links_in, links_of_path, lsp_error_word, obstacle_of, operational_word, origin_step, origin_ticket, origin_word, outcome_number, purpose_name, purpose_plsp, purpose_request, state_word}
 
 pub document-of_tokens : (text : List ℕ) (j : Json) → tokens text ≡ json_tokens j → depth j ≤ max_depth → document text ≡ Some j
@@ -57,15 +70,15 @@ amounts_shallow : (ns : List ℤ) → items_depth (amounts ns) ≤ 0
 amounts_shallow [] = omega arith
 amounts_shallow (n ∷ ns) = omega (arith, amounts_shallow ns)
 
-wholes_shallow : (ns : List ℕ) → items_depth (wholes ns) ≤ 0
+pub wholes_shallow : (ns : List ℕ) → items_depth (wholes ns) ≤ 0
 wholes_shallow [] = omega arith
 wholes_shallow (n ∷ ns) = omega (arith, wholes_shallow ns)
 
-whole_or_shallow : (n : Option ℕ) → depth (whole_or_null n) ≤ 0
+pub whole_or_shallow : (n : Option ℕ) → depth (whole_or_null n) ≤ 0
 whole_or_shallow None = omega arith
 whole_or_shallow (Some n) = omega arith
 
-address_or_shallow : (a : Option ℕ) → depth (address_or_null a) ≤ 0
+pub address_or_shallow : (a : Option ℕ) → depth (address_or_null a) ≤ 0
 address_or_shallow None = omega arith
 address_or_shallow (Some a) = omega arith
 

@@ -3,3 +3,4 @@ mod Listing
 mod Movers
 mod Names
 mod Objects
+mod TunnelDepths

@@ -1,12 +1,12 @@
 -- LSPs beside what their tunnels hold.
-use Rattle.std.proofs.Common.{◌≡◌, ℕ, ◌≤◌, ◌<◌, min, List, [], ◌∷◌, length, drop, refl, arith, inl, inr}
+use Rattle.std.proofs.Common.{◌≡◌, ℕ, ◌≤◌, min, List, [], ◌∷◌, length, drop, refl, arith, inl, inr}
 use Rattle.std.specs.Prelude.{Option, Some, None}
 use Rattle.std.proofs.lemmas.Bool.{cases_lt}
 use Rattle.std.proofs.lemmas.List.{drop_all}
 use Rattle.pcep_word.specs.Word.{bandwidth_of, magnitude, mantissa, rounded_up, scale}
 use Rattle.te_snapshot.specs.declared.own.OwnShare.{OwnShare}
 use Rattle.pce_seen.specs.declared.lsps.KnownLsp.{KnownLsp}
-use Rattle.pce_view.specs.Moves.{movers_of}
+use Rattle.pce_view.specs.Without.{movers_of}
 
 -- the word of one byte per second
 pub one_byte : bandwidth_of 1065353216 ≡ Some 1

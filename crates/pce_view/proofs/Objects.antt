@@ -7,7 +7,7 @@ use Rattle.json.specs.Token.{Token, end_object}
 use Rattle.json.specs.Tree.{json_tokens, members_tokens}
 use Rattle.te_base.specs.declared.network.Link.{Link}
 use Rattle.te_base.specs.declared.network.Node.{Node}
-use Rattle.pce_view.specs.Views.{links_json}
+use Rattle.pce_view.specs.Links.{links_json}
 
 -- the last value and the end of an object make it whole
 pub ends_object : (t1 t2 t3 whole : List Token) (last : Json) → t1 ++ (json_tokens last ++ end_object ∷ []) ≡ whole → t2 ≡ t1 ++ json_tokens last → t3 ≡ t2 ++ end_object ∷ [] → t3 ≡ whole

@@ -1,67 +1,7 @@
--- Words for what is counted.
-use Rattle.std.specs.Prelude.{ℕ, ◌==◌, List, codes, if◌then◌else◌}
-use Rattle.server_counts.specs.declared.kinds.ReplyKind.{ReplyKind}
-use Rattle.server_counts.specs.declared.kinds.ReplyKind.TheVariants as reply
-use Rattle.server_counts.specs.declared.kinds.MessageKind.{MessageKind}
-use Rattle.server_counts.specs.declared.kinds.MessageKind.TheVariants as message
+-- Words for why connections end.
+use Rattle.std.specs.Prelude.{ℕ, List, codes}
 use Rattle.server_counts.specs.declared.kinds.EndReason.{EndReason}
 use Rattle.server_counts.specs.declared.kinds.EndReason.TheVariants as end
-use Rattle.server_counts.specs.declared.kinds.Counted.{Counted}
-use Rattle.server_counts.specs.declared.kinds.Counted.TheVariants as counted
-
-abbrev pub reply_word : ReplyKind → List ℕ
-reply_word reply.Done = codes "done"
-reply_word reply.Booked = codes "booked"
-reply_word reply.BookedWantsPath = codes "booked wants"
-reply_word reply.Asked = codes "asked"
-reply_word reply.Job = codes "job"
-reply_word reply.Idle = codes "idle"
-reply_word reply.Granted = codes "granted"
-reply_word reply.Answered = codes "answered"
-reply_word reply.Again = codes "again"
-reply_word reply.NoPath = codes "nopath"
-reply_word reply.GivenUp = codes "givenup"
-reply_word reply.Gone = codes "gone"
-reply_word reply.Removing = codes "removing"
-reply_word reply.Out = codes "out"
-reply_word reply.Refused = codes "refused"
-
-abbrev pub refusal_word : ℕ → List ℕ
-refusal_word number =
-    if number == 1 then codes "unknown peer"
-    else (if number == 2 then codes "peer up"
-    else (if number == 3 then codes "peer down"
-    else (if number == 4 then codes "unknown LSP"
-    else (if number == 5 then codes "not delegated"
-    else (if number == 6 then codes "pending"
-    else (if number == 7 then codes "no update"
-    else (if number == 8 then codes "no initiation"
-    else (if number == 9 then codes "not created here"
-    else (if number == 10 then codes "too many tickets"
-    else (if number == 11 then codes "too many paths"
-    else (if number == 12 then codes "too many peers"
-    else (if number == 13 then codes "no node owns an end"
-    else (if number == 14 then codes "unknown ticket"
-    else (if number == 15 then codes "ticket not taken"
-    else (if number == 16 then codes "name in use"
-    else (if number == 17 then codes "SRP-ID in use"
-    else (if number == 18 then codes "still synchronizing"
-    else (if number == 19 then codes "bad report"
-    else (if number == 20 then codes "unknown link"
-    else codes "other")))))))))))))))))))
-
-abbrev pub message_word : MessageKind → List ℕ
-message_word message.Open = codes "Open"
-message_word message.Keepalive = codes "Keepalive"
-message_word message.Request = codes "PCReq"
-message_word message.Reply = codes "PCRep"
-message_word message.Notification = codes "PCNtf"
-message_word message.Error = codes "PCErr"
-message_word message.Close = codes "Close"
-message_word message.Report = codes "PCRpt"
-message_word message.Update = codes "PCUpd"
-message_word message.Initiate = codes "PCInitiate"
-message_word message.Other = codes "other"
 
 abbrev pub end_word : EndReason → List ℕ
 end_word end.PeerClosed = codes "closed by the peer"
@@ -77,16 +17,3 @@ end_word end.RunEnds = codes "closed by the server"
 end_word end.SecondSession = codes "second session"
 end_word (end.Refused number) = codes "refused"
 end_word end.Unheard = codes "closed unheard"
-
--- the word that names what is counted beside the others of its metric
-abbrev pub word_of : Counted → List ℕ
-word_of (counted.Step e r) = reply_word r
-word_of (counted.Refusal number) = refusal_word number
-word_of counted.Accepted = codes ""
-word_of counted.Stranger = codes ""
-word_of (counted.Ended reason) = end_word reason
-word_of (counted.Received m) = message_word m
-word_of (counted.Sent m) = message_word m
-word_of (counted.ErrorSent kind value) = codes ""
-word_of (counted.ErrorReceived kind value) = codes ""
-word_of counted.NoAnswer = codes ""

@@ -155,7 +155,7 @@ field_json (field.Links ns) = array (wholes ns.now)
 -- these members, and then others
 abbrev pub members_then : List Member → Members → Members
 members_then [] others = others
-members_then (m ∷ ms) others = member m.name.now (field_json m.value) (members_then ms others)
+members_then (m ∷ ms) others = member m.0.now (field_json m.1) (members_then ms others)
 
 abbrev pub members_json : List Member → Members
 members_json ms = members_then ms no_members

@@ -1,5 +1,5 @@
 -- What routers say of LSPs, and the state in which an LSP is shown by that.
-use Rattle.std.specs.Prelude.{ℕ, ◌+◌, ◌^◌, ◌-◌, ◌==◌, min, Bool, true, false, List, [], ◌∷◌, length, filter, fold, option_map, is_some, slice_get, Option, Some, None}
+use Rattle.std.specs.Prelude.{ℕ, ◌+◌, Bool, true, false, List, [], ◌∷◌, length, filter, fold, option_map, is_some, slice_get, Option, Some, None}
 use Rattle.std.specs.List.{list_any}
 use Rattle.lsp_base.specs.declared.path.Path.{Path}
 use Rattle.lsp_base.specs.declared.tunnel.Part.{Part}
@@ -17,7 +17,7 @@ use Rattle.server_rules.specs.declared.path_words.PathWords.{PathWords}
 use Rattle.server_rules.specs.declared.peer_errors.PcErr.{PcErr}
 use Rattle.pce_view.specs.Fields.{is_down}
 use Rattle.pce_view.specs.declared.heard.Heard.{Heard}
-use Rattle.pce_view.specs.declared.state_metrics.ShownState.{ShownState}
+use Rattle.pce_view.specs.declared.shown_states.ShownState.{ShownState}
 use Rattle.pce_view.specs.declared.states.LspState.{LspState}
 use Rattle.pce_view.specs.declared.states.LspState.TheVariants as state
 use Rattle.pce_view.specs.declared.notes.LspNotes.{LspNotes}
@@ -125,7 +125,7 @@ known_gaps (Some gaps) = gaps
 abbrev pub gaps_at : List (List (Option Gap)) → ℕ → List (Option Gap)
 gaps_at gaps place = known_gaps (slice_get gaps place)
 
--- ---- what is counted of all LSPs
+-- ---- what metrics count of all LSPs
 
 abbrev pub shown_state : Heard → List (Option Gap) → KnownLsp → ShownState
 shown_state h gaps l = record { state = state_of h.words l.paths; broken_paths = length (filter (λ g. is_some g) gaps) }
@@ -134,26 +134,3 @@ shown_state h gaps l = record { state = state_of h.words l.paths; broken_paths =
 abbrev pub shown_states : Heard → List (List (Option Gap)) → ℕ → List KnownLsp → List ShownState
 shown_states h gaps place [] = []
 shown_states h gaps place (l ∷ ls) = shown_state h (gaps_at gaps place) l ∷ shown_states h gaps (place + 1) ls
-
-abbrev pub state_number : LspState → ℕ
-state_number state.Active = 0
-state_number state.Up = 1
-state_number state.GoingUp = 2
-state_number state.GoingDown = 3
-state_number state.Down = 4
-state_number state.Unplaced = 5
-state_number state.Unknown = 6
-
-abbrev pub is_in : LspState → ShownState → Bool
-is_in s x = state_number x.state == state_number s
-
--- how many are in a state
-abbrev pub number_in : LspState → List ShownState → ℕ
-number_in s states = length (filter (is_in s) states)
-
--- how many paths have a gap
-abbrev pub with_broken : ℕ → ShownState → ℕ
-with_broken n x = min (n + x.broken_paths) (2 ^ 64 - 1)
-
-abbrev pub broken_in : List ShownState → ℕ
-broken_in states = fold with_broken 0 states

@@ -4,8 +4,7 @@ use Rattle.lsp_base.specs.declared.tunnel.Part.{Part}
 use Rattle.lsp_base.specs.declared.tunnel.Part.TheVariants.{Reported, Granted}
 use Rattle.pce_seen.specs.declared.grants.Deletion.{Deletion}
 use Rattle.pce_seen.specs.declared.grants.KnownGrant.{KnownGrant}
-use Rattle.pce_seen.specs.declared.seen.Seen.{Seen}
-use Rattle.pce_seen.specs.declared.seen.Seen.TheVariants as seen
+use Rattle.pce_seen.specs.declared.grants.GrantPage.{GrantPage}
 use Rattle.server_rules.specs.Pendings.{since_in}
 use Rattle.server_rules.specs.declared.pending_table.PendingTable.{PendingTable}
 use Rattle.pce_view.specs.declared.heard.Heard.{Heard}
@@ -22,11 +21,10 @@ abbrev pub since_of_deletion : PendingTable → Deletion → Option ℕ
 since_of_deletion table d = since_in table (record { peer = d.peer; srp = d.srp })
 
 -- of each grant and deletion of a page, in their order, what the table has is heard
-abbrev pub IsHeardOf : PendingTable → Seen → Heard → Type 0
-IsHeardOf table (seen.Grants page) h =
+abbrev pub IsHeardOf : PendingTable → GrantPage → Heard → Type 0
+IsHeardOf table page h =
     (h.grants_since_ms.items ≡ map (since_of_grant table) page.grants.items)
     × (h.deletions_since_ms.items ≡ map (since_of_deletion table) page.deletions.items)
-IsHeardOf table s h = Unit {0}
 
 abbrev pub waited : ℕ → Option (Option ℕ) → Option ℕ
 waited now_ms None = None

@@ -1,6 +1,6 @@
 //! How long ago a step was taken.
 ghost use Rattle.std.specs.Prelude.{◌≡◌};
-ghost use Rattle.pce_view.specs.Views.{age_of, least_ms, most_ms};
+ghost use Rattle.pce_view.specs.Why.{age_of, least_ms, most_ms};
 
 use server_counts::{Mark, mark_before, mark_behind};
 

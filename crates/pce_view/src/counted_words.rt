@@ -1,82 +1,11 @@
-//! Words for what is counted.
+//! Words for why connections end.
 ghost use Rattle.std.specs.Prelude.{◌≡◌};
-ghost use Rattle.pce_view.specs.CountedWords.{end_word, message_word, refusal_word, reply_word, word_of};
+ghost use Rattle.pce_view.specs.CountedWords.{end_word};
 
-use server_counts::{Counted, EndReason, MessageKind, ReplyKind};
-
-/// Names a kind of reply.
-fn reply_word(reply: ReplyKind) -> &'static str
-    ensures { result.now ≡ reply_word reply }
-{
-    match reply {
-        ReplyKind::Done => "done",
-        ReplyKind::Booked => "booked",
-        ReplyKind::BookedWantsPath => "booked wants",
-        ReplyKind::Asked => "asked",
-        ReplyKind::Job => "job",
-        ReplyKind::Idle => "idle",
-        ReplyKind::Granted => "granted",
-        ReplyKind::Answered => "answered",
-        ReplyKind::Again => "again",
-        ReplyKind::NoPath => "nopath",
-        ReplyKind::GivenUp => "givenup",
-        ReplyKind::Gone => "gone",
-        ReplyKind::Removing => "removing",
-        ReplyKind::Out => "out",
-        ReplyKind::Refused => "refused",
-    }
-}
-
-/// Names a refusal by its number.
-fn refusal_word(number: u8) -> &'static str
-    ensures { result.now ≡ refusal_word number }
-{
-    match number {
-        1 => "unknown peer",
-        2 => "peer up",
-        3 => "peer down",
-        4 => "unknown LSP",
-        5 => "not delegated",
-        6 => "pending",
-        7 => "no update",
-        8 => "no initiation",
-        9 => "not created here",
-        10 => "too many tickets",
-        11 => "too many paths",
-        12 => "too many peers",
-        13 => "no node owns an end",
-        14 => "unknown ticket",
-        15 => "ticket not taken",
-        16 => "name in use",
-        17 => "SRP-ID in use",
-        18 => "still synchronizing",
-        19 => "bad report",
-        20 => "unknown link",
-        _ => "other",
-    }
-}
-
-/// Names a type of messages.
-fn message_word(message: MessageKind) -> &'static str
-    ensures { result.now ≡ message_word message }
-{
-    match message {
-        MessageKind::Open => "Open",
-        MessageKind::Keepalive => "Keepalive",
-        MessageKind::Request => "PCReq",
-        MessageKind::Reply => "PCRep",
-        MessageKind::Notification => "PCNtf",
-        MessageKind::Error => "PCErr",
-        MessageKind::Close => "Close",
-        MessageKind::Report => "PCRpt",
-        MessageKind::Update => "PCUpd",
-        MessageKind::Initiate => "PCInitiate",
-        MessageKind::Other => "other",
-    }
-}
+use server_counts::EndReason;
 
 /// Says why a connection ended.
-pub(crate) fn end_word(reason: EndReason) -> &'static str
+pub fn end_word(reason: EndReason) -> &'static str
     ensures { result.now ≡ end_word reason }
 {
     match reason {
@@ -93,22 +22,5 @@ pub(crate) fn end_word(reason: EndReason) -> &'static str
         EndReason::SecondSession => "second session",
         EndReason::Refused(_) => "refused",
         EndReason::Unheard => "closed unheard",
-    }
-}
-
-/// The word that names what is counted beside the others of its metric.
-pub(crate) fn word_of(what: Counted) -> &'static str
-    ensures { result.now ≡ word_of what }
-{
-    match what {
-        Counted::Step(_, reply) => reply_word(reply),
-        Counted::Refusal(number) => refusal_word(number),
-        Counted::Ended(reason) => end_word(reason),
-        Counted::Received(message) | Counted::Sent(message) => message_word(message),
-        Counted::Accepted
-        | Counted::Stranger
-        | Counted::ErrorSent(..)
-        | Counted::ErrorReceived(..)
-        | Counted::NoAnswer => "",
     }
 }

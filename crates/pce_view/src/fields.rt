@@ -102,12 +102,9 @@ pub(crate) enum Field<'a> {
     Links(&'a Sequence<LinkNumber>),
 }
 
-/// A member of an object.
+/// A member of an object: its name and its value.
 #[derive(Clone, Copy)]
-pub(crate) struct Member<'a> {
-    pub name: &'a str,
-    pub value: Field<'a>,
-}
+pub(crate) struct Member<'a>(pub &'a str, pub Field<'a>);
 
 fn put_address(alloc: Global, writer: &mut Writer, at: Ipv4) -> Result<(), AllocError>
     ensures before { writer.new.before ≡ writer.old.before }
@@ -225,7 +222,7 @@ pub(crate) fn is_down(paths: &[Path]) -> bool
 }
 
 /// The name of a node; empty where there is no such node.
-pub(crate) fn name_at(nodes: &[Node], number: usize) -> &str
+pub fn name_at(nodes: &[Node], number: usize) -> &str
     ensures { result.now ≡ name_at nodes.now number }
 {
     match nodes.get(number) {
@@ -408,8 +405,8 @@ pub(crate) fn put_members(
     ensures written { OnOk result ((others : Members) → writer.new.tokens ++ members_tokens others ≡ writer.old.tokens ++ members_tokens (members_then members.now others)) }
 {
     for member in members {
-        writer.key(member.name)?;
-        put_value(alloc, writer, &member.value)?;
+        writer.key(member.0)?;
+        put_value(alloc, writer, &member.1)?;
     }
     Ok(())
 }

@@ -3,7 +3,7 @@ ghost use Rattle.std.specs.Prelude.{◌≡◌, map, IfOk, OnOk};
 ghost use Rattle.pce_view.specs.Unanswered.{since_at, since_of_deletion, since_of_grant, IsHeardOf};
 
 use lsp_base::{Part, Path};
-use pce_seen::{Deletion, GrantPage, KnownGrant, KnownLsp, Seen};
+use pce_seen::{Deletion, GrantPage, KnownGrant, KnownLsp};
 use server_rules::{
     PathHappening, PathKey, PathWords, PcErrHappening, PeerErrors, Pending, PendingTable, RouterLsp,
 };
@@ -21,6 +21,17 @@ pub struct Heard {
     pub grants_since_ms: Vec<Option<u64>>,
     /// The same of each awaited deletion.
     pub deletions_since_ms: Vec<Option<u64>>,
+}
+
+/// What is noted of what routers said beside the state.
+#[derive(Clone, Copy)]
+pub enum Said<'a> {
+    /// In the latest reports of paths.
+    Words(&'a PathWords),
+    /// By which they refused what was asked of them.
+    Errors(&'a PeerErrors),
+    /// Since when they haven't answered.
+    Pending(&'a PendingTable),
 }
 
 /// The key of a path that its router reported.
@@ -48,14 +59,6 @@ fn hear_path(
         Some(word) => into.note(PathHappening::Reported { of, word }),
         None => Ok(()),
     }
-}
-
-/// Takes over what is said of the paths of an LSP.
-fn hear_paths(into: &mut PathWords, words: &PathWords, paths: &[Path]) -> Result<(), AllocError> {
-    for path in paths {
-        hear_path(into, words, key_of(path))?;
-    }
-    Ok(())
 }
 
 /// Takes over by what an LSP was last refused.
@@ -129,54 +132,31 @@ impl Heard {
         }
     }
 
-    /// Takes over what is said of the LSPs that were seen.
-    pub fn hear_words(&mut self, words: &PathWords, seen: &Seen) -> Result<(), AllocError> {
-        match seen {
-            Seen::Lsps(placed) => {
-                for lsp in &placed.page.lsps {
-                    hear_paths(&mut self.words, words, lsp.paths.as_slice())?;
+    /// Takes over what a router said of an LSP.
+    pub(crate) fn hear_lsp(&mut self, said: Said<'_>, lsp: &KnownLsp) -> Result<(), AllocError> {
+        match said {
+            Said::Words(words) => {
+                for path in lsp.paths.as_slice() {
+                    hear_path(&mut self.words, words, key_of(path))?;
                 }
                 Ok(())
             }
-            Seen::Lsp(Some(placed)) => {
-                hear_paths(&mut self.words, words, placed.lsp.paths.as_slice())
-            }
-            _ => Ok(()),
+            Said::Errors(errors) => hear_error(&mut self.errors, errors, lsp),
+            Said::Pending(_) => Ok(()),
         }
     }
 
-    /// Takes over by what the LSPs that were seen were last refused.
-    pub fn hear_errors(&mut self, errors: &PeerErrors, seen: &Seen) -> Result<(), AllocError> {
-        match seen {
-            Seen::Lsps(placed) => {
-                for lsp in &placed.page.lsps {
-                    hear_error(&mut self.errors, errors, lsp)?;
-                }
-                Ok(())
-            }
-            Seen::Lsp(Some(placed)) => hear_error(&mut self.errors, errors, &placed.lsp),
-            _ => Ok(()),
-        }
-    }
-
-    /// Takes over since when the grants and the deletions of a page are unanswered.
-    fn hear_page(&mut self, table: &PendingTable, page: &GrantPage) -> Result<(), AllocError>
-        ensures grants { OnOk result (self.new.grants_since_ms.items ≡ map (since_of_grant table.now) page.now.grants.items) }
-        ensures deletions { OnOk result (self.new.deletions_since_ms.items ≡ map (since_of_deletion table.now) page.now.deletions.items) }
+    /// Takes over since when the grants and the awaited deletions of a page are unanswered.
+    pub(crate) fn hear_page(
+        &mut self,
+        table: &PendingTable,
+        page: &GrantPage,
+    ) -> Result<(), AllocError>
+        ensures { OnOk result (IsHeardOf table.now page.now self.new) }
     {
         let alloc = *self.grants_since_ms.allocator();
         self.grants_since_ms = grants_since(alloc, table, &page.grants)?;
         self.deletions_since_ms = deletions_since(alloc, table, &page.deletions)?;
         Ok(())
-    }
-
-    /// Takes over since when the grants and the awaited deletions that were seen are unanswered.
-    pub fn hear_unanswered(&mut self, table: &PendingTable, seen: &Seen) -> Result<(), AllocError>
-        ensures { OnOk result (IsHeardOf table.now seen.now self.new) }
-    {
-        match seen {
-            Seen::Grants(page) => self.hear_page(table, page),
-            _ => Ok(()),
-        }
     }
 }

@@ -2,7 +2,7 @@
 ghost use Rattle.std.specs.Prelude.{◌≡◌, ◌++◌, IfOk, OnOk};
 ghost use Rattle.json.specs.Tree.{json_tokens};
 ghost use Rattle.json.specs.Json.{array};
-ghost use Rattle.pce_view.specs.Views.{left_by, left_row_items, left_row_json, left_rows_or_null};
+ghost use Rattle.pce_view.specs.Why.{left_by, left_row_items, left_row_json, left_rows_or_null};
 
 use crate::fields::{Field, Member, put_object};
 use json::Writer;
@@ -23,7 +23,7 @@ pub(crate) fn left_by(
     }
 }
 
-#[tactic(auto, unfolding(crate::specs::Views::left_row_json))]
+#[tactic(auto, unfolding(crate::specs::Why::left_row_json))]
 fn put_row(alloc: Global, writer: &mut Writer, row: &LeftRow) -> Result<(), AllocError>
     ensures before { writer.new.before ≡ writer.old.before }
     ensures written { OnOk result (writer.new.tokens ≡ writer.old.tokens ++ json_tokens (left_row_json row.now)) }
@@ -32,22 +32,10 @@ fn put_row(alloc: Global, writer: &mut Writer, row: &LeftRow) -> Result<(), Allo
         alloc,
         writer,
         &[
-            Member {
-                name: "link",
-                value: Field::Whole(row.link as u64),
-            },
-            Member {
-                name: "priority",
-                value: Field::Level(row.priority),
-            },
-            Member {
-                name: "before_bytes_per_second",
-                value: Field::Signed(row.before),
-            },
-            Member {
-                name: "after_bytes_per_second",
-                value: Field::Signed(row.after),
-            },
+            Member("link", Field::Whole(row.link as u64)),
+            Member("priority", Field::Level(row.priority)),
+            Member("before_bytes_per_second", Field::Signed(row.before)),
+            Member("after_bytes_per_second", Field::Signed(row.after)),
         ],
     )
 }

@@ -1,6 +1,7 @@
 //! What an operator is shown of what was seen of the database: JSON for programs, columns for people. Nothing here takes
-//! a handle. A reader of JSON (RFC 8259) reads the text of a value as exactly the tree that `specs/Views.antt` gives it;
-//! of the columns nothing is claimed. `answer_text` searches for a path, where one is asked for (`path_looks`).
+//! a handle. Each question of an operator (`asks::Ask`) is a module under the name of its line: what it sees of a database,
+//! what a reader of JSON (RFC 8259) reads the answer as (`specs`, a file for each), and the rows of its table, of which
+//! nothing is claimed. `question` has the trait.
 //!
 //! - `fields`, `closing`: objects from tables of their members, and the text of a whole value
 //! - `words`: words for what is seen
@@ -8,65 +9,71 @@
 //! - `unanswered`: for how long routers haven't answered (`specs/Unanswered.antt`)
 //! - `moments`, `age`: how long ago a peer came up or went down, and how long ago a step was taken
 //! - `left`: what a step left of links
-//! - `moves`: paths that LSPs could have elsewhere (`specs/Moves.antt`)
-//! - `status`, `book`, `peers`, `tickets`, `lsps`, `grants`, `link`, `steps`, `origins`, `path`, `better`, `without`: one kind of answer
-//!   each, as JSON
+//! - `origins`: by which kept steps the paths of an LSP came (`specs/Origins.antt`)
 //! - `runs`: equal numbers in a row
-//! - `tables`, `link_tables`, `lsp_tables`, `grant_tables`, `move_tables`: the same for people, in the texts of `table_text`
-//! - `answer`: what is said to a question
-//! - `pieces`, `families`, `counted_words`: lines of metrics
-//! - `link_metrics`, `step_metrics`, `session_metrics`, `state_metrics`, `time_metrics`, `metrics`: what was seen and counted, as metrics
+//! - `columns`: cells of tables, in the texts of `table_text`
+//! - `counted_words`: words for why connections end
+//! - `shown_states`: what metrics count of LSPs (`metrics_text`)
 //!
 //! ```text
 //! fn status_of(alloc: Global, counts: Counts) -> Result<Vec<u8>, AllocError> {
 //!     let around = Surroundings { version: "1.0", logic: "", commit: "", uptime_ms: 0, presences: &[], marks: &[], lefts: &[] };
-//!     answer_text(alloc, Form::Json, &around, &Heard::nothing(alloc), &Ask::Status, &Seen::Counts(counts))
+//!     answer_text(alloc, Form::Json, &around, &Heard::nothing(alloc), &Status, &counts)
 //! }
 //! ```
 #![tactic(auto)]
 
 mod age;
-mod answer;
 mod better;
-mod book;
 mod closing;
+mod columns;
 mod counted_words;
-mod families;
 mod fields;
-mod grant_tables;
 mod grants;
 mod heard;
+mod history;
 mod left;
 mod link;
-mod link_metrics;
-mod link_tables;
-mod lsp_tables;
+mod link_line;
+mod links;
+mod lsp;
 mod lsps;
-mod metrics;
 mod moments;
-mod move_tables;
-mod moves;
 mod notes;
 mod origins;
 mod path;
 mod peers;
-mod pieces;
+mod question;
 mod runs;
-mod session_metrics;
-mod state_metrics;
+mod shown_states;
 mod states;
 mod status;
-mod step_metrics;
-mod steps;
-mod tables;
 mod tickets;
-mod time_metrics;
+mod tunnels;
 mod unanswered;
+mod why;
 mod without;
 mod words;
 
-pub use answer::{Form, Surroundings, answer_text};
-pub use heard::Heard;
-pub use metrics::{Process, metrics_text};
-pub use state_metrics::{ShownState, add_states};
+pub use better::Better;
+pub use counted_words::end_word;
+pub use fields::name_at;
+pub use grants::Grants;
+pub use heard::{Heard, Said};
+pub use history::History;
+pub use link::Link;
+pub use link_line::LinkLine;
+pub use links::Links;
+pub use lsp::Lsp;
+pub use lsps::Lsps;
+pub use path::Path;
+pub use peers::Peers;
+pub use question::{Form, Question, Surroundings, answer_text};
+pub use shown_states::{ShownState, add_states};
 pub use states::LspState;
+pub use status::Status;
+pub use tickets::Tickets;
+pub use tunnels::{SeenTunnels, Tunnels};
+pub use why::Why;
+pub use without::Without;
+pub use words::{event_word, state_word};

@@ -1,17 +1,26 @@
-//! A link with the tunnels on it as JSON.
+//! `link N`: a link with the tunnels on it.
 ghost use Rattle.std.specs.Prelude.{◌≡◌, ◌++◌, Some, IfOk, OnOk};
 ghost use Rattle.json.specs.Tree.{json_tokens};
-ghost use Rattle.json.specs.Json.{array, document, item, no_items};
-ghost use Rattle.pce_view.specs.Views.{held_items, held_json, line_items, line_json, lines_json, use_json};
-ghost use Rattle.pce_view.specs.Answers.{IsLinkText, IsUseText};
+ghost use Rattle.json.specs.Json.{array, document};
+ghost use Rattle.pce_view.specs.Link.{held_items, held_json, use_json};
+ghost use Rattle.pce_view.specs.Link.{IsLinkText, IsUseText};
 
 use crate::closing::{closed, null_text};
-use crate::fields::{Field, Member, begin_with, put_object};
+use crate::fields::{Field, Member, begin_with, lsp_id, put_object, srp_id};
+use crate::heard::Heard;
+use crate::question::{Question, Surroundings};
+use asks::Ask;
+use database_looks::{Look, see_link};
+use history_core::Database;
 use json::Writer;
 use pce_seen::{HeldPath, LinkUse, tunnels_on};
+use pcep_word::Ipv4;
 use std::alloc::{AllocError, Global};
+use std::fmt::Write;
+use table_text::{add_name, add_percent, add_rate};
+use te_base::Node;
 
-#[tactic(auto, unfolding(crate::specs::Views::held_json))]
+#[tactic(auto, unfolding(crate::specs::Link::held_json))]
 fn put_held(alloc: Global, writer: &mut Writer, held: &HeldPath) -> Result<(), AllocError>
     ensures before { writer.new.before ≡ writer.old.before }
     ensures written { OnOk result (writer.new.tokens ≡ writer.old.tokens ++ json_tokens (held_json held.now)) }
@@ -20,30 +29,12 @@ fn put_held(alloc: Global, writer: &mut Writer, held: &HeldPath) -> Result<(), A
         alloc,
         writer,
         &[
-            Member {
-                name: "peer",
-                value: Field::Peer(held.peer),
-            },
-            Member {
-                name: "plsp_id",
-                value: Field::Plsp(held.plsp),
-            },
-            Member {
-                name: "lsp_id",
-                value: Field::LspId(held.part),
-            },
-            Member {
-                name: "srp_id",
-                value: Field::SrpId(held.part),
-            },
-            Member {
-                name: "hold_priority",
-                value: Field::Level(held.hold),
-            },
-            Member {
-                name: "bandwidth_bytes_per_second",
-                value: Field::Rate(held.bandwidth),
-            },
+            Member("peer", Field::Peer(held.peer)),
+            Member("plsp_id", Field::Plsp(held.plsp)),
+            Member("lsp_id", Field::LspId(held.part)),
+            Member("srp_id", Field::SrpId(held.part)),
+            Member("hold_priority", Field::Level(held.hold)),
+            Member("bandwidth_bytes_per_second", Field::Rate(held.bandwidth)),
         ],
     )
 }
@@ -73,46 +64,19 @@ fn put_use(
         alloc,
         writer,
         &[
-            Member {
-                name: "link",
-                value: Field::Whole(number),
-            },
-            Member {
-                name: "from",
-                value: Field::Node(&seen.from.name),
-            },
-            Member {
-                name: "to",
-                value: Field::Node(&seen.to.name),
-            },
-            Member {
-                name: "local_address",
-                value: Field::Address(seen.link.local),
-            },
-            Member {
-                name: "remote_address",
-                value: Field::Address(seen.link.remote),
-            },
-            Member {
-                name: "igp_metric",
-                value: Field::Whole(seen.link.igp as u64),
-            },
-            Member {
-                name: "te_metric",
-                value: Field::Whole(seen.link.te as u64),
-            },
-            Member {
-                name: "colour",
-                value: Field::Whole(seen.link.colour as u64),
-            },
-            Member {
-                name: "reservable_bytes_per_second",
-                value: Field::Whole(seen.link.reservable),
-            },
-            Member {
-                name: "unreserved_bytes_per_second",
-                value: Field::Amounts(&seen.left),
-            },
+            Member("link", Field::Whole(number)),
+            Member("from", Field::Node(&seen.from.name)),
+            Member("to", Field::Node(&seen.to.name)),
+            Member("local_address", Field::Address(seen.link.local)),
+            Member("remote_address", Field::Address(seen.link.remote)),
+            Member("igp_metric", Field::Whole(seen.link.igp as u64)),
+            Member("te_metric", Field::Whole(seen.link.te as u64)),
+            Member("colour", Field::Whole(seen.link.colour as u64)),
+            Member(
+                "reservable_bytes_per_second",
+                Field::Whole(seen.link.reservable),
+            ),
+            Member("unreserved_bytes_per_second", Field::Amounts(&seen.left)),
         ],
         "tunnels",
     )?;
@@ -143,139 +107,106 @@ fn link_with_tunnels(alloc: Global, number: u64, seen: &LinkUse) -> Result<Vec<u
     use_text(alloc, number, seen, &tunnels)
 }
 
-/// Writes a link with the tunnels on it as JSON, or `null`.
-pub(crate) fn link_text(
+fn add_held(text: &mut String, held: &HeldPath) -> Result<(), AllocError> {
+    let peer = Ipv4(held.peer);
+    let plsp = held.plsp.number();
+    let hold = held.hold.number();
+    write!(text, "{peer}\t{plsp}\t{hold}\t")?;
+    add_rate(text, held.bandwidth.value() as i64)?;
+    text.push('\n')
+}
+
+/// Adds the name of the node at an end of a link, and the link's address there.
+fn add_node_end(text: &mut String, node: &Node, address: Ipv4) -> Result<(), AllocError> {
+    add_name(text, node.name.as_str().as_bytes())?;
+    writeln!(text, " {address}")
+}
+
+/// Adds a link, and a line for each tunnel on it, the one that holds most first.
+fn add_use(
     alloc: Global,
+    text: &mut String,
     number: u64,
-    seen: &Option<LinkUse>,
-) -> Result<Vec<u8>, AllocError>
-    ensures { IfOk result (λ text. IsLinkText number seen.now text.items) }
-{
-    match seen {
-        Some(seen) => link_with_tunnels(alloc, number, seen),
-        None => null_text(alloc),
+    seen: &LinkUse,
+) -> Result<(), AllocError> {
+    let igp = seen.link.igp;
+    let te = seen.link.te;
+    let colour = seen.link.colour;
+    write!(text, "link\t{number}\nfrom\t")?;
+    add_node_end(text, &seen.from, seen.link.local)?;
+    text.push_str("to\t")?;
+    add_node_end(text, &seen.to, seen.link.remote)?;
+    write!(
+        text,
+        "metrics\tIGP {igp}, TE {te}\ncolour\t{colour:#010x}\nreservable\t"
+    )?;
+    add_rate(text, seen.link.reservable.min(1 << 48) as i64)?;
+    text.push('\n')?;
+    for (priority, left) in seen.left.iter().enumerate() {
+        write!(text, "left at {priority}\t")?;
+        add_rate(text, *left)?;
+        text.push('\t')?;
+        add_percent(text, seen.link.reservable, *left)?;
+        text.push_str(" reserved")?;
+        text.push('\n')?;
+    }
+    text.push_str("\x0cPEER\tPLSP\tHOLD\tBANDWIDTH\n")?;
+    for held in &tunnels_on(alloc, &seen.paths)? {
+        add_held(text, held)?;
+    }
+    Ok(())
+}
+
+/// A link with the tunnels on it.
+#[derive(Clone, Copy)]
+pub struct Link(pub u64);
+
+impl Look for Link {
+    ghost use Rattle.std.specs.Prelude.{true};
+    ghost use Rattle.database_looks.specs.Looks.{SeesLink};
+
+    type Seen = Option<LinkUse>;
+
+    ghost sees = { λ q d seen. SeesLink q.0 true d seen };
+
+    fn see(&self, alloc: Global, database: &Database) -> Result<Option<LinkUse>, AllocError> {
+        see_link(alloc, database, self.0, true)
     }
 }
 
-#[tactic(auto, unfolding(crate::specs::Views::line_json))]
-fn put_line(
-    alloc: Global,
-    writer: &mut Writer,
-    number: u64,
-    seen: &LinkUse,
-) -> Result<(), AllocError>
-    ensures before { writer.new.before ≡ writer.old.before }
-    ensures written { OnOk result (writer.new.tokens ≡ writer.old.tokens ++ json_tokens (line_json number seen.now)) }
-{
-    put_object(
-        alloc,
-        writer,
-        &[
-            Member {
-                name: "link",
-                value: Field::Whole(number),
-            },
-            Member {
-                name: "from",
-                value: Field::Node(&seen.from.name),
-            },
-            Member {
-                name: "to",
-                value: Field::Node(&seen.to.name),
-            },
-            Member {
-                name: "local_address",
-                value: Field::Address(seen.link.local),
-            },
-            Member {
-                name: "remote_address",
-                value: Field::Address(seen.link.remote),
-            },
-            Member {
-                name: "igp_metric",
-                value: Field::Whole(seen.link.igp as u64),
-            },
-            Member {
-                name: "te_metric",
-                value: Field::Whole(seen.link.te as u64),
-            },
-            Member {
-                name: "colour",
-                value: Field::Whole(seen.link.colour as u64),
-            },
-            Member {
-                name: "reservable_bytes_per_second",
-                value: Field::Whole(seen.link.reservable),
-            },
-            Member {
-                name: "unreserved_bytes_per_second",
-                value: Field::Amounts(&seen.left),
-            },
-        ],
-    )
-}
+impl Question for Link {
+    ghost use Rattle.pce_view.specs.Link.{IsLinkText};
 
-fn put_one_line(
-    alloc: Global,
-    writer: &mut Writer,
-    number: u64,
-    seen: &LinkUse,
-) -> Result<(), AllocError>
-    ensures before { writer.new.before ≡ writer.old.before }
-    ensures written { OnOk result (writer.new.tokens ≡ writer.old.tokens ++ json_tokens (array (item (line_json number seen.now) no_items))) }
-{
-    writer.begin_array()?;
-    put_line(alloc, writer, number, seen)?;
-    writer.end_array()
-}
+    ghost reads = { λ q _ _ seen text. IsLinkText q.0 seen text };
 
-fn put_no_line(writer: &mut Writer) -> Result<(), AllocError>
-    ensures before { writer.new.before ≡ writer.old.before }
-    ensures written { OnOk result (writer.new.tokens ≡ writer.old.tokens ++ json_tokens (array no_items)) }
-{
-    writer.begin_array()?;
-    writer.end_array()
-}
-
-fn put_line_or(
-    alloc: Global,
-    writer: &mut Writer,
-    number: u64,
-    seen: &Option<LinkUse>,
-) -> Result<(), AllocError>
-    ensures before { writer.new.before ≡ writer.old.before }
-    ensures written { OnOk result (writer.new.tokens ≡ writer.old.tokens ++ json_tokens (array (line_items number seen.now))) }
-{
-    match seen {
-        Some(seen) => put_one_line(alloc, writer, number, seen),
-        None => put_no_line(writer),
+    fn json(
+        &self,
+        alloc: Global,
+        _around: &Surroundings<'_>,
+        _heard: &Heard,
+        seen: &Option<LinkUse>,
+    ) -> Result<Vec<u8>, AllocError> {
+        match seen {
+            Some(seen) => link_with_tunnels(alloc, self.0, seen),
+            None => null_text(alloc),
+        }
     }
-}
 
-fn put_lines(
-    alloc: Global,
-    writer: &mut Writer,
-    number: u64,
-    seen: &Option<LinkUse>,
-) -> Result<(), AllocError>
-    ensures before { writer.new.before ≡ writer.old.before }
-    ensures written { OnOk result (writer.new.tokens ≡ writer.old.tokens ++ json_tokens (lines_json number seen.now)) }
-{
-    writer.begin_object()?;
-    writer.key("links")?;
-    put_line_or(alloc, writer, number, seen)?;
-    writer.end_object()
-}
+    fn rows(
+        &self,
+        alloc: Global,
+        text: &mut String,
+        _around: &Surroundings<'_>,
+        _heard: &Heard,
+        seen: &Option<LinkUse>,
+    ) -> Result<(), AllocError> {
+        match seen {
+            Some(seen) => add_use(alloc, text, self.0, seen),
+            None => text.push_str("no such link\n"),
+        }
+    }
 
-/// Writes the line of a link as JSON.
-pub(crate) fn line_text(
-    alloc: Global,
-    number: u64,
-    seen: &Option<LinkUse>,
-) -> Result<Vec<u8>, AllocError>
-    ensures { IfOk result (λ text. document text.items ≡ Some (lines_json number seen.now)) }
-{
-    let mut writer = Writer::new(Vec::new(alloc));
-    put_lines(alloc, &mut writer, number, seen)?;
-    Ok(closed(writer))
+    fn next(&self, _seen: &Option<LinkUse>) -> Option<Ask> {
+        None
+    }
 }

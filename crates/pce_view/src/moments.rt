@@ -1,6 +1,6 @@
 //! How long ago a peer came up or went down, and how its last connection ended.
 ghost use Rattle.std.specs.Prelude.{◌≡◌};
-ghost use Rattle.pce_view.specs.Views.{end_number, ended_at, moments_of};
+ghost use Rattle.pce_view.specs.Peers.{end_number, ended_at, moments_of};
 
 use server_counts::{EndReason, LastEnd, Presence};
 

@@ -1,177 +1,273 @@
-//! By which kept steps the paths of an LSP came, how long ago, and what those steps left of their links, as JSON.
-ghost use Rattle.std.specs.Prelude.{◌≡◌, ◌++◌, Some, IfOk, OnOk};
-ghost use Rattle.json.specs.Tree.{json_tokens};
-ghost use Rattle.json.specs.Json.{array, document};
-ghost use Rattle.pce_view.specs.Views.{age_of, left_by, left_rows_or_null, origins_json, origins_or_null, traced_items, traced_json};
-ghost use Rattle.pce_view.specs.Words.{origin_step};
+//! By which kept steps the paths of an LSP came.
+ghost use Rattle.std.specs.Prelude.{◌≡◌, ◌<◌, ◌≤◌, ◌+◌, length, map, IfOk, IfSome};
+ghost use Rattle.std.specs.List.{list_any};
+ghost use Rattle.history_core.specs.Histories.{last_step};
+ghost use Rattle.pce_view.specs.Origins.{gives_ticket, grant_origin, grants, grants_at, is_asked_as, is_ask_for, is_booked, is_granted_as, last_grant, last_report, lsp_id_of, origin_of, reading_start, report_origin, reports, is_report_of, ticket_in, traced, was_asked, IsTraced, SeesOrigins};
 
-use crate::age::{Age, age_of};
-use crate::closing::closed;
-use crate::fields::{Field, Member, begin_with};
-use crate::left::{left_by, put_rows_or};
-use crate::words::origin_step;
-use json::Writer;
-use pce_seen::{LspOrigins, TracedPath};
-use server_counts::{LeftRow, Mark};
+use history_core::{Brief, Database, Step};
+use lsp_base::{Part, Path};
+use pce_seen::{LspOrigins, Origin, TracedPath, paths_of};
+use pcep_objects::{Identifiers, Plsp};
+use sequence::PlainData;
 use std::alloc::{AllocError, Global};
+use step_core::Event;
 
-fn put_traced(
-    alloc: Global,
-    writer: &mut Writer,
-    seen: &TracedPath,
-    age: Age,
-    left: &[LeftRow],
-) -> Result<(), AllocError>
-    ensures before { writer.new.before ≡ writer.old.before }
-    ensures written { OnOk result (writer.new.tokens ≡ writer.old.tokens ++ json_tokens (traced_json seen.now age left.now)) }
-{
-    begin_with(
-        alloc,
-        writer,
-        &[
-            Member {
-                name: "lsp_id",
-                value: Field::LspId(seen.path.part),
-            },
-            Member {
-                name: "srp_id",
-                value: Field::SrpId(seen.path.part),
-            },
-            Member {
-                name: "links",
-                value: Field::Links(&seen.path.links),
-            },
-            Member {
-                name: "by",
-                value: Field::OriginWord(seen.origin),
-            },
-            Member {
-                name: "step",
-                value: Field::OriginStep(seen.origin),
-            },
-            Member {
-                name: "ticket",
-                value: Field::OriginTicket(seen.origin),
-            },
-            Member {
-                name: "least_ms_ago",
-                value: Field::WholeOr(age.least_ms),
-            },
-            Member {
-                name: "most_ms_ago",
-                value: Field::WholeOr(age.most_ms),
-            },
-        ],
-        "left",
-    )?;
-    put_rows_or(alloc, writer, left)?;
-    writer.end_object()?;
-    Ok(())
-}
+/// The greatest number of steps that are read for all paths of an LSP.
+const READ_LIMIT: usize = 32_768;
 
-/// Finds how long ago the step of a path was taken and what it left, and writes the path.
-fn put_one_traced(
-    alloc: Global,
-    writer: &mut Writer,
-    now_ms: u64,
-    marks: &[Mark],
-    lefts: &[LeftRow],
-    seen: &TracedPath,
-) -> Result<(), AllocError>
-    ensures before { writer.new.before ≡ writer.old.before }
-    ensures written { OnOk result (writer.new.tokens ≡ writer.old.tokens
-        ++ json_tokens (traced_json seen.now (age_of now_ms marks.now (origin_step seen.now.origin)) (left_by (origin_step seen.now.origin) lefts.now))) }
+/// Finds the LSP ID of a report: 0 where it has no identifiers.
+fn lsp_id_of(identifiers: &Option<Identifiers>) -> u16
+    ensures { result ≡ lsp_id_of identifiers.now }
 {
-    let step = origin_step(seen.origin);
-    let left = left_by(alloc, lefts, step)?;
-    put_traced(alloc, writer, seen, age_of(now_ms, marks, step), &left)
-}
-
-fn put_each_traced(
-    alloc: Global,
-    writer: &mut Writer,
-    now_ms: u64,
-    marks: &[Mark],
-    lefts: &[LeftRow],
-    paths: &[TracedPath],
-) -> Result<(), AllocError>
-    ensures before { writer.new.before ≡ writer.old.before }
-    ensures written { OnOk result (writer.new.tokens ≡ writer.old.tokens ++ json_tokens (array (traced_items now_ms marks.now lefts.now paths.now))) }
-{
-    writer.begin_array()?;
-    for seen in paths {
-        put_one_traced(alloc, writer, now_ms, marks, lefts, seen)?;
-    }
-    writer.end_array()
-}
-
-fn put_origins(
-    alloc: Global,
-    writer: &mut Writer,
-    now_ms: u64,
-    marks: &[Mark],
-    lefts: &[LeftRow],
-    seen: &LspOrigins,
-) -> Result<(), AllocError>
-    ensures before { writer.new.before ≡ writer.old.before }
-    ensures written { OnOk result (writer.new.tokens ≡ writer.old.tokens ++ json_tokens (origins_json now_ms marks.now lefts.now seen.now)) }
-{
-    begin_with(
-        alloc,
-        writer,
-        &[
-            Member {
-                name: "peer",
-                value: Field::Peer(seen.peer),
-            },
-            Member {
-                name: "plsp_id",
-                value: Field::Plsp(seen.plsp),
-            },
-            Member {
-                name: "rolled_steps",
-                value: Field::Whole(seen.rolled),
-            },
-            Member {
-                name: "first_step",
-                value: Field::Whole(seen.first),
-            },
-        ],
-        "paths",
-    )?;
-    put_each_traced(alloc, writer, now_ms, marks, lefts, &seen.paths)?;
-    writer.end_object()?;
-    Ok(())
-}
-
-fn put_origins_or(
-    alloc: Global,
-    writer: &mut Writer,
-    now_ms: u64,
-    marks: &[Mark],
-    lefts: &[LeftRow],
-    seen: &Option<LspOrigins>,
-) -> Result<(), AllocError>
-    ensures before { writer.new.before ≡ writer.old.before }
-    ensures written { OnOk result (writer.new.tokens ≡ writer.old.tokens ++ json_tokens (origins_or_null now_ms marks.now lefts.now seen.now)) }
-{
-    match seen {
-        Some(seen) => put_origins(alloc, writer, now_ms, marks, lefts, seen),
-        None => writer.null(),
+    match identifiers {
+        Some(known) => known.lsp,
+        None => 0,
     }
 }
 
-/// Writes by which steps the paths of an LSP came, how long ago, and what those left, as JSON, or `null`.
-pub(crate) fn origins_text(
-    alloc: Global,
-    now_ms: u64,
-    marks: &[Mark],
-    lefts: &[LeftRow],
-    seen: &Option<LspOrigins>,
-) -> Result<Vec<u8>, AllocError>
-    ensures { IfOk result (λ text. document text.items ≡ Some (origins_or_null now_ms marks.now lefts.now seen.now)) }
+fn is_booked(brief: &Brief) -> bool
+    ensures { result ≡ is_booked brief.now }
 {
-    let mut writer = Writer::new(Vec::new(alloc));
-    put_origins_or(alloc, &mut writer, now_ms, marks, lefts, seen)?;
-    Ok(closed(writer))
+    matches!(brief, Brief::Booked { .. })
+}
+
+/// Tests whether an event is a report of a path's LSP by its router, under this LSP ID, and no removal.
+fn is_report_of(id: u16, path: &Path, event: &Event) -> bool
+    ensures { result ≡ is_report_of id path.now event.now }
+{
+    match event {
+        Event::Report { peer, report } => {
+            *peer == path.peer
+                && report.plsp == path.plsp
+                && lsp_id_of(&report.identifiers) == id
+                && !report.remove
+        }
+        _ => false,
+    }
+}
+
+/// Tests whether a step booked such a report.
+fn reports(id: u16, path: &Path, step: &Step) -> bool
+    ensures { result ≡ reports id path.now step.now }
+{
+    is_booked(&step.brief) && is_report_of(id, path, step.event.event())
+}
+
+fn is_asked_as(ticket: u64, brief: &Brief) -> bool
+    ensures { result ≡ is_asked_as ticket brief.now }
+{
+    match brief {
+        Brief::Asked(number) => *number == ticket,
+        _ => false,
+    }
+}
+
+fn is_ask_for(peer: u32, event: &Event) -> bool
+    ensures { result ≡ is_ask_for peer event.now }
+{
+    match event {
+        Event::Ask { peer: asked, .. } => *asked == peer,
+        _ => false,
+    }
+}
+
+fn gives_ticket(peer: u32, ticket: u64, step: &Step) -> bool
+    ensures { result ≡ gives_ticket peer ticket step.now }
+{
+    is_asked_as(ticket, &step.brief) && is_ask_for(peer, step.event.event())
+}
+
+fn is_granted_as(srp: u32, brief: &Brief) -> bool
+    ensures { result ≡ is_granted_as srp brief.now }
+{
+    match brief {
+        Brief::Granted(number) => *number == srp,
+        _ => false,
+    }
+}
+
+fn ticket_in(event: &Event) -> Option<u64>
+    ensures { result ≡ ticket_in event.now }
+{
+    match event {
+        Event::Commit { ticket, .. } => Some(*ticket),
+        _ => None,
+    }
+}
+
+/// Tests whether one of these steps gave the ticket.
+fn any_gives(before: &[Step], peer: u32, ticket: u64) -> bool
+    ensures { result ≡ list_any (gives_ticket peer ticket) before.now }
+{
+    before.iter().any(|step| gives_ticket(peer, ticket, step))
+}
+
+/// Tests whether a ticket was asked for by one of these steps, for this router.
+fn was_asked(before: &[Step], peer: u32, ticket: Option<u64>) -> bool
+    ensures { result ≡ was_asked before.now peer ticket }
+{
+    match ticket {
+        Some(ticket) => any_gives(before, peer, ticket),
+        None => false,
+    }
+}
+
+/// Tests whether a step granted this SRP-ID to a ticket of the path's router, behind these steps.
+fn grants(srp: u32, path: &Path, before: &[Step], step: &Step) -> bool
+    ensures { result ≡ grants srp path.now before.now step.now }
+{
+    is_granted_as(srp, &step.brief) && was_asked(before, path.peer, ticket_in(step.event.event()))
+}
+
+/// Tests the same of the step at a place, behind those before it.
+fn grants_at(srp: u32, path: &Path, steps: &[Step], place: usize) -> bool
+    ensures { result ≡ grants_at srp path.now steps.now place }
+{
+    match steps.get(place) {
+        Some(step) => grants(srp, path, &steps[..place], step),
+        None => false,
+    }
+}
+
+/// Finds the last of the steps that reported a path.
+fn last_report(id: u16, path: &Path, steps: &[Step]) -> Option<usize>
+    ensures place { result ≡ last_report id path.now steps.now }
+    ensures within { IfSome result (λ place. place < length steps.now) }
+{
+    for place in (0..steps.len()).rev() {
+        if reports(id, path, &steps[place]) {
+            return Some(place);
+        }
+    }
+    None
+}
+
+/// Finds the last of the steps that granted a path.
+fn last_grant(srp: u32, path: &Path, steps: &[Step]) -> Option<usize>
+    ensures place { result ≡ last_grant srp path.now steps.now }
+    ensures within { IfSome result (λ place. place < length steps.now) }
+{
+    for place in (0..steps.len()).rev() {
+        if grants_at(srp, path, steps, place) {
+            return Some(place);
+        }
+    }
+    None
+}
+
+/// Says by which step a path was reported.
+fn report_origin(first: u64, id: u16, path: &Path, steps: &[Step]) -> Origin
+    requires { first + length steps.now ≤ last_step }
+    ensures { result ≡ report_origin first (last_report id path.now steps.now) }
+{
+    match last_report(id, path, steps) {
+        Some(place) => Origin::Report {
+            step: first + place as u64,
+        },
+        None => Origin::Unknown,
+    }
+}
+
+/// Says by which step a path was granted, and to which ticket.
+fn grant_origin(first: u64, srp: u32, path: &Path, steps: &[Step]) -> Origin
+    requires { first + length steps.now ≤ last_step }
+    ensures { result ≡ grant_origin first steps.now (last_grant srp path.now steps.now) }
+{
+    let Some(place) = last_grant(srp, path, steps) else {
+        return Origin::Unknown;
+    };
+    match ticket_in(steps[place].event.event()) {
+        Some(ticket) => Origin::Grant {
+            step: first + place as u64,
+            ticket,
+        },
+        None => Origin::Unknown,
+    }
+}
+
+/// Says by which of these steps a path came, where the first of them has this place among all.
+fn origin_of(first: u64, steps: &[Step], path: &Path) -> Origin
+    requires { first + length steps.now ≤ last_step }
+    ensures { result ≡ origin_of first steps.now path.now }
+{
+    match path.part {
+        Part::Reported(id) => report_origin(first, id, path, steps),
+        Part::Granted(srp) => grant_origin(first, srp, path, steps),
+    }
+}
+
+/// Copies a path, and says by which of these steps it came.
+fn traced(first: u64, steps: &[Step], path: &Path) -> Result<TracedPath, AllocError>
+    requires { first + length steps.now ≤ last_step }
+    ensures { IfOk result (λ seen. seen ≡ traced first steps.now path.now) }
+{
+    Ok(TracedPath {
+        path: path.copy()?,
+        origin: origin_of(first, steps, path),
+    })
+}
+
+fn all_traced(
+    alloc: Global,
+    first: u64,
+    steps: &[Step],
+    paths: &[Path],
+) -> Result<Vec<TracedPath>, AllocError>
+    requires { first + length steps.now ≤ last_step }
+    ensures { IfOk result (λ seen. seen.items ≡ map (traced first steps.now) paths.now) }
+{
+    let mut seen = Vec::new(alloc);
+    for path in paths {
+        seen.push(traced(first, steps, path)?)?;
+    }
+    Ok(seen)
+}
+
+/// Finds where, of `count` steps, those begin that are read for a number of paths.
+fn reading_start(count: usize, paths: usize) -> usize
+    ensures start { result ≡ reading_start count paths }
+    ensures within { result ≤ count }
+{
+    count.saturating_sub(READ_LIMIT / paths.max(1))
+}
+
+/// Traces the paths of an LSP.
+fn trace(
+    alloc: Global,
+    database: &Database,
+    peer: u32,
+    plsp: Plsp,
+    paths: &[Path],
+) -> Result<LspOrigins, AllocError>
+    ensures { IfOk result (IsTraced peer plsp paths.now database.now) }
+{
+    let steps = database.history();
+    let start = reading_start(steps.len(), paths.len());
+    let rolled = database.rolled();
+    let first = rolled + start as u64;
+    let paths = all_traced(alloc, first, &steps[start..], paths)?;
+    Ok(LspOrigins {
+        peer,
+        plsp,
+        paths,
+        first,
+        rolled,
+    })
+}
+
+/// Sees the paths of an LSP, and by which of the last kept steps each came; `None` where there is no such LSP.
+pub(crate) fn see_origins(
+    alloc: Global,
+    database: &Database,
+    peer: u32,
+    plsp: Plsp,
+) -> Result<Option<LspOrigins>, AllocError>
+    ensures { IfOk result (SeesOrigins peer plsp database.now) }
+{
+    let lsps = database.state().lsps();
+    if lsps.lsp(peer, plsp).is_none() {
+        return Ok(None);
+    }
+    let paths = paths_of(alloc, lsps, peer, plsp)?;
+    Ok(Some(trace(alloc, database, peer, plsp, paths.as_slice())?))
 }

@@ -46,7 +46,7 @@ pub(crate) fn purpose_request(purpose: &Purpose) -> Option<u64>
 }
 
 /// Names a kind of event.
-pub(crate) fn event_word(event: EventKind) -> &'static str
+pub fn event_word(event: EventKind) -> &'static str
     ensures { result.now ≡ event_word event }
 {
     match event {
@@ -230,7 +230,7 @@ pub(crate) fn links_of_path(path: &Option<Found>) -> &[LinkNumber]
 }
 
 /// Names the state in which an LSP is shown.
-pub(crate) fn state_word(state: LspState) -> Option<&'static str>
+pub fn state_word(state: LspState) -> Option<&'static str>
     ensures { option_map (λ word. word.now) result ≡ state_word state }
 {
     match state {

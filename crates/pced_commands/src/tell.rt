@@ -3,6 +3,7 @@ ghost use Rattle.std.specs.Prelude.{◌≡◌, ◌++◌, IfOk, codes, string_byt
 ghost use Rattle.pced_commands.specs.Statuses.{tell_fault};
 ghost use Rattle.pced_commands.specs.Tells.{first_word, sent, shows};
 
+use asks::is_question;
 use control_socket::{Outcome, await_end, is_line, outcome_of, tell};
 use pced_words::TellWords;
 use std::alloc::{AllocError, Global};
@@ -68,22 +69,7 @@ fn first_word(line: &str) -> &str
 fn shows(line: &str) -> bool
     ensures { result ≡ shows line.now }
 {
-    matches!(
-        first_word(line),
-        "status"
-            | "links"
-            | "link"
-            | "peers"
-            | "lsps"
-            | "lsp"
-            | "tickets"
-            | "history"
-            | "path"
-            | "why"
-            | "better"
-            | "without"
-            | "grants"
-    )
+    is_question(first_word(line))
 }
 
 /// What is sent for a line. One that shows nothing is sent as it is.

@@ -52,7 +52,7 @@ Standard input has an operator's lines, each answered on standard output, and so
   reload check     what that would change
   status, links, link N, peers, lsps, lsps PEER, lsp PEER PLSP, tickets,
   history N, path FROM TO BW SETUP HOLD, why PEER PLSP, better, better PEER,
-  without N, grants, grants PEER
+  without N, grants, grants PEER, tunnels, tunnels PEER
                    what stands, as a table; as JSON behind the word json
   end              the end of the run
 PEER is a number or a dotted address. docs/OPERATING.md says how to run it.";

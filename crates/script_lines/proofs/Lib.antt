@@ -1,5 +1,4 @@
 pub mod Cutting
-pub mod Numbers
 mod Spaces
 mod Taking
 pub mod LineAnswers

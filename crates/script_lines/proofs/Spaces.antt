@@ -1,7 +1,8 @@
 -- What has no space stays as it is without spaces.
 use Rattle.std.proofs.Common.{◌≡◌, ℕ, ◌||◌, Bool, true, false, List, [], ◌∷◌, refl, ap}
 use Rattle.std.specs.List.{list_any}
-use Rattle.script_lines.specs.Words.{is_space, without_spaces}
+use Rattle.asks.specs.Words.{is_space}
+use Rattle.script_lines.specs.Words.{without_spaces}
 
 abbrev Stays : List ℕ → Type 0
 Stays text = list_any is_space text ≡ false → without_spaces text ≡ text

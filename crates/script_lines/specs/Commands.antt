@@ -1,5 +1,5 @@
 -- The lines of an operator, each of which names one event.
-use Rattle.std.specs.Prelude.{ℕ, false, List, [], ◌∷◌, Option, Some, None, option_map, option_and_then, codes, if◌then◌else◌}
+use Rattle.std.specs.Prelude.{ℕ, false, List, [], ◌∷◌, Option, Some, None, option_map, codes, if◌then◌else◌}
 use Rattle.std.specs.Str.{bytes_eq}
 use Rattle.step_core.specs.declared.event.Event.{Event}
 use Rattle.step_core.specs.declared.event.Event.TheVariants.{Expire, Return, Ask, Delete, Commit, Refused, Reload}
@@ -8,34 +8,25 @@ use Rattle.te_base.specs.Values.{Values, checked_values}
 use Rattle.commit_core.specs.declared.ticket.Purpose.TheVariants.{Update, Initiate}
 use Rattle.lsp_base.specs.declared.lsp.Constraints.{Constraints}
 use Rattle.lsp_words.specs.declared.object.MetricType.TheVariants.{Te}
-use Rattle.pcep_word.specs.Address.{address_of}
-use Rattle.pcep_word.specs.Priority.{InForce, in_force}
+use Rattle.pcep_word.specs.Priority.{InForce}
 use Rattle.history_core.specs.declared.fault.Fault.TheVariants.{OutOfMemory, HistoryFull}
 use Rattle.script_lines.specs.declared.fault.CommandFault.{CommandFault}
 use Rattle.script_lines.specs.declared.fault.CommandFault.TheVariants.{BadLine, Store}
-use Rattle.script_lines.specs.Words.{cut_at_space, number_in, peer_in, plsp_in, long_number_in, priority_in, bandwidth_in, name_in, offer_in}
-
-infixl 10 ◌>>=◌
-abbrev pub ◌>>=◌ : {A B : Type 0} → Option A → (A → Option B) → Option B
-o >>= f = option_and_then f o
+use Rattle.asks.specs.Lines.{◌>>=◌, lsp_in, path_in}
+use Rattle.asks.specs.Words.{cut_at_space, long_number_in, number_in, peer_in}
+use Rattle.asks.specs.declared.ask.LspId.{LspId}
+use Rattle.asks.specs.declared.ask.PathWanted.{PathWanted}
+use Rattle.script_lines.specs.Words.{name_in, offer_in}
 
 unfoldable pub expire_event : List ℕ → Option Event
 expire_event line = do
   peer ← peer_in line
   Some (Expire peer)
 
--- `PEER PLSP`
-unfoldable pub lsp_in : List ℕ → Option (ℕ × ℕ)
-lsp_in line = do
-  words ← cut_at_space line
-  peer ← peer_in words.0
-  plsp ← plsp_in words.1
-  Some (peer, plsp)
-
 -- an event of one LSP
-abbrev pub lsp_event : (ℕ → ℕ → Event) → Option (ℕ × ℕ) → Option Event
+abbrev pub lsp_event : (ℕ → ℕ → Event) → Option LspId → Option Event
 lsp_event event None = None
-lsp_event event (Some lsp) = Some (event lsp.0 lsp.1)
+lsp_event event (Some lsp) = Some (event lsp.peer lsp.plsp)
 
 -- `N LINKS`
 unfoldable pub commit_event : List ℕ → Option Event
@@ -44,14 +35,6 @@ commit_event line = do
   ticket ← long_number_in words.0
   offer ← offer_in words.1
   Some (Commit ticket offer)
-
--- `SETUP HOLD`: a holding priority that is worse than the setup priority counts as the setup priority
-unfoldable pub priorities_in : List ℕ → Option InForce
-priorities_in line = do
-  words ← cut_at_space line
-  setup ← priority_in words.0
-  hold ← priority_in words.1
-  Some (in_force setup hold)
 
 -- a path of least TE metric between two addresses; links of all colours may be taken, and nothing else binds it
 abbrev pub plain_constraints : ℕ → ℕ → ℕ → InForce → Constraints
@@ -69,16 +52,11 @@ plain_constraints source destination bandwidth priorities = record {
 }
 
 -- `FROM TO BW SETUP HOLD`
-unfoldable pub constraints_in : List ℕ → Option Constraints
-constraints_in line = do
-  from ← cut_at_space line
-  source ← address_of from.0
-  to ← cut_at_space from.1
-  destination ← address_of to.0
-  flow ← cut_at_space to.1
-  bandwidth ← bandwidth_in flow.0
-  priorities ← priorities_in flow.1
-  Some (plain_constraints source destination bandwidth priorities)
+abbrev pub constraints_of : PathWanted → Constraints
+constraints_of w = plain_constraints w.from w.to w.bandwidth w.priorities
+
+abbrev pub constraints_in : List ℕ → Option Constraints
+constraints_in line = option_map constraints_of (path_in line)
 
 -- `PEER NAME FROM TO BW SETUP HOLD`
 unfoldable pub initiate_event : List ℕ → Option Event

@@ -6,8 +6,10 @@ use Rattle.pcep_messages.specs.declared.fault.MessageFault.{MessageFault}
 use Rattle.pcep_messages.specs.declared.message.Message.{Message}
 use Rattle.pcep_messages.specs.declared.message.Message.TheVariants as messages
 use Rattle.pcep_messages.specs.declared.message.StateReport.{StateReport}
-use Rattle.script_lines.specs.Words.{cut_at_space, peer_in, long_number_in, octets}
-use Rattle.script_lines.specs.Commands.{◌>>=◌, event_with}
+use Rattle.asks.specs.Words.{cut_at_space, long_number_in, peer_in}
+use Rattle.script_lines.specs.Words.{octets}
+use Rattle.asks.specs.Lines.{◌>>=◌}
+use Rattle.script_lines.specs.Commands.{event_with}
 use Rattle.script_lines.specs.declared.orders.Order.{Order}
 use Rattle.script_lines.specs.declared.orders.Order.TheVariants.{Report, Book, History, Open, Up, Bytes, End, Tick, Submit, Take, Roll}
 

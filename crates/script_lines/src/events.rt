@@ -3,15 +3,14 @@
 ghost use Rattle.std.specs.Prelude.{◌≡◌, Some, IfOk, IfErr, IsSome};
 ghost use Rattle.step_core.specs.declared.event.Event.TheVariants.{Return, Ask, Delete};
 ghost use Rattle.commit_core.specs.declared.ticket.Purpose.TheVariants.{Update};
-ghost use Rattle.script_lines.specs.Commands.{expire_event, lsp_in, lsp_event, commit_event, priorities_in, plain_constraints, constraints_in, initiate_event, link_values_in, link_reload_in, reload_event, drop_event, operator_event_with, server_event_with, event_with, operator_event_in, event_in};
+ghost use Rattle.asks.specs.Lines.{lsp_in};
+ghost use Rattle.script_lines.specs.Commands.{expire_event, lsp_event, commit_event, plain_constraints, constraints_in, initiate_event, link_values_in, link_reload_in, reload_event, drop_event, operator_event_with, server_event_with, event_with, operator_event_in, event_in};
 
-use crate::words::{
-    bandwidth_in, cut_at_space, link_in, long_number_in, name_in, number_in, offer_in, peer_in,
-    plsp_in, priority_in,
-};
+use crate::words::{link_in, name_in, offer_in};
+use asks::{LspId, PathWanted, cut_at_space, long_number_in, lsp_in, number_in, path_in, peer_in};
 use history_core::{Event, LinkReload, Purpose};
 use lsp_base::{Constraints, OtherBounds};
-use pcep_objects::{Colours, MetricType, Plsp};
+use pcep_objects::{Colours, MetricType};
 use pcep_word::{Bandwidth, Ipv4, Priorities};
 use sequence::Sequence;
 use std::alloc::{AllocError, Global};
@@ -27,22 +26,11 @@ fn expire_event(line: &str) -> Option<Event>
     Some(Event::Expire { peer })
 }
 
-/// A peer, and a PLSP-ID of its own.
-#[tactic(auto, unfolding(crate::specs::Commands::lsp_in))]
-pub(crate) fn lsp_in(line: &str) -> Option<(u32, Plsp)>
-    ensures { result ≡ lsp_in line.now }
-{
-    let (peer, plsp) = cut_at_space(line)?;
-    let peer = peer_in(peer)?;
-    let plsp = plsp_in(plsp)?;
-    Some((peer, plsp))
-}
-
 fn return_event(line: &str) -> Option<Event>
     ensures { result ≡ lsp_event (λ peer plsp. Return peer plsp) (lsp_in line.now) }
 {
     match lsp_in(line) {
-        Some((peer, plsp)) => Some(Event::Return { peer, plsp }),
+        Some(LspId { peer, plsp }) => Some(Event::Return { peer, plsp }),
         None => None,
     }
 }
@@ -51,7 +39,7 @@ fn update_event(line: &str) -> Option<Event>
     ensures { result ≡ lsp_event (λ peer plsp. Ask peer (Update plsp)) (lsp_in line.now) }
 {
     match lsp_in(line) {
-        Some((peer, plsp)) => Some(Event::Ask {
+        Some(LspId { peer, plsp }) => Some(Event::Ask {
             peer,
             purpose: Purpose::Update { plsp },
         }),
@@ -63,7 +51,7 @@ fn delete_event(line: &str) -> Option<Event>
     ensures { result ≡ lsp_event (λ peer plsp. Delete peer plsp) (lsp_in line.now) }
 {
     match lsp_in(line) {
-        Some((peer, plsp)) => Some(Event::Delete { peer, plsp }),
+        Some(LspId { peer, plsp }) => Some(Event::Delete { peer, plsp }),
         None => None,
     }
 }
@@ -84,16 +72,6 @@ fn commit_event(alloc: Global, line: &str) -> Result<Option<Event>, AllocError>
         Some(offer) => Ok(Some(Event::Commit { ticket, offer })),
         None => Ok(None),
     }
-}
-
-#[tactic(auto, unfolding(crate::specs::Commands::priorities_in))]
-pub(crate) fn priorities_in(line: &str) -> Option<Priorities>
-    ensures { result ≡ priorities_in line.now }
-{
-    let (setup, hold) = cut_at_space(line)?;
-    let setup = priority_in(setup)?;
-    let hold = priority_in(hold)?;
-    Some(Priorities::new(setup, hold))
 }
 
 /// A path of least TE metric; links of all colours may be taken, and nothing else binds it.
@@ -126,19 +104,21 @@ fn plain_constraints(
     }
 }
 
-/// What is asked of the path of an LSP that is to be initiated: two addresses, a bandwidth and two priorities.
-#[tactic(auto, unfolding(crate::specs::Commands::constraints_in))]
+/// Reads what is asked of the path of an LSP that is to be initiated: two addresses, a bandwidth and two priorities.
 fn constraints_in(line: &str) -> Option<Constraints>
     ensures { result ≡ constraints_in line.now }
 {
-    let (source, rest) = cut_at_space(line)?;
-    let source = Ipv4::parse(source)?;
-    let (destination, rest) = cut_at_space(rest)?;
-    let destination = Ipv4::parse(destination)?;
-    let (bandwidth, priorities) = cut_at_space(rest)?;
-    let bandwidth = bandwidth_in(bandwidth)?;
-    let priorities = priorities_in(priorities)?;
-    Some(plain_constraints(source, destination, bandwidth, priorities))
+    match path_in(line) {
+        Some(
+            PathWanted {
+                from,
+                to,
+                bandwidth,
+                priorities,
+            },
+        ) => Some(plain_constraints(from, to, bandwidth, priorities)),
+        None => None,
+    }
 }
 
 /// A peer, a name and what is asked of the path. Memory is asked for only for a line that names all of them.

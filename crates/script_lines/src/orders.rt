@@ -5,7 +5,8 @@ ghost use Rattle.script_lines.specs.Orders.{reports_in, report_order, message_or
 ghost use Rattle.script_lines.specs.declared.orders.Order.TheVariants.{Open, Up, End};
 
 use crate::events::event_with;
-use crate::words::{cut_at_space, long_number_in, octets_in, peer_in};
+use crate::words::octets_in;
+use asks::{cut_at_space, long_number_in, peer_in};
 use history_core::Event;
 use pcep_messages::{Message, MessageFault, StateReport, read_message};
 use sequence::Sequence;

@@ -1,75 +1,18 @@
-//! Words of a line: numbers, peers, bytes, names, bandwidths and paths.
+//! Words of a script's line beside those that `asks` reads: bytes, names and paths.
 
-ghost use Rattle.std.specs.Prelude.{◌≡◌, ◌≤◌, ◌==◌, ℕ, option_map, is_some, slice_index, Some, IfOk, IfErr, IfSome, IfNone, IsSome};
+ghost use Rattle.std.specs.Prelude.{◌≡◌, option_map, is_some, Some, IfOk, IfErr, IsSome};
 ghost use Rattle.std.specs.List.{list_all, filter_map};
 ghost use Rattle.std.specs.Result.{result_ok};
 ghost use Rattle.hex.specs.Hex.{decode_of};
-ghost use Rattle.pcep_word.specs.Word.{IsLeast, IsBandwidth};
-ghost use Rattle.script_lines.specs.Words.{cut_at_space, number_in, plsp_in, long_number_in, priority_in, peer_in, without_spaces, octets, is_printed, name_in, raised, bandwidth_in, parts, is_link, links_in, offer_in};
+ghost use Rattle.asks.specs.Words.{long_number_in};
+ghost use Rattle.script_lines.specs.Words.{without_spaces, octets, is_printed, name_in, parts, is_link, links_in, offer_in};
 
+use asks::long_number_in;
 use hex::FromHexError;
 use history_core::LspName;
-use pcep_objects::Plsp;
-use pcep_word::{Bandwidth, Ipv4, Priority, metric_word};
 use sequence::Sequence;
 use std::alloc::{AllocError, Global};
 use te_base::LinkNumber;
-
-/// What stands before the line's first space, and after it.
-pub(crate) fn cut_at_space(line: &str) -> Option<(&str, &str)>
-    ensures { option_map (λ x. (x.0.now, x.1.now)) result ≡ cut_at_space line.now }
-{
-    line.split_once(' ')
-}
-
-fn has_plus(word: &[u8]) -> bool
-    ensures { result ≡ (slice_index word.now 0 == 43) }
-{
-    match word {
-        [first, ..] => *first == b'+',
-        [] => false,
-    }
-}
-
-/// A decimal number below 2^32, with leading zeros or without.
-pub(crate) fn number_in(word: &str) -> Option<u32>
-    ensures { result ≡ number_in word.now }
-{
-    if has_plus(word.as_bytes()) {
-        return None;
-    }
-    word.parse::<u32>().ok()
-}
-
-/// A PLSP-ID: a decimal number below 2^20, with leading zeros or without.
-pub(crate) fn plsp_in(word: &str) -> Option<Plsp>
-    ensures { result ≡ plsp_in word.now }
-{
-    match number_in(word) {
-        Some(number) if number < 1 << 20 => Some(Plsp::new(number)),
-        _ => None,
-    }
-}
-
-/// A decimal number below 2^64, with leading zeros or without.
-pub(crate) fn long_number_in(word: &str) -> Option<u64>
-    ensures { result ≡ long_number_in word.now }
-{
-    if has_plus(word.as_bytes()) {
-        return None;
-    }
-    word.parse::<u64>().ok()
-}
-
-/// A peer's number, in decimal or as a dotted address.
-pub(crate) fn peer_in(word: &str) -> Option<u32>
-    ensures { result ≡ peer_in word.now }
-{
-    match number_in(word) {
-        Some(number) => Some(number),
-        None => Ipv4::parse(word).map(|address| address.0),
-    }
-}
 
 fn without_spaces(alloc: Global, text: &str) -> Result<Vec<u8>, AllocError>
     ensures { IfOk result (λ digits. digits.items ≡ without_spaces text.now) }
@@ -102,16 +45,6 @@ pub(crate) fn octets_in(alloc: Global, text: &str) -> Result<Option<Vec<u8>>, Al
     decoded(alloc, &without_spaces(alloc, text)?)
 }
 
-/// A priority: a decimal number from 0 to 7, with leading zeros or without.
-pub(crate) fn priority_in(word: &str) -> Option<Priority>
-    ensures { result ≡ priority_in word.now }
-{
-    match number_in(word) {
-        Some(number) if number < 8 => Some(Priority::capped(number as u8)),
-        _ => None,
-    }
-}
-
 fn is_printed(word: &str) -> bool
     ensures { result ≡ list_all is_printed word.now }
 {
@@ -137,28 +70,6 @@ pub(crate) fn name_in(alloc: Global, word: &str) -> Result<Option<LspName>, Allo
     }
     let bytes = copied(alloc, word)?;
     Ok(LspName::new(bytes))
-}
-
-/// The least bandwidth that is not below the number, in bytes per second; None where there is none below 2^48.
-fn raised(number: u64) -> Option<Bandwidth>
-    ensures value { result ≡ raised number }
-    ensures found { IfSome result (λ bandwidth. IsLeast (λ v. (number ≤ v) × IsBandwidth v) bandwidth) }
-    ensures none { IfNone result ((v : ℕ) → number ≤ v → IsBandwidth v → ⊥) }
-{
-    if number >= 1 << 48 {
-        return None;
-    }
-    Bandwidth::of_word(metric_word(number))
-}
-
-/// A bandwidth: a decimal number of bytes per second, raised to the next bandwidth.
-pub(crate) fn bandwidth_in(word: &str) -> Option<Bandwidth>
-    ensures { result ≡ bandwidth_in word.now }
-{
-    match long_number_in(word) {
-        Some(number) => raised(number),
-        None => None,
-    }
 }
 
 /// The number of a link, that is there or not: a decimal number below 2^64.

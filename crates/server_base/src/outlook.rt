@@ -6,8 +6,8 @@ ghost use Rattle.history_seats.specs.Past.{database_at};
 
 use crate::context::Moments;
 use crate::timed_look::TimedLook;
+use database_looks::CountsLook;
 use history_seats::Brands;
-use pce_seen::{Ask, Seen};
 use server_counts::{Counters, Mark, Marks, Presence, Presences, Timed};
 use server_rules::{PathWords, PeerErrors, PendingTable};
 use server_talk::Watch;
@@ -106,7 +106,7 @@ impl<'a, R: Wait + Clock, B: Brands> Outlook<'a, R, B> {
     /// Notes how many steps there are at this moment. Where memory is refused nothing is noted.
     pub fn mark_steps(&self, front: &mut Front<Event, B>) {
         let now_ms = self.moments.now_ms();
-        if let Ok(Seen::Counts(counts)) = self.shared.look(self.rt, front, &Ask::Status) {
+        if let Ok(counts) = self.shared.look(self.rt, front, &CountsLook) {
             let _noted = self.marks.lock(self.rt).note(counts.steps, now_ms);
         }
     }

@@ -1,3 +1,2 @@
 mod Rooms
 mod Showing
-pub mod Tails

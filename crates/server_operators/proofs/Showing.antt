@@ -5,9 +5,9 @@ use Rattle.te_base.specs.Ted.{Ted}
 use Rattle.step_core.specs.declared.event.Event.{Event}
 use Rattle.history_tokens.specs.declared.rule.Happening.{Happening}
 use Rattle.history_tokens.proofs.Beginnings.{prefix_trans}
-use Rattle.pce_seen.specs.declared.ask.Ask.{Ask}
-use Rattle.pce_view.specs.declared.answer.Form.{Form}
-use Rattle.pce_view.specs.declared.answer.Surroundings.{Surroundings}
+use Rattle.asks.specs.declared.ask.Ask.{Ask}
+use Rattle.pce_view.specs.declared.question.Form.{Form}
+use Rattle.pce_view.specs.declared.question.Surroundings.{Surroundings}
 use Rattle.server_operators.specs.Shows.{line_end, AddsPage, IsShown}
 use Rattle.server_operators.specs.Shows.IsShown.{Ends, Goes_on}
 

@@ -5,16 +5,12 @@ use Rattle.te_base.specs.Ted.{Ted}
 use Rattle.step_core.specs.declared.event.Event.{Event}
 use Rattle.history_tokens.specs.declared.rule.Happening.{Happening}
 use Rattle.history_seats.specs.Past.{database_at}
-use Rattle.pce_seen.specs.Asks.{next_ask}
-use Rattle.pce_seen.specs.declared.ask.Ask.{Ask}
-use Rattle.pce_seen.specs.declared.ask.Ask.TheVariants as ask
-use Rattle.pce_seen.specs.declared.seen.Seen.{Seen}
-use Rattle.database_looks.specs.Looks.{Sees}
-use Rattle.pce_view.specs.Answers.{AnswersAs}
-use Rattle.pce_view.specs.declared.answer.Form.{Form}
-use Rattle.pce_view.specs.declared.answer.Form.TheVariants.{Table, Json}
-use Rattle.pce_view.specs.declared.answer.Surroundings.{Surroundings}
-use Rattle.pce_view.specs.declared.heard.Heard.{Heard}
+use Rattle.asks.specs.declared.ask.Ask.{Ask}
+use Rattle.asks.specs.declared.ask.Ask.TheVariants as ask
+use Rattle.pce_view.specs.declared.question.Form.{Form}
+use Rattle.pce_view.specs.declared.question.Form.TheVariants.{Table, Json}
+use Rattle.pce_view.specs.declared.question.Surroundings.{Surroundings}
+use Rattle.server_answers.specs.Pages.{IsPageOf}
 
 abbrev pub form_of : Bool → Form
 form_of true = Json
@@ -22,7 +18,7 @@ form_of false = Table
 
 -- the last 4,096 steps at most
 abbrev pub bounded : Ask → Ask
-bounded (ask.Steps last) = ask.Steps (min last 4096)
+bounded (ask.History last) = ask.History (min last 4096)
 bounded a = a
 
 -- a document of JSON has a line of its own; a table ends with its last line
@@ -30,23 +26,15 @@ abbrev pub line_end : Form → List ℕ
 line_end Json = codes "\n"
 line_end Table = []
 
--- a page: what one look saw of the database to which this past led from the network of the link text, with what routers said
-pub record IsPageOf (text : Ted) (form : Form) (around : Surroundings) (past : List (Happening Event)) (a : Ask) (next : Option Ask) (page : List ℕ) : Type 0 where
-  pub seen : Seen
-  pub heard : Heard
-  pub sees : Sees a (database_at text past) seen
-  pub answers : AnswersAs form around heard a seen page
-  pub next_is : next ≡ next_ask a seen
-
 -- A page more. Its look saw this past, of which the one before had seen a beginning.
 abbrev pub AddsPage : Ted → Form → Surroundings → Ask → Option Ask → List (Happening Event) → List ℕ → List (Happening Event) → List ℕ → Type 0
-AddsPage text form around a next begun old past new = (page : List ℕ) × IsPrefix begun past × IsPageOf text form around past a next page × (new ≡ old ++ (page ++ line_end form))
+AddsPage text form around a next begun old past new = (page : List ℕ) × IsPrefix begun past × IsPageOf form around (database_at text past) a next page × (new ≡ old ++ (page ++ line_end form))
 
 -- What is shown to an ask: a page, and what is shown to the ask for the next one, up to the last. The pages come in the order of
 -- the one history: each look saw all that the looks before it had seen, and that which the first began with. The last saw
 -- `last`.
 pub data IsShown (text : Ted) (form : Form) (around : Surroundings) : List (Happening Event) → Ask → List ℕ → List (Happening Event) → Type 0 where
-  Ends : (begun last : List (Happening Event)) (a : Ask) (page : List ℕ) → IsPrefix begun last → IsPageOf text form around last a None page
+  Ends : (begun last : List (Happening Event)) (a : Ask) (page : List ℕ) → IsPrefix begun last → IsPageOf form around (database_at text last) a None page
       → IsShown text form around begun a (page ++ line_end form) last
-  Goes_on : (begun past last : List (Happening Event)) (a next : Ask) (page rest : List ℕ) → IsPrefix begun past → IsPageOf text form around past a (Some next) page → IsShown text form around past next rest last
+  Goes_on : (begun past last : List (Happening Event)) (a next : Ask) (page rest : List ℕ) → IsPrefix begun past → IsPageOf form around (database_at text past) a (Some next) page → IsShown text form around past next rest last
       → IsShown text form around begun a ((page ++ line_end form) ++ rest) last

@@ -1,26 +1,23 @@
 //! What operators are shown: one look after another at the database, each as a table or as JSON. The operator's own seat is shown
 //! each look, so later looks have seen all that earlier ones had, and all that the operator's lines did.
-ghost use Rattle.std.specs.Prelude.{◌≡◌, ◌++◌, ℕ, List, [], All, IfOk, OnOk};
-ghost use Rattle.history_seats.specs.Past.{database_at};
-ghost use Rattle.pce_seen.specs.Asks.{next_ask};
-ghost use Rattle.pce_view.specs.Answers.{AnswersAs};
-ghost use Rattle.pce_view.specs.declared.heard.Heard.{Heard};
+ghost use Rattle.std.specs.Prelude.{◌≡◌, ◌++◌, [], All, IfOk, OnOk};
 ghost use Rattle.seated_store.specs.Seating.{SeatedMoves};
 ghost use Rattle.shared_pce.specs.Lefts.{WasLeft};
 ghost use Rattle.server_operators.specs.Shows.{bounded, form_of, line_end, AddsPage, IsShown};
 
 use crate::links_look::LinksLook;
 use crate::reload_notes::ReloadNoted;
+use asks::Ask;
 use history_seats::Brands;
-use pce_seen::{Ask, Seen};
-use pce_view::{Form, Heard, Surroundings, answer_text};
+use pce_view::{Form, Surroundings};
 use pced_build::{LOGIC, VERSION};
 use script_lines::ViewLine;
 use seated_store::Seated;
+use server_answers::page_of;
 use server_base::Outlook;
 use server_counts::{LeftRow, Mark, Presence};
 use server_talk::{Show, Watch};
-use shared_pce::{Event, Front, Look};
+use shared_pce::{Event, Front};
 use std::alloc::{AllocError, Global};
 use std::sync::Wait;
 use std::time::Clock;
@@ -41,9 +38,7 @@ fn bounded(ask: Ask) -> Ask
     ensures { result ≡ bounded ask }
 {
     match ask {
-        Ask::Steps { last } => Ask::Steps {
-            last: last.min(MOST_STEPS),
-        },
+        Ask::History(last) => Ask::History(last.min(MOST_STEPS)),
         ask => ask,
     }
 }
@@ -66,80 +61,6 @@ fn add_text(form: Form, page: Vec<u8>, text: &mut Vec<u8>) -> Result<(), AllocEr
     end_line(form, text)
 }
 
-/// Takes over what routers said of the LSPs that were seen, and since when they haven't answered.
-fn hear<R: Wait + Clock, B: Brands>(
-    outlook: &Outlook<'_, R, B>,
-    seen: &Seen,
-    heard: &mut Heard,
-) -> Result<(), AllocError> {
-    heard.hear_words(&outlook.words.lock(outlook.rt), seen)?;
-    heard.hear_errors(&outlook.errors.lock(outlook.rt), seen)?;
-    heard.hear_unanswered(&outlook.pending.lock(outlook.rt), seen)
-}
-
-/// Adds the page of what was seen, with what routers said of it.
-fn add_answer(
-    alloc: Global,
-    form: Form,
-    around: &Surroundings<'_>,
-    heard: &Heard,
-    ask: &Ask,
-    seen: &Seen,
-    text: &mut Vec<u8>,
-) -> Result<(), AllocError>
-    ensures { OnOk result ((page : List ℕ) × AnswersAs form around.now heard.now ask.now seen.now page × (text.new.items ≡ text.old.items ++ (page ++ line_end form))) }
-{
-    let page = answer_text(alloc, form, around, heard, ask, seen)?;
-    add_text(form, page, text)
-}
-
-/// Adds the page of what was seen.
-fn add_seen<R: Wait + Clock, B: Brands>(
-    outlook: &Outlook<'_, R, B>,
-    form: Form,
-    around: &Surroundings<'_>,
-    ask: &Ask,
-    seen: &Seen,
-    text: &mut Vec<u8>,
-) -> Result<(), AllocError>
-    ensures { OnOk result ((heard : Heard) × (page : List ℕ) × AnswersAs form around.now heard ask.now seen.now page × (text.new.items ≡ text.old.items ++ (page ++ line_end form))) }
-{
-    let mut heard = Heard::nothing(outlook.alloc);
-    hear(outlook, seen, &mut heard)?;
-    add_answer(outlook.alloc, form, around, &heard, ask, seen, text)
-}
-
-/// Adds the page of what was seen, and gives what the next look asks for.
-fn add_next<R: Wait + Clock, B: Brands>(
-    outlook: &Outlook<'_, R, B>,
-    form: Form,
-    around: &Surroundings<'_>,
-    ask: &Ask,
-    seen: &Seen,
-    text: &mut Vec<u8>,
-) -> Result<Option<Ask>, AllocError>
-    ensures page { OnOk result ((heard : Heard) × (page : List ℕ) × AnswersAs form around.now heard ask.now seen.now page × (text.new.items ≡ text.old.items ++ (page ++ line_end form))) }
-    ensures next { IfOk result (λ next. next ≡ next_ask ask.now seen.now) }
-{
-    add_seen(outlook, form, around, ask, seen, text)?;
-    Ok(ask.next(seen))
-}
-
-/// Looks at the database, shows the operator's seat what has happened until then, and times for how long that held the lock.
-fn look_from<R: Wait + Clock, B: Brands, L: Look>(
-    outlook: &Outlook<'_, R, B>,
-    store: &mut Seated<'_, R, B>,
-    look: &L,
-) -> Result<L::Seen, AllocError>
-    ensures sees { IfOk result (L.sees look.now (database_at B.text store.new.seat.now.seen)) }
-    ensures same { SeatedMoves B.text store.old.seat store.old.calls.items [] store.new.seat store.new.calls.items }
-{
-    let timed = outlook.timed(look);
-    let seen = store.look(&timed);
-    outlook.count_look(&timed);
-    seen
-}
-
 /// Adds what one look shows, and gives what the next one asks for.
 fn add_page<R: Wait + Clock, B: Brands>(
     outlook: &Outlook<'_, R, B>,
@@ -152,8 +73,10 @@ fn add_page<R: Wait + Clock, B: Brands>(
     ensures page { IfOk result (λ next. AddsPage B.text form around.now ask.now next store.old.seat.now.seen text.old.items store.new.seat.now.seen text.new.items) }
     ensures same { SeatedMoves B.text store.old.seat store.old.calls.items [] store.new.seat store.new.calls.items }
 {
-    let seen = look_from(outlook, store, ask)?;
-    add_next(outlook, form, around, ask, &seen, text)
+    let page = page_of(outlook, store, form, around, ask)?;
+    let next = page.next;
+    add_text(form, page.text, text)?;
+    Ok(next)
 }
 
 /// What is shown from this ask on, up to the last page. Each page is of a look that saw no less than the one before.
@@ -217,7 +140,7 @@ fn marks_for<R: Wait + Clock, B: Brands>(
     ask: &Ask,
 ) -> Result<Vec<Mark>, AllocError> {
     match ask {
-        Ask::Why { .. } => outlook.all_marks(front),
+        Ask::Why(_) => outlook.all_marks(front),
         _ => Ok(Vec::new(outlook.alloc)),
     }
 }
@@ -230,7 +153,7 @@ fn lefts_for<R: Wait + Clock, B: Brands>(
     ensures { IfOk result (λ rows. All WasLeft rows.items) }
 {
     match ask {
-        Ask::Why { .. } => outlook.shared.lefts(outlook.rt),
+        Ask::Why(_) => outlook.shared.lefts(outlook.rt),
         _ => Ok(Vec::new(outlook.alloc)),
     }
 }
@@ -261,7 +184,7 @@ fn notes_for<R: Wait + Clock, B: Brands>(
 impl<'a, 'c, 's, R: Wait + Clock, B: Brands> Show for ReloadNoted<'a, 'c, R, B, Seated<'s, R, B>> {
     ghost use Rattle.std.specs.Prelude.{◌≡◌, All};
     ghost use Rattle.history_seats.specs.Past.{database_at};
-    ghost use Rattle.pce_view.specs.declared.answer.Surroundings.{Surroundings};
+    ghost use Rattle.pce_view.specs.declared.question.Surroundings.{Surroundings};
     ghost use Rattle.server_operators.specs.Shows.{bounded, form_of, IsShown};
     ghost use Rattle.shared_pce.specs.Lefts.{WasLeft};
     ghost use Rattle.te_base.specs.Values.{values_in};

@@ -5,10 +5,13 @@ use Rattle.std.specs.Str.{bytes_eq, is_utf8}
 use Rattle.step_core.specs.declared.event.Event.{Event}
 use Rattle.step_core.specs.declared.event.Event.TheVariants.{Ask, Return, Delete, Refused}
 use Rattle.commit_core.specs.declared.ticket.Purpose.TheVariants.{Update, Initiate}
-use Rattle.script_lines.specs.Commands.{constraints_in, lsp_in, lsp_event, initiate_event, drop_event, operator_event_with, server_event_with, operator_event_in}
+use Rattle.asks.specs.Lines.{lsp_in}
+use Rattle.asks.specs.Words.{cut_at_space, number_in, peer_in}
+use Rattle.asks.specs.declared.ask.LspId.{LspId}
+use Rattle.script_lines.specs.Commands.{constraints_in, lsp_event, initiate_event, drop_event, operator_event_with, server_event_with, operator_event_in}
 use Rattle.script_lines.specs.Views.{view_line_in}
 use Rattle.script_lines.specs.declared.views.ViewLine.{ViewLine}
-use Rattle.script_lines.specs.Words.{cut_at_space, number_in, peer_in, name_in}
+use Rattle.script_lines.specs.Words.{name_in}
 use Rattle.server_talk.specs.declared.requests.Request.{Request}
 use Rattle.server_talk.specs.declared.requests.Request.TheVariants.{Submit}
 use Rattle.server_talk.specs.Listening.{AreKept, Asks as AnswersLines}
@@ -32,9 +35,9 @@ fits_then : {A : Type 0} (o : Option A) (f : A → Option Event) → ((a : A) �
 fits_then None f each = fits_none
 fits_then (Some a) f each = each a
 
-fits_lsp : (of : ℕ → ℕ → Event) (lsp : Option (ℕ × ℕ)) → ((peer plsp : ℕ) → is_operators (of peer plsp) ≡ true) → Fits (lsp_event of lsp)
+fits_lsp : (of : ℕ → ℕ → Event) (lsp : Option LspId) → ((peer plsp : ℕ) → is_operators (of peer plsp) ≡ true) → Fits (lsp_event of lsp)
 fits_lsp of None each = fits_none
-fits_lsp of (Some lsp) each = fits_some (of lsp.0 lsp.1) (each lsp.0 lsp.1)
+fits_lsp of (Some lsp) each = fits_some (of lsp.peer lsp.plsp) (each lsp.peer lsp.plsp)
 
 fits_initiate : (rest : List ℕ) → Fits (initiate_event rest)
 unfolding initiate_event

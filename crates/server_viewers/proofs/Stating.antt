@@ -1,37 +1,16 @@
 -- The states of LSPs, page by page.
-use Rattle.std.proofs.Common.{ℕ, List, ◌++◌, Option, Some, None, append_assoc, refl, subst, sym}
+use Rattle.std.proofs.Common.{ℕ, List, ◌++◌, Option, Some, None, append_assoc, subst, sym}
 use mathlib.Core.List.{IsPrefix}
 use Rattle.te_base.specs.Ted.{Ted}
 use Rattle.step_core.specs.declared.event.Event.{Event}
 use Rattle.history_tokens.specs.declared.rule.Happening.{Happening}
 use Rattle.history_tokens.proofs.Beginnings.{prefix_trans}
-use Rattle.history_seats.specs.Past.{database_at}
-use Rattle.pce_seen.specs.declared.ask.Ask.TheVariants as ask
-use Rattle.pce_seen.specs.declared.seen.Seen.{Seen}
-use Rattle.pce_seen.specs.declared.seen.Seen.TheVariants as seen
-use Rattle.database_looks.specs.Looks.{Sees}
-use Rattle.pce_view.specs.declared.state_metrics.ShownState.{ShownState}
-use Rattle.server_viewers.specs.States.{AddsStates, AreStates, IsStatesOf}
+use Rattle.pce_view.specs.declared.shown_states.ShownState.{ShownState}
+use Rattle.server_viewers.specs.States.{AddsStates, AreStates}
 use Rattle.server_viewers.specs.States.AreStates.{Ends, Goes_on}
 use Rattle.server_viewers.specs.Views.{IsMetrics}
 
 module _ (text : Ted) (begun : List (Happening Event)) where
-  -- what was seen of a page of LSPs
-  pub page_of : (past : List (Happening Event)) (from : ℕ) (next : Option ℕ) (old new : List ShownState) (s : Seen) → IsPrefix begun past → Sees (ask.Lsps None from) (database_at text past) s → IsStatesOf s next old new → AddsStates text from next begun old past new
-  page_of past from next old new (seen.Lsps placed) more sees h = (_, more, record { placed = placed; heard = h.0; sees = sees; states = refl; next_is = h.2 }, h.1)
-  page_of past from next old new (seen.Counts s) more sees h = absurd sees
-  page_of past from next old new (seen.Book s) more sees h = absurd sees
-  page_of past from next old new (seen.Peers s) more sees h = absurd sees
-  page_of past from next old new (seen.Tickets s) more sees h = absurd sees
-  page_of past from next old new (seen.Lsp s) more sees h = absurd sees
-  page_of past from next old new (seen.Link s) more sees h = absurd sees
-  page_of past from next old new (seen.Steps s) more sees h = absurd sees
-  page_of past from next old new (seen.Origins s) more sees h = absurd sees
-  page_of past from next old new (seen.Movable s) more sees h = absurd sees
-  page_of past from next old new (seen.Displaced s) more sees h = absurd sees
-  page_of past from next old new (seen.Network s) more sees h = absurd sees
-  page_of past from next old new (seen.Grants s) more sees h = absurd sees
-
   -- after this past and these states come those of the LSPs from a place on
   abbrev pub Awaits : List (Happening Event) → ℕ → List ShownState → Type 0
   Awaits past from states = (rest : List ShownState) (last : List (Happening Event)) → AreStates text past from rest last → AreStates text begun 0 (states ++ rest) last

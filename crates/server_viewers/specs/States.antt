@@ -6,17 +6,10 @@ use Rattle.step_core.specs.declared.event.Event.{Event}
 use Rattle.history_tokens.specs.declared.rule.Happening.{Happening}
 use Rattle.history_seats.specs.Past.{database_at}
 use Rattle.pce_seen.specs.declared.places.PlacedPage.{PlacedPage}
-use Rattle.pce_seen.specs.declared.seen.Seen.{Seen}
-use Rattle.pce_seen.specs.declared.seen.Seen.TheVariants as seen
-use Rattle.database_looks.specs.Looks.{SeesLsps}
+use Rattle.pce_view.specs.Lsps.{SeesLsps}
 use Rattle.pce_view.specs.States.{shown_states}
 use Rattle.pce_view.specs.declared.heard.Heard.{Heard}
-use Rattle.pce_view.specs.declared.state_metrics.ShownState.{ShownState}
-
--- the states of the LSPs that were seen, with what routers said of them, and where the next page starts
-abbrev pub IsStatesOf : Seen → Option ℕ → List ShownState → List ShownState → Type 0
-IsStatesOf (seen.Lsps placed) next old new = (heard : Heard) × (new ≡ old ++ shown_states heard placed.gaps.items 0 (placed.page).lsps.items) × (next ≡ (placed.page).next)
-IsStatesOf s next old new = next ≡ None
+use Rattle.pce_view.specs.declared.shown_states.ShownState.{ShownState}
 
 -- the states of a page: of what one look saw of the database to which this past led from the network of the link text
 pub record IsPageOf (text : Ted) (past : List (Happening Event)) (from : ℕ) (next : Option ℕ) (page : List ShownState) : Type 0 where

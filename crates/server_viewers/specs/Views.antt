@@ -1,20 +1,20 @@
 -- What viewers are shown.
-use Rattle.std.specs.Prelude.{◌≡◌, ℕ, List}
+use Rattle.std.specs.Prelude.{◌≡◌, ℕ, List, Option}
 use mathlib.Core.List.{IsPrefix}
 use Rattle.te_base.specs.Ted.{Ted}
 use Rattle.step_core.specs.declared.event.Event.{Event}
 use Rattle.history_tokens.specs.declared.rule.Happening.{Happening}
 use Rattle.history_seats.specs.Past.{database_at}
-use Rattle.pce_seen.specs.declared.ask.Ask.{Ask}
+use Rattle.asks.specs.declared.ask.Ask.{Ask}
 use Rattle.pce_seen.specs.declared.seen.Book.{Book}
-use Rattle.pce_seen.specs.declared.seen.Seen.{Seen}
-use Rattle.database_looks.specs.Looks.{counts_in, Sees, SeesBook}
-use Rattle.pce_view.specs.Answers.{IsJsonOf}
-use Rattle.pce_view.specs.Metrics.{metrics}
-use Rattle.pce_view.specs.declared.answer.Surroundings.{Surroundings}
-use Rattle.pce_view.specs.declared.heard.Heard.{Heard}
-use Rattle.pce_view.specs.declared.metrics.Process.{Process}
-use Rattle.pce_view.specs.declared.state_metrics.ShownState.{ShownState}
+use Rattle.database_looks.specs.Looks.{counts_in, SeesBook}
+use Rattle.metrics_text.specs.Exposition.{exposition}
+use Rattle.metrics_text.specs.Table.{families}
+use Rattle.pce_view.specs.declared.question.Form.TheVariants.{Json}
+use Rattle.pce_view.specs.declared.question.Surroundings.{Surroundings}
+use Rattle.metrics_text.specs.declared.table.Process.{Process}
+use Rattle.pce_view.specs.declared.shown_states.ShownState.{ShownState}
+use Rattle.server_answers.specs.Pages.{IsPageOf}
 use Rattle.server_counts.specs.declared.counters.Counters.{Counters}
 use Rattle.server_viewers.specs.States.{AreStates}
 
@@ -22,10 +22,8 @@ use Rattle.server_viewers.specs.States.{AreStates}
 -- routers said
 pub record IsDocument (text : Ted) (past : List (Happening Event)) (a : Ask) (document : List ℕ) : Type 0 where
   pub around : Surroundings
-  pub seen : Seen
-  pub heard : Heard
-  pub sees : Sees a (database_at text past) seen
-  pub reads : IsJsonOf around heard a seen document
+  pub next : Option Ask
+  pub page : IsPageOf Json around (database_at text past) a next document
 
 -- metrics with these states of LSPs: what one look saw of the database to which this past led, and some counts
 pub record IsNumbers (text : Ted) (past : List (Happening Event)) (states : List ShownState) (document : List ℕ) : Type 0 where
@@ -34,7 +32,7 @@ pub record IsNumbers (text : Ted) (past : List (Happening Event)) (states : List
   pub counters : Counters
   pub process : Process
   pub sees : SeesBook (database_at text past) book
-  pub says : document ≡ metrics around (counts_in (database_at text past)) book counters process states
+  pub says : document ≡ exposition (families around (counts_in (database_at text past)) book counters process states)
 
 -- The metrics: the states of all LSPs, and then what one look saw of the database to which this past led. Each look saw all that the
 -- looks before it had seen, and what had been seen when they began.

@@ -1,5 +1,5 @@
 //! What the system says of the process.
-use pce_view::Process;
+use metrics_text::Process;
 use std::fs;
 use std::fs::Files;
 

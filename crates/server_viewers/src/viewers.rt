@@ -3,19 +3,19 @@ ghost use Rattle.std.specs.Prelude.{ℕ, List, IfOk, OnOk};
 ghost use mathlib.Core.List.{IsPrefix};
 ghost use Rattle.http_server.specs.Response.{IsBlank, IsResponse};
 ghost use Rattle.http_views.specs.Answers.{json_kind, metrics_kind, text_fields};
-ghost use Rattle.pce_view.specs.Answers.{IsJsonOf};
-ghost use Rattle.pce_view.specs.declared.heard.Heard.{Heard};
 ghost use Rattle.server_viewers.specs.Views.{IsDocument, IsMetrics, IsNumbers};
 
 use crate::process::process_of;
-use crate::states::{all_states, hear};
+use crate::states::all_states;
+use asks::Ask;
 use database_looks::NumbersLook;
 use history_seats::Brands;
 use http_server::Response;
 use http_views::{PAGE, ViewService, ViewSource, give_document, give_metrics, serve_views};
-use pce_seen::{Ask, Seen};
-use pce_view::{Form, Heard, Process, ShownState, Surroundings, answer_text, metrics_text};
+use metrics_text::{Process, metrics_text};
+use pce_view::{Form, ShownState, Surroundings};
 use pced_build::{LOGIC, VERSION, commit};
+use server_answers::page_of;
 use server_base::{Context, Outlook};
 use server_counts::{Counters, Presence};
 use server_log::LogLine;
@@ -41,20 +41,6 @@ pub struct ViewerListener<'a> {
     pub files: &'a HostRuntime,
 }
 
-/// The document of JSON of what was seen, with what routers said of it.
-fn seen_text<R: Wait + Clock, B: Brands>(
-    outlook: &Outlook<'_, R, B>,
-    around: &Surroundings<'_>,
-    ask: &Ask,
-    seen: &Seen,
-) -> Result<Vec<u8>, AllocError>
-    ensures { IfOk result (λ text. (heard : Heard) × IsJsonOf around.now heard ask.now seen.now text.items) }
-{
-    let mut heard = Heard::nothing(outlook.alloc);
-    hear(outlook, seen, &mut heard)?;
-    answer_text(outlook.alloc, Form::Json, around, &heard, ask, seen)
-}
-
 /// The document of JSON of what one look sees.
 fn document_text<R: Wait + Clock, B: Brands>(
     outlook: &Outlook<'_, R, B>,
@@ -65,8 +51,7 @@ fn document_text<R: Wait + Clock, B: Brands>(
     ensures begins { IsPrefix front.old front.new }
     ensures text { IfOk result (λ text. IsDocument B.text front.new ask.now text.items) }
 {
-    let seen = outlook.look(front, ask)?;
-    seen_text(outlook, around, ask, &seen)
+    Ok(page_of(outlook, front, Form::Json, around, ask)?.text)
 }
 
 /// The same. If memory is refused, it is tried once more after the history was rolled for that.
@@ -101,10 +86,11 @@ fn counted_text<R: Wait + Clock, B: Brands>(
     ensures text { IfOk result (λ text. IsNumbers B.text front.new states.now text.items) }
 {
     let seen = outlook.look(front, &NumbersLook)?;
+    let counts = seen.0;
     metrics_text(
         outlook.alloc,
         around,
-        &seen.0,
+        &counts,
         &seen.1,
         counters,
         process,

@@ -1,5 +1,6 @@
 //! A network with the LSPs over it, and the book of what their paths reserve.
 ghost use Rattle.std.specs.Prelude.{◌≡◌, ◌↔◌, ◌<◌, ◌≤◌, ◌+◌, ◌^◌, ◌++◌, ◌∷◌, [], Some, None, false, List, length, find, OnOk, OnErr, IsNone, IfOk, IfErr, IfSome, option_copied};
+ghost use Rattle.std.specs.Arc.{arc_value};
 ghost use Rattle.std.specs.List.{list_any};
 ghost use Rattle.lsp_base.specs.Lsps.{HasAll, no_lsps, changed, with_stale, without};
 ghost use Rattle.lsp_base.specs.Rooms.{IsWithinLimit, HasRoom};
@@ -12,6 +13,7 @@ ghost use Rattle.step_core.specs.Grants.{granting, own_of, snapshot_of, with_nam
 ghost use Rattle.step_core.specs.Names.{is_of_grant};
 ghost use Rattle.step_core.specs.Networks.{carried_out};
 ghost use Rattle.step_core.specs.States.{is_awaited_as};
+ghost use Rattle.te_snapshot.specs.Network.{network_of as network_in};
 ghost use Rattle.te_snapshot.specs.Own.{own_shares};
 
 use crate::name_table::NameTable;
@@ -224,6 +226,14 @@ impl Network {
         ensures same { self.new ≡ self.old }
     {
         self.book.snapshot()
+    }
+
+    /// Returns the network with the current links: that of the last snapshot, or a new one if a link has other values
+    /// since.
+    pub fn topology_now(&self) -> Result<Arc<Topology, Global>, AllocError>
+        ensures { IfOk result (λ topology. arc_value topology ≡ network_in self.now.te) }
+    {
+        self.book.topology_now()
     }
 
     /// Lists what the tunnel of the ticket's LSP reserves already, link by link.

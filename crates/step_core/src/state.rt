@@ -1,5 +1,6 @@
 //! The whole state, queries of it, and one step of it.
 ghost use Rattle.std.specs.Prelude.{ℕ, Ok, true, ◌≡◌, ◌&&◌, ◌<◌, ◌≤◌, ◌^◌, ◌↔◌, length, find, IfOk, OnOk, OnErr, IsNone, IfSome, option_copied};
+ghost use Rattle.std.specs.Arc.{arc_value};
 ghost use Rattle.std.specs.List.{list_all};
 ghost use Rattle.lsp_base.specs.Shares.{unreserved};
 ghost use Rattle.step_core.specs.States.{empty, is_up, is_queued, has_waiting};
@@ -9,6 +10,7 @@ ghost use Rattle.step_core.specs.Steps.{step};
 ghost use Rattle.step_core.specs.Laws.{peer_of, OthersStay, CountsRise};
 ghost use Rattle.step_core.specs.Sound.{IsSoundGrant};
 ghost use Rattle.step_core.specs.Names.{is_of_grant};
+ghost use Rattle.te_snapshot.specs.Network.{network_of};
 ghost use Rattle.te_snapshot.specs.Own.{own_shares};
 ghost use Rattle.ticket_table.specs.Tickets.{is_update_asked};
 
@@ -25,8 +27,9 @@ use pcep_word::Priority;
 use sequence::Sequence;
 use std::alloc::{AllocError, Global};
 use std::marker::Model;
+use std::sync::Arc;
 use te_base::{LinkNumber, TeBase};
-use te_snapshot::OwnShares;
+use te_snapshot::{OwnShares, Topology};
 use ticket_table::TicketTable;
 
 mod asks;
@@ -193,6 +196,12 @@ impl Tables {
         self.network.shares_of(tunnel)
     }
 
+    fn topology_now(&self) -> Result<Arc<Topology, Global>, AllocError>
+        ensures { IfOk result (λ topology. arc_value topology ≡ network_of self.now.te) }
+    {
+        self.network.topology_now()
+    }
+
     fn peers(&self) -> &[Peer]
         ensures { result.now ≡ self.now.peers }
     {
@@ -332,6 +341,14 @@ impl State {
         ensures { IfOk result (λ own. own ≡ own_shares self.now.base.paths tunnel.now (length self.now.te.links)) }
     {
         self.tables.shares_of(tunnel)
+    }
+
+    /// Returns the network with the current links: that of the last snapshot, or a new one if a link has other values
+    /// since.
+    pub fn topology_now(&self) -> Result<Arc<Topology, Global>, AllocError>
+        ensures { IfOk result (λ topology. arc_value topology ≡ network_of self.now.te) }
+    {
+        self.tables.topology_now()
     }
 
     /// Lends the peers in the order in which they came, with their sessions and what waits to be sent to each.

@@ -1,6 +1,6 @@
 use Rattle.std.proofs.Common.{◌++◌, ◌∙◌, ap}
 use Rattle.json.specs.Tree.{json_tokens}
-use Rattle.pce_view.specs.Views.{better_page_json}
+use Rattle.pce_view.specs.Better.{better_page_json}
 use Rattle.pce_view.proofs.Depths.{better_shallow}
 use Rattle.pce_view.proofs.better.better_page_text.Goals as goal
 

@@ -1,5 +1,5 @@
 use Rattle.json.specs.Json.{array}
-use Rattle.pce_view.specs.Views.{better_items}
+use Rattle.pce_view.specs.Better.{better_items}
 use Rattle.pce_view.proofs.Objects.{ends_object}
 use Rattle.pce_view.proofs.better.put_better_page.Goals as goal
 

@@ -1,7 +1,7 @@
 use Rattle.std.proofs.Common.{◌≡◌, ℕ, List, Option, ◌++◌, subst}
 use Rattle.json.specs.Json.{array}
 use Rattle.json.specs.Tree.{json_tokens}
-use Rattle.pce_view.specs.Views.{deletion_items, grant_items}
+use Rattle.pce_view.specs.Grants.{deletion_items, grant_items}
 use Rattle.pce_view.proofs.Objects.{ends_with_two}
 use Rattle.pce_view.proofs.grants.put_lists.Goals as goal
 

@@ -1,5 +1,5 @@
 use Rattle.json.specs.Json.{array}
-use Rattle.pce_view.specs.Views.{held_items, use_json}
+use Rattle.pce_view.specs.Link.{held_items, use_json}
 use Rattle.pce_view.proofs.Objects.{ends_object}
 use Rattle.pce_view.proofs.link.put_use.Goals as goal
 

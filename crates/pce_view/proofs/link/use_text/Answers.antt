@@ -1,6 +1,6 @@
 use Rattle.std.proofs.Common.{◌++◌, ◌∙◌, ap}
 use Rattle.json.specs.Tree.{json_tokens}
-use Rattle.pce_view.specs.Views.{use_json}
+use Rattle.pce_view.specs.Link.{use_json}
 use Rattle.pce_view.proofs.Depths.{use_shallow}
 use Rattle.pce_view.proofs.link.use_text.Goals as goal
 

@@ -1,5 +1,5 @@
 use Rattle.json.specs.Json.{array}
-use Rattle.pce_view.specs.Views.{noted_lsp_json, path_items}
+use Rattle.pce_view.specs.Lsps.{noted_lsp_json, path_items}
 use Rattle.pce_view.proofs.Objects.{ends_object}
 use Rattle.pce_view.proofs.lsps.put_noted_lsp.Goals as goal
 

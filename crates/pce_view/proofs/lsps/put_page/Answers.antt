@@ -1,5 +1,5 @@
 use Rattle.json.specs.Json.{array}
-use Rattle.pce_view.specs.Views.{lsp_items}
+use Rattle.pce_view.specs.Lsps.{lsp_items}
 use Rattle.pce_view.proofs.Objects.{ends_object}
 use Rattle.pce_view.proofs.lsps.put_page.Goals as goal
 

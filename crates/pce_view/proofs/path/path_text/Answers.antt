@@ -1,6 +1,6 @@
 use Rattle.std.proofs.Common.{◌++◌, ◌∙◌, ap}
 use Rattle.json.specs.Tree.{json_tokens}
-use Rattle.pce_view.specs.Views.{path_answer_json}
+use Rattle.pce_view.specs.Path.{path_answer_json}
 use Rattle.pce_view.proofs.Depths.{path_answer_shallow}
 use Rattle.pce_view.proofs.path.path_text.Goals as goal
 

@@ -1,5 +1,5 @@
 use Rattle.json.specs.Json.{array}
-use Rattle.pce_view.specs.Views.{full_items}
+use Rattle.pce_view.specs.Path.{full_items}
 use Rattle.pce_view.proofs.Objects.{ends_object}
 use Rattle.pce_view.proofs.path.put_answer.Goals as goal
 

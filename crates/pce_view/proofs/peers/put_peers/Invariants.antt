@@ -1,7 +1,7 @@
 use Rattle.std.proofs.Common.{◌≡◌, ◌++◌, drop}
 use Rattle.json.specs.Tree.{json_tokens, items_tokens}
 use Rattle.json.specs.Json.{array}
-use Rattle.pce_view.specs.Views.{peer_items}
+use Rattle.pce_view.specs.Peers.{peer_items}
 use Rattle.pce_view.proofs.peers.put_peers.Given as goal
 
 -- the tokens so far and those of what is left make the whole

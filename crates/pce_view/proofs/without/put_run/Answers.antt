@@ -1,5 +1,5 @@
 use Rattle.json.specs.Json.{array}
-use Rattle.pce_view.specs.Views.{move_items}
+use Rattle.pce_view.specs.Without.{move_items}
 use Rattle.pce_view.proofs.Objects.{ends_object}
 use Rattle.pce_view.proofs.without.put_run.Goals as goal
 

@@ -1,6 +1,6 @@
 use Rattle.std.proofs.Common.{◌++◌, ◌∙◌, ap}
 use Rattle.json.specs.Tree.{json_tokens}
-use Rattle.pce_view.specs.Views.{run_json}
+use Rattle.pce_view.specs.Without.{run_json}
 use Rattle.pce_view.proofs.Depths.{run_shallow}
 use Rattle.pce_view.proofs.without.run_text.Goals as goal
 

@@ -3,7 +3,7 @@ use Rattle.std.proofs.lemmas.Iterator.{items_from_collect}
 use Rattle.std.proofs.lemmas.Iterator.Consumers.{YieldsList-from_filter_map}
 use Rattle.std.proofs.lemmas.Iterator.Splits.{YieldsList-from_str_split}
 use Rattle.std.specs.Str.Iter.{split_text, split_has_more, split_pattern}
-use Rattle.script_lines.specs.Words.{long_number_in}
+use Rattle.asks.specs.Words.{long_number_in}
 use Rattle.script_lines.proofs.words.links_of.Goals as goal
 
 pub returns : goal.returns

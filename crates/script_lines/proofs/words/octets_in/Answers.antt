@@ -2,7 +2,8 @@ use Rattle.std.proofs.Common.{◌≡◌, List, ℕ, false, option_map, IfOk, sym
 use Rattle.std.specs.List.{list_any}
 use Rattle.std.specs.Result.{result_ok}
 use Rattle.hex.specs.Hex.{decode_of}
-use Rattle.script_lines.specs.Words.{is_space, without_spaces}
+use Rattle.asks.specs.Words.{is_space}
+use Rattle.script_lines.specs.Words.{without_spaces}
 use Rattle.script_lines.proofs.Spaces.{stays}
 use Rattle.script_lines.proofs.words.octets_in.Goals as goal
 

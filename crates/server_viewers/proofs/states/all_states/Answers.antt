@@ -1,6 +1,6 @@
 use Rattle.std.proofs.Common.{ℕ, List, ◌++◌, Option, refl, subst, sym}
 use Rattle.history_tokens.proofs.Beginnings.{prefix_same, prefix_trans}
-use Rattle.pce_view.specs.declared.state_metrics.ShownState.{ShownState}
+use Rattle.pce_view.specs.declared.shown_states.ShownState.{ShownState}
 use Rattle.server_viewers.specs.States.{AddsStates, AreStates}
 use Rattle.server_viewers.proofs.Stating.{states_last, states_more}
 use Rattle.server_viewers.proofs.states.all_states.Goals as goal

@@ -2,7 +2,8 @@
 use Rattle.std.proofs.Common.{◌≡◌, subst}
 use Rattle.std.proofs.lemmas.Result.{IfOk-weaker}
 use Rattle.pce_seen.specs.declared.seen.Counts.{Counts}
-use Rattle.pce_view.specs.Metrics.{metrics}
+use Rattle.metrics_text.specs.Exposition.{exposition}
+use Rattle.metrics_text.specs.Table.{families}
 use Rattle.server_viewers.proofs.viewers.counted_text.Goals as goal
 
 pub returns-clause-text : goal.returns-clause-text
@@ -13,6 +14,6 @@ returns-clause-text g c = IfOk-weaker c.metrics_text.result _ _
       counters = c.args.counters.now;
       process = c.args.process;
       sees = c.in_ok-seen.ensures.sees.1;
-      says = subst (λ (n : Counts). text.items ≡ metrics c.args.around.now n c.in_ok-seen.seen.1 c.args.counters.now c.args.process c.args.states.now) c.in_ok-seen.ensures.sees.0 says;
+      says = subst (λ (n : Counts). text.items ≡ exposition (families c.args.around.now n c.in_ok-seen.seen.1 c.args.counters.now c.args.process c.args.states.now)) c.in_ok-seen.ensures.sees.0 says;
     })
     c.metrics_text.ensures

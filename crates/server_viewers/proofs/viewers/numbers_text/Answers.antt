@@ -1,7 +1,7 @@
 -- numbers_text
 use Rattle.std.proofs.Common.{List, subst}
 use Rattle.std.proofs.lemmas.Result.{IfOk-weaker}
-use Rattle.pce_view.specs.declared.state_metrics.ShownState.{ShownState}
+use Rattle.pce_view.specs.declared.shown_states.ShownState.{ShownState}
 use Rattle.server_viewers.specs.Views.{IsNumbers}
 use Rattle.server_viewers.proofs.viewers.numbers_text.Goals as goal
 

@@ -1,6 +1,0 @@
-use Rattle.std.proofs.Common.{◌≡◌, map, take}
-use Rattle.database_looks.specs.Looks.{known_peer}
-use Rattle.database_looks.proofs.peers.known_peers.Given as goal
-
-abbrev pub invariant-loop-peer : goal.invariant-loop-peer
-invariant-loop-peer l = l.seen.items ≡ map known_peer (take l.peer-index l.peers)

@@ -1,6 +1,0 @@
-use Rattle.std.proofs.Common.{◌≡◌, map, take}
-use Rattle.database_looks.specs.Looks.{owner_of_lsp}
-use Rattle.database_looks.proofs.peers.owners_of_lsps.Given as goal
-
-abbrev pub invariant-loop-known : goal.invariant-loop-known
-invariant-loop-known l = l.seen.items ≡ map owner_of_lsp (take l.known-index l.records)

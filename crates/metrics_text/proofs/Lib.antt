@@ -1,0 +1,5 @@
+mod Digits
+mod Labels
+mod Lines
+mod Named
+mod Reading

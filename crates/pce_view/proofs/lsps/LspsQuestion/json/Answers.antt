@@ -1,0 +1,13 @@
+use Rattle.std.proofs.Common.{◌++◌, ◌∙◌, ap}
+use Rattle.json.specs.Tree.{json_tokens}
+use Rattle.pce_view.specs.Lsps.{page_json}
+use Rattle.pce_view.proofs.Depths.{page_shallow}
+use Rattle.pce_view.proofs.lsps.LspsQuestion.json.Goals as goal
+
+pub returns : goal.returns
+returns c =
+    let whole = page_json (c.args.self.now.0).from c.args.heard.now c.args.seen.now in
+    c.closed.ensures whole
+    (c.in_ok-put_page.ensures.before ∙ c.new-writer.ensures.before ∙ c.new.ensures.items)
+    (c.in_ok-put_page.ensures.written ∙ ap (λ front. front ++ json_tokens whole) c.new-writer.ensures.tokens)
+    (page_shallow (c.args.self.now.0).from c.args.heard.now c.args.seen.now)

@@ -1,5 +1,0 @@
-use Rattle.pce_view.specs.Moves.Listed.{Begins}
-use Rattle.pce_view.proofs.moves.each_better.Goals as goal
-
-pub loop-place-init : goal.loop-place-init
-loop-place-init c = rw c.new-found.ensures.items Begins

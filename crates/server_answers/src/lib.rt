@@ -1,0 +1,16 @@
+//! What operators and viewers are shown to a question: what one look saw of the database, with what routers said of it, as a
+//! table or as JSON. `page` is the one place that knows all questions (`specs/Pages.antt` says what each is shown), and
+//! `observer` has those who are shown it: a front, or an operator's seat.
+//!
+//! ```text
+//! fn status_text(outlook: &Outlook<'_, R, B>, front: &mut Front<Event, B>, around: &Surroundings<'_>) -> Result<Vec<u8>, AllocError> {
+//!     Ok(page_of(outlook, front, Form::Json, around, &Ask::Status)?.text)
+//! }
+//! ```
+#![tactic(auto)]
+
+mod observer;
+mod page;
+
+pub use observer::Observer;
+pub use page::{Page, hear, page_of};
