@@ -68,7 +68,7 @@ none_between l (x ∷ xs) ys a b =
     let apart = numbers_apart x.link l (λ same. absurd (omega (arith, below, same))) in
     rw apart (none_between l xs ys a.1 b)
 
--- the last of the first part is below, and the last of the second, which stands the other way round, is above
+-- the last of the first part is below, and the last of the second part, which is reversed, is above
 pub record IsBetween (l : ℕ) (xs ys : List LinkEntry) : Type 0 where
   pub place : place_on l (joined_with xs ys) ≡ length xs
   pub none : entry_on l (joined_with xs ys) ≡ None

@@ -6,7 +6,7 @@ use Rattle.bandwidth_book.specs.Holdings.{Holdings}
 use Rattle.bandwidth_book.proofs.Rising.{number_self, numbers_apart}
 use Rattle.bandwidth_book.proofs.Written.{no_length}
 
--- ---- the elements that pass a test, where no call changes the test or an element
+-- ---- the elements that pass a test, if no call changes the test or an element
 
 pub filtered : {X F : Type 0} (R : F → X → Bool → F → X → Type 0) (test : X → Bool) (f : F)
     → ((x : X) (b : Bool) (f' : F) (y : X) → R f x b f' y → (b ≡ test x) × (f' ≡ f) × (y ≡ x))

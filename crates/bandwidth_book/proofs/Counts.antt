@@ -62,7 +62,7 @@ most-le-bound (x ∷ hs) p m f =
       | inr high ↦ rw high (omega (arith, ih))
     ]
 
--- lists that hold each as often have the same greatest bandwidth
+-- lists that hold each reservation equally often have the same greatest bandwidth
 pub most_same : (a b : List Reservation) (p : ℕ) → ((h : Reservation) → times h a ≡ times h b) → most a p ≡ most b p
 most_same a b p same =
     let below : most a p ≤ most b p = most-le-bound a p (most b p) (λ h n low. held-le-most h b p (let e = same h in omega (arith, e, n)) low) in

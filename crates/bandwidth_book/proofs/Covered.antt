@@ -1,4 +1,4 @@
--- One that is below another of its priority.
+-- A reservation that another of its priority covers.
 use Rattle.std.proofs.Common.{◌≡◌, ◌≤◌, ◌<◌, ◌+◌, ◌-◌, ℕ, zero, suc, nat_le, true, false, List, [], ◌∷◌, length, get_or, refl, sym, subst, arith, inl, inr}
 use Rattle.std.proofs.lemmas.Bool.{cases_Bool}
 use Rattle.std.proofs.lemmas.Bool.Decides.{nat_tests}
@@ -24,7 +24,7 @@ end_is_after h d (x ∷ hs) n =
 more_after : (h x : Reservation) → is_before h x ≡ true → h.hold ≡ x.hold → h.bandwidth ≤ x.bandwidth
 more_after h x b e = grind (arith, nat_tests)
 
--- of two lists the second holds x, and all of the first but h
+-- the second list holds x, and all of the first list but h
 covered : (h x : Reservation) (hs bs : List Reservation) → h.hold ≡ x.hold → h.bandwidth ≤ x.bandwidth → 0 < times x bs → ((k : Reservation) → 0 < times k hs → same_held k h ≡ false → 0 < times k bs) → (p : ℕ) → most hs p ≤ most bs p
 covered h x hs bs hold less some all p =
     most-le-bound hs p (most bs p) (λ k n low.
@@ -55,7 +55,7 @@ moved_below Drop h x hs p some before hold =
     let down = covered h x hs (without_one h hs) hold less (omega (arith, some, stays)) (λ k n other. let t = times_without_one k h hs in (let u : times k (without_one h hs) ≡ times k hs - 0 = rw other at t in omega (arith, n, u))) p in
     omega (arith, up, down)
 
--- one that stands where those begin that come after it
+-- the reservation at the place where those begin that come after h
 pub below_next : (motion : Motion) (h x : Reservation) (hs : List Reservation) (n p : ℕ) → n ≡ end_in h hs → n < length hs → x ≡ get_or hs n x → x.hold ≡ h.hold → most (moved_one motion h hs) p ≡ most hs p
 below_next motion h x hs n p end less is hold =
     let some : 0 < times x hs = subst (λ (r : Reservation). 0 < times r hs) (sym is) (times_at hs n x less) in

@@ -1,4 +1,4 @@
--- A sum over one list of distinct keys is the sum over another where both have each key that counts.
+-- The sums over two lists of distinct keys are equal if both lists have each key that counts.
 use Rattle.std.proofs.Common.{◌≡◌, ℕ, ◌+◌, Bool, true, false, List, [], ◌∷◌, refl, sym, ◌∙◌, arith, inl, inr, if◌then◌else◌}
 use Rattle.std.proofs.lemmas.Bool.{cases_Bool}
 use Rattle.std.specs.List.{list_any, AllByRecursion, IsDistinct}

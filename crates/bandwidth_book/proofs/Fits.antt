@@ -77,7 +77,7 @@ missing_before paths g t n =
     tunnels_have t paths
     ∙ left_false (list_any (is_of_tunnel t) paths) (is_of_tunnel t g) (sym (any_append (is_of_tunnel t) paths g) ∙ (sym (tunnels_have t (paths ++ g ∷ [])) ∙ n))
 
--- what is reserved with one more path is more by what its tunnel's share rises
+-- one more path raises what is reserved by what its tunnel's share rises
 pub reserved_with : (paths : List Path) (g : Path) (l p : ℕ)
     → reserved (paths ++ g ∷ []) l p ≡ reserved paths l p + (share (paths ++ g ∷ []) g.tunnel l p - share paths g.tunnel l p)
 reserved_with paths g l p =
@@ -105,7 +105,7 @@ not_less b s =
 more_by : (b s : ℕ) → max s b - s ≡ b - s
 more_by b s = omega arith
 
--- one more path fits at a priority where its tunnel's share doesn't rise, or what it rises by is left
+-- one more path fits at a priority exactly if its tunnel's share doesn't rise, or if what it rises by is left
 pub fits_at_is : (links : List Link) (paths : List Path) (g : Path) (l p b s sum : ℕ) → b ≡ g.bandwidth → s ≡ share paths g.tunnel l p → sum ≡ reserved paths l p
     → nat_le g.hold p ≡ true → has_link l g ≡ true
     → (nat_le b s || int_le (pos 0) (pos (reservable links l) -ℤ pos (sum + (b - s)))) ≡ fits_at links paths g l p
@@ -121,14 +121,14 @@ is_true : (b : Bool) → T b → b ≡ true
 is_true true t = refl
 is_true false t = absurd t
 
--- what is left beside a path that shares nothing is left beside one that shares
+-- if enough is left for a path that shares nothing, enough is left for one that shares
 left_beside_share : (able sum b s : ℕ) → int_le (pos 0) (pos able -ℤ pos (sum + (b - 0))) ≡ true → int_le (pos 0) (pos able -ℤ pos (sum + (b - s))) ≡ true
 left_beside_share able sum b s h =
     let given : pos 0 ≤ℤ (pos able -ℤ pos (sum + (b - 0))) = record { le = subst T (sym h) tt } in
     let wanted : pos 0 ≤ℤ (pos able -ℤ pos (sum + (b - s))) = omega (arith, ints, given) in
     is_true (int_le (pos 0) (pos able -ℤ pos (sum + (b - s)))) wanted.le
 
--- a bandwidth that is borne where nothing is shared is borne whatever is
+-- a bandwidth that fits if nothing is shared fits whatever is shared
 pub borne_beside_share : (able sum b s : ℕ) → (nat_le b 0 || int_le (pos 0) (pos able -ℤ pos (sum + (b - 0)))) ≡ true → (nat_le b s || int_le (pos 0) (pos able -ℤ pos (sum + (b - s)))) ≡ true
 borne_beside_share able sum b s h =
     elim (or_cases (nat_le b 0) (int_le (pos 0) (pos able -ℤ pos (sum + (b - 0)))) h) [
@@ -169,7 +169,7 @@ all_done test (x ∷ xs) (suc i) n = all_done test xs i (omega (arith, n))
 pub lt_true : (m n : ℕ) → m < n → nat_lt m n ≡ true
 lt_true m n h = grind (arith, nat_tests)
 
--- on each link of a network little may be reserved
+-- on each link of a network, what may be reserved is small
 pub reservable_small : (nodes : ℕ) (links : List Link) → All (IsLinkAmong nodes) links → (l : ℕ) → reservable links l < 2 ^ 48
 reservable_small nodes [] a l = omega arith
 reservable_small nodes (x ∷ xs) a zero = (All-head (IsLinkAmong nodes) x xs a).reservable_small

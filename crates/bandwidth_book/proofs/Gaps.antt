@@ -32,7 +32,7 @@ get_behind gap n xs i d more h =
 
 -- ---- one that goes
 
--- the list's part before a place, and the part behind it, of one with a gap behind the place
+-- in a list with a gap after the place: the part before the place, and the part after it
 taken_before : (p gap n : ℕ) (xs : List Reservation) → p < gap → gap + n ≤ length xs → remove (around gap n xs) p ≡ take p xs ++ (take (gap - (p + 1)) (drop (p + 1) xs) ++ drop (gap + n) xs)
 taken_before p gap n xs less h =
     let back = drop (gap + n) xs in
@@ -46,7 +46,7 @@ taken_before p gap n xs less h =
     ∙ ap (λ ys. ys ++ back) (ap (λ k. drop (suc p) (take k xs)) whole ∙ drop-take (suc p) m xs ∙ ap (λ k. take m (drop k xs)) next) in
     ap (λ ys. ys ++ drop (suc p) (take gap xs ++ back)) first ∙ ap (λ ys. take p xs ++ ys) last
 
--- those between it and the gap move behind the gap
+-- those between it and the gap move to after the gap
 pub moved_up : (p gap n : ℕ) (xs : List Reservation) → p < gap → gap + n ≤ length xs → around p (n + 1) (copy_within xs (p + 1) gap (p + 1 + n)) ≡ remove (around gap n xs) p
 moved_up p gap n xs less h =
     let m = gap - (p + 1) in
@@ -67,7 +67,7 @@ take_over [] ys m k e = let same : k ≡ m = omega (arith, e) in ap (λ n. take 
 take_over (x ∷ xs) ys m zero e = absurd (omega (arith, e))
 take_over (x ∷ xs) ys m (suc k) e = ap (λ zs. x ∷ zs) (take_over xs ys m k (omega (arith, e)))
 
--- those between the gap and it move before the gap
+-- those between the gap and it move to before the gap
 pub moved_down : (p gap n : ℕ) (xs : List Reservation) → gap ≤ p → p + n < length xs → around p (n + 1) (copy_within xs (gap + n) (p + n) gap) ≡ remove (around gap n xs) p
 moved_down p gap n xs more h =
     let m = p + n - (gap + n) in
@@ -109,7 +109,7 @@ closed gap n xs h =
 
 -- ---- parts in order
 
--- all of two lists, and of each
+-- what holds of all of two joined lists holds of all of each
 first_all : (P : Reservation → Type 0) (xs ys : List Reservation) → AllByRecursion P (xs ++ ys) → AllByRecursion P xs
 first_all P [] ys a = tt
 first_all P (x ∷ xs) ys a = (a.0, first_all P xs ys a.1)
@@ -122,7 +122,7 @@ pub order_behind : (xs ys : List Reservation) → AreInOrder (xs ++ ys) → AreI
 order_behind [] ys o = o
 order_behind (x ∷ xs) ys o = order_behind xs ys o.1
 
--- where those end that don't come after it, if that is in the first part, and if it isn't
+-- the end is that of the first part if it is inside it, else that of the second part
 pub end_before : (h : Reservation) (xs ys : List Reservation) → end_in h xs < length xs → end_in h (xs ++ ys) ≡ end_in h xs
 end_before h [] ys less = absurd (omega (arith, less))
 end_before h (x ∷ xs) ys less =

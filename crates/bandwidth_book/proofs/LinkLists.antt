@@ -26,7 +26,7 @@ got [] i d y h = absurd (cc)
 got (x ∷ xs) zero d y h = cc
 got (x ∷ xs) (suc i) d y h = got xs i d y h
 
--- the one that is got at a link's place is the one there
+-- the entry that is got at a link's place is the one there
 pub is_got : (m : ℕ) (x : LinkEntry) (xs : List LinkEntry) (i : ℕ) → IsAt m xs i → x ≡ get_or xs i x → slice_get xs i ≡ Some x
 is_got m x xs i at e = let same : x ≡ at.0 = e ∙ got xs i x at.0 at.1 in at.1 ∙ ap (λ (y : LinkEntry). Some y) (sym same)
 
@@ -41,11 +41,11 @@ entry_got m x xs i r at e = subst (λ (l : ℕ). entry_on l xs ≡ Some x.entry)
 nothing : LinkEntry
 nothing = record { link = 0; entry = record { held = []; promised = 0 } }
 
--- where the one in its place is of another link, the link has no entry
+-- if the entry in its place is of another link, the link has no entry
 pub none_at_place : (l : ℕ) (d : LinkEntry) (xs : List LinkEntry) (n : ℕ) → n ≡ place_on l xs → AreRising xs → ((get_or xs n d).link ≡ l → ⊥) → entry_on l xs ≡ None
 none_at_place l d xs n e r f = none_in_place l d xs r (λ h. numbers_apart (get_or xs (place_on l xs) d).link l (λ s. f (ap (λ (k : ℕ). (get_or xs k d).link) e ∙ s)))
 
--- where its place is at the end, too
+-- nor has it one if its place is at the end
 pub none_at_end : (l : ℕ) (xs : List LinkEntry) (n : ℕ) → n ≡ place_on l xs → AreRising xs → length xs ≤ n → entry_on l xs ≡ None
 none_at_end l xs n e r h = none_in_place l nothing xs r (λ less. absurd (omega (arith, e, h, less)))
 
@@ -62,7 +62,7 @@ set_entry R x e xs i r at there others l =
       | inr other ↦ rw (written, other) (others (entry_on l xs))
     ]
 
--- the same where the place is known to be a link's
+-- the same if the place is known to be a link's
 pub set_entry_of : (R : Bool → Option Holdings → Option Holdings → Type 0) (m : ℕ) (x : LinkEntry) (e : Holdings) (xs : List LinkEntry) (i : ℕ) → AreRising xs → IsAt m xs i → x ≡ get_or xs i x → R true (Some x.entry) (Some e) → ((o : Option Holdings) → R false o o) → (l : ℕ) → R (m == l) (entry_on l xs) (entry_on l (slice_set xs i (record { link = x.link; entry = e })))
 set_entry_of R m x e xs i r at got there others l =
     subst (λ (k : ℕ). R (k == l) (entry_on l xs) (entry_on l (slice_set xs i (record { link = x.link; entry = e })))) (link_got m x xs i at got)
@@ -119,7 +119,7 @@ sum_set sums m row l p h = set_related (λ b o u. b ≡ true → sum_in u p ≡ 
 sum_other : (sums : List (List ℕ)) (m : ℕ) (row : List ℕ) (l p : ℕ) → m < length sums → (m == l) ≡ false → sum_at (slice_set sums m row) l p ≡ sum_at sums l p
 sum_other sums m row l p h = set_related (λ b o u. b ≡ false → sum_in u p ≡ sum_in o p) sums m [] row h (λ t. absurd (true≢false t)) (λ o t. refl) l
 
--- what moves one row as one link moves, and leaves the other links, moves each row as its link moves
+-- if one link's row moves as the link does, and the other links stay, each row moves as its link does
 pub moved_row : (sums : List (List ℕ)) (m : ℕ) (row : List ℕ) (p : ℕ) (f g : ℕ → ℕ) → m < length sums → slice_index row p + f m ≡ slice_index (get_or sums m []) p + g m → ((l : ℕ) → (m == l) ≡ false → g l ≡ f l) → (l : ℕ) → sum_at (slice_set sums m row) l p + f l ≡ sum_at sums l p + g l
 moved_row sums m row p f g h moved others l =
     elim (cases_Bool (m == l)) [
@@ -143,7 +143,7 @@ pub next_moved : (m : Motion) (held : Reservation) (l : ℕ) (xs : List ℕ) (i 
     → IsShifted m (if get_or xs i 0 == l then held ∷ [] else []) o u → IsShifted m (held_by_links held l (drop (i + 1) xs)) u v → IsShifted m (held_by_links held l (drop i xs)) o v
 next_moved m held l xs i o u v h one rest = subst (λ (hs : List Reservation). IsShifted m hs o v) (sym (next_held held l xs i h)) (shifted_both m _ _ o u v one rest)
 
--- one link's promise is refused, and so none is made for the rest
+-- if one link's promise is refused, none is made for the rest
 pub last_moved : (m : Motion) (held : Reservation) (l : ℕ) (xs : List ℕ) (i : ℕ) (o u : Option Holdings) → i < length xs → takes_memory m ≡ true
     → IsShifted m (if get_or xs i 0 == l then held ∷ [] else []) o u → IsShifted m (held_by_links held l (drop i xs)) o u
 last_moved m held l xs i o u h t one = subst (λ (hs : List Reservation). IsShifted m hs o u) (sym (next_held held l xs i h)) (shifted_part m _ (held_by_links held l (drop (i + 1) xs)) o u t one)
@@ -155,7 +155,7 @@ elsewhere m link l held o other = rw other (unshifted m o)
 pub kept_elsewhere : (m : Motion) (link l : ℕ) (held : Reservation) (o u : Option Holdings) → (link == l) ≡ false → IsShifted m (if link == l then held ∷ [] else []) o u → held_in u ≡ held_in o
 kept_elsewhere m link l held o u other x = rw other at x.kept
 
--- one that is added or dropped leaves the greatest below a bound that it is below itself
+-- adding or dropping one that is below a bound keeps the greatest below the bound
 pub small_moved : (m : Motion) (b : Bool) (h : Reservation) (hs us : List Reservation) (p : ℕ) → us ≡ moved_all m hs (if b then h ∷ [] else []) → h.bandwidth < 2 ^ 48 → most hs p < 2 ^ 48 → most us p < 2 ^ 48
 small_moved m true h hs us p e one old = let all = most_moved m h hs p in rw e (omega (arith, one, old, all))
 small_moved m false h hs us p e one old = rw e old

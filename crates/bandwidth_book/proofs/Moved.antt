@@ -41,14 +41,14 @@ held_stays Add h hs e = absurd (true≢false e)
 held_stays Drop h hs e = absurd (true≢false e)
 held_stays Withdraw h hs e = refl
 
--- one of them rises no higher than the one that is moved
+-- the greatest rises no higher than the one that is moved
 pub most_moved : (m : Motion) (h : Reservation) (hs : List Reservation) (p : ℕ) → most (moved_one m h hs) p ≤ max h.bandwidth (most hs p)
 most_moved Promise h hs p = omega arith
 most_moved Add h hs p = let m = most_with_one h hs p in let b = at_most (nat_le h.hold p) h.bandwidth in omega (arith, m, b)
 most_moved Drop h hs p = let m = most-without_one h hs p in omega (arith, m)
 most_moved Withdraw h hs p = omega arith
 
--- so a path's part leaves the greatest below a bound that it is below itself
+-- so a path's part keeps the greatest below a bound if its own bandwidth is below it
 pub small_by_path : (m : Motion) (own : Tunnel) (h : Reservation) (l : ℕ) (t : Tunnel) (links : List ℕ) (hs us : List Reservation) (p : ℕ) → us ≡ moved_all m hs (held_by_path own h l t links)
     → h.bandwidth < 2 ^ 48 → most hs p < 2 ^ 48 → most us p < 2 ^ 48
 small_by_path m own h l t [] hs us p e small old = rw e old
@@ -124,7 +124,7 @@ moved_both m a b o u v x y = record {
       omega (arith, below, first, both, long));
 }
 
--- a promise that is refused on the way is none for the rest
+-- if a promise is refused on the way, nothing is promised for the rest
 pub moved_part : (m : Motion) (a b : List Reservation) (o u : Option Holdings) → takes_memory m ≡ true → IsMoved m a o u → IsMoved m (a ++ b) o u
 moved_part Promise a b o u e x = record {
   kept = x.kept ∙ promised Promise refl (held_in o) a ∙ sym (promised Promise refl (held_in o) (a ++ b));
@@ -135,7 +135,7 @@ moved_part Add a b o u e x = absurd (true≢false (sym e))
 moved_part Drop a b o u e x = absurd (true≢false (sym e))
 moved_part Withdraw a b o u e x = absurd (true≢false (sym e))
 
--- a promise that is refused leaves all
+-- a promise that is refused changes nothing
 pub refused : (m : Motion) (hs : List Reservation) (o : Option Holdings) → takes_memory m ≡ true → IsMoved m hs o o
 refused m hs o t = moved_part m [] hs o o t (unmoved m o)
 
@@ -157,7 +157,7 @@ shifted_both m a b o u v x y = record {
       omega (arith, below, first, both, long));
 }
 
--- a promise that is refused on the way is none for the rest
+-- if a promise is refused on the way, nothing is promised for the rest
 pub shifted_part : (m : Motion) (a b : List Reservation) (o u : Option Holdings) → takes_memory m ≡ true → IsShifted m a o u → IsShifted m (a ++ b) o u
 shifted_part Promise a b o u e x = record {
   kept = x.kept ∙ promised Promise refl (held_in o) a ∙ sym (promised Promise refl (held_in o) (a ++ b));
@@ -167,17 +167,17 @@ shifted_part Add a b o u e x = absurd (true≢false (sym e))
 shifted_part Drop a b o u e x = absurd (true≢false (sym e))
 shifted_part Withdraw a b o u e x = absurd (true≢false (sym e))
 
--- a promise that is refused leaves all
+-- a promise that is refused changes nothing
 pub not_shifted : (m : Motion) (hs : List Reservation) (o : Option Holdings) → takes_memory m ≡ true → IsShifted m hs o o
 not_shifted m hs o t = shifted m hs o o (refused m hs o t)
 
--- nor does one that is refused once entries were made for it
+-- nor does a promise that is refused after entries were made for it
 pub same_shifted : (m : Motion) (hs : List Reservation) (o u : Option Holdings) → takes_memory m ≡ true → IsSame o u → IsShifted m hs o u
 same_shifted m hs o u t same =
     let none = not_shifted m hs o t in
     record { kept = same.kept ∙ none.kept; below = (let below = none.below in let as_many = same.promised in omega (arith, below, as_many)) }
 
--- an entry that stays, one that comes, and none
+-- an entry that stays, an entry that comes, and no entry
 pub stays : (m : Motion) (h : Reservation) (e new : Holdings) → new.held ≡ moved_one m h e.held → new.promised ≤ promised_after m 1 e.promised → IsShifted m (h ∷ []) (Some e) (Some new)
 stays m h e new held below = record { kept = held; below = below }
 
@@ -187,7 +187,7 @@ comes Add h e t held promised = absurd (true≢false (sym t))
 comes Drop h e t held promised = absurd (true≢false (sym t))
 comes Withdraw h e t held promised = absurd (true≢false (sym t))
 
--- for one that comes room is promised
+-- for an entry that comes, room is promised
 pub comes_busy : (m : Motion) (e : Holdings) → takes_memory m ≡ true → e.promised ≡ promised_after m 1 0 → IsBusy (Some e)
 comes_busy Promise e t promised = λ there nothing. omega (arith, promised)
 comes_busy Add e t promised = absurd (true≢false (sym t))

@@ -11,11 +11,11 @@ use Rattle.bandwidth_book.specs.Reservation.{AreInOrder, end_in, is_before, plac
 pub not_same_before : (x h : Reservation) → is_before x h ≡ true → same_held h x ≡ false
 not_same_before x h b = grind (arith, nat_tests)
 
--- what is not before x, but before h, shows that x is before h
+-- if y isn't before x but is before h, then x is before h
 before_through : (x y h : Reservation) → is_before y x ≡ false → is_before y h ≡ true → is_before x h ≡ true
 before_through x y h a b = grind (arith, nat_tests)
 
--- one of two that differ is before the other
+-- of two that differ, one is before the other
 before_other : (x h : Reservation) → is_before x h ≡ false → same_held h x ≡ false → is_before h x ≡ true
 before_other x h a b = grind (arith, nat_tests)
 
@@ -43,7 +43,7 @@ later_before x h d [] k a n b = absurd (omega (arith, n))
 later_before x h d (y ∷ hs) zero a n b = before_through x y h a.0 b
 later_before x h d (y ∷ hs) (suc k) a n b = later_before x h d hs k a.1 (omega (arith, n)) b
 
--- one that is before h stands before its place
+-- a reservation that is before h stands before its place
 pub before_place : (h d : Reservation) (hs : List Reservation) (k : ℕ) → AreInOrder hs → k < length hs → is_before (get_or hs k d) h ≡ true → k < place_in h hs
 before_place h d [] k o n b = absurd (omega (arith, n))
 before_place h d (x ∷ hs) zero o n b = rw b (omega arith)
@@ -52,7 +52,7 @@ before_place h d (x ∷ hs) (suc k) o n b =
     let ih = before_place h d hs k o.1 (omega (arith, n)) b in
     rw first (omega (arith, ih))
 
--- one that isn't stands after it
+-- a reservation that isn't before h stands at its place or after it
 pub after_place : (h d : Reservation) (hs : List Reservation) (k : ℕ) → k < length hs → is_before (get_or hs k d) h ≡ false → place_in h hs ≤ k
 after_place h d [] k n b = absurd (omega (arith, n))
 after_place h d (x ∷ hs) zero n b = rw b (omega arith)
@@ -72,7 +72,7 @@ end_within h (x ∷ hs) =
       | inr other ↦ (let ih = end_within h hs in rw other (omega (arith, ih)))
     ]
 
--- one that comes after h stands at its end or later
+-- a reservation that comes after h stands at its end or later
 pub before_end : (h d : Reservation) (hs : List Reservation) (k : ℕ) → k < length hs → is_before h (get_or hs k d) ≡ true → end_in h hs ≤ k
 before_end h d [] k n b = absurd (omega (arith, n))
 before_end h d (x ∷ hs) zero n b = rw b (omega arith)
@@ -87,7 +87,7 @@ later_after x h d [] k a n b = absurd (omega (arith, n))
 later_after x h d (y ∷ hs) zero a n b = not_before_trans y h x b a.0
 later_after x h d (y ∷ hs) (suc k) a n b = later_after x h d hs k a.1 (omega (arith, n)) b
 
--- one that doesn't stands before its end
+-- a reservation that doesn't come after h stands before its end
 pub after_end : (h d : Reservation) (hs : List Reservation) (k : ℕ) → AreInOrder hs → k < length hs → is_before h (get_or hs k d) ≡ false → k < end_in h hs
 after_end h d [] k o n b = absurd (omega (arith, n))
 after_end h d (x ∷ hs) zero o n b = rw b (omega arith)
@@ -96,7 +96,7 @@ after_end h d (x ∷ hs) (suc k) o n b =
     let ih = after_end h d hs k o.1 (omega (arith, n)) b in
     rw first (omega (arith, ih))
 
--- two of which none is before the other are one
+-- two reservations of which neither is before the other are equal
 neither_before : (x y : Reservation) → is_before x y ≡ false → is_before y x ≡ false → x ≡ y
 neither_before x y a b =
     let hold : x.hold ≡ y.hold = grind (arith, nat_tests) in
@@ -111,12 +111,12 @@ same_is h x s =
 
 -- ---- one more
 
--- before one that none of them is before
+-- one more, before a list of which none is before it
 first_of_all : (h : Reservation) (hs : List Reservation) → AllByRecursion (λ y. is_before y h ≡ false) hs → with_one h hs ≡ h ∷ hs
 first_of_all h [] a = refl
 first_of_all h (x ∷ hs) a = let other = a.0 in rw other refl
 
--- after those that are the same it stands as before them
+-- it makes no difference whether it is put before or after those that are the same
 pub insert_at_end : (h : Reservation) (hs : List Reservation) → AreInOrder hs → insert hs (end_in h hs) h ≡ with_one h hs
 insert_at_end h [] o = refl
 insert_at_end h (x ∷ hs) o =
@@ -187,7 +187,7 @@ same_here h x a b = grind (arith, nat_tests)
 not_same_later : (h x : Reservation) → is_before h x ≡ true → same_held h x ≡ false
 not_same_later h x a = grind (arith, nat_tests)
 
--- behind one that is the same, what stands before the end is the same too
+-- after one that is the same as h, what stands before the end is the same too
 same_next : (x y h : Reservation) → is_before y x ≡ false → is_before h y ≡ false → same_held h x ≡ true → same_held h y ≡ true
 same_next x y h a b s = same_here h y b (subst (λ (z : Reservation). is_before y z ≡ false) (sym (same_is h x s)) a)
 
@@ -199,7 +199,7 @@ last_is_same x h d (y ∷ hs) a o s =
       | inr other ↦ rw other (last_is_same y h d hs o.0 o.1 (same_next x y h a.0 other s))
     ]
 
--- so it makes no difference which of them goes
+-- so it makes no difference which of the same ones goes
 without_next : (x h : Reservation) (hs : List Reservation) → AllByRecursion (λ y. is_before y x ≡ false) hs → same_held h x ≡ true → 0 < end_in h hs → x ∷ without_one h hs ≡ hs
 without_next x h [] a s n = absurd (omega (arith, n))
 without_next x h (y ∷ hs) a s n =
@@ -228,7 +228,7 @@ remove_before_end h d (x ∷ hs) (suc n) e o s =
           ])
     ]
 
--- where the one before the end is another, or there is none, none is the same
+-- if the one before the end is another, or there is none, then none is the same
 pub none_before_end : (h d : Reservation) (hs : List Reservation) (n : ℕ) → n ≡ end_in h hs → AreInOrder hs → ((k : ℕ) → n ≡ suc k → same_held h (get_or hs k d) ≡ false) → hs ≡ without_one h hs
 none_before_end h d [] n e o f = refl
 none_before_end h d (x ∷ hs) n e o f =

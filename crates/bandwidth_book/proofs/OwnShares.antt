@@ -71,7 +71,7 @@ none_found f p links l gone a (suc n) =
           ])
     ]
 
--- at a worse priority no less is held
+-- a worse priority holds no less
 most_more : (hs : List Reservation) (p q : ℕ) → p ≤ q → most hs p ≤ most hs q
 most_more [] p q h = omega arith
 most_more (x ∷ hs) p q h =
@@ -100,7 +100,7 @@ own_share_is paths t count l p less small =
           ap (λ o. share_in o p) e ∙ omega (arith, last, none, m, s, s7))
     ]
 
--- what holds nothing on a link reserves nothing there
+-- a tunnel that holds nothing on a link reserves nothing there
 pub nothing_there : (paths : List Path) (t : Tunnel) (l : ℕ) (hs : List Reservation) → hs ≡ [] → ((h : Reservation) → times h hs ≡ times h (held_by l t paths)) → is_something (own_share_on paths t l) ≡ false
 nothing_there paths t l hs none same =
     let last : slice_index (own_share_on paths t l).shares 7 ≡ share paths t l 7 = get_or-map-range_with_len (share paths t l) 0 8 7 7 0 (omega arith) (omega arith) in
@@ -121,7 +121,7 @@ list_parts p f (y ∷ ys) x =
       | inr fails ↦ rw fails rest
     ]
 
--- one of the links more
+-- one more of the links
 pub among_next : (paths : List Path) (t : Tunnel) (n : ℕ) (links : List ℕ) (i : ℕ) → i < length links
     → own_among paths t n (take i links) ++ own_among paths t n (slice_index links i ∷ []) ≡ own_among paths t n (take (i + 1) links)
 among_next paths t n links i h =
@@ -144,7 +144,7 @@ module _ (f : ℕ → OwnShare) (p q : OwnShare → Bool) where
   above_next x a [] h all = tt
   above_next x a (y ∷ ys) h all = (let less = all.0 in omega (arith, less, h), above_next x a ys h all.1)
 
-  -- of the numbers from one on only those that rise in the list pass
+  -- of a range of numbers, only those in the rising list pass
   only_listed : (links : List ℕ) (a n : ℕ) → AreRising links → AllByRecursion (λ l. a ≤ l) links → ((l : ℕ) → l < a + n → q (f l) ≡ p (f l)) → ((l : ℕ) → a + n ≤ l → q (f l) ≡ false)
       → ((l : ℕ) → a ≤ l → l < a + n → has_link l links ≡ false → p (f l) ≡ false) → filter q (map f links) ≡ filter p (map f (range_with_len a n))
   only_listed links a zero rising above agree beyond unlisted = none_kept links a above (λ l h. beyond l (omega (arith, h)))
@@ -185,7 +185,7 @@ link_at [] i y h = absurd (cc)
 link_at (x ∷ xs) zero y h = (omega arith, (let e : x ≡ y = cc in ap (λ (z : LinkEntry). z.link) e))
 link_at (x ∷ xs) (suc i) y h = let ih = link_at xs i y h in (let less = ih.0 in omega (arith, less), ih.1)
 
--- the link of one of the entries more
+-- one more link of the entries
 pub among_next_entry : (paths : List Path) (t : Tunnel) (n : ℕ) (xs : List LinkEntry) (i : ℕ) (y : LinkEntry) → slice_get xs i ≡ Some y
     → own_among paths t n (take i (entries.links_with xs)) ++ own_among paths t n (y.link ∷ []) ≡ own_among paths t n (take (i + 1) (entries.links_with xs))
 among_next_entry paths t n xs i y h =

@@ -3,7 +3,7 @@ use Rattle.std.proofs.Common.{◌≡◌, ◌<◌, ℕ, zero, suc, ◌==◌, Bool
 use Rattle.std.proofs.lemmas.Bool.{eqb-true}
 use Rattle.std.proofs.lemmas.Bool.Decides.{nat_tests}
 
--- what relates the old and the new element, and each element to itself, relates the lists at each place
+-- if R relates the old to the new element and each element to itself, it relates the lists at each place
 related : {A : Type 0} (R : Bool → Option A → Option A → Type 0) (xs : List A) (n : ℕ) (d new : A) → n < length xs → R true (Some (get_or xs n d)) (Some new) → ((o : Option A) → R false o o) → (l : ℕ) (b : Bool) → (b ≡ true → n ≡ l) → (b ≡ false → n ≡ l → ⊥) → R b (slice_get xs l) (slice_get (slice_set xs n new) l)
 related R [] n d new h there others l b same other = absurd (omega arith)
 related R (x ∷ xs) zero d new h there others zero true same other = there
@@ -20,19 +20,19 @@ not_same a b f e = grind (arith, nat_tests)
 pub set_related : {A : Type 0} (R : Bool → Option A → Option A → Type 0) (xs : List A) (n : ℕ) (d new : A) → n < length xs → R true (Some (get_or xs n d)) (Some new) → ((o : Option A) → R false o o) → (l : ℕ) → R (n == l) (slice_get xs l) (slice_get (slice_set xs n new) l)
 set_related R xs n d new h there others l = related R xs n d new h there others l (n == l) (eqb-true n l) (not_same n l)
 
--- what holds past the end, and of the new element, holds after a push
+-- if P holds of the new element, of each old one and past the end, it holds at each place after a push
 pub pushed : {A : Type 0} (P : Option A → Type 0) (xs : List A) (x : A) → P (Some x) → P None → ((n : ℕ) → P (slice_get xs n)) → (n : ℕ) → P (slice_get (xs ++ x ∷ []) n)
 pushed P [] x here past f zero = here
 pushed P [] x here past f (suc n) = past
 pushed P (y ∷ xs) x here past f zero = f 0
 pushed P (y ∷ xs) x here past f (suc n) = pushed P xs x here past (λ m. f (suc m)) n
 
--- what follows from what holds on success holds on success
+-- if P holds on success and Q follows from it, Q holds on success
 pub on_ok : {T F : Type 0} (r : Result T F) (P Q : Type 0) → OnOk r P → (P → Q) → OnOk r Q
 on_ok (Ok x) P Q h f = f h
 on_ok (Err e) P Q h f = h
 
--- the element at a place that is there
+-- the element at a place that exists
 pub at_index : {A : Type 0} (xs : List A) (n : ℕ) (d : A) → n < length xs → get_or xs n d ≡ d → slice_get xs n ≡ Some d
 at_index [] n d h e = absurd (omega (arith, h))
 at_index (x ∷ xs) zero d h e = ap Some e

@@ -20,7 +20,7 @@ split m n =
       | inr e ↦ inr (let l : n ≤ m = grind (arith, nat_tests) in l)
     ]
 
--- what the next path holds, and then the rest
+-- what the next path holds, followed by what the rest holds
 pub next_path : (l : ℕ) (t : Tunnel) (xs : List Path) (i : ℕ) (x : Path) → i < length xs → x ≡ get_or xs i x → held_by l t (drop i xs) ≡ held_by_path x.tunnel (held_of x) l t x.links ++ held_by l t (drop (i + 1) xs)
 next_path l t xs i x less is =
     let cons = drop-cons xs i x less in
@@ -39,7 +39,7 @@ pub path_refused : (m : Motion) (l : ℕ) (t : Tunnel) (xs : List Path) (i : ℕ
     → IsMoved m (held_by_path x.tunnel (held_of x) l t x.links) o u → IsMoved m (held_by l t (drop i xs)) o u
 path_refused m l t xs i x o u less is promise one = subst (λ hs. IsMoved m hs o u) (sym (next_path l t xs i x less is)) (moved_part m _ (held_by l t (drop (i + 1) xs)) o u promise one)
 
--- no room is left where no more was promised than is given up
+-- no room is left if no more was promised than is given up
 pub given_up : (n p : ℕ) → p ≤ n → promised_after Withdraw n p ≤ 0
 given_up zero p h = h
 given_up (suc n) p h = omega arith

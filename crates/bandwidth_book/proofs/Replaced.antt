@@ -1,4 +1,4 @@
--- The entries of one tunnel are others, and the tunnel goes where they are none.
+-- The entries of one tunnel are replaced; the tunnel goes if the new ones are none.
 use Rattle.std.proofs.Common.{◌≡◌, ◌≤◌, ◌+◌, ℕ, length, zero, suc, Bool, true, false, cond, List, [], ◌∷◌, Option, Some, None, refl, sym, ap, subst, ◌∙◌, arith, slice_get, sum_by}
 use Rattle.std.specs.List.{swap_remove}
 use Rattle.std.specs.Map.{lookup, keys_of, values_of}
@@ -31,7 +31,7 @@ total_swap_remove f es i p at =
     let after = total-is f (swap_remove es i p) in
     omega (arith, here, sums, before, after)
 
--- ---- a tunnel with the entries xs has ys, or goes where ys are none
+-- ---- a tunnel with the entries xs has ys instead, or goes if ys is empty
 
 pub record IsReplaced (es new : List (Tunnel × List LinkEntry)) (t : Tunnel) (xs ys : List LinkEntry) (last : Option (List LinkEntry)) : Type 0 where
   found : lookup (tunnel_eq t) es ≡ Some xs
@@ -41,7 +41,7 @@ pub record IsReplaced (es new : List (Tunnel × List LinkEntry)) (t : Tunnel) (x
   pub few : length new ≤ length es
 
 module _ {es new : List (Tunnel × List LinkEntry)} {t : Tunnel} {xs ys : List LinkEntry} {last : Option (List LinkEntry)} (r : IsReplaced es new t xs ys last) where
-  -- what relates both lists, and each to itself, relates those of each tunnel
+  -- if R relates xs to ys and each list to itself, it relates the entries of each tunnel
   pub replaced : (R : Bool → List LinkEntry → List LinkEntry → Type 0) → R true xs ys → ((v : List LinkEntry) → R false v v) → (k : Tunnel) → R (tunnel_eq t k) (entries_in (lookup (tunnel_eq k) es)) (entries_in (lookup (tunnel_eq k) new))
   replaced R there others k =
       written tunnel_laws (λ b o u. R b (entries_in o) (entries_in u)) es new t (Some xs) last r.found r.updates (subst (R true xs) (sym r.is) there) (λ v. others (entries_in v)) k
@@ -53,7 +53,7 @@ module _ {es new : List (Tunnel × List LinkEntry)} {t : Tunnel} {xs ys : List L
       by true e = none e
       by false e = full q e
 
-  -- they go where they are none
+  -- the tunnel goes if ys is empty
   pub removed : (fs : List (Tunnel × List LinkEntry)) (i : ℕ) → ys ≡ [] → slice_get new i ≡ Some (t, ys) → fs ≡ swap_remove new i (t, ys)
       → ((q : Tunnel) → lookup (tunnel_eq q) fs ≡ cond (tunnel_eq t q) None (lookup (tunnel_eq q) new)) → length fs ≤ length new → IsReplaced es fs t xs ys None
   removed fs i none at is updates fewer = record {

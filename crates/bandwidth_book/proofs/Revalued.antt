@@ -1,4 +1,4 @@
--- What is left of the links where one of them has other values.
+-- What is left of the links when one of them gets other values.
 use Rattle.std.proofs.Common.{◌≡◌, ◌<◌, ◌-ℤ◌, pos, ℕ, zero, suc, List, [], ◌∷◌, length, Option, option_map, refl, ap, arith}
 use Rattle.std.specs.Prelude.{unwrap_or}
 use Rattle.std.proofs.lemmas.Int.{ints}

@@ -81,7 +81,7 @@ none_below_zero : (xs : List LinkEntry) → AllByRecursion (λ (y : LinkEntry). 
 none_below_zero [] = tt
 none_below_zero (x ∷ xs) = (omega arith, none_below_zero xs)
 
--- before it are lower links alone
+-- only lower links stand before it
 pub place_most : (l : ℕ) (xs : List LinkEntry) → AreRising xs → place_on l xs ≤ l
 place_most l xs r = (let most = all_from_zero l xs r 0 (none_below_zero xs) in omega (arith, most))
 
@@ -94,12 +94,12 @@ first_to_last d x (y ∷ ys) (suc n) e r =
     let next = r.0.0 in
     omega (arith, ih, next)
 
--- the last is of no lower link than there are others
+-- the last entry's link is no lower than the number of the other entries
 pub last_least : (d : LinkEntry) (xs : List LinkEntry) (n : ℕ) → length xs ≡ suc n → AreRising xs → n ≤ (get_or xs n d).link
 last_least d [] n e r = absurd (omega (arith, e))
 last_least d (x ∷ xs) n e r = let all = first_to_last d x xs n (omega (arith, e)) r in omega (arith, all)
 
--- before it are all lower links but those that are missing
+-- all lower links but the missing ones stand before it
 pub place_least : (l : ℕ) (d : LinkEntry) (xs : List LinkEntry) (n : ℕ) → length xs ≡ suc n → AreRising xs → place_on l xs < suc n → l + n ≤ place_on l xs + (get_or xs n d).link
 place_least l d [] n e r less = absurd (omega (arith, e))
 place_least l d (x ∷ xs) zero e r less =
@@ -129,7 +129,7 @@ pub all_above : (a x : ℕ) (xs : List LinkEntry) → a < x → AllByRecursion (
 all_above a x [] h all = tt
 all_above a x (y ∷ ys) h all = (let less = all.0 in omega (arith, less, h), all_above a x ys h all.1)
 
--- where the one in its place is of another link, or there is none, the link has no entry
+-- if the entry in its place is of another link, or there is none, the link has no entry
 pub none_in_place : (l : ℕ) (d : LinkEntry) (xs : List LinkEntry) → AreRising xs → (place_on l xs < length xs → ((get_or xs (place_on l xs) d).link == l) ≡ false) → entry_on l xs ≡ None
 none_in_place l d [] r f = refl
 none_in_place l d (x ∷ xs) r f =

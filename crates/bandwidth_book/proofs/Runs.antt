@@ -61,7 +61,7 @@ nothing_below x p (y ∷ hs) n a =
     let ih = nothing_below x p hs n a.1 in
     rw (not_below y p above) (omega (arith, ih))
 
--- the first bandwidth counts below the priority or at it
+-- the bandwidth of the first counts either below the priority or at it
 at_or_below : (x : Reservation) (p : ℕ) → x.hold ≤ p → ((nat_lt x.hold p ≡ true) × (nat_le x.hold p ≡ true)) ⊎ ((x.hold ≡ p) × (nat_lt x.hold p ≡ false) × (nat_le x.hold p ≡ true))
 at_or_below x p b =
     let low : nat_le x.hold p ≡ true = grind (arith, nat_tests) in

@@ -44,7 +44,7 @@ length_without_one h (x ∷ hs) =
       | inr other ↦ (let ih = length_without_one h hs in rw other (omega (arith, ih)))
     ]
 
--- a value that counts as nothing leaves the total
+-- inserting a value that counts as nothing leaves the total
 pub total_insert : {K V : Type 0} (f : Option V → ℕ) (eq : K → K → Bool) (es : List (K × V)) (k : K) (v : V) → f (Some v) ≡ 0 → lookup (eq k) es ≡ None → total f (insert_entry eq es k v) ≡ total f es
 total_insert f eq [] k v nothing none = omega (arith, nothing)
 total_insert f eq (e ∷ es) k v nothing none =
@@ -53,7 +53,7 @@ total_insert f eq (e ∷ es) k v nothing none =
       | inr other ↦ (let there : lookup (eq k) es ≡ None = rw other at none in let ih = total_insert f eq es k v nothing there in rw other (omega (arith, ih)))
     ]
 
--- a value that is written leaves the number of entries
+-- writing a value leaves the number of entries
 pub length_set_value : {K X : Type 0} (test : K → Bool) (es : List (K × X)) (new : X) → length (set_value test es new) ≡ length es
 length_set_value test [] new = refl
 length_set_value test (e ∷ es) new =
@@ -62,7 +62,7 @@ length_set_value test (e ∷ es) new =
       | inr other ↦ (let ih = length_set_value test es new in rw other (omega (arith, ih)))
     ]
 
--- one that is put adds at most one
+-- inserting one adds at most one entry
 pub length_insert_entry : {K X : Type 0} (eq : K → K → Bool) (es : List (K × X)) (k : K) (v : X) → length (insert_entry eq es k v) ≤ length es + 1
 length_insert_entry eq [] k v = omega arith
 length_insert_entry eq (e ∷ es) k v =

@@ -40,7 +40,7 @@ row_left sums tunnels links paths l are distinct less s =
     get_or-map-range_with_len (λ q. pos (reservable links l) -ℤ pos (slice_index (slice_index_or sums l []) q)) 0 8 p p (pos 0) small (omega arith)
     ∙ ap (λ n. pos (reservable links l) -ℤ pos n) summed)
 
--- rows that are right are the table
+-- if each row is right, the table is right
 pub rows_are_left : (links : List Link) (paths : List Path) (table : List (List ℤ)) → length table ≡ length links → ((l : ℕ) → l < length links → row table l ≡ left_on links paths l) → table ≡ all_left links paths
 unfolding all_left
 rows_are_left links paths table long each = fill_by_all (left_on links paths) table (length links) [] long each
@@ -52,12 +52,12 @@ are_left links paths l p less small =
     ap (λ (row : List ℤ). slice_index_or row p (pos 0)) (get_or-map-range_with_len (left_on links paths) 0 (length links) l l [] less (omega arith))
     ∙ get_or-map-range_with_len (unreserved links paths l) 0 8 p p (pos 0) small (omega arith)
 
--- what follows of each value on success
+-- if P holds of each value on success and Q follows from it, Q holds
 pub if_ok : {A E : Type 0} (r : Result A E) (P Q : A → Type 0) → IfOk r P → ((x : A) → P x → Q x) → IfOk r Q
 if_ok (Ok x) P Q h f = f x h
 if_ok (Err e) P Q h f = h
 
--- the row of a table with the marked rows made anew
+-- the row of a table of which the marked rows were computed again
 pub row_now : (links : List Link) (held : ℕ → Tunnel → List Reservation) (marks : Marks) (sums : List (List ℕ)) (table now : List (List ℤ)) (l : ℕ) → l < length links → AreFresh links held marks table
     → ((paths : List Path) → IsHeldOn (held l) l paths → left_beside links sums l ≡ left_on links paths l)
     → row now l ≡ (if is_marked marks l then left_beside links sums l else row table l) → IsRowOf links held l (row now l)
@@ -69,29 +69,29 @@ row_now links held marks sums table now l less fresh left is = λ paths s.
 
 -- ---- rows that stay
 
--- a row that isn't marked wasn't
+-- a row that isn't marked after a change wasn't marked before it
 pub was_free : (before after : Bool) → (before ≡ true → after ≡ true) → after ≡ false → before ≡ false
 was_free true after kept free = absurd (true≢false (sym (kept refl) ∙ free))
 was_free false after kept free = refl
 
--- a row stays right where as much is held
+-- a row stays right if as much is held on its link
 pub row_stays : (links : List Link) (held now : ℕ → Tunnel → List Reservation) (l : ℕ) (r : List ℤ) → ((t : Tunnel) → now l t ≡ held l t) → IsRowOf links held l r → IsRowOf links now l r
 row_stays links held now l r same is = λ paths s. is paths (λ t h. ap (times h) (sym (same t)) ∙ s t h)
 
--- and where another link gets other values
+-- a row stays right if another link gets other values
 pub row_beside : (links : List Link) (n : ℕ) (v : Values) (held : ℕ → Tunnel → List Reservation) (l : ℕ) (r : List ℤ) → (n ≡ l → ⊥) → IsRowOf links held l r → IsRowOf (set_values links n v) held l r
 row_beside links n v held l r apart is = λ paths s. is paths s ∙ ap (λ f. map f (priorities 0 7)) (fun_ext (λ p. sym (left_stays links n v paths l p apart)))
 
--- as much is held where what goes and what comes is nothing
+-- as much is held if nothing goes and nothing comes
 pub held_as : (hs now dropped added : List Reservation) → now ≡ with_all (without_all hs dropped) added → dropped ≡ [] → added ≡ [] → now ≡ hs
 held_as hs now dropped added is d a = is ∙ ap (λ xs. with_all (without_all hs dropped) xs) a ∙ ap (λ xs. without_all hs xs) d
 
--- no path holds nothing
+-- if there are no paths, nothing is held
 pub none_held : (l : ℕ) (t : Tunnel) (paths : List Path) → length paths ≡ 0 → held_by l t paths ≡ []
 none_held l t [] none = refl
 none_held l t (x ∷ xs) none = absurd (omega (arith, none))
 
--- a snapshot stays right where as much is held on each link
+-- a snapshot stays right if as much is held on each link
 pub left_over_stays : (n : Network) (before after : ℕ) (held now : ℕ → Tunnel → List Reservation) (s : NetworkState) → after ≡ before → ((l : ℕ) (t : Tunnel) → l < before → now l t ≡ held l t) → IsLeftOver n before held s → IsLeftOver n after now s
 left_over_stays n before after held now s same each is = record {
   network = is.network;

@@ -23,7 +23,7 @@ module _ {K : Type 0} where
   count_keys (e ∷ es) = let ih = count_keys es in omega (arith, ih)
 
 module _ {K V : Type 0} (eq : K → K → Bool) (laws : IsEquivalence eq) (f : Option V → ℕ) where
-  -- another key's value is looked for behind the first
+  -- another key's value is looked for after the first entry
   behind : (e : K × V) (es : List (K × V)) (ks : List K) → AllByRecursion (λ k. eq e.0 k ≡ false) ks → AllByRecursion (λ k. f (lookup (eq k) es) ≡ f (lookup (eq k) (e ∷ es))) ks
   behind e es [] a = tt
   behind e es (k ∷ ks) a =

@@ -8,7 +8,7 @@ use Rattle.lsp_base.specs.declared.tunnel.Tunnel.{Tunnel}
 use Rattle.bandwidth_book.specs.Tunnels.{held_by_links, held_by_path, tunnel_eq}
 
 module _ {K V : Type 0} {eq : K → K → Bool} (laws : IsEquivalence eq) where
-  -- equal keys find the same
+  -- equal keys find the same value
   pub lookup_same : (key k : K) → eq key k ≡ true → (es : List (K × V)) → lookup (eq k) es ≡ lookup (eq key) es
   lookup_same key k same [] = refl
   lookup_same key k same (e ∷ es) =
@@ -18,7 +18,7 @@ module _ {K V : Type 0} {eq : K → K → Bool} (laws : IsEquivalence eq) where
         | inr other ↦ (let apart : eq key e.0 ≡ false = t ∙ other in rw (other, apart) (lookup_same key k same es))
       ]
 
-  -- what relates the key's value before and after, and what is found to itself, relates all that is found
+  -- if R relates the key's value before and after, and each found value to itself, it relates all found values
   pub written : (R : Bool → Option V → Option V → Type 0) (es new : List (K × V)) (key : K) (o w : Option V) → lookup (eq key) es ≡ o → ((q : K) → lookup (eq q) new ≡ cond (eq key q) w (lookup (eq q) es))
       → R true o w → ((v : Option V) → R false v v) → (k : K) → R (eq key k) (lookup (eq k) es) (lookup (eq k) new)
   written R es new key o w found update there others k = by (eq key k) refl
@@ -32,7 +32,7 @@ module _ {K V : Type 0} {eq : K → K → Bool} (laws : IsEquivalence eq) where
           let after : lookup (eq k) new ≡ lookup (eq k) es = update k ∙ ap (λ b. cond b w (lookup (eq k) es)) other in
           subst (λ (v : Option V). R false (lookup (eq k) es) v) (sym after) (others (lookup (eq k) es))
 
-  -- what holds where the key finds nothing and for each other that is found holds for all
+  -- if P holds of no value for this key and of each value of another key, it holds of all that is found
   pub unwritten : (R : Bool → Option V → Type 0) (es : List (K × V)) (key : K) → lookup (eq key) es ≡ None → R true None → ((v : Option V) → R false v) → (k : K) → R (eq key k) (lookup (eq k) es)
   unwritten R es key none there others k = by (eq key k) refl
     where

@@ -27,7 +27,7 @@ kept_by book = if book.is_kept then Some book.last else None
 abbrev pub held_on : Book → ℕ → Tunnel → List Reservation
 held_on book = held_at book.ledgers
 
--- for each link, tunnel, holding priority and bandwidth, the book holds as many as there are such paths
+-- for each link, tunnel, holding priority and bandwidth, the book holds one reservation for each such path
 abbrev pub StandsFor : Book → List Path → Type 0
 StandsFor book paths = IsHeldBy (count book.ledgers) (held_at book.ledgers) paths
 

@@ -12,7 +12,7 @@ abbrev pub held_in : Option Holdings → List Reservation
 held_in None = []
 held_in (Some e) = e.held
 
--- for how many more it has promised room
+-- how many more reservations it has promised room for
 abbrev pub promised_in : Option Holdings → ℕ
 promised_in None = 0
 promised_in (Some e) = e.promised
@@ -21,8 +21,8 @@ promised_in (Some e) = e.promised
 abbrev pub IsBusy : Option Holdings → Type 0
 IsBusy o = is_some o ≡ true → held_in o ≡ [] → 0 < promised_in o
 
--- an entry that may be missing, before and after a motion for each of these; if memory ran out some may have been left
--- out
+-- how an entry that may be missing changes by a motion for each of these reservations; if memory ran out, some may have
+-- been left out
 pub record IsMoved (motion : Motion) (hs : List Reservation) (old new : Option Holdings) : Type 0 where
   pub kept : held_in new ≡ moved_all motion (held_in old) hs
   pub busy : IsBusy old → IsBusy new
@@ -33,7 +33,7 @@ pub record IsShifted (motion : Motion) (hs : List Reservation) (old new : Option
   pub kept : held_in new ≡ moved_all motion (held_in old) hs
   pub below : promised_in new ≤ promised_after motion (length hs) (promised_in old)
 
--- an entry that may be missing, and one instead of it that holds as much and has promised as much room
+-- an entry that may be missing, and another that holds as much and has promised as much room
 pub record IsSame (old new : Option Holdings) : Type 0 where
   pub kept : held_in new ≡ held_in old
   pub promised : promised_in new ≡ promised_in old
@@ -64,7 +64,7 @@ has_entry l xs = is_some (entry_on l xs)
 abbrev pub kept : ℕ → List LinkEntry → List Reservation
 kept l xs = held_in (entry_on l xs)
 
--- for how many more the link's entry has promised room
+-- how many more reservations the link's entry has promised room for
 abbrev pub promised_to : ℕ → List LinkEntry → ℕ
 promised_to l xs = promised_in (entry_on l xs)
 

@@ -23,6 +23,6 @@ held_at ledgers l t = held_in (entry_at ledgers l t)
 abbrev pub has_entry_at : Ledgers → ℕ → Tunnel → Bool
 has_entry_at ledgers l t = is_some (entry_at ledgers l t)
 
--- for how many more of the tunnel's paths it has promised room
+-- how many more of the tunnel's paths it has promised room for
 abbrev pub promised_on : Ledgers → ℕ → Tunnel → ℕ
 promised_on ledgers l t = promised_in (entry_at ledgers l t)

@@ -17,7 +17,7 @@ abbrev pub picked : List ℕ → List Path → List Path
 picked [] paths = []
 picked (i ∷ is) paths = option_to_list (slice_get paths i) ++ picked is paths
 
--- of each tunnel, holding priority and bandwidth, as much is held on each of n links as the paths hold there
+-- on each of n links, as much is held for each tunnel, holding priority and bandwidth as the paths hold there
 abbrev pub IsHeldBy : ℕ → (ℕ → Tunnel → List Reservation) → List Path → Type 0
 IsHeldBy n held paths = (l : ℕ) (t : Tunnel) (h : Reservation) → l < n → times h (held l t) ≡ times h (held_by l t paths)
 

@@ -26,21 +26,21 @@ abbrev pub times : Reservation → List Reservation → ℕ
 times h [] = 0
 times h (x ∷ xs) = (if same_held h x then 1 else 0) + times h xs
 
--- by holding priority, then by bandwidth
+-- ordered by holding priority, then by bandwidth
 abbrev pub is_before : Reservation → Reservation → Bool
 is_before a b = nat_lt a.hold b.hold || (a.hold == b.hold && nat_lt a.bandwidth b.bandwidth)
 
--- where it belongs in the order
+-- the place where it belongs in the order
 abbrev pub place_in : Reservation → List Reservation → ℕ
 place_in h [] = 0
 place_in h (x ∷ xs) = if is_before x h then suc (place_in h xs) else 0
 
--- where the reservations begin that come after it in the order
+-- the place of the first reservation that comes after it in the order
 abbrev pub end_in : Reservation → List Reservation → ℕ
 end_in h [] = 0
 end_in h (x ∷ xs) = if is_before h x then 0 else suc (end_in h xs)
 
--- with one more, in its order
+-- with one more, at its place in the order
 abbrev pub with_one : Reservation → List Reservation → List Reservation
 with_one h [] = h ∷ []
 with_one h (x ∷ xs) = if is_before x h then x ∷ with_one h xs else h ∷ x ∷ xs
@@ -72,14 +72,14 @@ abbrev pub moved_all : Motion → List Reservation → List Reservation → List
 moved_all motion hs [] = hs
 moved_all motion hs (x ∷ xs) = moved_all motion (moved_one motion x hs) xs
 
--- for how many room must be promised before
+-- how many reservations room must have been promised for before
 abbrev pub room_for : Motion → ℕ → ℕ
 room_for Promise n = 0
 room_for Add n = n
 room_for Drop n = 0
 room_for Withdraw n = 0
 
--- for how many room is promised after n of them, if it was for p
+-- how many reservations room is promised for after n of them, if it was promised for p
 abbrev pub promised_after : Motion → ℕ → ℕ → ℕ
 promised_after Promise n p = p + n
 promised_after Add n p = p - n
@@ -101,7 +101,7 @@ takes_memory Add = false
 takes_memory Drop = false
 takes_memory Withdraw = false
 
--- at each priority, the greatest bandwidth
+-- the numbers are the greatest bandwidths at the eight priorities
 abbrev pub AreMaxima : List ℕ → List Reservation → Type 0
 AreMaxima maxima hs = (p : ℕ) → p < 8 → slice_index maxima p ≡ most hs p
 
@@ -115,14 +115,14 @@ abbrev pub most_below : List Reservation → ℕ → ℕ
 most_below [] p = 0
 most_below (h ∷ hs) p = max (if nat_lt h.hold p then h.bandwidth else 0) (most_below hs p)
 
--- it comes after all that is held at the priority or a better one
+-- a reservation that comes after all that are held at the priority or a better one
 abbrev pub after_all : ℕ → Reservation
 after_all p = record { hold = p + 1; bandwidth = 0 }
 
--- what one counts at its own priority
+-- the bandwidth that one counts at its own priority, else 0
 abbrev pub last_counts : Reservation → ℕ → ℕ
 last_counts h p = if h.hold == p then h.bandwidth else 0
 
--- what is before and after a gap of n
+-- the list without a gap of n: what is before it and what is after it
 abbrev pub around : ℕ → ℕ → List Reservation → List Reservation
 around gap n hs = take gap hs ++ drop (gap + n) hs

@@ -12,16 +12,16 @@ use Rattle.te_snapshot.specs.declared.marks.Marks.{Marks}
 use Rattle.bandwidth_book.specs.Reservation.{Reservation, times}
 use Rattle.bandwidth_book.specs.Paths.{IsHeldBy, held_by}
 
--- on each link, at each of the eight priorities, what the paths leave
+-- the table says what the paths leave on each link, at each of the eight priorities
 abbrev pub AreLeft : List Link → List Path → List (List ℤ) → Type 0
 AreLeft links paths table = (l p : ℕ) → l < length links → p < 8 → left table l p ≡ unreserved links paths l p
 
--- the network n, with what is left of its links given each list of paths that holds `held` on the first `count` of them
+-- the network n, with what each list of paths leaves of its links that holds `held` on the first `count` of them
 pub record IsLeftOver (n : Network) (count : ℕ) (held : ℕ → Tunnel → List Reservation) (s : NetworkState) : Type 0 where
   pub network : s.network ≡ n
   pub left : (paths : List Path) → IsHeldBy count held paths → s.unreserved ≡ all_left n.links paths
 
--- of each tunnel, holding priority and bandwidth, as much is held on the link as the paths hold there
+-- for each tunnel, holding priority and bandwidth, as much is held on the link as the paths hold there
 abbrev pub IsHeldOn : (Tunnel → List Reservation) → ℕ → List Path → Type 0
 IsHeldOn held l paths = (t : Tunnel) (h : Reservation) → times h (held t) ≡ times h (held_by l t paths)
 
@@ -29,6 +29,6 @@ IsHeldOn held l paths = (t : Tunnel) (h : Reservation) → times h (held t) ≡ 
 abbrev pub IsRowOf : List Link → (ℕ → Tunnel → List Reservation) → ℕ → List ℤ → Type 0
 IsRowOf links held l row = (paths : List Path) → IsHeldOn (held l) l paths → row ≡ left_on links paths l
 
--- each row that isn't marked says so
+-- each row that isn't marked says what is left of its link
 abbrev pub AreFresh : List Link → (ℕ → Tunnel → List Reservation) → Marks → List (List ℤ) → Type 0
 AreFresh links held marks table = (l : ℕ) → l < length links → is_marked marks l ≡ false → IsRowOf links held l (row table l)

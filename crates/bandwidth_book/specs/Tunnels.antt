@@ -9,7 +9,7 @@ use Rattle.bandwidth_book.specs.Entries.{entry_on, held_in}
 use Rattle.bandwidth_book.specs.Reservation.{most}
 use Rattle.bandwidth_book.specs.Holdings.{Holdings}
 
--- the entries of a tunnel that may have none
+-- the entries of a tunnel; none if it has no list
 abbrev pub entries_in : Option (List LinkEntry) → List LinkEntry
 entries_in None = []
 entries_in (Some xs) = xs
@@ -40,7 +40,7 @@ tunnel_eq = eq-value.it
 abbrev pub entry_of : List (Tunnel × List LinkEntry) → ℕ → Tunnel → Option Holdings
 entry_of tunnels l t = entry_on l (entries_in (lookup (tunnel_eq t) tunnels))
 
--- on each link, at each priority, the greatest bandwidths of the tunnels there, added up
+-- each sum is the greatest bandwidths of the tunnels on that link at that priority, added up
 abbrev pub AreSums : List (List ℕ) → List (Tunnel × List LinkEntry) → Type 0
 AreSums sums tunnels = (l p : ℕ) → l < length sums → p < 8 → sum_at sums l p ≡ total (most_on l p) tunnels
 

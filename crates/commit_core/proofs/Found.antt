@@ -1,4 +1,4 @@
--- What a search finds is admissible where nothing changed since.
+-- What a search finds is admissible if nothing changed since.
 use Rattle.std.proofs.Common.{◌≡◌, ◌≤◌, ◌<◌, ℕ, zero, suc, ◌+◌, ◌-◌, Bool, true, false, T, ◌==◌, ◌&&◌, nat_le, nat_lt, int_le, pos, ◌-ℤ◌, ◌≤ℤ◌, ℤ, List, [], ◌∷◌, length, map, Option, Some, None, IfSome, refl, sym, ap, subst, ◌∙◌, arith, inl, inr, true≢false, slice_get}
 use Rattle.std.specs.List.{list_all, list_any, range_with_len}
 use Rattle.std.proofs.lemmas.Bool.{and_parts, or_cases, or_left, or_right}
@@ -73,7 +73,7 @@ is_true : (b : Bool) → T b → b ≡ true
 is_true true t = refl
 is_true false t = absurd t
 
--- what a smaller share leaves room for, a greater one does
+-- if a smaller share leaves room for a path, so does a greater one
 room_below : (able sum bandwidth held own : ℕ) → own ≤ held → int_le (pos (bandwidth - own)) (pos able -ℤ pos sum) ≡ true → int_le (pos 0) (pos able -ℤ pos (sum + (bandwidth - held))) ≡ true
 room_below able sum bandwidth held own less h =
     let given : pos (bandwidth - own) ≤ℤ (pos able -ℤ pos sum) = record { le = subst T (sym h) tt } in
@@ -129,7 +129,7 @@ fits_of : (te : Ted) (paths : List Path) (c : Constraints) (own : List OwnShare)
 unfolding fits
 fits_of te paths c own g table here less eh eb small h = part_fits te.links paths table c own g g.links here less eh eb small (λ l e. e) h.each
 
--- what is admissible on a snapshot that still says what there is, is admissible now
+-- what is admissible on a snapshot that is still correct is admissible now
 pub found_is_admissible : (te : Ted) (paths : List Path) (c : Constraints) (g : Path) (s : NetworkState) (own : List OwnShare) → IsCurrent te paths g.tunnel s own
     → g.hold ≡ c.priorities.hold → g.bandwidth ≡ c.bandwidth → c.priorities.setup ≤ 7 → IsAdmissible s c own g.links → is_admissible te paths c g ≡ true
 found_is_admissible te paths c g s own now eh eb small h =

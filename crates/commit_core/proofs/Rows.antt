@@ -81,7 +81,7 @@ standing l more = record {
 abbrev update : Ticket
 update = ticket (purposes.Update 1) (wanted 500000 5 2)
 
--- what fits at the setup priority alone isn't granted
+-- a path that fits only at the setup priority isn't granted
 fits_at_setup_alone : offered (standing lsp []) update (0 ∷ 1 ∷ []) view ≡ Again
 unfolding verdict offered_path is_route fits share reserved unreserved
 fits_at_setup_alone = refl
@@ -90,7 +90,7 @@ other_way : offered (standing lsp []) update (2 ∷ 3 ∷ []) view ≡ Grant
 unfolding verdict offered_path is_route fits share reserved unreserved
 other_way = refl
 
--- its own tunnel's share counts where the other path isn't there
+-- if the other path is absent, its own tunnel's share counts
 shared : offered (record (standing lsp []) { paths = path 1 tunnel 2 800000 (0 ∷ 1 ∷ []) ∷ [] }) update (0 ∷ 1 ∷ []) view ≡ Grant
 unfolding verdict offered_path is_route fits share reserved unreserved
 shared = refl

@@ -30,8 +30,8 @@ own_tunnel records peer (purposes.Update plsp) = tunnel_known records peer plsp
 own_tunnel records peer (purposes.Initiate name constraints) = None
 own_tunnel records peer (purposes.Answer request plsp constraints) = tunnel_named records peer plsp
 
--- the tunnel in which a grant would be, with this SRP-ID: an initiation has its own, and a request for no LSP
--- one that no path has
+-- the tunnel in which a grant with this SRP-ID would be: an initiation has its own, and a request for no LSP has one
+-- that no path has
 abbrev pub granted_tunnel : List Record → ℕ → ℕ → Purpose → Tunnel
 granted_tunnel records peer srp (purposes.Update plsp) = unwrap_or (tunnel_known records peer plsp) (Unsignalled peer plsp)
 granted_tunnel records peer srp (purposes.Initiate name constraints) = Asked peer srp

@@ -9,7 +9,7 @@ use Rattle.control_socket.specs.declared.ask.Outcome.TheVariants.{Answered, Refu
 abbrev pub is_line : List ℕ → Bool
 is_line line = not (list_any (λ byte. byte == 10) line)
 
--- the line was a bad one
+-- the answer says that the line was a bad one
 abbrev pub is_refusal : List ℕ → Bool
 is_refusal answer = starts_with (λ x y. x == y) answer (codes "bad line ")
 
@@ -17,7 +17,7 @@ is_refusal answer = starts_with (λ x y. x == y) answer (codes "bad line ")
 abbrev pub is_whole : List ℕ → Bool
 is_whole answer = ends_with (λ x y. x == y) answer (codes "\n")
 
--- the end of the run is asked for, and nothing is said to that
+-- the line asks for the end of the run, and gets no answer
 abbrev pub is_silent : List ℕ → List ℕ → Bool
 is_silent line answer = bytes_eq line (codes "end") && bytes_eq answer []
 

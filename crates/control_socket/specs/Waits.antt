@@ -12,7 +12,7 @@ is_quiet WouldBlock = true
 is_quiet TimedOut = true
 is_quiet kind = false
 
--- the file isn't there, or its server
+-- the file is missing, or nobody listens at it
 abbrev pub is_gone : ErrorKind → Bool
 is_gone NotFound = true
 is_gone ConnectionRefused = true
@@ -28,12 +28,12 @@ abbrev pub IsFault : {A : Type 0} → ErrorKind → Result A Error → Type 0
 IsFault kind (Ok done) = ⊥
 IsFault kind (Err e) = error_kind e ≡ kind
 
--- a call is done where its file is gone, and else it is what it was
+-- the call is done if its file is gone, and otherwise its result stays
 abbrev pub IsUnlessGone : {A : Type 0} → Result A Error → Result A Error → Type 0
 IsUnlessGone before (Ok done) = IfErr before (λ e. is_gone (error_kind e) ≡ true)
 IsUnlessGone before (Err e) = (before ≡ Err e) × (is_gone (error_kind e) ≡ false)
 
--- a server that is gone isn't heard, and each other fault stays that fault
+-- a server that is gone counts as one that isn't heard; each other fault stays
 abbrev pub IsUnheard : {A : Type 0} → Error → Result A Error → Type 0
 IsUnheard e (Ok unheard) = is_gone (error_kind e) ≡ true
 IsUnheard e (Err f) = (e ≡ f) × (is_gone (error_kind e) ≡ false)

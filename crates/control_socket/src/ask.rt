@@ -1,4 +1,4 @@
-//! An operator that asks a running server.
+//! Asking a running server as an operator.
 ghost use Rattle.std.specs.Prelude.{◌≡◌, ◌++◌, codes, OnOk, IfOk, IfSome};
 ghost use Rattle.std.specs.Io.KnownBytes.{Appends, IsAtEnd};
 ghost use Rattle.control_socket.specs.Answers.{is_line, outcome_of};
@@ -15,7 +15,7 @@ use std::{io, thread};
 /// The longest wait for an answer, or for more of it, in milliseconds.
 const ANSWER_WAIT_MS: u64 = 30_000;
 
-/// How often it is looked whether a server has ended, and the wait in between in milliseconds: a minute in all.
+/// How often to check whether a server has ended, and the wait in between in milliseconds: a minute in all.
 const END_LOOKS: u32 = 1200;
 
 const END_WAIT_MS: u64 = 50;
@@ -23,22 +23,22 @@ const END_WAIT_MS: u64 = 50;
 /// What an answer says.
 #[derive(Clone, Copy, PartialEq, Eq, Debug)]
 pub enum Outcome {
-    /// The line was heard, and this is all that is said to it.
+    /// The line was heard, and this is its whole answer.
     Answered,
     /// The line was a bad one.
     Refused,
-    /// The answer isn't there, or its last line has no end.
+    /// The answer is missing, or its last line has no line break.
     BrokenOff,
 }
 
-/// Whether the text is one line: no line break stands in it.
+/// Tests whether the text is one line, without a line break.
 pub fn is_line(text: &str) -> bool
     ensures { result ≡ is_line text.now }
 {
     !text.as_bytes().contains(&b'\n')
 }
 
-/// What an answer says to the line. To `end` nothing is said.
+/// Returns what an answer says to the line. `end` gets no answer.
 pub fn outcome_of(line: &str, answer: &[u8]) -> Outcome
     ensures { result ≡ outcome_of line.now answer.now }
 {
@@ -62,7 +62,7 @@ fn send<W: Write>(writer: &mut W, line: &str) -> io::Result<()>
     writer.write_all(b"\n")
 }
 
-/// All that comes, up to its end.
+/// Receives all that comes, up to its end.
 fn receive<R: Read>(alloc: Global, reader: &mut R) -> io::Result<Vec<u8>>
     ensures bytes { IfOk result (λ answer. IfSome (R.remaining reader.old) (λ bytes. answer.items ≡ bytes)) }
     ensures end { OnOk result (IsAtEnd (R.remaining reader.new)) }
@@ -72,7 +72,8 @@ fn receive<R: Read>(alloc: Global, reader: &mut R) -> io::Result<Vec<u8>>
     Ok(answer)
 }
 
-/// What the server at the path answers a line. A connection carries one line: once it has ended, the answer is whole.
+/// Returns what the server at the path answers a line. A connection carries one line; when it has ended, the answer is
+/// complete.
 pub fn tell<R: Net>(rt: &R, alloc: Global, path: &str, line: &str) -> io::Result<Vec<u8>> {
     let stream = UnixStream::connect(rt, path)?;
     stream.set_read_timeout(Some(Duration::from_millis(ANSWER_WAIT_MS)))?;
@@ -82,7 +83,7 @@ pub fn tell<R: Net>(rt: &R, alloc: Global, path: &str, line: &str) -> io::Result
     receive(alloc, &mut &stream)
 }
 
-/// Tests whether no server was there to connect to.
+/// Tests whether there was no server to connect to.
 fn is_refused(connected: &io::Result<UnixStream>) -> bool
     ensures { result ≡ is_refused connected.now }
 {
@@ -92,13 +93,13 @@ fn is_refused(connected: &io::Result<UnixStream>) -> bool
     }
 }
 
-/// Whether no server listens at the path.
+/// Tests whether no server listens at the path.
 fn is_nobody_there<R: Net>(rt: &R, path: &str) -> bool {
     let connected = UnixStream::connect(rt, path);
     is_refused(&connected)
 }
 
-/// Waits until no server listens at the path any more, a minute at most. Gives whether that has come.
+/// Waits until no server listens at the path any more, for a minute at most. Returns whether none does.
 pub fn await_end<R: Net + Clock>(rt: &R, path: &str) -> bool {
     for _look in 0..END_LOOKS {
         if is_nobody_there(rt, path) {

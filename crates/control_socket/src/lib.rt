@@ -1,13 +1,13 @@
-//! A control socket: a file (a Unix-domain stream socket, unix(7)) by which operators on this machine speak to a
-//! running server, a line at a time, and by which `tell` asks it something.
+//! A control socket: a file (a Unix-domain stream socket, unix(7)) by which operators on this machine send lines to a
+//! running server, and by which `tell` asks it something.
 //!
-//! `open_path` makes the file, to which only its owner may connect at each moment that it is there. No file of another is
+//! `open_path` makes the file. At each moment that it exists only its owner may connect to it. No file of another is
 //! replaced or removed: the path is taken by link(2) under a lock, and `close_path` compares which file it is.
-//! `listen_on` serves who connects, four at once, each in a thread of its own and by whatever reader and writer an
-//! `Operator` takes; for a fifth the one that is idle longest makes room. A connection that fails ends no other, and none
-//! holds up the end of the run: a read gives up after a quarter of a second, and so does a write once the run closes. What
-//! is sent, what an answer is, and which names files have is proved (`specs/Answers`, `specs/Waits`, `specs/Paths`), and
-//! so is who makes room (`server_rules`); what files and sockets do is shown by tests only.
+//! `listen_on` serves the clients that connect, four at once, each in a thread of its own and through any reader and
+//! writer that an `Operator` takes; for a fifth, the one that has been idle longest makes room. A connection that fails
+//! ends no other, and none delays the end of the run: a read gives up after a quarter of a second, and so does a write
+//! when the run closes. It is proved what is sent, what an answer is, and which names files have (`specs/Answers`,
+//! `specs/Waits`, `specs/Paths`), and who makes room (`server_rules`). Only tests show what files and sockets do.
 //!
 //! ```text
 //! fn ends<R: Net + Clock>(rt: &R, alloc: Global, path: &str) -> io::Result<bool> {

@@ -1,4 +1,4 @@
-//! Who connects is served in a thread of its own.
+//! Each client that connects is served in a thread of its own.
 ghost use Rattle.std.specs.Prelude.{IfNone};
 
 use crate::places::{AT_ONCE, Place, Stopwatch, free_place, free_places, make_room};
@@ -13,34 +13,35 @@ use std::thread::{Scope, Threads};
 use std::time::{Clock, Duration};
 use std::{io, thread};
 
-/// The longest wait of a read or a write of a connection, in milliseconds. An operator's reader has `WouldBlock` then.
+/// The longest wait of a read or a write of a connection, in milliseconds. After it, an operator's reader gives
+/// `WouldBlock`.
 const WAIT_MS: u64 = 250;
 
-/// The longest wait of an accept, and the pause after one that failed, in milliseconds.
+/// The longest wait of an accept, and the pause after a failed one, in milliseconds.
 const ACCEPT_WAIT_MS: u64 = 100;
 
-/// The time between two looks for a free place, in milliseconds.
+/// The time between two checks for a free place, in milliseconds.
 const ROOM_WAIT_MS: u64 = 10;
 
-/// What a connection knows of its run.
+/// What a connection knows about its run.
 pub trait Watch {
     ghost use Rattle.std.specs.Prelude.{◌≡◌, true, ⊤};
 
     /// The run may be asked to end.
     ghost may_close: { Self → Type 0 } = { λ _. ⊤ };
 
-    /// Whether the run is to end.
+    /// Tests whether the run should end.
     fn is_closing(&self) -> bool
         ensures { result ≡ true → may_close self.now };
 }
 
-/// Who answers the lines of a connection.
+/// Answers the lines of a connection.
 pub trait Operator {
     /// Serves one connection, up to its end. A read that has waited for a while gives `WouldBlock`.
     fn operate<I: Read, O: Write>(&self, reader: &mut I, writer: &mut O);
 }
 
-/// Bounds the wait of an accept. The option is the socket's, whichever handle sets it.
+/// Bounds the wait of an accept. The option belongs to the socket, whichever handle sets it.
 fn bound_accepts(listener: &UnixListener) -> io::Result<()> {
     let handle = UnixStream::from(OwnedFd::from(listener.try_clone()?));
     handle.set_read_timeout(Some(Duration::from_millis(ACCEPT_WAIT_MS)))
@@ -77,7 +78,7 @@ fn attend<R: Clock, P: Operator, W: Watch>(
     operator.operate(&mut reader, &mut writer);
 }
 
-/// The thread of one connection.
+/// Runs the thread of one connection.
 fn attend_one<R: Clock, P: Operator, W: Watch>(
     stream: UnixStream,
     place: &Place,
@@ -90,7 +91,7 @@ fn attend_one<R: Clock, P: Operator, W: Watch>(
     place.leave();
 }
 
-/// Waits for a place, while the operator who is idle longest makes room. `None`: the run is to end.
+/// Waits for a place, while the operator who has been idle longest makes room. `None`: the run should end.
 fn await_place<'a, R: Wait + Clock, W: Watch>(
     rt: &R,
     places: &'a [Place; AT_ONCE],
@@ -113,7 +114,7 @@ fn await_place<'a, R: Wait + Clock, W: Watch>(
     unreachable!()
 }
 
-/// Serves who connects, each in a thread of the scope, until the run is to end.
+/// Serves the clients that connect, each in a thread of the scope, until the run should end.
 fn accept_until_closing<
     's,
     E: 's,
@@ -154,9 +155,9 @@ fn accept_until_closing<
     }
 }
 
-/// Serves who connects until the run is to end, and waits for the ends of all connections. Four are served at once; for
-/// a fifth the one that is idle longest ends. A connection whose thread can't be started ends at once. The only fault is
-/// a listener whose waits can't be bounded: then nobody was served.
+/// Serves the clients that connect until the run should end, and waits for the ends of all connections. Four are served
+/// at once; for a fifth, the one that has been idle longest ends. A connection whose thread can't be started ends at
+/// once. The only fault is a listener whose waits can't be bounded: then nobody was served.
 pub fn listen_on<R: Wait + Threads + Clock + Sync, P: Operator + Sync, W: Watch + Sync>(
     rt: &R,
     listener: &UnixListener,

@@ -14,7 +14,7 @@ const LOCK_LOOKS: u32 = 100;
 
 const LOCK_WAIT_MS: u64 = 50;
 
-/// The folder of the path. It ends in `/.`, so that nothing but a folder can be opened by it.
+/// Returns the folder of the path. It ends in `/.`, so that it can open nothing but a folder.
 fn folder_at(alloc: Global, path: &str) -> Result<String, AllocError>
     ensures { IfOk result (λ folder. string_bytes folder ≡ folder_at path.now) }
 {
@@ -39,8 +39,8 @@ fn await_lock<R: Clock>(rt: &R, folder: &File) -> io::Result<()> {
     ))
 }
 
-/// A path whose lock is held, until this is let go. Only `lock_path` makes one, and a path is looked at, taken and left only
-/// by one: of several servers that come at once, each sees what the one before it did.
+/// A path whose lock is held until this is dropped. Only `lock_path` makes one, and a path is looked at, taken and left
+/// only through one: of several servers that come at once, each sees what the one before it did.
 #[derive(Drop)]
 pub(crate) struct Locked<'a> {
     path: &'a str,
@@ -48,7 +48,7 @@ pub(crate) struct Locked<'a> {
 }
 
 impl<'a> Locked<'a> {
-    /// The path.
+    /// Returns the path.
     pub fn path(&self) -> &'a str
         ensures { result.now ≡ self.now.path.now }
     {

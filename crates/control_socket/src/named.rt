@@ -1,5 +1,5 @@
-//! The file at a path. Whoever has only a `Named` removes it only if it may go: the socket of a server that is gone, or the
-//! very file that was made.
+//! The file at a path. Code that has only a `Named` removes the file only if it may go: it is the socket of a server
+//! that is gone, or the very file that was made.
 ghost use Rattle.std.specs.Prelude.{◌≡◌, true, IfErr, IfOk};
 ghost use Rattle.std.specs.declared.io.ErrorKind.TheVariants.{AddrInUse};
 ghost use Rattle.control_socket.specs.Waits.{is_gone, IsFault, IsUnheard, IsUnlessGone};
@@ -13,28 +13,28 @@ use std::os::unix::fs::{FileTypeExt, MetadataExt};
 use std::os::unix::net::UnixStream;
 use std::{fs, io};
 
-/// Which file it is: the numbers of its device and of itself there.
+/// The identity of a file: the numbers of its device and of itself there.
 #[derive(Clone, Copy, PartialEq, Eq, Debug)]
 pub(crate) struct FileId {
     device: u64,
     inode: u64,
 }
 
-/// What stands at a path.
+/// What is at a path.
 #[derive(Clone, Copy)]
 pub(crate) struct Found {
     id: FileId,
     is_socket: bool,
 }
 
-/// That no server listens at a path: connecting to it failed by this kind.
+/// The finding that no server listens at a path: connecting to it failed with this error.
 #[derive(Clone, Copy)]
 pub(crate) struct Unheard {
     kind: ErrorKind,
     ghost gone: { is_gone kind ≡ true },
 }
 
-/// A path whose lock is held, by which its file can be looked at and connected to, and removed if it may go.
+/// A path whose lock is held. Its file can be looked at and connected to, and removed if it may go.
 #[derive(Drop)]
 pub(crate) struct Named<'a, R> {
     rt: &'a R,
@@ -48,7 +48,7 @@ fn id_of(known: &Metadata) -> FileId {
     }
 }
 
-/// Sees which file stands there, and whether it is a socket. A link isn't followed.
+/// Sees which file is there, and whether it is a socket. A link isn't followed.
 pub(crate) fn look_at<R: Files>(rt: &R, path: &str) -> io::Result<Found> {
     let known = fs::symlink_metadata(rt, path)?;
     Ok(Found {
@@ -57,7 +57,7 @@ pub(crate) fn look_at<R: Files>(rt: &R, path: &str) -> io::Result<Found> {
     })
 }
 
-/// A call that fails because its file isn't there has nothing to do.
+/// Lets a call succeed that failed because its file is missing: there was nothing to do.
 pub(crate) fn unless_gone(done: io::Result<()>) -> io::Result<()>
     ensures { IsUnlessGone done result }
 {
@@ -67,7 +67,7 @@ pub(crate) fn unless_gone(done: io::Result<()>) -> io::Result<()>
     }
 }
 
-/// What a try to connect says: that no server listens there, or that one does, or why that isn't known.
+/// Says what an attempt to connect means: that no server listens there, or that one does, or why that isn't known.
 fn unheard_by(connected: io::Result<()>) -> io::Result<Unheard>
     ensures heard { IfOk connected (λ _. IsFault AddrInUse result) }
     ensures unheard { IfErr connected (λ e. IsUnheard e result) }
@@ -80,7 +80,7 @@ fn unheard_by(connected: io::Result<()>) -> io::Result<Unheard>
 }
 
 impl Found {
-    /// Which file it is.
+    /// Returns which file it is.
     pub fn id(self) -> FileId
         ensures { result ≡ self.id }
     {
@@ -99,7 +99,7 @@ impl<'a, R: Files> Named<'a, R> {
         Named { rt, lock }
     }
 
-    /// What stands there.
+    /// Sees what is there.
     pub fn look(&self) -> io::Result<Found> {
         look_at(self.rt, self.lock.path())
     }
@@ -124,7 +124,7 @@ impl<'a, R: Files> Named<'a, R> {
 }
 
 impl<'a, R: Files + Net> Named<'a, R> {
-    /// Connects to a server there, and lets it go.
+    /// Connects to a server there, and closes the connection.
     fn connect(&self) -> io::Result<()> {
         let _stream = UnixStream::connect(self.rt, self.lock.path())?;
         Ok(())

@@ -50,8 +50,8 @@ fn test_socket(is_socket: bool) -> io::Result<()>
     }
 }
 
-/// Frees the path. A socket that refuses connections is removed, since its server is gone; whatever else stands there
-/// stays, and is a fault.
+/// Frees the path. A socket that refuses connections is removed, since its server is gone; anything else there stays,
+/// and is a fault.
 fn free_path<R: Files + Net>(named: &Named<'_, R>) -> io::Result<()> {
     let found = match named.look() {
         Ok(found) => found,
@@ -62,21 +62,21 @@ fn free_path<R: Files + Net>(named: &Named<'_, R>) -> io::Result<()> {
     named.remove_stale(found, unheard)
 }
 
-/// The folder in which the socket is made, by some random digits: `PATH.1b5e07d4`.
+/// Names the folder in which the socket is made, with some random digits: `PATH.1b5e07d4`.
 fn folder_named(alloc: Global, path: &str, digits: &str) -> Result<String, AllocError>
     ensures { IfOk result (λ folder. string_bytes folder ≡ folder_named path.now digits.now) }
 {
     format!(in alloc; "{path}.{digits}")
 }
 
-/// The socket in that folder.
+/// Names the socket in that folder.
 fn socket_in(alloc: Global, folder: &str) -> Result<String, AllocError>
     ensures { IfOk result (λ socket. string_bytes socket ≡ socket_in folder.now) }
 {
     format!(in alloc; "{folder}/s")
 }
 
-/// A name for the folder that nobody can know before.
+/// Draws a name for the folder that nobody can know before.
 fn draw_folder<R: RandomSource>(rt: &R, alloc: Global, path: &str) -> io::Result<String> {
     let mut bytes = [0u8; 4];
     rt.fill_bytes(&mut bytes)?;
@@ -84,15 +84,15 @@ fn draw_folder<R: RandomSource>(rt: &R, alloc: Global, path: &str) -> io::Result
     Ok(folder_named(alloc, path, &digits)?)
 }
 
-/// Makes a folder that only its owner may enter. One that is there stays, and is a fault.
+/// Makes a folder that only its owner may enter. A folder that exists already stays, and is a fault.
 fn make_folder<R: Files>(rt: &R, folder: &str) -> io::Result<()> {
     let mut builder = DirBuilder::new();
     builder.mode(OWNER_ENTERS);
     builder.create(rt, folder)
 }
 
-/// Binds a socket in the folder, and gives it the path too once only its owner may connect. Whatever came to the path
-/// meanwhile stays, and is a fault (link(2)).
+/// Binds a socket in the folder, and links it to the path after only its owner may connect. Anything that came to the
+/// path meanwhile stays, and is a fault (link(2)).
 fn bind_in<R: Files + Net>(rt: &R, socket: &str, lock: &Locked<'_>) -> io::Result<ControlFile> {
     let listener = UnixListener::bind(rt, socket)?;
     fs::set_permissions(rt, socket, Permissions::from_mode(OWNER_CONNECTS))?;
@@ -101,7 +101,7 @@ fn bind_in<R: Files + Net>(rt: &R, socket: &str, lock: &Locked<'_>) -> io::Resul
     Ok(ControlFile { listener, id })
 }
 
-/// Makes the socket in a folder of its own, which is gone afterwards.
+/// Makes the socket in a folder of its own, which is removed afterwards.
 fn make_at<R: Files + Net + RandomSource>(
     rt: &R,
     alloc: Global,
@@ -116,12 +116,13 @@ fn make_at<R: Files + Net + RandomSource>(
     file
 }
 
-/// A listener at the path, to which only its owner may connect (mode 0600). The socket of a server that is gone is
-/// replaced; one at which a server listens stays (`AddrInUse`), and so does what is no socket (`AlreadyExists`).
+/// Makes a listener at the path, to which only its owner may connect (mode 0600). The socket of a server that is gone
+/// is replaced; one at which a server listens stays (`AddrInUse`), and so does anything that is no socket
+/// (`AlreadyExists`).
 ///
 /// Nobody else can connect at any moment: the socket is made in a folder that only its owner may enter, and linked to
-/// the path from there. So the path has 96 bytes at most (`InvalidInput`). Of several servers that come to one path at
-/// once, one has it (`lock_path`).
+/// the path from there. So the path has at most 96 bytes (`InvalidInput`). Of several servers that come to one path at
+/// once, one gets it (`lock_path`).
 pub fn open_path<R: Files<File = File> + Net + Clock + RandomSource>(
     rt: &R,
     alloc: Global,
@@ -145,7 +146,7 @@ fn remove_own<R: Files>(named: &Named<'_, R>, made: FileId) -> io::Result<()> {
     }
 }
 
-/// Takes the file away if it still is the one that was made. Another's at the path stays.
+/// Removes the file if it still is the one that was made. Another's file at the path stays.
 pub fn close_path<R: Files<File = File> + Clock>(
     rt: &R,
     alloc: Global,

@@ -3,13 +3,13 @@ use server_rules::who_goes;
 use std::sync::atomic::{AtomicBool, AtomicU64, Ordering};
 use std::time::{Clock, Instant};
 
-/// The greatest number of connections that are served at once.
+/// The most connections that are served at once.
 pub const AT_ONCE: usize = 4;
 
-/// The moment of an operator who is being answered: later than any.
+/// The moment for an operator who is being answered: later than any other.
 const ANSWERED: u64 = u64::MAX;
 
-/// Milliseconds since the socket is heard.
+/// Measures milliseconds since the server began to listen at the socket.
 #[derive(Drop)]
 pub(crate) struct Stopwatch<'a, R: Clock> {
     rt: &'a R,
@@ -39,7 +39,7 @@ impl<'a, R: Clock> Stopwatch<'a, R> {
 #[derive(Drop)]
 pub(crate) struct Place {
     is_taken: AtomicBool,
-    /// Since when its operator is idle; `ANSWERED` while it is answered.
+    /// Since when its operator has been idle; `ANSWERED` while it is answered.
     idle_since_ms: AtomicU64,
     must_go: AtomicBool,
 }
@@ -68,35 +68,35 @@ impl Place {
         self.is_taken.store(false, Ordering::SeqCst);
     }
 
-    /// The operator is waited for: since now, if it was being answered.
+    /// Notes that the operator is waited for: since now, if it was being answered.
     pub fn wait(&self, now_ms: u64) {
         if self.idle_since_ms.load(Ordering::SeqCst) == ANSWERED {
             self.idle_since_ms.store(now_ms, Ordering::SeqCst);
         }
     }
 
-    /// The operator is being answered.
+    /// Notes that the operator is being answered.
     pub fn answer(&self) {
         self.idle_since_ms.store(ANSWERED, Ordering::SeqCst);
     }
 
-    /// Whether the connection is to end for another.
+    /// Tests whether the connection should end for another.
     pub fn must_go(&self) -> bool {
         self.must_go.load(Ordering::SeqCst)
     }
 }
 
-/// All places, none of them taken.
+/// Makes all places, none of them taken.
 pub(crate) fn free_places() -> [Place; AT_ONCE] {
     [Place::new(), Place::new(), Place::new(), Place::new()]
 }
 
-/// A place that nobody has.
+/// Returns a place that nobody has.
 pub(crate) fn free_place(places: &[Place; AT_ONCE]) -> Option<&Place> {
     places.iter().find(|place| !place.is_taken())
 }
 
-/// Has the operator who is idle longest go, for one who came then, once either has waited for a second.
+/// Ends the operator who has been idle longest, for one who came at that moment, once either has waited for a second.
 pub(crate) fn make_room(places: &[Place; AT_ONCE], came_ms: u64, now_ms: u64) {
     let mut since_ms = [ANSWERED; AT_ONCE];
     for (since, place) in since_ms.iter_mut().zip(places.iter()) {

@@ -1,4 +1,4 @@
-//! What an operator says.
+//! What an operator sends.
 use crate::places::{Place, Stopwatch};
 use crate::waits::is_quiet;
 use std::io;
@@ -6,7 +6,7 @@ use std::io::Read;
 use std::os::unix::net::UnixStream;
 use std::time::Clock;
 
-/// A socket as a reader, which is at its end once the operator has to make room for another.
+/// A socket as a reader. It is at its end when the operator must make room for another.
 #[derive(Drop)]
 pub(crate) struct ControlReader<'a, R: Clock> {
     pub stream: &'a UnixStream,

@@ -4,7 +4,7 @@ ghost use Rattle.control_socket.specs.Waits.{is_gone, is_quiet};
 
 use std::io::ErrorKind;
 
-/// Whether a call that failed so may be made again: its wait is over, or it was interrupted.
+/// Tests whether a call that failed with this error may be made again: its wait is over, or it was interrupted.
 pub(crate) fn is_quiet(kind: ErrorKind) -> bool
     ensures { result ≡ is_quiet kind }
 {
@@ -14,7 +14,7 @@ pub(crate) fn is_quiet(kind: ErrorKind) -> bool
     )
 }
 
-/// Whether a file or its server isn't there.
+/// Tests whether a file or its server is missing.
 pub(crate) fn is_gone(kind: ErrorKind) -> bool
     ensures { result ≡ is_gone kind }
 {

@@ -1,4 +1,4 @@
-//! What is said to an operator, and how long it is waited for its being taken.
+//! What is sent to an operator, and how long to wait until it is taken.
 use crate::listen::Watch;
 use crate::places::{Place, Stopwatch};
 use crate::waits::is_quiet;
@@ -7,11 +7,11 @@ use std::io::{ErrorKind, Write};
 use std::os::unix::net::UnixStream;
 use std::time::Clock;
 
-/// The greatest number of waits of one write, each as long as the socket's.
+/// The most waits of one write, each as long as the socket's.
 const WAITS: u32 = 40;
 
-/// A socket as a writer that gives up on an operator who takes nothing: at once if the run is to end, or if the operator
-/// has to make room for another.
+/// A socket as a writer that gives up on an operator who takes nothing: at once if the run should end, or if the
+/// operator must make room for another.
 #[derive(Drop)]
 pub(crate) struct ControlWriter<'a, R: Clock, W: Watch> {
     pub stream: &'a UnixStream,

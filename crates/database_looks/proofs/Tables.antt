@@ -10,7 +10,7 @@ use Rattle.lsp_base.specs.declared.path.Path.{Path}
 use Rattle.te_base.specs.declared.network.Link.{Link}
 use Rattle.te_snapshot.specs.Left.{all_left, left_on}
 
--- eight numbers that are right are the row
+-- eight correct numbers are the row
 pub row_is : (links : List Link) (paths : List Path) (l : ℕ) (row : List ℤ) → length row ≡ 8 → ((p : ℕ) → p < 8 → slice_index_or row p (pos 0) ≡ unreserved links paths l p) → row ≡ left_on links paths l
 row_is links paths l row long each = fill_by_all (unreserved links paths l) row 8 (pos 0) long each
 

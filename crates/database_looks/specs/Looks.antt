@@ -8,7 +8,7 @@ use Rattle.pce_seen.specs.declared.lsps.LinkUse.{LinkUse}
 use Rattle.pce_seen.specs.declared.seen.Book.{Book}
 use Rattle.pce_seen.specs.declared.seen.Counts.{Counts}
 
--- how much there is of what
+-- how many there are of each kind
 abbrev pub counts_in : Content → Counts
 counts_in d = record {
   steps = steps_of d;
@@ -30,7 +30,7 @@ pub record SeesBook (d : Content) (book : Book) : Type 0 where
   pub links : book.links.items ≡ d.state.te.links
   pub left : book.left.items ≡ all_left d.state.te.links d.state.base.paths
 
--- a link with its ends and what the paths leave of it; and what those over it hold, where they are listed
+-- a link with its ends and what the paths leave of it; and what the paths over it hold, if they are listed
 pub record IsUse (d : Content) (number : ℕ) (lists_paths : Bool) (seen : LinkUse) : Type 0 where
   pub link : slice_get d.state.te.links number ≡ Some seen.link
   pub from : slice_get d.state.te.nodes (seen.link).from ≡ Some seen.from
@@ -38,7 +38,7 @@ pub record IsUse (d : Content) (number : ℕ) (lists_paths : Bool) (seen : LinkU
   pub left : seen.left ≡ left_on d.state.te.links d.state.base.paths number
   pub paths : seen.paths.items ≡ (if lists_paths then held_on d.state.base.paths number else [])
 
--- the link of a number, if there is such a one
+-- the link of a number, if there is one
 abbrev pub SeesLink : ℕ → Bool → Content → Option LinkUse → Type 0
 SeesLink link lists_paths d None = length d.state.te.links ≤ link
 SeesLink link lists_paths d (Some seen) = IsUse d link lists_paths seen

@@ -1,4 +1,4 @@
--- Kept steps as they are seen: the kind of the event, the peer that it names, and what came of it.
+-- Kept steps as they are seen: the kind of the event, the peer that it names, and its result.
 use Rattle.step_core.specs.declared.event.Event.{Event}
 use Rattle.step_core.specs.declared.event.Event.TheVariants as event
 use Rattle.pce_seen.specs.declared.steps.EventKind.{EventKind}

@@ -1,4 +1,4 @@
-//! How much there is of what.
+//! How many there are of each kind.
 ghost use Rattle.std.specs.Prelude.{◌≡◌, None, length, filter};
 ghost use Rattle.pce_seen.specs.Grants.{is_grant_asked};
 ghost use Rattle.database_looks.specs.Looks.{counts_in};
@@ -56,7 +56,7 @@ pub fn see_counts(database: &Database) -> Counts
     }
 }
 
-/// Looks at how much there is of what.
+/// Looks at how many there are of each kind.
 #[derive(Clone, Copy)]
 pub struct CountsLook;
 

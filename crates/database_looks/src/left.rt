@@ -45,7 +45,7 @@ pub fn left_on_each(alloc: Global, database: &Database) -> Result<Vec<[i64; 8]>,
     Ok(table)
 }
 
-/// Looks at what is left of each link alone.
+/// Looks only at what is left of each link.
 #[derive(Clone, Copy)]
 pub struct LeftLook;
 

@@ -1,6 +1,6 @@
-//! Looks at a database. A look borrows it, so it takes no step and changes nothing, and copies out what it sees; what is
-//! made of that, texts and searches, is made with the lock free. `Look` says by a ghost member what is seen in which
-//! content (`specs/Looks.antt`). Here are the looks that the server takes by itself, and what several questions see; each
+//! Looks at a database. A look borrows it, so it takes no step and changes nothing, and copies out what it sees. Texts
+//! and searches are made from that with the lock free. A ghost member of `Look` says what is seen in which content
+//! (`specs/Looks.antt`). Here are the looks that the server takes by itself, and what several questions see; each
 //! question of an operator is a look of its own (`pce_view`).
 //!
 //! ```text

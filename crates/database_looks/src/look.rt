@@ -2,14 +2,15 @@
 use history_core::Database;
 use std::alloc::{AllocError, Global};
 
-/// What is seen of a database in one look. It takes as long as it is held, so a look reads a bounded part.
+/// What is seen of a database in one look. The database is locked as long as the look takes, so a look reads a bounded
+/// part.
 pub trait Look {
     ghost use Rattle.std.specs.Prelude.{IfOk};
     ghost use Rattle.history_core.specs.Histories.{Content};
 
     type Seen;
 
-    /// In this content this is seen.
+    /// In this content, this is seen.
     ghost sees: { Self → Content → Self.Seen → Type 0 };
 
     /// Copies out what is seen.

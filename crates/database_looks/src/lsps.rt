@@ -12,7 +12,7 @@ use pce_seen::{HeldPath, LinkUse, LspPage, held_on, page_of};
 use std::alloc::{AllocError, Global};
 use te_base::{Link, LinkNumber, Node, TeBase};
 
-/// Copies a page of LSPs, of one peer or of all, from a place on.
+/// Copies a page of LSPs, of one peer or of all, from this place on.
 pub fn page_at(
     alloc: Global,
     database: &Database,
@@ -56,7 +56,7 @@ fn use_of(link: Link, ends: (Node, Node), left: [i64; 8], paths: Vec<HeldPath>) 
     }
 }
 
-/// Lists what the paths over a link hold, where they are to be listed. That takes a pass over all paths.
+/// Lists what the paths over a link hold, if they should be listed. That takes a pass over all paths.
 fn held_where(
     alloc: Global,
     database: &Database,
@@ -72,7 +72,7 @@ fn held_where(
     }
 }
 
-/// Sees a link that is there.
+/// Sees a link that exists.
 fn see_use(
     alloc: Global,
     database: &Database,
@@ -90,7 +90,7 @@ fn see_use(
     Ok(use_of(link, ends, left, paths))
 }
 
-/// Sees a link, with the paths over it where they are to be listed; `None` where there is no such link.
+/// Sees a link, with the paths over it if they should be listed; `None` if there is no such link.
 pub fn see_link(
     alloc: Global,
     database: &Database,

@@ -1,4 +1,4 @@
-//! What the server keeps up: grants that stand, and deletions that are awaited.
+//! What the server looks after: grants that stand, and awaited deletions.
 ghost use Rattle.std.specs.Prelude.{◌≡◌, ◌++◌, ◌∷◌, [], None, map, filter, take, drop, length, IfOk, OnOk};
 ghost use Rattle.pce_seen.specs.Grants.{deletion_of, is_deletion_asked, is_grant_asked};
 ghost use Rattle.database_looks.specs.Grants.{next_of, seen_grant, srp_of, SeesUpkeep};
@@ -15,7 +15,7 @@ use step_core::State;
 #[derive(Clone, Copy)]
 pub struct SeenGrant {
     pub peer: u32,
-    /// 0 of a grant that is not bound to an LSP.
+    /// 0 for a grant that is not bound to an LSP.
     pub plsp: Plsp,
     pub srp: u32,
     pub is_covered: bool,
@@ -23,16 +23,16 @@ pub struct SeenGrant {
     pub is_fresh: bool,
 }
 
-/// The grants among 256 paths, and the deletions that are awaited of 256 LSPs.
+/// The grants among 256 paths, and the awaited deletions of 256 LSPs.
 #[derive(Drop)]
 pub struct UpkeepPage {
     pub grants: Vec<SeenGrant>,
     pub deletions: Vec<Deletion>,
-    /// The place at which the next page starts, among the paths and among the records; `None` if neither has one there.
+    /// The place of the next page, among the paths and among the records; `None` if neither has an item there.
     pub next: Option<u64>,
 }
 
-/// Looks at a page of grants and deletions, from the path and the record at a place on.
+/// Looks at a page of grants and deletions, from this place on among the paths and among the records.
 #[derive(Clone, Copy)]
 pub struct UpkeepLook {
     pub from: u64,

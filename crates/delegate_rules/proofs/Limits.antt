@@ -1,4 +1,4 @@
--- At most 16,384 paths stand after a report that isn't refused.
+-- After a report that isn't refused there are at most 16,384 paths.
 use Rattle.std.proofs.Common.{◌≡◌, ℕ, ◌+◌, Bool, true, false, cond, length, refl, sym, subst}
 use Rattle.std.specs.Prelude.{filter}
 use Rattle.std.proofs.lemmas.Bool.{ltb-false}

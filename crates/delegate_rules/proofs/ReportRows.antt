@@ -95,7 +95,7 @@ broken : book (after made removal) ≡ upper (replicate 8 (pos 750000))
 unfolding changed reported_effect report_effect_by removal_effect_by reported_path reported_lsp reported_constraints share reserved unreserved
 broken = refl
 
--- the network is as it is: a report may book more than a link bears
+-- a report describes what is there, so it may book more than a link can carry
 overbooked : book (after (after no_lsps first) (record (identified first 1 2) { plsp = 2; bandwidth = 1000000 })) ≡ upper (replicate 8 (negsuc 499999))
 unfolding changed reported_effect report_effect_by reported_path reported_lsp reported_constraints share reserved unreserved
 overbooked = refl
@@ -113,12 +113,12 @@ down_reserves_nothing : book (after no_lsps (record first { operational = Down }
 unfolding changed reported_effect report_effect_by reported_path reported_lsp reported_constraints share reserved unreserved
 down_reserves_nothing = refl
 
--- a report again of the same LSP ID takes its place
+-- a second report of the same LSP ID replaces the first
 replaced : after (after no_lsps first) first ≡ after no_lsps first
 unfolding changed reported_effect report_effect_by reported_path reported_lsp reported_constraints
 replaced = refl
 
--- the removal of the last path takes the record with it
+-- the removal of the last path removes the record too
 removed : after (after no_lsps first) removal ≡ no_lsps
 unfolding changed reported_effect report_effect_by removal_effect_by reported_path reported_lsp reported_constraints
 removed = refl
@@ -136,7 +136,7 @@ parts_unsignalled : map (λ x. x.tunnel) ((after (after no_lsps (unsignalled 1))
 unfolding changed reported_effect report_effect_by reported_path reported_lsp reported_constraints
 parts_unsignalled = refl
 
--- once it is signalled, its unsignalled path is gone; and the other way round
+-- once the LSP is signalled its unsignalled path is gone, and the other way round
 signalled_then : map (λ x. x.tunnel) ((after (after no_lsps (unsignalled 1)) first).paths) ≡ Signalled 1 0x0a000004 1 0x0a000001 ∷ []
 unfolding changed reported_effect report_effect_by reported_path reported_lsp reported_constraints
 signalled_then = refl
@@ -191,7 +191,7 @@ settled_by_removal : after granted (record coming_up { remove = true; operationa
 unfolding changed reported_effect removal_effect_by
 settled_by_removal = refl
 
--- a removal of all of an LSP takes its grant too
+-- a removal of all of an LSP removes its grant too
 all_removed : after (after granted coming_up) (record coming_up { remove = true; identifiers = None }) ≡ no_lsps
 unfolding changed reported_effect report_effect_by removal_effect_by reported_path reported_lsp reported_constraints
 all_removed = refl

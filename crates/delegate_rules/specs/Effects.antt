@@ -28,8 +28,8 @@ is_unsignalled (Unsignalled peer plsp) = true
 is_unsignalled (Signalled peer endpoint tunnel extended) = false
 is_unsignalled (Asked peer srp) = false
 
--- a reported part that a report with LSP ID i replaces: every one if the report's identifiers are all zero, else the
--- one of that LSP ID and the one that isn't signalled
+-- a reported path that a report with LSP ID i replaces: every one if the report's identifiers are all zero, else the
+-- one of that LSP ID and the unsignalled one
 abbrev pub is_replaced_part : Bool → ℕ → Tunnel → Part → Bool
 is_replaced_part zero i t (Granted s) = false
 is_replaced_part zero i t (Reported j) = zero || j == i || is_unsignalled t
@@ -48,7 +48,7 @@ wants_path r grants old = r.delegate && is_down r.operational && is_nil r.ero &&
 abbrev pub one_record : ℕ → Lsp → List RecordChange
 one_record plsp lsp = record { plsp = plsp; lsp = Some lsp } ∷ []
 
--- given whether the LSP has a grant, and what was known of it
+-- the effect, given whether the LSP has a grant, and what was known of it
 unfoldable pub report_effect_by : Bool → Option Lsp → List Path → Ted → ℕ → StateReport → Effect
 report_effect_by granted old paths te peer r =
     let grants = moved_grants granted paths peer r in

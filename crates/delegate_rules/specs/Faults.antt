@@ -1,4 +1,4 @@
--- What a rule answers, against its definition.
+-- What a rule answers, compared with its definition.
 use Rattle.std.specs.Prelude.{◌≡◌, Result, Ok, Err}
 use Rattle.lsp_base.specs.declared.effect.Effect.{Effect}
 use Rattle.lsp_base.specs.declared.why.Why.{Why as WhyOf}

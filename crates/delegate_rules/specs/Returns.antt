@@ -9,7 +9,7 @@ use Rattle.lsp_base.specs.declared.why.Why.{Why}
 use Rattle.lsp_base.specs.declared.why.Why.TheVariants.{UnknownLsp, NotDelegated, Pending}
 use Rattle.delegate_rules.specs.Effects.{one_record}
 
--- there is the LSP, it is delegated, and no grant or removal of it is awaited
+-- the LSP exists and is delegated, and no grant or removal of it is awaited
 abbrev pub must_be_held : Lsps → ℕ → ℕ → Option Why
 must_be_held lsps peer plsp =
     let lsp = lsp_at lsps.records peer plsp in

@@ -27,7 +27,7 @@ joined_on joined [] second = refl
 joined_on joined (Called call ∷ first) second = joined_on (joined_by joined call.event call.reply) first second
 joined_on joined (Shown sight ∷ first) second = joined_on joined first second
 
--- that stores' moves follow one another
+-- two moves of a store, one after the other, are one move
 abbrev pub MovesOn : {S : Type 0} → (S → List Deed → S → Type 0) → Type 0
 MovesOn moves = (a b c : _) (first second : List Deed) → moves a first b → moves b second c → moves a (first ++ second) c
 
@@ -84,14 +84,14 @@ pub shown_first : {X S W : Type 0} (moves : S → List Deed → S → Type 0) (i
 shown_first moves is_full on r a b u c after sight p go_on h k =
     serves_on moves is_full on r a b u c c after (Shows sight p) p go_on (record { deeds = Shown sight ∷ []; made = h; leads = one_shown sight p; joined = refl }) k
 
--- the peer's Open was shown, where there is one
+-- the peer's Open was shown, if there is one
 pub open_first : {X S W : Type 0} (moves : S → List Deed → S → Type 0) (is_full : S → Type 0) → MovesOn moves → (r : Result X Fault) (a b u : S) (c after : Client) (peer_open : Option Open) (p : Plan W) (go_on : Client → Plan W)
     → moves a (open_shown peer_open) b → Serves r moves is_full b u c after p go_on → Serves r moves is_full a u c after (showing_open peer_open p) go_on
 open_first moves is_full on r a b u c after (Some open_) p go_on h k = shown_first moves is_full on r a b u c after (Opened open_) p go_on h k
 open_first moves is_full on r a b u c after None p go_on h k =
     serves_on moves is_full on r a b u c c after p p go_on (record { deeds = []; made = h; leads = here p; joined = refl }) k
 
--- memory ran out where the client is
+-- memory ran out, and the client is where it is now
 pub out_of_memory : {S W : Type 0} (moves : S → List Deed → S → Type 0) (is_full : S → Type 0) (a b : S) (c after : Client) (p q : Plan W) (fault : Fault)
     → fault ≡ OutOfMemory → Carries moves a b c after p (Reaches after q) → BreaksOff moves is_full a b c after p fault
 out_of_memory moves is_full a b c after p q fault is h = record { rest = q; carried = h; cause = subst (λ (f : Fault). MayFail is_full b q f) (sym is) tt }
@@ -130,7 +130,7 @@ answered moves is_full on r a b u c after event reply plan go_on h j k =
     serves_on moves is_full on r a b u c c after (submitting c event plan) (Reaches c (plan reply)) go_on (submitted moves a b c c c event reply plan h j)
     (serves_past moves is_full r b u c after c (plan reply) go_on k)
 
--- the reply changes the client alone
+-- the reply changes only the client
 pub changed : {X S W : Type 0} (moves : S → List Deed → S → Type 0) (is_full : S → Type 0)
     → (r : Result X Fault) (a b : S) (c after : Client) (event : Event) (reply : Reply) (meaning : Reply → Client → Client) (go_on : Client → Plan W)
     → moves a (called event reply ∷ []) b → OnOk r (after ≡ meaning reply c) → OnErr r (after ≡ c) → IfErr r (λ fault. fault ≡ OutOfMemory)
@@ -146,7 +146,7 @@ changed moves is_full (Err fault) a b c after event reply meaning go_on h is sam
     (subst (λ (d : Client). Carries moves a b c after (submitting c event (λ got. go_on (meaning got c))) (Reaches d (go_on (meaning reply c)))) (sym same)
     (submitted moves a b c after c event reply (λ got. go_on (meaning got c)) h j))
 
--- the client changes, where there is memory
+-- the client changes, if there is memory
 pub may_change : {X S W : Type 0} (moves : S → List Deed → S → Type 0) (is_full : S → Type 0) (r : Result X Fault) (s : S) (c d after : Client) (go_on : Client → Plan W)
     → moves s [] s → OnOk r (after ≡ d) → OnErr r (after ≡ c) → IfErr r (λ fault. fault ≡ OutOfMemory) → d.joined ≡ c.joined → Serves r moves is_full s s c after (Reaches c (go_on d)) go_on
 may_change moves is_full (Ok x) s c d after go_on nowhere is same only j =
@@ -183,7 +183,7 @@ not_joined moves s c peer go_on out nowhere =
     subst (λ (is : Bool). Carries moves s s c c (if is then submitting c (Down peer) (λ reply. go_on (record c { joined = false })) else go_on c) (go_on c)) (sym out)
     (stays moves s c c (go_on c) nowhere refl)
 
--- what is done with a session alone joins no peer
+-- what changes only a session joins no peer
 pub from_session : {X S W : Type 0} (moves : S → List Deed → S → Type 0) (is_full : S → Type 0) (r : Result X Fault) (a b : S) (s : Contents) (c mid after : Client) (plan_of : Client → Plan W) (go_on : Client → Plan W)
     → mid ≡ client_with s c → Serves r moves is_full a b mid after (plan_of mid) go_on → Serves r moves is_full a b c after (plan_of (client_with s c)) go_on
 from_session {X = X} {W = W} moves is_full r a b s c mid after plan_of go_on is h =

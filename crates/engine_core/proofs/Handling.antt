@@ -56,12 +56,12 @@ up_adds_none reply c = same (turns_left c.session)
 
 -- ---- an input, and on
 
--- a plan, by what goes on after it
+-- a plan, given what goes on after it
 abbrev Going : Type 0
 Going = (Client → Plan Client) → Plan Client
 
--- The deeds of a plan that was carried out: the first lead to a client, whatever goes on from there, and the others
--- are those of what goes on.
+-- The deeds of a plan that was carried out: the first lead to a client, whatever goes on from there; the others are the
+-- deeds of what goes on.
 record Leaves (plan : Going) (go_on : Client → Plan Client) (c : Client) (deeds : List Deed) (after : Client) : Type 0 where
   mid : Client
   first : List Deed
@@ -107,7 +107,7 @@ abbrev IsSubmits : Plan Client → Type 0
 IsSubmits (Submits event go_on) = Unit {0}
 IsSubmits plan = ⊥
 
--- to the end no state that is passed matters
+-- a state that is passed doesn't matter to deeds that lead to the end
 to_end : (d : Client) (plan : Plan Client) (deeds : List Deed) (after : Client) → LeadsTo (Reaches d plan) deeds (Returns after) → LeadsTo plan deeds (Returns after)
 to_end d plan [] after h = elim h [ inl e ↦ absurd (subst IsReaches e tt) | inr i ↦ i ]
 to_end d plan (deed ∷ deeds) after h = h

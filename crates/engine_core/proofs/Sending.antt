@@ -21,7 +21,7 @@ all_sent : {W : Type 0} (messages : List Message) (c : Client) (go_on : Client �
 all_sent [] c go_on = here (go_on c)
 all_sent (message ∷ messages) c go_on = inr (all_sent messages (sending_one c message) go_on)
 
--- where some were sent, the rest of the plan
+-- the rest of the plan after some messages were sent
 left_over : {W : Type 0} → ℕ → List Message → Client → (Client → Plan W) → Plan W
 left_over zero [] c go_on = go_on c
 left_over zero (message ∷ messages) c go_on = sending messages (sending_one c message) go_on

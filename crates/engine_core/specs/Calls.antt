@@ -6,7 +6,7 @@ use Rattle.step_core.specs.declared.event.Reply.TheVariants.{Done}
 use Rattle.engine_core.specs.Deeds.{Deed, Called}
 use Rattle.engine_core.specs.declared.store.Call.{Call}
 
--- an event is submitted, and gets this reply
+-- an event was submitted and got this reply
 abbrev pub called : Event → Reply → Deed
 called event reply = Called (record { event = event; reply = reply })
 

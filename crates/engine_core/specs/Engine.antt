@@ -1,6 +1,6 @@
--- What the engine does with what a session gives: what it shows the store, the events that it submits for a peer, and,
--- given their replies, what it sends and when it ends the session. `go_on` is what comes afterwards. `Reaches c` is
--- everywhere that memory may run out, with the client as it then is.
+-- What the engine does with what a session gives: what it shows the store, which events it submits for a peer, and,
+-- depending on their replies, what it sends and when it ends the session. `go_on` is what comes afterwards. `Reaches c`
+-- stands wherever memory may run out, with the client as it then is.
 use Rattle.std.specs.Prelude.{ℕ, suc, zero, Bool, true, false, ◌==◌, ◌&&◌, not, List, [], ◌∷◌, Option, Some, None, if◌then◌else◌}
 use Rattle.lsp_words.specs.declared.object.Capabilities.{Capabilities}
 use Rattle.lsp_words.specs.declared.object.Hop.{Hop}
@@ -36,7 +36,7 @@ use Rattle.engine_core.specs.declared.client.Client.{Client}
 abbrev pub client_with : Contents → Client → Client
 client_with s c = record c { session = s }
 
--- a session that begins: its peer isn't joined
+-- a session that begins: its peer isn't joined yet
 abbrev pub new_client : ℕ → Client
 new_client now_ms = record { session = begun now_ms; joined = false }
 
@@ -58,7 +58,7 @@ sending_one c message = client_with (or_same c.session (sent message c.session))
 abbrev pub second_session : PcError
 second_session = record { about = about.Nothing; kind = 9; value = 0 }
 
--- a second session of a peer that is up ends with a PCErr, and a session of one peer too many with a Close (1: no
+-- a second session of a peer that is up ends with a PCErr; a session of one peer too many ends with a Close (1: no
 -- explanation)
 abbrev pub after_refused_up : Why → Client → Client
 after_refused_up PeerUp c = ending (Some second_session) None c
@@ -104,12 +104,12 @@ srp_about (Some id) = if id == 0 then about.Nothing else about.Srp id
 abbrev pub cannot_process : Option ℕ → PcError
 cannot_process srp = record { about = srp_about srp; kind = 20; value = 1 }
 
--- a path is asked for, to update the LSP; the reply means nothing for the session
+-- a path is asked for, to update the LSP; the reply doesn't matter to the session
 abbrev pub on_wanted : {W : Type 0} → ℕ → ℕ → Client → (Client → Plan W) → Plan W
 on_wanted peer plsp c go_on = submitting c (event.Ask peer (purposes.Update plsp)) (λ reply. go_on c)
 
--- the reply to a report: an LSP that waits for a path is asked for, one that is refused is answered, and the session
--- goes on
+-- the reply to a report: if the LSP waits for a path, one is asked for; if the report is refused, it is answered; then
+-- the session goes on
 unfoldable pub after_report : {W : Type 0} → ℕ → ℕ → Option ℕ → Reply → Client → (Client → Plan W) → Plan W
 after_report peer plsp srp (Booked wants) c go_on = if wants then on_wanted peer plsp c go_on else go_on c
 after_report peer plsp srp (Refused why) c go_on = Reaches c (go_on (saying (cannot_process srp) c))
@@ -124,7 +124,7 @@ on_reports peer (r ∷ rs) c go_on = on_report peer r c (λ after. on_reports pe
 
 -- ---- errors (RFC 5440 section 6.7, RFC 8231 section 6.3)
 
--- the peer refused the request of this SRP-ID; the reply means nothing for the session
+-- the peer refused the request of this SRP-ID; the reply doesn't matter to the session
 abbrev pub on_refusal : {W : Type 0} → ℕ → ℕ → Client → (Client → Plan W) → Plan W
 on_refusal peer srp c go_on = submitting c (event.Refused peer srp) (λ reply. go_on c)
 
@@ -142,7 +142,7 @@ answered_why request (Some vector) c = sending_one c (no_path_for request vector
 abbrev pub refused_request : ℕ → Why → Client → Client
 refused_request request why c = answered_why request (vector_for why) c
 
--- the reply to a request that is asked for: if there can't be a path it is answered at once
+-- the reply to a request: if there can't be a path, it is answered at once
 unfoldable pub after_request : {W : Type 0} → ℕ → Reply → Client → (Client → Plan W) → Plan W
 after_request request (Refused why) c go_on = Reaches c (go_on (refused_request request why c))
 after_request request reply c go_on = go_on c
@@ -156,7 +156,7 @@ on_requests peer (r ∷ rs) c go_on = on_request peer r c (λ after. on_requests
 
 -- ---- messages
 
--- the events of a message
+-- the events that a message leads to
 abbrev pub taking : {W : Type 0} → ℕ → Message → Client → (Client → Plan W) → Plan W
 taking peer (messages.Report reports) c go_on = on_reports peer reports c go_on
 taking peer (messages.Request requests) c go_on = on_requests peer requests c go_on
@@ -180,12 +180,12 @@ on_input peer (input.Message message) c go_on = on_message peer message c go_on
 on_input peer input.Down c go_on = on_down peer c go_on
 on_input peer input.Handled c go_on = go_on c
 
--- one turn of the session: what it gives, and on; or nothing is left to handle
+-- one turn of the session: what it gives is handled, and then the plan goes on; or nothing is left to handle
 abbrev pub turned : {W : Type 0} → ℕ → Option Input → Client → (Client → Plan W) → (Client → Plan W) → Plan W
 turned peer None c again go_on = go_on c
 turned peer (Some given) c again go_on = on_input peer given c again
 
--- all that the session gives, in order, in at most n turns
+-- all that the session gives is handled in order, in at most n turns
 abbrev pub turns : {W : Type 0} → ℕ → ℕ → Client → (Client → Plan W) → Plan W
 turns zero peer c go_on = go_on c
 turns (suc most) peer c go_on =
@@ -207,7 +207,7 @@ draining peer c go_on =
 
 -- ---- the calls
 
--- Bytes of the peer at a moment: all that the session makes of them, then what waits for the peer is sent. A
+-- Bytes of the peer come at a moment: the session handles all of them, and then what waits for the peer is sent. A
 -- session that has ended does nothing.
 abbrev pub served_from : {W : Type 0} → ℕ → Client → (Client → Plan W) → Plan W
 served_from peer c go_on = turns (most_turns c.session) peer c (λ after. draining peer after go_on)

@@ -7,8 +7,8 @@ use Rattle.engine_core.specs.Engine.{turns}
 use Rattle.engine_core.specs.Plans.{Plan, Returns, LeadsTo}
 use Rattle.engine_core.specs.declared.client.Client.{Client}
 
--- Of these deeds the first lead the turns of a session to where it gives nothing more, and the others are those of
--- what goes on from there.
+-- The first of these deeds lead the turns of a session to where it gives nothing more; the others are the deeds of what
+-- goes on from there.
 pub record GivesNoMore (peer : ℕ) (c : Client) (go_on : Client → Plan Client) (deeds : List Deed) (after : Client) : Type 0 where
   pub rested : Client
   pub first : List Deed

@@ -5,7 +5,7 @@ use Rattle.history_core.specs.Histories.{Content, stepped, is_full, rolled_up, s
 use Rattle.engine_core.specs.Deeds.{Deed, Called, Shown, calls_of}
 use Rattle.engine_core.specs.declared.lent.Lent.{Lent}
 
--- each call is a step of the database that is kept, with the step's reply; what is shown leaves it as it is
+-- each call is a step that the database keeps, with the step's reply; showing something leaves the database as it is
 abbrev pub Steps : Content → List Deed → Content → Type 0
 Steps d [] after = after ≡ d
 Steps d (Shown sight ∷ deeds) after = Steps d deeds after
@@ -22,14 +22,14 @@ pub record LentMoves (old : Lent) (made : List Deed) (new : Lent) : Type 0 where
   pub steps : Steps old.database.now made new.database.now
   pub added : new.calls.items ≡ old.calls.items ++ calls_of made
 
--- the database of the same loan is rolled, and `steps` steps were taken before its base
+-- the database of the same loan is rolled; `steps` steps were taken before its base
 pub record LentRolls (old : Lent) (steps : ℕ) (new : Lent) : Type 0 where
   pub same_loan : new.database.ghost_name ≡ old.database.ghost_name
   pub rolled : new.database.now ≡ rolled_up old.database.now
   pub counted : steps ≡ steps_of old.database.now
   pub same_calls : new.calls.items ≡ old.calls.items
 
--- the same loan of the same database
+-- both are the same loan of the same database
 pub record SameDatabase (old new : Lent) : Type 0 where
   pub same_loan : new.database.ghost_name ≡ old.database.ghost_name
   pub same : new.database.now ≡ old.database.now

@@ -15,7 +15,7 @@ steps_on a b c (Called call ∷ first) second h k = (h.0, h.1, steps_on (stepped
 pub moves_nowhere : (s : Lent) → LentMoves s [] s
 moves_nowhere s = record { same_loan = refl; steps = refl; added = sym (append-nil s.calls.items) }
 
--- what is shown leaves it as it is
+-- showing something leaves the database as it is
 pub moves_shown : (s : Lent) (sight : Sight) → LentMoves s (Shown sight ∷ []) s
 moves_shown s sight = record { same_loan = refl; steps = refl; added = sym (append-nil s.calls.items) }
 

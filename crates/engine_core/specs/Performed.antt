@@ -16,7 +16,7 @@ performed (Reaches c plan) d = performed plan d
 performed (Shows sight plan) d = performed plan d
 performed (Submits event go_on) d = and_then (applied d event) (λ done. performed (go_on done.0) done.1)
 
--- what a call that carries out a plan leaves; nothing is said if memory ran out
+-- what a call that carries out a plan leaves; if memory ran out, nothing is claimed
 abbrev pub Performs : {X W : Type 0} → Result X Fault → W → Content → Result (W × Content) Fault → Type 0
 Performs (Ok x) after d given = given ≡ Ok (after, d)
 Performs (Err OutOfMemory) after d given = Unit {0}

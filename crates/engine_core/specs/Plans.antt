@@ -1,13 +1,13 @@
 -- What a call does, as a plan: the events that it submits one after the other, each chosen by the replies to those
--- before it, what it shows between them, and the states that its client comes to on the way.
+-- before it, what it shows between them, and the states that its client passes on the way.
 use Rattle.std.specs.Prelude.{◌≡◌, ◌⊎◌, List, [], ◌∷◌}
 use Rattle.step_core.specs.declared.event.Event.{Event}
 use Rattle.step_core.specs.declared.event.Reply.{Reply}
 use Rattle.engine_core.specs.Deeds.{Deed, Sight, Called, Shown}
 use Rattle.engine_core.specs.declared.client.Client.{Client}
 
--- What is left to do: nothing, with a result; or the client is as given, and on; or this is to be shown, and on; or an
--- event to submit, and by its reply what is left then.
+-- What is left to do: nothing, with a result; or the client is as given, then the rest; or something is to be shown,
+-- then the rest; or an event is to be submitted, and its reply decides the rest.
 pub data Plan (W : Type 0) : Type 0 where
   Returns : W → Plan W
   Reaches : Client → Plan W → Plan W
@@ -18,12 +18,12 @@ pub data Plan (W : Type 0) : Type 0 where
 abbrev pub submitting : {W : Type 0} → Client → Event → (Reply → Plan W) → Plan W
 submitting c event go_on = Reaches c (Submits event (λ reply. Reaches c (go_on reply)))
 
--- from one plan to what is left of it, with nothing done to the store
+-- one plan leads to another without anything done to the store
 abbrev pub Passes : {W : Type 0} → Plan W → Plan W → Type 0
 Passes (Reaches c plan) rest = (Reaches c plan ≡ rest) ⊎ Passes plan rest
 Passes plan rest = plan ≡ rest
 
--- what a plan does next is this deed, and of what it leaves this holds
+-- the next thing that a plan does is this deed, and this holds of the rest
 abbrev pub Takes : {W : Type 0} → Plan W → Deed → (Plan W → Type 0) → Type 0
 Takes (Returns w) deed On = ⊥
 Takes (Reaches c plan) deed On = Takes plan deed On

@@ -1,4 +1,4 @@
--- Path requests (RFC 5440 section 6.4): what is asked for, and how a request is answered that isn't searched for.
+-- Path requests (RFC 5440 section 6.4): what is asked for, and how a request is answered without a search.
 use Rattle.std.specs.Prelude.{ℕ, true, false, Option, Some, None}
 use Rattle.lsp_words.specs.declared.object.MetricType.{MetricType}
 use Rattle.lsp_words.specs.declared.object.MetricType.TheVariants.{Igp, Te, Hops}
@@ -23,7 +23,7 @@ bound_on Igp b = b.igp
 bound_on Te b = b.te
 bound_on Hops b = b.hops
 
--- the bounds on the others
+-- the bounds on the other metrics
 abbrev pub bounds_beside : MetricType → Bounds → OtherBounds
 bounds_beside Igp b = record { igp = None; te = b.te }
 bounds_beside Te b = record { igp = b.igp; te = None }
@@ -46,7 +46,7 @@ constraints_of r = record {
 abbrev pub purpose_of : PathRequest → Purpose
 purpose_of r = purposes.Answer r.request r.plsp (constraints_of r)
 
--- the PCE knows neither of these ends, or one of them
+-- the PCE doesn't know one or both of these ends
 abbrev pub unknown_ends : Ends → NoPathVector
 unknown_ends Source = record { pce_unavailable = false; unknown_destination = false; unknown_source = true }
 unknown_ends Destination = record { pce_unavailable = false; unknown_destination = true; unknown_source = false }
@@ -56,7 +56,7 @@ unknown_ends Both = record { pce_unavailable = false; unknown_destination = true
 abbrev pub unavailable : NoPathVector
 unavailable = record { pce_unavailable = true; unknown_destination = false; unknown_source = false }
 
--- how a request that is refused for this is answered, if it is
+-- the answer to a request that is refused for this reason, if it gets one
 abbrev pub vector_for : Why → Option NoPathVector
 vector_for (UnknownNode ends) = Some (unknown_ends ends)
 vector_for TooManyTickets = Some unavailable

@@ -1,4 +1,4 @@
--- What a call leaves that sends messages one by one.
+-- What a call that sends messages one by one leaves.
 use Rattle.std.specs.Prelude.{◌≡◌, ◌<◌, ℕ, List, fold, length, take}
 use Rattle.pcep_messages.specs.declared.message.Message.{Message}
 use Rattle.engine_core.specs.Engine.{sending_one}

@@ -25,8 +25,8 @@ MayFail is_full store (Reaches c plan) HistoryFull = ⊥
 MayFail is_full store (Shows sight plan) HistoryFull = ⊥
 MayFail is_full store (Submits event go_on) HistoryFull = is_full store
 
--- A fault: some deeds were done, with which the client came to where it is now, and the rest of the plan was not
--- carried out.
+-- A fault: some deeds were done, which brought the client to where it is now, and the rest of the plan was not carried
+-- out.
 pub record BreaksOff {S W : Type 0} (moves : S → List Deed → S → Type 0) (is_full : S → Type 0) (old new : S) (client after : Client) (plan : Plan W) (fault : Fault) : Type 0 where
   pub rest : Plan W
   pub carried : Carries moves old new client after plan (Reaches after rest)
@@ -39,7 +39,7 @@ Serves (Err fault) moves is_full old new client after plan go_on = BreaksOff mov
 
 -- ---- a call that ends the session after a fault
 
--- The plan broke off where the client was `reached`, whose session was then ended: its output is what it was there,
+-- The plan broke off with the client as in `reached`, whose session was then ended: its output is what it was there,
 -- and no Close is added.
 pub record EndsAt {S : Type 0} (moves : S → List Deed → S → Type 0) (is_full : S → Type 0) (old new : S) (client after : Client) (plan : Plan Client) (fault : Fault) : Type 0 where
   pub reached : Client
@@ -52,8 +52,8 @@ ServesOrEnds (Err fault) moves is_full old new client after plan = EndsAt moves 
 
 -- ---- room for more steps
 
--- Some n: with no call made the history was found full, and then rolled, with n steps before its base; None: nothing
--- was done
+-- Some n: no call was made, the history was found full and then rolled, with n steps before its base. None: nothing was
+-- done
 abbrev pub MakesRoom : {S : Type 0} → (S → List Deed → S → Type 0) → (S → Type 0) → (S → ℕ → S → Type 0) → S → S → Option ℕ → Type 0
 MakesRoom {S} moves is_full rolls old new None = moves old [] new
 MakesRoom {S} moves is_full rolls old new (Some steps) = (mid : S) × moves old [] mid × is_full mid × rolls mid steps new

@@ -100,7 +100,7 @@ instantiation_error value =
     else (if value == 3 then codes "signaling error"
     else codes "LSP instantiation error"))
 
--- a PCEP-ERROR object, by its Error-Type and Error-value; a value that isn't assigned by its type
+-- what a PCEP-ERROR object says, by its Error-Type and Error-value; an unassigned value gets the words of its type
 unfoldable pub error_words : ℕ → ℕ → List ℕ
 error_words kind value =
     if kind == 1 then session_failure value

@@ -9,7 +9,7 @@ use Rattle.commit_core.specs.declared.ticket.Purpose.TheVariants as purpose
 use Rattle.step_core.specs.declared.event.Event.{Event}
 use Rattle.step_core.specs.declared.event.Event.TheVariants as event
 
--- what the allocator takes for a block: 8 bytes more, in steps of 16, and no less than 32
+-- what the allocator takes for a block: 8 bytes more, rounded up to 16, and at least 32
 abbrev pub block : ℕ → ℕ
 block bytes = if bytes == 0 then 0 else max (16 * ((bytes + 23) / 16)) 32
 
@@ -25,7 +25,8 @@ abbrev pub wire_size : Hop → ℕ
 wire_size (Host address loose) = 8
 wire_size (Other kind bytes) = length bytes + 2
 
--- for how many hops the reader of a route makes room: for one in each 8 bytes of it, or, if they are more, in each 4
+-- how many hops the reader of a route makes room for: one for each 8 bytes of it, or one for each 4 if that isn't
+-- enough
 abbrev pub hop_room : ℕ → ℕ → ℕ
 hop_room size hops = if nat_lt (size / 8) hops then size / 4 else size / 8
 

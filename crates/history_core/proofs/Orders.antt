@@ -1,4 +1,4 @@
--- Histories from states that differ in the order of their lists alone.
+-- Histories from states that differ only in the order of their lists.
 use Rattle.std.proofs.Common.{List, [], ◌∷◌, ◌∙◌, ap}
 use Rattle.step_core.specs.Consistent.{IsConsistent}
 use Rattle.step_core.specs.Laws.{AreAlike}
@@ -10,7 +10,7 @@ use Rattle.history_core.specs.Briefs.{brief_of}
 use Rattle.history_core.specs.Histories.{IsLegalFrom, replay}
 use Rattle.history_core.specs.declared.step.Step.{Step}
 
--- what is legal from one is legal from the other, and leads to states that differ in the order alone
+-- a history that is legal from one state is legal from the other, and leads to states that differ only in the order
 pub same_history : (s t : State) (history : List Step) → IsConsistent s → AreAlike s t → IsLegalFrom s history → IsLegalFrom t history × AreAlike (replay s history) (replay t history)
 same_history s t [] c alike legal = (tt, alike)
 same_history s t (x ∷ xs) c alike legal =

@@ -1,4 +1,4 @@
--- Histories one after the other: what is legal stays so, and leads on.
+-- Histories one after the other: a legal history stays legal, and leads on.
 use Rattle.std.proofs.Common.{◌≡◌, ◌≢◌, ℕ, ◌+◌, ◌≤◌, Bool, false, ◌==◌, ◌||◌, List, [], ◌∷◌, ◌++◌, length, refl, sym, subst, ap, ◌∙◌, arith, length-append}
 use Rattle.std.specs.Prelude.{Result, Ok, if◌then◌else◌}
 use Rattle.std.proofs.lemmas.Bool.Decides.{nat_tests}
@@ -116,7 +116,7 @@ IsWhole-stepped d n m event reply whole none is counted =
 stays_over : (s t : State) (event : Event) → t ≡ (step s event).state → IsSameNetwork s.te t.te
 stays_over s t event t_is = subst (λ (u : State). IsSameNetwork s.te u.te) (sym t_is) (network_stays s event)
 
--- the same database, where the new state and history are known by equations
+-- the same database, if the new state and history are known by equations
 pub content-stepped : (s t : State) (xs ys : List Step) (base : known.Base) (text : List Values) (rolled rolled_grants : ℕ) (event : Event) (reply : Reply)
     → length base.values ≡ length s.te.links → length text ≡ length s.te.links → t ≡ (step s event).state → ys ≡ xs ++ kept_step event reply ∷ [] → content t ys base text rolled rolled_grants ≡ stepped (content s xs base text rolled rolled_grants) event reply
 content-stepped s t xs ys base text rolled rolled_grants event reply at_base of_text t_is ys_is =

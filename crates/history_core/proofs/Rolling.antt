@@ -1,4 +1,4 @@
--- A roll: all steps so far are the past of the new base.
+-- A roll: all steps so far become the past of the new base.
 use Rattle.std.proofs.Common.{◌≡◌, ℕ, ◌+◌, List, [], ◌∷◌, ◌++◌, length, refl, sym, subst, ap, ◌∙◌, arith, length-append}
 use Rattle.std.proofs.Common.{cond}
 use Rattle.std.proofs.lemmas.List.Sums.{sum_by-append}
@@ -32,7 +32,7 @@ network_stays d whole =
 grants-append : (xs ys : List Step) → grants_in (xs ++ ys) ≡ grants_in xs + grants_in ys
 grants-append xs ys = sum_by-append (λ (y : Step). cond (is_grant y.brief) 1 0) xs ys
 
--- the steps before the base and those since are one past of the state
+-- the steps before the base and the kept ones are together one past of the state
 all_past : (d : Content) → Replays d → (all : List Step) × IsPast d.text all (steps_of d) (grants_of d) d.state
 all_past d whole =
     let before = whole.past.0 in
@@ -63,7 +63,7 @@ IsWhole-rolled_up d n whole = record {
   counted = omega (arith, whole.counted);
 }
 
--- the database after a roll, where the new base and history are known by equations
+-- the database after a roll, if the new base and history are known by equations
 pub content-rolled_up : (s : State) (xs ys : List Step) (base new : known.Base) (text : List Values) (rolled rolled_grants steps grants : ℕ)
     → new ≡ known_in s → ys ≡ [] → steps ≡ rolled + length xs → grants ≡ grants_of (content s xs base text rolled rolled_grants)
     → content s ys new text steps grants ≡ rolled_up (content s xs base text rolled rolled_grants)
@@ -71,7 +71,7 @@ content-rolled_up s xs ys base new text rolled rolled_grants steps grants new_is
     let same : state_over s.te new ≡ s = known_again s new new_is in
     cc
 
--- a network of which nothing was reported
+-- a new database over a network of which nothing was reported
 pub content_new : (te : Ted) (s : State) (xs : List Step) (new : known.Base) (text : List Values) → s ≡ empty te → xs ≡ [] → new ≡ known_in s → text ≡ values_in s.te → content s xs new text 0 0 ≡ nothing_happened te
 content_new te s xs new text s_is xs_is new_is text_is =
     let same_base : state_over s.te new ≡ empty te = known_again s new new_is ∙ s_is in

@@ -13,7 +13,7 @@ use Rattle.history_core.specs.declared.step.Step.{Step}
 use Rattle.history_core.specs.Briefs.{brief_of, is_grant}
 use Rattle.history_core.specs.Histories.{Content, IsLegalFrom, IsSound, IsSoundFrom, Replays, grants_in}
 
--- a grant's brief is that of a grant alone
+-- only a reply that grants has a grant's brief
 granted_alone : (r : Reply) (srp : ℕ) → brief_of r ≡ brief.Granted srp → r ≡ reply.Granted srp
 granted_alone reply.Done srp is = absurd (cc (is))
 granted_alone (reply.Booked wants) srp is = absurd (cc (is))
@@ -39,7 +39,7 @@ legal_is_sound s (x ∷ xs) legal =
 pub sound_by_replay : (d : Content) → Replays d → IsSound d
 sound_by_replay d whole = legal_is_sound d.base d.history whole.kept.legal
 
--- one more step counts where it is a grant
+-- one more step counts if it is a grant
 pub grants-snoc : (xs : List Step) (x : Step) → grants_in (xs ++ x ∷ []) ≡ grants_in xs + (if is_grant x.brief then 1 else 0)
 grants-snoc xs x =
     let one : Step → ℕ = λ y. cond (is_grant y.brief) 1 0 in

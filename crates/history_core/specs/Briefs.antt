@@ -1,4 +1,4 @@
--- What is kept of a reply: of a job, the number of its ticket; of the messages that were handed out, how many they are.
+-- What is kept of a reply: for a job, the number of its ticket; for messages that were handed out, how many they are.
 use Rattle.std.specs.Prelude.{Bool, true, false, length}
 use Rattle.step_core.specs.declared.event.Reply.{Reply}
 use Rattle.step_core.specs.declared.event.Reply.TheVariants as reply

@@ -77,12 +77,12 @@ pub record IsPast (text : Ted) (past : List Step) (count granted : ℕ) (state :
   pub grants : grants_in past ≡ granted
   pub replays : ReplaysFrom (empty text) past state
 
--- the kept steps replay from the base to the state, and the base is where steps of the counted number led
+-- the kept steps replay from the base to the state, and the counted number of steps led to the base
 pub record Replays (d : Content) : Type 0 where
   pub kept : ReplaysFrom d.base d.history d.state
   pub past : (past : List Step) × IsPast d.text past d.rolled d.rolled_grants d.base
 
--- what holds of every database: it replays, no more steps are kept or were taken than may be, and its grants are
+-- what holds of every database: it replays, the limits of kept steps and of all steps are observed, and its grants are
 -- counted
 pub record IsWhole (d : Content) (grants : ℕ) : Type 0 where
   pub replays : Replays d
@@ -98,7 +98,7 @@ IsSound d = IsSoundFrom d.base d.history
 abbrev pub content : State → List Step → known.Base → List Values → ℕ → ℕ → Content
 content state history base text rolled rolled_grants = record { state = state; history = history; base = state_over state.te base; text = with_all_values state.te text; rolled = rolled; rolled_grants = rolled_grants }
 
--- what is kept makes a whole database, with as many values at the base and of the link text as there are links
+-- what is kept makes a whole database; the base and the link text have one value for each link
 pub record IsKept (state : State) (history : List Step) (base : known.Base) (text : List Values) (rolled rolled_grants grants : ℕ) : Type 0 where
   pub whole : IsWhole (content state history base text rolled rolled_grants) grants
   pub at_base : length base.values ≡ length state.te.links
@@ -110,7 +110,7 @@ nothing_happened te = record { state = empty te; history = []; base = empty te; 
 abbrev pub kept_step : Event → Reply → Step
 kept_step event reply = record { event = event; brief = brief_of reply }
 
--- the state after one more event, and the history with it and the brief of its reply
+-- the database after one more event: its state, and its history with the event and the brief of its reply
 abbrev pub stepped : Content → Event → Reply → Content
 stepped d event reply = record d { state = (step d.state event).state; history = d.history ++ kept_step event reply ∷ [] }
 
@@ -118,6 +118,6 @@ stepped d event reply = record d { state = (step d.state event).state; history =
 abbrev pub applied : Content → Event → Result (Reply × Content) Fault
 applied d event = if is_full d then Err HistoryFull else Ok ((step d.state event).reply, stepped d event (step d.state event).reply)
 
--- the state is the base, and no step is kept
+-- the state becomes the base, and no step is kept
 abbrev pub rolled_up : Content → Content
 rolled_up d = record { state = d.state; history = []; base = d.state; text = d.text; rolled = steps_of d; rolled_grants = grants_of d }

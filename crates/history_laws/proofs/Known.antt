@@ -23,14 +23,14 @@ use Rattle.lsp_base.specs.Refusals.{unless, ◌⨟◌}
 use Rattle.lsp_base.specs.declared.why.Why.{Why}
 use Rattle.lsp_base.specs.declared.why.Why.TheVariants.{UnknownPeer}
 
--- if the peer isn't known, no path is of it
+-- if the peer isn't known, it has no path
 abbrev pub KnownAt : State → ℕ → Type 0
 KnownAt s n = is_known s.peers n ≡ false → count (is_of_peer n) s.base.paths ≡ 0
 
 pub where_known : (s : State) (n : ℕ) → is_known s.peers n ≡ true → KnownAt s n
 where_known s n known = λ no. absurd (both_ways (is_known s.peers n) no known)
 
--- ---- each is known, if none is of a peer that isn't
+-- ---- all that is known is of known peers, if no path is of a peer that isn't known
 
 all_known : {X : Type 0} (f : X → ℕ) (peers : List Peer) (xs : List X) → ((n : ℕ) → is_known peers n ≡ false → count (λ x. f x == n) xs ≡ 0) → All (λ x. is_known peers (f x) ≡ true) xs
 all_known f peers [] none = All-nil (λ x. is_known peers (f x) ≡ true)
@@ -40,7 +40,7 @@ all_known {X} f peers (x ∷ xs) none = All-cons (λ y. is_known peers (f y) ≡
     by true is = is
     by false is = let e = none (f x) is in let own = ap one (eq-eqb (f x) (f x) refl) in absurd (omega (arith, e, own))
 
--- a list of which no item has a first and a second number has none with that first
+-- if no item of a list has this first number with any second, none has this first number
 none_with : {X : Type 0} (f g : X → ℕ) (n : ℕ) (xs : List X) → ((k : ℕ) → count (λ x. f x == n && g x == k) xs ≡ 0) → count (λ x. f x == n) xs ≡ 0
 none_with f g n [] none = refl
 none_with {X} f g n (x ∷ xs) none = by (f x == n) refl (none_with f g n xs (λ k. let e = none k in omega (arith, e)))

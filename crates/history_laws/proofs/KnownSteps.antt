@@ -42,7 +42,7 @@ decided-if P s None o here there = there refl
 
 -- ---- the peer of the event
 
--- if this peer is set, it is known
+-- if this peer is set, it is known afterwards
 set : (s t : State) (n : ℕ) (p : Peer) → p.number ≡ n → t.peers ≡ put_peer s.peers p → KnownAt t n
 set s t n p number is = where_known t n (subst (λ (ps : List Peer). is_known ps n ≡ true) (sym is) (put_at n s.peers p number))
 
@@ -57,7 +57,7 @@ judged_known s t links verdicts.NoPath here = in_vain-has (λ u. KnownAt u t.pee
 judged_known s t links verdicts.GivenUp here = in_vain-has (λ u. KnownAt u t.peer) (ended s t) t.peer t.purpose here (λ m. set s (saying (ended s t) t.peer m) t.peer (with_message (peer_at s.peers t.peer) m) (number_of t.peer s.peers) refl)
 judged_known s t links verdicts.Gone here = here
 
--- what is of the peer of an event is of this one
+-- if a path isn't of another peer than the event's, it is of the event's peer
 is_own : (m n : ℕ) → not (m == n) ≡ false → m ≡ n
 is_own m n own = eqb-true m n (not-false (m == n) own)
 

@@ -1,4 +1,4 @@
--- What each step keeps holds of the state to which a history leads.
+-- If each step keeps a property, it holds of the state to which a history leads.
 use Rattle.std.proofs.Common.{◌≡◌, List, [], ◌∷◌, subst}
 use Rattle.te_base.specs.Ted.{Ted}
 use Rattle.step_core.specs.Consistent.{IsConsistent}
@@ -15,7 +15,7 @@ after : (P : State → Type 0) → ((s : State) (event : Event) → P s → P (s
 after P keeps s [] here = here
 after P keeps s (x ∷ xs) here = after P keeps (step s x.event).state xs (keeps s x.event here)
 
--- what holds if nothing was reported, and is kept by each step
+-- if P holds before anything is reported, and each step keeps it, it holds of the state
 pub led : (P : State → Type 0) → ((te : Ted) → P (empty te)) → ((s : State) (event : Event) → P s → P (step s event).state) → (d : Content) → Replays d → P d.state
 led P first keeps d whole =
     let past = whole.past.1 in

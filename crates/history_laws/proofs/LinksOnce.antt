@@ -1,4 +1,4 @@
--- The links of each path are there, and none stands twice.
+-- The links of each path exist, and no path has a link twice.
 use Rattle.std.proofs.Common.{◌≡◌, ◌≢◌, ◌<◌, ℕ, Bool, true, false, List, [], length, All, AllPairs, refl, subst, arith}
 use Rattle.std.specs.Prelude.{unwrap_or, if◌then◌else◌}
 use Rattle.std.proofs.lemmas.List.Elements.{All-nil, All-weaker}
@@ -19,7 +19,7 @@ use Rattle.history_laws.proofs.Led.{led}
 use Rattle.history_laws.proofs.Paths.{EachPath, IsKept, step_all}
 use Rattle.history_laws.proofs.Routes.{granted_some}
 
--- the path's links are below this number, and none stands twice
+-- the path's links are below this number, and it has none twice
 abbrev Takes : ℕ → Path → Type 0
 Takes n x = AreSome n x.links
 

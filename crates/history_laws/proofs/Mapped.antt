@@ -1,4 +1,4 @@
--- Lists of which each item is changed in what no test looks at.
+-- Lists of which each item is changed in a way that no test sees.
 use Rattle.std.proofs.Common.{◌≡◌, ◌∙◌, ◌-◌, ◌||◌, Bool, true, false, cond, List, [], ◌∷◌, ◌++◌, length, map, filter, find, take, drop, refl, sym, ap}
 use Rattle.std.specs.Prelude.{Option, Some, None, is_some, option_map}
 use Rattle.std.specs.List.{list_any, flat_map}
@@ -11,7 +11,7 @@ pub some-map : {X Y : Type 0} (f : X → Y) (o : Option X) → is_some (option_m
 some-map f None = refl
 some-map f (Some x) = refl
 
--- a test says the same of an item before and after
+-- a test gives the same for an item before and after the change
 abbrev pub PassesBy : {X : Type 0} → (X → X) → (X → Bool) → Type 0
 PassesBy {X} f p = (x : X) → p (f x) ≡ p x
 
@@ -72,17 +72,17 @@ pub made-map : {X Y : Type 0} (f : X → X) (g : Y → Y) (h : X → Y) → ((x 
 made-map f g h same [] = refl
 made-map f g h same (x ∷ xs) = λ i. same x i ∷ made-map f g h same xs i
 
--- of those that pass a test
+-- the same of the items that pass a test
 pub chosen-map : {X Y : Type 0} (f : X → X) (g : Y → Y) (h : X → Y) (p : X → Bool) → ((x : X) → h (f x) ≡ g (h x)) → PassesBy f p → (xs : List X) → map h (filter p (map f xs)) ≡ map g (map h (filter p xs))
 chosen-map f g h p made same xs = ap (map h) (filter-map f p same xs) ∙ made-map f g h made (filter p xs)
 
--- a list of each item
+-- the same of lists that are made of each item
 pub each-map : {X Y : Type 0} (g : Y → Y) (h k : X → List Y) → ((x : X) → k x ≡ map g (h x)) → (xs : List X) → flat_map k xs ≡ map g (flat_map h xs)
 each-map g h k same [] = refl
 each-map g h k same (x ∷ xs) =
     flat_map-cons k x xs ∙ (λ i. same x i ++ each-map g h k same xs i) ∙ sym (map-append g (h x) (flat_map h xs)) ∙ ap (map g) (sym (flat_map-cons h x xs))
 
--- a change that is made twice is made once
+-- if a change made twice is the same as made once, so is a list's
 pub again-map : {X : Type 0} (f : X → X) → ((x : X) → f (f x) ≡ f x) → (xs : List X) → map f (map f xs) ≡ map f xs
 again-map f same [] = refl
 again-map f same (x ∷ xs) = λ i. same x i ∷ again-map f same xs i

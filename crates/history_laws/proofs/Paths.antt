@@ -1,4 +1,4 @@
--- What holds of each path, and of each that an event adds, holds of each path after it.
+-- If a property holds of each path, and of each path that an event adds, it holds of each path after the event.
 use Rattle.std.proofs.Common.{◌≡◌, ◌==◌, ℕ, Bool, true, false, cond, not, List, [], ◌∷◌, ◌++◌, map, filter, refl, sym, ap, subst}
 use Rattle.std.specs.Prelude.{Option, Some, None, Ok, Err, All, unwrap_or, if◌then◌else◌}
 use Rattle.std.proofs.lemmas.List.Elements.{All-nil, All-cons, All-head, All-tail, All-filter, All-append, All-map, All-weaker}
@@ -38,7 +38,7 @@ use Rattle.step_core.specs.declared.event.Event.TheVariants.{Up, Report, Marker,
 use Rattle.ticket_table.specs.Tickets.{first_waiting, ticket_at}
 use Rattle.step_core.proofs.StepLaws.{asked-has, booked-has, decided-has, in_vain-has}
 
--- it is kept by what events do to a path, and holds of each path that one adds
+-- P is kept by what events do to a path, and holds of each path that an event adds
 pub record IsKept (P : Path → Type 0) (s : State) : Type 0 where
   pub stale : (x : Path) → P x → P (record x { fresh = false })
   pub moved : (n : ℕ) (r : StateReport) (x : Path) → is_reserved r.plsp ≡ false → P x → P (moved_grant n r x)

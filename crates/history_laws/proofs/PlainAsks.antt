@@ -1,4 +1,4 @@
--- What is known of peers, what they are asked for, and what becomes of it, doesn't depend on local protection.
+-- What is known of peers, what they are asked for, and the results don't depend on local protection.
 use Rattle.std.proofs.Common.{◌≡◌, ◌∙◌, ◌==◌, ◌&&◌, ◌||◌, ℕ, Bool, true, false, cond, not, nat_lt, List, [], ◌∷◌, map, find, refl, sym, ap}
 use Rattle.std.specs.Prelude.{Option, Some, None, is_some, option_map, unwrap_or, if◌then◌else◌}
 use Rattle.std.specs.List.{list_any}
@@ -61,7 +61,7 @@ put_plain (q ∷ ps) p = by (is_peer p.number q) (put_plain ps p)
     by true rest = refl
     by false rest = ap (λ qs. plain_peer q ∷ qs) rest
 
--- the peer, changed alike
+-- a peer is set, before and after the change
 pub set_plain : (f g : Peer → Peer) → ((p : Peer) → f (plain_peer p) ≡ plain_peer (g p)) → (ps : List Peer) (n : ℕ) → put_peer (map plain_peer ps) (f (peer_at (map plain_peer ps) n)) ≡ map plain_peer (put_peer ps (g (peer_at ps n)))
 set_plain f g same ps n = ap (λ p. put_peer (map plain_peer ps) (f p)) (peer_plain ps n) ∙ ap (put_peer (map plain_peer ps)) (same (peer_at ps n)) ∙ put_plain ps (g (peer_at ps n))
 

@@ -1,4 +1,4 @@
--- What events do to paths and records, and what they are tested for, doesn't depend on local protection.
+-- What events do to paths and records, and the tests of these, don't depend on local protection.
 use Rattle.std.proofs.Common.{◌≡◌, ◌∙◌, ◌==◌, ◌&&◌, ◌||◌, ◌++◌, ℕ, Bool, true, false, cond, not, List, [], ◌∷◌, map, filter, find, refl, ap}
 use Rattle.std.specs.Prelude.{Option, Some, None, Result, Ok, Err, is_some, option_map, if◌then◌else◌}
 use Rattle.std.specs.List.{list_any}
@@ -132,7 +132,7 @@ standing_plain b te n r =
     let granted = has_grant b.paths n r.plsp in
     ap (λ old. report_effect_by granted old b.paths te n (plain_report r)) (lsp_plain b.records n r.plsp) ∙ by_old granted (lsp_at b.records n r.plsp) b.paths te n r
 
--- records that are taken away, and none that is set
+-- records that are removed, while none is set
 left_plain : (paths : List Path) (n plsp : ℕ) (goes : Path → Bool) (bound : List Path) → records_left paths n plsp goes bound ≡ map plain_change (records_left paths n plsp goes bound)
 left_plain paths n plsp goes bound = by (is_nil bound) (list_any (λ x. not (goes x) && is_path_of n plsp x) paths)
   where

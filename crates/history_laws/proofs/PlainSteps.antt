@@ -1,4 +1,4 @@
--- Each step comes to the same with local protection and without it.
+-- Each step gives the same with local protection and without it.
 use Rattle.std.proofs.Common.{◌≡◌, ◌∙◌, ◌&&◌, ℕ, ◌+◌, not, List, [], ◌∷◌, length, map, refl, sym, ap}
 use Rattle.std.specs.Prelude.{Option, Some, None, Result, Ok, Err, option_map, unwrap_or}
 use Rattle.std.proofs.lemmas.List.{map-append}
@@ -49,7 +49,7 @@ use Rattle.history_laws.proofs.PlainAsks.{asked_plain, constraints_plain, may_be
 abbrev outcome_of : State → Reply → Outcome
 outcome_of s reply = record { state = s; reply = reply }
 
--- the same tests refuse it, and if none does, it comes to the same
+-- the same tests refuse the event; if none does, the outcome is the same
 decided_plain : (s : State) (v w : Option Why) (o p : Outcome) → v ≡ w → o ≡ plain_outcome p → decided (plain s) v o ≡ plain_outcome (decided s w p)
 decided_plain s v w o p tests comes = (λ i. decided (plain s) (tests i) (comes i)) ∙ by w
   where
@@ -210,7 +210,7 @@ take_comes s = ap (taken (plain s)) (find-map plain_ticket is_waiting (λ t. ref
 ended_plain : (s : State) (t : Ticket) → ended (plain s) (plain_ticket t) ≡ plain (ended s t)
 ended_plain s t = ap (λ ts. record (plain s) { tickets = ts }) (drop_first-map plain_ticket (is_ticket t.id) (λ t. refl) s.tickets)
 
--- the message by which an offer is carried out, or answered
+-- the message by which an offer is carried out or answered
 said_plain : (s : State) (t : Ticket) (links : List ℕ) → message_of s.te.links (next_number (plain s) t.peer) (plain_constraints t.constraints) links (plain_purpose t.purpose) ≡ plain_message (message_of s.te.links (next_number s t.peer) t.constraints links t.purpose)
 said_plain s t links =
     ap (λ srp. message_of s.te.links srp (plain_constraints t.constraints) links (plain_purpose t.purpose)) (next_plain s t.peer)

@@ -1,4 +1,4 @@
--- After each event, no message waits for a peer that is down, and it isn't synchronizing.
+-- After each event, a peer that is down has no message waiting for it, and isn't synchronizing.
 use Rattle.std.proofs.Common.{◌≡◌, ◌==◌, ◌&&◌, ◌||◌, ℕ, Bool, true, false, cond, not, List, [], ◌∷◌, find, refl, sym, filter, ap, subst}
 use Rattle.std.specs.Prelude.{Option, Some, None, All, option_map, unwrap_or, if◌then◌else◌}
 use Rattle.std.proofs.lemmas.Bool.{both_ways}
@@ -64,7 +64,7 @@ at n (q ∷ ps) all = by (is_peer n q) (at n ps (All-tail IsQuietIfDown q ps all
 if_up : (p : Peer) → p.up ≡ true → IsQuietIfDown p
 if_up p up = record { outgoing = λ down. absurd (both_ways p.up down up); syncing = λ down. absurd (both_ways p.up down up) }
 
--- ---- an event that sends the peer a message comes while it is up
+-- ---- an event that sends the peer a message only comes while the peer is up
 
 up_if_in_sync : (ps : List Peer) (n : ℕ) → must_be_in_sync ps n ≡ None → (peer_at ps n).up ≡ true
 up_if_in_sync ps n is = test_passes (peer_at ps n).up PeerDown (first_passes (unless (peer_at ps n).up PeerDown) _ (last_passes (must_be_known ps n) _ is))

@@ -1,4 +1,4 @@
--- The links of a route are there, and none stands twice.
+-- The links of a route exist, and no route has one twice.
 use Rattle.std.proofs.Common.{◌≡◌, ◌≢◌, ◌<◌, ◌==◌, ◌||◌, ℕ, zero, suc, Bool, true, false, not, nat_le, nat_lt, List, [], ◌∷◌, length, map, All, AllPairs, refl, sym, ◌∙◌, subst, arith, ◌&&◌, ◌+◌, ap}
 use Rattle.std.specs.Prelude.{Option, Some, None, slice_get, unwrap_or, if◌then◌else◌, option_map}
 use Rattle.std.specs.List.{list_any}

@@ -67,7 +67,7 @@ plain_message message = message
 abbrev pub plain_peer : Peer → Peer
 plain_peer p = record p { outgoing = map plain_message p.outgoing }
 
--- ---- states, events and what they come to
+-- ---- states, events and their results
 
 abbrev pub plain : State → State
 plain s = record s { base = plain_lsps s.base; peers = map plain_peer s.peers; tickets = map plain_ticket s.tickets }

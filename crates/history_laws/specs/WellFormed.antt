@@ -1,4 +1,4 @@
--- What a router engineer would ask of all that is known.
+-- What a router engineer would expect of all that is known.
 use Rattle.std.specs.Prelude.{◌≡◌, ◌≢◌, ◌<◌, true, false, List, [], length, All, AllPairs}
 use Rattle.te_base.specs.declared.network.Link.{Link}
 use Rattle.lsp_base.specs.Same.{is_reported}
@@ -21,7 +21,7 @@ pub record IsQuietIfDown (p : Peer) : Type 0 where
 abbrev pub IsNumbered : Path → Type 0
 IsNumbered x = is_reported x.part ≡ true → x.plsp ≢ 0
 
--- each link that the path takes is one of these, and the path has none twice
+-- each link that the path takes is one of these, and the path takes none twice
 pub record TakesLinksOnce (links : List Link) (x : Path) : Type 0 where
   pub there : All (λ l. l < length links) x.links
   pub once : AllPairs (λ l k. l ≢ k) x.links

@@ -1,4 +1,4 @@
--- To fold receipts changes no count, and leaves the job in hand.
+-- Folding receipts changes no count, and leaves the job in hand.
 use Rattle.std.proofs.Common.{◌≡◌, ℕ, Bool, true, false, refl, arith}
 use Rattle.std.specs.Prelude.{if◌then◌else◌}
 use Rattle.history_seats.specs.Receipts.{SeatContent, CountsSame, folded, tidy, are_past}

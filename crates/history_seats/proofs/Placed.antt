@@ -23,7 +23,7 @@ past_least floor (x ∷ xs) h = omega (arith, h.0, past_least (x + 1) xs h.1)
 other_none : (x p : ℕ) → x < p → cond {A = ℕ} (x == p) 1 0 ≡ 0
 other_none x p lt = grind (arith, nat_tests)
 
--- one past the last is none of them, and nothing above it is
+-- the place past the last isn't one of them, nor is any place above it
 none_past : (p floor : ℕ) (xs : List ℕ) → RiseFrom floor xs → past_last floor xs ≤ p → drawing.times p xs ≡ 0
 none_past p floor [] h le = refl
 none_past p floor (x ∷ xs) h le =
@@ -60,7 +60,7 @@ rises-map floor (r ∷ rs) h = (h.0, rises-map (r.place + 1) rs h.1)
 seat_rises : (s : SeatContent) → IsPlaced s → RisesFrom s.floor s.receipts
 seat_rises s h = rises-map s.floor s.receipts (rw (h.1.kept, h.1.floor_is) (rise-drop s.folded 0 s.places h.0))
 
--- a kept place stands in its receipts as often as in its places
+-- a kept place occurs in a seat's receipts as often as in its places
 seat_times : (d : Content) (s : SeatContent) (p : ℕ) → IsPlaced s → SeatAgrees d s → d.rolled ≤ p → times p s.receipts ≡ drawing.times p s.places
 seat_times d s p h agree le =
     let none = none_past p 0 (take s.folded s.places) (rise-take s.folded 0 s.places h.0) (omega (arith, sym h.1.floor_is, agree.0, le)) in
@@ -80,7 +80,7 @@ pub seats_rise : (seats : List SeatContent) → All IsPlaced seats → All (λ s
 seats_rise [] h = λ k d lt. absurd (omega (arith, lt))
 seats_rise (s ∷ ss) h = All-cons (λ (v : SeatContent). RisesFrom v.floor v.receipts) s ss (seat_rises s (All-head IsPlaced s ss h)) (seats_rise ss (All-tail IsPlaced s ss h))
 
--- each kept place stands in the receipts once
+-- each kept place occurs in the receipts once
 pub kept_once : (d : Content) (seats : List SeatContent) (p : ℕ) → All IsPlaced seats → AllAgree d seats → AllDistinct (steps_of d) seats → d.rolled ≤ p → times_in p seats ≡ once_below p (steps_of d)
 kept_once d seats p h agree distinct le = seats_times d seats p h agree le ∙ distinct p
 
@@ -152,11 +152,11 @@ placed_more k f rs new ps drawn r p h new_is drawn_is here =
       floor_is = h.floor_is ∙ ap (past_last 0) (sym (take-more k ps (r.place ∷ []) le));
     })
 
--- one more receipt, which counts as a grant or doesn't
+-- one more receipt, which counts exactly if it is of a grant
 pub granted_more : (rs new : List Receipt) (r : Receipt) (n : ℕ) → new ≡ rs ++ r ∷ [] → n ≡ (if is_grant r.brief then 1 else 0) → granted_in new ≡ granted_in rs + n
 granted_more rs new r n new_is n_is = rw (new_is, n_is) (omega (arith, sum_by-append (λ (q : Receipt). cond (is_grant q.brief) 1 0) rs (r ∷ [])))
 
--- another receipt in the place of one, neither of which is of a grant
+-- another receipt in the place of one; neither is of a grant
 pub granted_set : (rs new : List Receipt) (i : ℕ) (r d : Receipt) (n m : ℕ) → i < length rs → new ≡ set rs i r → n ≡ (if is_grant r.brief then 1 else 0) → m ≡ (if is_grant (get_or rs i d).brief then 1 else 0) → n + m ≤ 0 → granted_in new ≡ granted_in rs
 granted_set rs new i r d n m lt new_is n_is m_is none =
     rw new_is (omega (arith, n_is, m_is, none, sum_by-set (λ (q : Receipt). cond (is_grant q.brief) 1 0) rs i r d lt))
@@ -166,7 +166,7 @@ map-set [] i r d same = refl
 map-set (q ∷ rs) zero r d same = ap (λ (p : ℕ). p ∷ map (λ (q : Receipt). q.place) rs) same
 map-set (q ∷ rs) (suc i) r d same = ap (λ (ps : List ℕ). q.place ∷ ps) (map-set rs i r d same)
 
--- another receipt of the same place
+-- one receipt replaced by another of the same place
 pub placed_set : (k f : ℕ) (rs new : List Receipt) (ps : List ℕ) (i : ℕ) (r d : Receipt) → Placed k f rs ps → new ≡ set rs i r → r.place ≡ (get_or rs i d).place → Placed k f new ps
 placed_set k f rs new ps i r d h new_is same =
     rw new_is (record {
@@ -175,7 +175,7 @@ placed_set k f rs new ps i r d h new_is same =
       floor_is = h.floor_is;
     })
 
--- what holds of all holds of those in front
+-- what holds of all holds of those in the first list
 pub front : {X : Type 0} (P : X → Type 0) (xs ys : List X) → All P (xs ++ ys) → All P xs
 front P [] ys a = λ k d lt. absurd (omega (arith, lt))
 front P (x ∷ xs) ys a = All-cons P x xs (All-head P x (xs ++ ys) a) (front P xs ys (All-tail P x (xs ++ ys) a))

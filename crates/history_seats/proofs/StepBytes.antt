@@ -1,4 +1,4 @@
--- The bytes of the kept steps: of none, of one more, and after a roll.
+-- The bytes of the kept steps: of no steps, after one more, and after a roll.
 use Rattle.std.proofs.Common.{◌≡◌, ℕ, ◌+◌, ◌-◌, ◌^◌, min, [], refl, arith}
 use Rattle.std.proofs.lemmas.List.Sums.{sum_by_push}
 use Rattle.te_base.specs.Ted.{Ted}

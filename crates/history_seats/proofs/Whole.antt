@@ -1,4 +1,4 @@
--- Where receipts agree and each kept place has one, there are as many of rolled places as were rolled.
+-- If the receipts agree and each kept place has one, then as many receipts are of rolled places as steps were rolled.
 use Rattle.std.proofs.Common.{◌≡◌, ◌⊎◌, inl, inr, ℕ, zero, suc, ◌+◌, ◌-◌, ◌<◌, ◌≤◌, ◌==◌, nat_lt, Bool, true, false, List, [], ◌∷◌, length, All, sum_by, refl, sym, ap, ◌∙◌, arith}
 use mathlib.Core.Bool.{cond}
 use Rattle.std.proofs.lemmas.Bool.Decides.{nat_tests}
@@ -33,7 +33,7 @@ unfolding below
 below-ones f zero e = refl
 below-ones f (suc n) e = omega (arith, below-ones f n (λ p lt. e p (omega (arith, lt))), e n (omega arith))
 
--- one where the place is this one, p past the rolled ones
+-- 1 if the place is this one, p past the rolled ones, else 0
 is_at : ℕ → ℕ → ℕ → ℕ
 is_at q k p = cond (q == k + p) 1 0
 
@@ -116,11 +116,11 @@ one_each n d seats a place le lt =
     let once = a.once (d.rolled + p) (omega arith) in
     rw (sym here) (omega (arith, least, once, below-seats d seats a.agree, a.steps, a.late))
 
--- where each kept step has one receipt, the others are as many as were rolled
+-- if each kept step has one receipt, the other receipts are as many as the rolled steps
 pub late_same : (d : Content) (seats : List SeatContent) → AllAgree d seats → steps_received seats ≡ steps_of d → ((p : ℕ) → p < length d.history → times_in (d.rolled + p) seats ≡ 1) → late_received d.rolled seats ≡ d.rolled
 late_same d seats agree summed ones = omega (arith, below-seats d seats agree, summed, below-ones (λ p. times_in (d.rolled + p) seats) (length d.history) ones)
 
--- where the receipts agree, the seats' places leave nothing that could fail
+-- if the receipts agree, no test of the seats' places fails
 pub all_placed : (d : Content) (seats : List SeatContent) → steps_received seats ≡ steps_of d → AllDistinct (steps_of d) seats → All IsPlaced seats → AllAgree d seats → AllOnce d seats × (late_received d.rolled seats ≡ d.rolled) × AllRise seats
 all_placed d seats summed distinct placed agree = (
   (λ place le. omega (arith, kept_once d seats place placed agree distinct le, once_le place (steps_of d))),
@@ -128,6 +128,6 @@ all_placed d seats summed distinct placed agree = (
   seats_rise seats placed,
 )
 
--- each step that ever was, was received by one seat, once
+-- each step that was ever taken was received by one seat, once
 pub received_once : (n : ℕ) (d : Content) (seats : List SeatContent) → IsAudited n d seats → (place : ℕ) → place < steps_of d → sum_by (λ s. drawing.times place s.places) seats ≡ 1
 received_once n d seats a place lt = a.distinct place ∙ once_is place (steps_of d) lt

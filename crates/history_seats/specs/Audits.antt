@@ -34,7 +34,7 @@ late rolled receipts = count_by (λ r. nat_lt r.place rolled) receipts
 
 -- ---- one seat
 
--- its folded places are rolled, and its receipts agree
+-- the places that it folded are rolled, and its receipts agree
 abbrev pub SeatAgrees : Content → SeatContent → Type 0
 SeatAgrees d s = (s.floor ≤ d.rolled) × All (Agrees d) s.receipts
 
@@ -69,15 +69,15 @@ AllOnce d seats = (place : ℕ) → d.rolled ≤ place → times_in place seats 
 abbrev pub AllRise : List SeatContent → Type 0
 AllRise seats = All (λ s. RisesFrom s.floor s.receipts) seats
 
--- each step was received by one of them, once, and no other place to any
+-- each step was received by exactly one of them, once, and none received another place
 abbrev pub AllDistinct : ℕ → List SeatContent → Type 0
 AllDistinct steps seats = (place : ℕ) → sum_by (λ s. drawing.times place s.places) seats ≡ once_below place steps
 
 -- ---- the audit
 
--- All n seats are here, and they received as many steps and grants as there were; each step that ever was, rolled or
--- kept, was received by exactly one of them, once, and the places of each rise; each receipt of a kept step agrees with
--- it, none occurs twice, and there are as many receipts of rolled places as steps were rolled
+-- All n seats are here, and together they received as many steps and grants as there were. Each step that was ever
+-- taken, rolled or kept, was received by exactly one of them, once, and the places of each rise. Each receipt of a kept
+-- step agrees with it, none occurs twice, and there are as many receipts of rolled places as steps were rolled.
 pub record IsAudited (n : ℕ) (d : Content) (seats : List SeatContent) : Type 0 where
   pub all : length seats ≡ n
   pub steps : steps_received seats ≡ steps_of d
@@ -89,7 +89,8 @@ pub record IsAudited (n : ℕ) (d : Content) (seats : List SeatContent) : Type 0
   pub distinct : AllDistinct (steps_of d) seats
   pub rising : All (λ s. RiseFrom 0 s.places) seats
 
--- The first test that fails. If all seats are here, the sums never differ, no place occurs twice, and none falls.
+-- The first test that fails. If all seats are here, the sums never differ, no place occurs twice, and the places of
+-- each seat rise.
 abbrev pub Fails : ℕ → Content → List SeatContent → AuditFault → Type 0
 Fails n d seats SeatMissing = length seats ≢ n
 Fails n d seats StepsDiffer = ⊥

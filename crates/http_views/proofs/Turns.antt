@@ -1,4 +1,4 @@
--- Calls after calls.
+-- Calls that follow calls.
 use Rattle.std.proofs.Common.{ℕ, List, [], ◌++◌, refl}
 use Rattle.http.specs.declared.request.Request.{Request}
 use Rattle.http_server.specs.declared.response.Response.{Response}

@@ -1,4 +1,4 @@
--- What a request is answered.
+-- How a request is answered.
 use Rattle.std.specs.Prelude.{◌≡◌, ℕ, List, [], ◌∷◌, ◌++◌, codes}
 use Rattle.http1.specs.Fields.{Header}
 use Rattle.http_server.specs.declared.response.Response.{Response}
@@ -19,12 +19,12 @@ metrics_kind = codes "text/plain; version=0.0.4; charset=utf-8"
 abbrev pub plain_kind : List ℕ
 plain_kind = codes "text/plain"
 
--- a text of a kind, which nobody keeps or takes for another kind
+-- the fields of a text of this kind, which no cache keeps and no browser takes for another kind
 abbrev pub text_fields : List ℕ → List Header
 text_fields kind =
     (codes "content-type", kind) ∷ (codes "cache-control", codes "no-store") ∷ (codes "x-content-type-options", codes "nosniff") ∷ []
 
--- a page, which loads nothing from elsewhere
+-- the fields of a page, which loads nothing from elsewhere
 abbrev pub html_fields : List Header
 html_fields =
     text_fields (codes "text/html; charset=utf-8")
@@ -33,8 +33,8 @@ html_fields =
 abbrev pub method_fields : List Header
 method_fields = text_fields plain_kind ++ (codes "allow", codes "GET, HEAD") ∷ []
 
--- What was asked is answered by the page, by the places, or by what the source gives for it. The source was in the first state, and
--- is left in the second: as it was if it gave nothing.
+-- What was asked is answered by the page, by the places, or by what the source gives for it. The source was in the
+-- first state and is left in the second; if it gave nothing, it is left as it was.
 abbrev pub Answers : {S : Type 0} → (S → Ask → List ℕ → S → Type 0) → (S → List ℕ → S → Type 0) → List ℕ → List ℕ → S → Asked → Response → S → Type 0
 Answers is_document is_metrics page places old Page r new = (new ≡ old) × IsResponse 200 html_fields page r
 Answers is_document is_metrics page places old Places r new = (new ≡ old) × IsResponse 200 (text_fields json_kind) places r

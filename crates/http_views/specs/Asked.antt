@@ -27,11 +27,11 @@ wrong_text wrong.Setup = codes "bad setup\n"
 wrong_text wrong.Hold = codes "bad hold\n"
 wrong_text wrong.Number = codes "bad number\n"
 
--- at a path that takes no query
+-- what is asked at a path that takes no query
 abbrev pub alone : List ℕ → Asked → Asked
 alone query a = if length query == 0 then a else asked.Wrong wrong.Query
 
--- of all peers and from the first on, if nothing else is given
+-- the page of these LSPs; by default, of all peers and from the first on
 abbrev pub page_of : LspsQuery → PeerPage
 page_of query = record { peer = query.peer; from = unwrap_or query.from 0 }
 
@@ -59,7 +59,7 @@ link_given (Err w) = asked.Wrong w
 abbrev pub link_asked : List ℕ → Asked
 link_asked query = link_given (link_query query)
 
--- a path, for a bandwidth between two addresses; a priority that isn't given is the lowest
+-- a path for a bandwidth between two addresses; the lowest priority if none is given
 abbrev pub path_with : Option ℕ → Option ℕ → Option ℕ → ℕ → ℕ → Asked
 path_with None to bandwidth setup hold = asked.Wrong wrong.From
 path_with (Some from) None bandwidth setup hold = asked.Wrong wrong.To
@@ -76,7 +76,7 @@ path_given (Err w) = asked.Wrong w
 abbrev pub path_asked : List ℕ → Asked
 path_asked query = path_given (path_query query)
 
--- at a path with a query
+-- what is asked at a path with a query
 unfoldable pub asked_at : List ℕ → List ℕ → Asked
 asked_at path query =
     if bytes_eq path (codes "/") then alone query Page
@@ -95,12 +95,12 @@ asked_at path query =
 abbrev pub only_reads : List ℕ → Bool
 only_reads method = bytes_eq method (codes "GET") || bytes_eq method (codes "HEAD")
 
--- what is there is only read
+-- what exists may only be read
 abbrev pub allowed : List ℕ → Asked → Asked
 allowed method NotFound = NotFound
 allowed method a = if only_reads method then a else NotAllowed
 
--- what a request asks for, where it names this server by an address
+-- what a request asks for, if it names this server by an address
 abbrev pub asked_of : List ℕ → List ℕ → List ℕ → Asked
 asked_of method path query = allowed method (asked_at path query)
 

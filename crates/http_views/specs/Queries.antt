@@ -14,7 +14,7 @@ use Rattle.http_views.specs.declared.query.Wrong.TheVariants as wrong
 abbrev pub parts : List ℕ → List (List ℕ)
 parts query = slice_split (λ b. b == 38) query
 
--- a value that is good and the first under its name
+-- a valid value that is the first under its name
 abbrev pub once : {A : Type 0} → Option A → Option A → Wrong → Result (Option A) Wrong
 once None (Some value) w = Ok (Some value)
 once None None w = Err w
@@ -24,7 +24,7 @@ abbrev pub result_map : {A B : Type 0} → (A → B) → Result A Wrong → Resu
 result_map f (Ok x) = Ok (f x)
 result_map f (Err w) = Err w
 
--- a part `NAME=VALUE`; an empty part gives nothing
+-- the query with a part `NAME=VALUE`; an empty part gives nothing
 abbrev pub with_field : {A : Type 0} → (List ℕ → List ℕ → Result A Wrong) → Option (List ℕ × List ℕ) → Result A Wrong
 with_field f None = Err wrong.Query
 with_field f (Some field) = f field.0 field.1

@@ -1,4 +1,4 @@
--- What turns come to together.
+-- What several turns do together.
 use Rattle.std.specs.Prelude.{ℕ, List}
 use Rattle.http.specs.declared.request.Request.{Request}
 use Rattle.http_server.specs.declared.response.Response.{Response}

@@ -1,4 +1,4 @@
-//! What a request asks for, by its host, its method, its path and its query.
+//! What a request asks for, given its host, its method, its path and its query.
 ghost use Rattle.std.specs.Prelude.{◌≡◌, ◌||◌, bytes_eq, codes};
 ghost use Rattle.http_views.specs.Asked.{allowed, alone, asked_at, asked_by, asked_of, grants_asked, link_asked, lsps_asked, only_reads, page_of, path_asked, path_of_query, wrong_text};
 
@@ -21,7 +21,7 @@ pub enum Asked {
     Places,
     /// The JSON document of what one look sees.
     Document(Ask),
-    /// Nothing: the request is wrong in this.
+    /// Nothing: this is wrong with the request.
     Wrong(Wrong),
     /// There is nothing at this path.
     NotFound,
@@ -30,7 +30,7 @@ pub enum Asked {
 }
 
 impl Wrong {
-    /// What the client is answered.
+    /// Returns what the client is answered.
     pub fn text(self) -> &'static str
         ensures { result.now ≡ wrong_text self }
     {
@@ -48,7 +48,7 @@ impl Wrong {
     }
 }
 
-/// What is asked for at a path that takes no query.
+/// Returns what is asked for at a path that takes no query.
 fn alone(query: &str, asked: Asked) -> Asked
     ensures { result ≡ alone query.now asked }
 {
@@ -59,7 +59,7 @@ fn alone(query: &str, asked: Asked) -> Asked
     }
 }
 
-/// Gives the first page, from the place that is given on, of the peer that is given.
+/// Returns the first page, from the given place on, of the given peer.
 fn page_of(given: LspsQuery) -> PeerPage
     ensures { result ≡ page_of given }
 {
@@ -69,7 +69,7 @@ fn page_of(given: LspsQuery) -> PeerPage
     }
 }
 
-/// What is asked for by the query of a page of LSPs.
+/// Returns what the query of a page of LSPs asks for.
 fn lsps_asked(query: &str) -> Asked
     ensures { result ≡ lsps_asked query.now }
 {
@@ -79,7 +79,7 @@ fn lsps_asked(query: &str) -> Asked
     }
 }
 
-/// What is asked for by the query of a page of grants.
+/// Returns what the query of a page of grants asks for.
 fn grants_asked(query: &str) -> Asked
     ensures { result ≡ grants_asked query.now }
 {
@@ -89,7 +89,7 @@ fn grants_asked(query: &str) -> Asked
     }
 }
 
-/// What is asked for by the query of a link.
+/// Returns what the query of a link asks for.
 fn link_asked(query: &str) -> Asked
     ensures { result ≡ link_asked query.now }
 {
@@ -100,7 +100,7 @@ fn link_asked(query: &str) -> Asked
     }
 }
 
-/// The path that a query asks for. A priority that isn't given is the lowest, 7.
+/// Returns the path that a query asks for. The priority is the lowest, 7, if none is given.
 #[tactic(auto, unfolding(crate::specs::Asked::path_of_query))]
 fn path_of_query(query: PathQuery) -> Asked
     ensures { result ≡ path_of_query query }
@@ -134,7 +134,7 @@ fn path_asked(query: &str) -> Asked
     }
 }
 
-/// What is asked for at a path with a query.
+/// Returns what is asked for at a path with a query.
 #[tactic(auto, unfolding(crate::specs::Asked::asked_at))]
 fn asked_at(path: &str, query: &str) -> Asked
     ensures { result ≡ asked_at path.now query.now }
@@ -161,7 +161,7 @@ fn only_reads(method: &str) -> bool
     method == "GET" || method == "HEAD"
 }
 
-/// What is asked for by this method.
+/// Returns what is asked for by this method.
 fn allowed(method: &str, asked: Asked) -> Asked
     ensures { result ≡ allowed method.now asked }
 {
@@ -172,7 +172,7 @@ fn allowed(method: &str, asked: Asked) -> Asked
     }
 }
 
-/// What a request asks for.
+/// Returns what a request asks for.
 pub fn asked_by(request: &Request<Bytes>) -> Asked
     ensures { result ≡ asked_by request.now }
 {

@@ -17,13 +17,13 @@ use std::os::fd::AsRawFd;
 use std::sync::Wait;
 use std::time::Duration;
 
-/// The greatest number of connections that live at once.
+/// The most connections that are open at once.
 pub const AT_ONCE: usize = 8;
 
-/// The time after which a connection ends of which no byte of an answer goes out, in milliseconds.
+/// The time after which a connection ends if no byte of an answer goes out, in milliseconds.
 pub const IDLE_MS: u64 = 10_000;
 
-/// The time between two looks at whether the run is over, in milliseconds.
+/// The time between two checks whether the run is over, in milliseconds.
 const WATCH_MS: u64 = 100;
 
 /// Heads are short, no request has a body, and one answer at a time is pending.
@@ -38,17 +38,17 @@ const CONFIG: Config = Config {
     read_size: 2048,
 };
 
-/// What the thread knows of its run.
+/// What the thread knows about its run.
 pub trait Watch {
     ghost use Rattle.std.specs.Prelude.{◌≡◌, true, ⊤};
 
     /// The run may be over.
     ghost may_end: { Self → Type 0 } = { λ _. ⊤ };
 
-    /// Milliseconds since some moment.
+    /// Returns milliseconds since some moment.
     fn now_ms(&self) -> u64;
 
-    /// Whether no more is to be served.
+    /// Tests whether no more should be served.
     fn is_over(&self) -> bool
         ensures { result ≡ true → may_end self.now };
 }
@@ -57,7 +57,7 @@ pub trait Watch {
 struct Client {
     stream: TcpStream,
     connection: Connection,
-    /// When bytes of an answer went out last, or else when it came.
+    /// When bytes of an answer last went out, or else when the connection came.
     served_ms: u64,
 }
 
@@ -79,14 +79,14 @@ impl Client {
     }
 }
 
-/// Who came while all slots were taken.
+/// A client that came while all slots were taken.
 #[derive(Drop)]
 struct Newcomer {
     stream: TcpStream,
     came_ms: u64,
 }
 
-/// The connections that live, each in a slot, and one that waits for a slot.
+/// The connections that are open, each in a slot, and one that waits for a slot.
 #[derive(Drop)]
 struct Clients {
     alloc: Global,
@@ -130,7 +130,7 @@ impl Clients {
         })
     }
 
-    /// Gives the slot to a connection, in place of whoever has it.
+    /// Gives the slot to a connection, in place of the one that has it.
     fn place(&mut self, at: usize, stream: TcpStream, now_ms: u64) -> io::Result<()> {
         stream.set_nonblocking(true)?;
         stream.set_nodelay(true)?;
@@ -150,8 +150,8 @@ impl Clients {
         Ok(())
     }
 
-    /// The slot for a connection that came then: a free one, or else that of the client who is idle longest, once
-    /// either has waited for a second.
+    /// Returns the slot for a connection that came at that moment: a free one, or else that of the client who has been
+    /// idle longest, once either has waited for a second.
     fn slot_for(&self, came_ms: u64, now_ms: u64) -> Option<usize> {
         if let Some(at) = self.slots.iter().position(|slot| slot.is_none()) {
             return Some(at);
@@ -165,7 +165,7 @@ impl Clients {
         who_goes(&since_ms, came_ms, now_ms)
     }
 
-    /// Takes a connection that waits, if there is one.
+    /// Accepts a connection that waits, if there is one.
     fn meet(&mut self, listener: &TcpListener, now_ms: u64) {
         if self.newcomer.is_none() {
             if let Ok((stream, _address)) = listener.accept() {
@@ -177,7 +177,7 @@ impl Clients {
         }
     }
 
-    /// Takes one connection, if one waits, and a slot is free or becomes free for it. Says whether it did.
+    /// Accepts one connection, if one waits, and a slot is free or becomes free for it. Returns whether it did.
     fn accept(&mut self, listener: &TcpListener, now_ms: u64) -> bool {
         self.meet(listener, now_ms);
         let Some(newcomer) = self.newcomer.take() else {
@@ -192,7 +192,7 @@ impl Clients {
         }
     }
 
-    /// Takes a turn of each connection. Says whether one moved.
+    /// Takes a turn of each connection. Returns whether one moved.
     fn serve<S: Service>(&mut self, service: &mut S, now_ms: u64) -> bool
         ensures { Leads S.answers service.old service.new }
     {
@@ -222,8 +222,8 @@ impl Clients {
     }
 }
 
-/// Serves connections from one service until the run is over. A connection that fails ends alone; the error is one of the listener or of
-/// what waits for them all.
+/// Serves connections from one service until the run is over. A connection that fails ends only itself; the error is
+/// one of the listener, or of the wait for all connections.
 pub fn serve_views<R: Net<Listener = TcpListener, Stream = TcpStream> + Wait, S: Service, W: Watch>(
     rt: &R,
     alloc: Global,

@@ -1,5 +1,5 @@
-//! Whether a request names this server by an address. A name that another's DNS resolves to this machine is refused, so
-//! that no page from elsewhere reads what is shown here.
+//! Tests whether a request names this server by an address. A name that another's DNS resolves to this machine is
+//! refused, so that no page from elsewhere reads what is shown here.
 ghost use Rattle.std.specs.Prelude.{◌≡◌, ◌==◌, None, option_copied, slice_index};
 ghost use Rattle.http_header.specs.HeaderMap.{get};
 ghost use Rattle.std.specs.Prelude.{codes};
@@ -9,7 +9,7 @@ use crate::words::cut_at_colon;
 use http::{HeaderMap, HeaderValue, Uri, header};
 use pcep_word::Ipv4;
 
-/// What stands before the port.
+/// Returns the part before the port.
 fn host_name(host: &str) -> &str
     ensures { result.now ≡ host_name host.now }
 {
@@ -19,7 +19,7 @@ fn host_name(host: &str) -> &str
     }
 }
 
-/// Whether it is this name, in any case of letters.
+/// Tests whether the name is `localhost`, in upper or lower case.
 fn is_localhost(name: &str) -> bool
     ensures { result ≡ is_localhost name.now }
 {
@@ -41,7 +41,8 @@ fn is_bracketed(host: &[u8]) -> bool
     }
 }
 
-/// An address of IPv6 in brackets, as the connection has seen to, or a name of this machine.
+/// Tests whether the host is an IPv6 address in brackets, whose form the connection has checked, or a name of this
+/// machine.
 fn is_own_host(host: &str) -> bool
     ensures { result ≡ is_own_host host.now }
 {
@@ -57,7 +58,7 @@ fn is_own_value(value: &HeaderValue) -> bool
     }
 }
 
-/// Whether the header fields name this server by an address, or as `localhost`.
+/// Tests whether the header fields name this server by an address, or as `localhost`.
 fn is_own_field(headers: &HeaderMap<HeaderValue>) -> bool
     ensures { result ≡ is_own_of None headers.now }
 {
@@ -67,7 +68,8 @@ fn is_own_field(headers: &HeaderMap<HeaderValue>) -> bool
     }
 }
 
-/// Whether the request names this server by an address, or as `localhost`: in its target, or else in its header fields.
+/// Tests whether the request names this server by an address, or as `localhost`: in its target, or else in its header
+/// fields.
 pub(crate) fn is_own(target: &Uri, headers: &HeaderMap<HeaderValue>) -> bool
     ensures { result ≡ is_own target.now headers.now }
 {

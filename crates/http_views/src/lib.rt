@@ -1,10 +1,9 @@
 //! HTTP for viewers of a running server: what a request asks for, the service that answers it, and a loop that serves a
 //! few connections on one thread. No request changes anything.
 //!
-//! `asked_by` reads a request: its host, method, path and query (`specs/Asked.antt`). `ViewService` answers from a
-//! `ViewSource`, which says what a document and what metrics are, each request by one call (`specs/Answers.antt`);
-//! `http_server` has what of an answer is sent. `serve_views` moves the bytes; that sockets deliver is shown by tests
-//! alone.
+//! `asked_by` reads a request: its host, method, path and query (`specs/Asked.antt`). `ViewService` answers each
+//! request by one call of a `ViewSource`, which says what documents and metrics are (`specs/Answers.antt`);
+//! `http_server` says what is sent of an answer. `serve_views` moves the bytes; only tests show that sockets deliver.
 //!
 //! The modules, lowest first: `words` (numbers and addresses in a query), `query`, `asked` (paths and methods), `host`,
 //! `source`, `service`, `turn` (a turn of one connection), `clients` (the connections), `page`.

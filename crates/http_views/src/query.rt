@@ -6,12 +6,12 @@ use crate::words::cut_at_equals;
 use asks::{bandwidth_in, long_number_in, priority_in};
 use pcep_word::{Bandwidth, Ipv4, Priority};
 
-/// What is wrong in a request. `text` has the words.
+/// What is wrong with a request. `text` has the words.
 #[derive(Clone, Copy, PartialEq, Eq, Debug)]
 pub enum Wrong {
     /// The host is neither an address nor `localhost`.
     Host,
-    /// A part of the query has no name that is known here.
+    /// A part of the query has no known name.
     Query,
     Peer,
     From,
@@ -39,7 +39,7 @@ pub(crate) struct PathQuery {
     pub hold: Option<Priority>,
 }
 
-/// A value that is good and the first under its name.
+/// Returns a valid value that is the first under its name.
 fn once<T: Copy>(had: Option<T>, value: Option<T>, wrong: Wrong) -> Result<Option<T>, Wrong>
     ensures { result ≡ once had value wrong }
 {
@@ -79,7 +79,7 @@ fn with_lsps_part(so_far: Result<LspsQuery, Wrong>, part: &str) -> Result<LspsQu
     }
 }
 
-/// What the query of a page of LSPs gives: `peer` and `from`, each once at most.
+/// Reads the query of a page of LSPs: `peer` and `from`, each at most once.
 pub(crate) fn lsps_query(query: &str) -> Result<LspsQuery, Wrong>
     ensures { result ≡ lsps_query query.now }
 {
@@ -134,7 +134,7 @@ fn with_path_part(so_far: Result<PathQuery, Wrong>, part: &str) -> Result<PathQu
     }
 }
 
-/// What the query of a path gives: `from`, `to`, `bandwidth`, `setup` and `hold`, each once at most.
+/// Reads the query of a path: `from`, `to`, `bandwidth`, `setup` and `hold`, each at most once.
 pub(crate) fn path_query(query: &str) -> Result<PathQuery, Wrong>
     ensures { result ≡ path_query query.now }
 {
@@ -173,7 +173,7 @@ fn with_link_part(so_far: Result<Option<u64>, Wrong>, part: &str) -> Result<Opti
     }
 }
 
-/// What the query of a link gives: `number`, once at most.
+/// Reads the query of a link: `number`, at most once.
 pub(crate) fn link_query(query: &str) -> Result<Option<u64>, Wrong>
     ensures { result ≡ link_query query.now }
 {

@@ -1,4 +1,5 @@
-//! The service: each request is answered by one call of the source, which knows what it has shown so far. Nothing else changes.
+//! The service: one call of the source answers each request, and the source knows what it has shown so far. Nothing
+//! else changes.
 ghost use Rattle.std.specs.Prelude.{◌≡◌, [], codes, OnOk, OnErr};
 ghost use Rattle.http_server.specs.Response.{IsBlank, IsResponse, fields_of};
 ghost use Rattle.http_views.specs.Answers.{Answers, html_fields, json_kind, method_fields, metrics_kind, plain_kind, text_fields};
@@ -11,7 +12,7 @@ use http::{HeaderValue, Request, StatusCode, header};
 use http_server::{Response, Service};
 use std::alloc::{AllocError, Global};
 
-/// What the page may do: nothing from elsewhere, and nothing with a form.
+/// What the page may do: load nothing from elsewhere, and use no forms.
 const PAGE_POLICY: &str =
     "default-src 'none'; script-src 'unsafe-inline'; style-src 'unsafe-inline'; connect-src 'self'; base-uri 'none'; form-action 'none'; frame-ancestors 'none'";
 
@@ -22,11 +23,11 @@ pub struct ViewService<'a, S: ViewSource> {
     pub source: S,
     /// The page that draws the network.
     pub page: &'static str,
-    /// The JSON document of where nodes are on a map.
+    /// The JSON document that says where nodes are on a map.
     pub places: &'a [u8],
 }
 
-/// Says of what kind a text is, and that nobody keeps it or takes it for another kind.
+/// Sets the kind of a text, and that no cache keeps it and no browser takes it for another kind.
 fn add_kind(response: &mut Response, kind: HeaderValue) -> Result<(), AllocError>
     requires { fields_of response.old ≡ [] }
     ensures headers { OnOk result (fields_of response.new ≡ text_fields kind.bytes) }
@@ -41,7 +42,7 @@ fn add_kind(response: &mut Response, kind: HeaderValue) -> Result<(), AllocError
     )
 }
 
-/// Gives a text as the body.
+/// Sets a text as the body.
 fn give(response: &mut Response, kind: HeaderValue, text: Vec<u8>) -> Result<(), AllocError>
     requires { IsBlank response.old }
     ensures { OnOk result (IsResponse 200 (text_fields kind.bytes) text.items response.new) }
@@ -54,7 +55,7 @@ fn give(response: &mut Response, kind: HeaderValue, text: Vec<u8>) -> Result<(),
     response.body.push(body)
 }
 
-/// Answers by a JSON document.
+/// Answers with a JSON document.
 pub fn give_document(response: &mut Response, text: Vec<u8>) -> Result<(), AllocError>
     requires { IsBlank response.old }
     ensures { OnOk result (IsResponse 200 (text_fields json_kind) text.items response.new) }
@@ -62,7 +63,7 @@ pub fn give_document(response: &mut Response, text: Vec<u8>) -> Result<(), Alloc
     give(response, HeaderValue::from_static("application/json"), text)
 }
 
-/// Answers by numbers for a scraper.
+/// Answers with numbers for a scraper.
 pub fn give_metrics(response: &mut Response, text: Vec<u8>) -> Result<(), AllocError>
     requires { IsBlank response.old }
     ensures { OnOk result (IsResponse 200 (text_fields metrics_kind) text.items response.new) }
@@ -89,7 +90,7 @@ fn give_page(response: &mut Response, page: &'static str) -> Result<(), AllocErr
     response.body.push(Bytes::from_static(page.as_bytes()))
 }
 
-/// Refuses by a status and a line of words.
+/// Refuses with a status and a line of words.
 fn refuse(response: &mut Response, status: StatusCode, words: &str) -> Result<(), AllocError>
     requires { IsBlank response.old }
     ensures { OnOk result (IsResponse status (text_fields plain_kind) words.now response.new) }

@@ -1,4 +1,4 @@
-//! A turn of one connection, which waits for nothing.
+//! A turn of one connection, which never waits.
 ghost use Rattle.std.specs.Prelude.{◌≡◌};
 ghost use Rattle.http_server.specs.Connection.{history};
 ghost use Rattle.http_server.specs.Exchange.{Calls};
@@ -6,7 +6,7 @@ ghost use Rattle.http_server.specs.Exchange.{Calls};
 use http_server::{Connection, Service};
 use std::io::{ErrorKind, Read, Write};
 
-/// What a turn came to.
+/// The result of a turn.
 #[derive(Clone, Copy, PartialEq, Eq, Debug)]
 pub enum Turn {
     /// Bytes of an answer went out.

@@ -51,7 +51,7 @@ asked = record {
   local_protection = true;
 }
 
--- by their remote addresses
+-- a route is given by the links' remote addresses
 route : hops_over links (2 ∷ 3 ∷ []) ≡ Host 0x0a030002 false ∷ Host 0x0a040002 false ∷ []
 route = refl
 
@@ -108,7 +108,7 @@ removal_awaited = refl
 grant_awaited : may_be_deleted (known held (grant 5 ∷ [])) 1 5 ≡ Some Pending
 grant_awaited = refl
 
--- a grant that isn't bound is of no LSP yet
+-- a grant that isn't bound belongs to no LSP yet
 unbound_beside : may_be_deleted (known held (grant 0 ∷ [])) 1 5 ≡ None
 unbound_beside = refl
 

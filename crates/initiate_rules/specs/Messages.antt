@@ -23,11 +23,11 @@ hop_over (Some link) = Host link.remote false ∷ []
 abbrev pub hops_over : List Link → List ℕ → List Hop
 hops_over links numbers = flat_map (λ n. hop_over (slice_get links n)) numbers
 
--- with or without local protection (flag L of LSPA)
+-- the attributes, with or without local protection (flag L of LSPA)
 abbrev pub attributes_of : Constraints → Bool → Attributes
 attributes_of c protected = record { colours = c.colours; priorities = c.priorities; local_protection = protected }
 
--- an update that carries out a grant keeps the delegation and local protection, and has the LSP active
+-- an update that carries out a grant keeps the delegation and local protection, and makes the LSP active
 unfoldable pub update_message : List Link → ℕ → ℕ → Constraints → List ℕ → Message
 update_message links srp plsp c numbers = messages.Update (record {
   srp = srp;
@@ -51,7 +51,7 @@ return_message srp plsp = messages.Update (record {
   bandwidth = None;
 })
 
--- what is initiated has both ends, and no local protection; an end that isn't given would be written as 0.0.0.0
+-- an initiation has both ends and no local protection; a missing end would be written as 0.0.0.0
 unfoldable pub initiate_message : List Link → ℕ → List ℕ → Constraints → List ℕ → Message
 initiate_message links srp name c numbers = messages.Initiate (initiates.Create (record {
   srp = srp;
@@ -68,7 +68,7 @@ delete_message srp plsp = messages.Initiate (initiates.Remove srp plsp)
 
 -- ---- what a path request is answered
 
--- a path, and its cost by the metric that it was to minimise
+-- a path, and its cost by the metric that was to be minimised
 unfoldable pub answer_message : List Link → ℕ → MetricType → ℕ → List ℕ → Message
 answer_message links request minimise cost numbers = messages.Reply (record {
   request = request;

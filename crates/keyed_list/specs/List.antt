@@ -1,4 +1,4 @@
--- A list with its capacity, and where a test of its items fails.
+-- A list with its capacity, and the places at which a test of its items fails.
 use Rattle.std.specs.Prelude.{ℕ, ◌≡◌, ◌<◌, ◌≤◌, ◌⊎◌, Bool, true, false, List, slice_index_or}
 
 -- what a contract sees of a list: the items in order, and the capacity

@@ -15,11 +15,11 @@ use Rattle.link_reload.specs.declared.entry.LinkReload.{LinkReload}
 abbrev pub must_have_links : Ted → List LinkReload → Option Why
 must_have_links te entries = unless (list_all (λ e. nat_lt e.link (length te.links)) entries) UnknownLink
 
--- one entry after the other: if there are several for one link the last counts
+-- one entry after the other: if there are several for one link, the last one counts
 abbrev pub with_entries : Ted → List LinkReload → Ted
 with_entries te [] = te
 with_entries te (e ∷ es) = with_entries (with_link_values te e.link e.values) es
 
--- the book is of the network as it is
+-- the book is over the network as it is
 abbrev pub IsBookOf : Ted → Book → Type 0
 IsBookOf te book = books.network_of book ≡ network_of te

@@ -1,5 +1,4 @@
--- Of each LSP at most one record stands, and a change of one peer's records leaves what is known of other
--- peers' LSPs.
+-- Each LSP has at most one record, and a change of one peer's records leaves what is known of other peers' LSPs.
 use Rattle.std.proofs.Common.{◌≡◌, ◌≤◌, ◌==◌, ◌&&◌, ℕ, ◌-◌, Bool, true, false, cond, List, [], ◌∷◌, ◌++◌, length, take, drop, filter, find, option_map, Option, Some, None, refl, sym, ◌∙◌, ap, arith, length-append}
 use Rattle.std.proofs.lemmas.Bool.{and_parts, eqb-true, eqb-false, ne_eqb, both_ways, false_from_ne_true, and_left}
 use Rattle.std.proofs.lemmas.List.{take-append-drop}
@@ -11,7 +10,7 @@ use Rattle.lsp_base.specs.declared.effect.Record.{Record}
 use Rattle.lsp_base.specs.declared.effect.RecordChange.{RecordChange}
 use Rattle.lsp_base.proofs.Swapped.{filter-last_in_front}
 
--- ---- the first that passes, where at most one does
+-- ---- the first that passes, if at most one does
 
 or_else : {X : Type 0} → Option X → Option X → Option X
 or_else (Some x) o = Some x
@@ -75,7 +74,7 @@ without_first-fewer {X} p test (y ∷ ys) = by (test y) (p y) refl (without_firs
     by false true is rest = let e = ap (λ b. length (cond b (y ∷ filter p (without_first test ys)) (filter p (without_first test ys)))) is in omega (arith, e, rest)
     by false false is rest = let e = ap (λ b. length (cond b (y ∷ filter p (without_first test ys)) (filter p (without_first test ys)))) is in omega (arith, e, rest)
 
--- ---- a record that is set
+-- ---- a record is set
 
 abbrev set_one : ℕ → ℕ → Lsp → Record
 set_one n plsp lsp = record { peer = n; plsp = plsp; lsp = lsp }

@@ -1,4 +1,4 @@
--- What is an LSP's is in its bucket, and what has a name is in the name's.
+-- All of an LSP's items are in its bucket, and all that have a name are in the name's bucket.
 use Rattle.std.proofs.Common.{◌≡◌, ◌⊎◌, inl, inr, ◌&&◌, ℕ, Bool, not, true, false, cond, eqb, List, [], ◌∷◌, ◌||◌, refl, sym, ◌∙◌, ap}
 use Rattle.std.proofs.lemmas.Bool.{and_parts, or_cases, eqb-true}
 use Rattle.std.specs.List.{list_any}
@@ -28,7 +28,7 @@ lsp-buckets test peer plsp b c d e h = λ x is. by x (or_cases (is_path_of peer 
     by x (inl m) = inl (same_lsp x.peer x.plsp peer plsp m ∙ sym d)
     by x (inr m) = inr (same_lsp x.peer x.plsp peer 0 m ∙ sym e)
 
--- a grant of an LSP is a path of it that is a grant
+-- the order of two tests doesn't matter: a grant of an LSP is a path of it that is a grant
 and-swapped : (a b : Bool) → (a && b) ≡ (b && a)
 and-swapped true true = refl
 and-swapped true false = refl
@@ -45,7 +45,7 @@ named_picked peer bucket name e = λ r h.
     let parts = and_parts (eqb r.peer peer) (same_links (r.lsp).name name) h in
     ap (λ p. name_bucket p (r.lsp).name) (eqb-true _ _ parts.0) ∙ ap (name_bucket peer) (same_links-eq _ _ parts.1) ∙ sym e
 
--- a path made stale stays in its bucket
+-- making a path stale leaves it in its bucket
 pub stale-bucket : (peer : ℕ) (x : Path) → path_bucket (made_stale peer x) ≡ path_bucket x
 stale-bucket peer x = by (eqb x.peer peer)
   where

@@ -1,4 +1,4 @@
--- Records as a map holds them, under their keys.
+-- Records as a map holds them, each under its key.
 use Rattle.std.proofs.Common.{◌≡◌, ℕ, ◌+◌, ◌-◌, ◌<◌, ◌&&◌, Bool, true, false, cond, not, List, [], ◌∷◌, ◌++◌, length, take, drop, position, Option, None, Some, option_map, find, refl, sym, ap, subst, ◌∙◌, arith, map, set, get_or, swap_remove, ◌≤◌, suc}
 use Rattle.std.specs.Cmp.{nat_eq_equiv}
 use Rattle.std.specs.Map.{keys_of, lookup, values_of}
@@ -28,7 +28,7 @@ same_key-eq a b h =
     let p = and_parts _ _ h in
     λ j. record { peer = eqb-true a.peer b.peer p.0 j; plsp = eqb-true a.plsp b.plsp p.1 j }
 
--- a key passes where the record's own numbers do
+-- a key passes exactly if the record's own numbers do
 same_test : (k : LspKey) (e : LspKey × Record) → e.0 ≡ key_of e.1 → same_key k e.0 ≡ is_record_of k.peer k.plsp e.1
 same_test k e h = ap (same_key k) h ∙ (λ j. nat_eq_equiv.symm k.peer e.1.peer j && nat_eq_equiv.symm k.plsp e.1.plsp j)
 
@@ -60,7 +60,7 @@ keyed_placed r (e ∷ es) h = by (same_key (key_of r) e.0) refl (keyed_placed r 
     by true is rest = (sym (same_key-eq (key_of r) e.0 is), h.1)
     by false is rest = (h.0, rest)
 
--- ---- a record that is taken away
+-- ---- a record is taken away
 
 module _ {K X : Type 0} (t : K → Bool) where
   places : (es : List (K × X)) → position_or_len t (keys_of es) ≡ position_or_len (λ e. t e.0) es

@@ -91,7 +91,7 @@ same_flag-eq false true h = absurd (false≢true h)
 path_of : ℕ → ℕ → Part → Tunnel → ℕ → ℕ → List ℕ → Bool → Path
 path_of peer plsp part tunnel hold bandwidth links fresh = record { peer = peer; plsp = plsp; part = part; tunnel = tunnel; hold = hold; bandwidth = bandwidth; links = links; fresh = fresh }
 
--- the test knows paths apart
+-- the test tells paths apart
 pub same_path-eq : (x y : Path) → same_path x y ≡ true → x ≡ y
 unfolding path_of
 same_path-eq x y h =
@@ -121,7 +121,7 @@ same_path-eq x y h =
 
 -- ---- how often a path is among others
 
--- as a sum, which doesn't see their order
+-- the number of occurrences as a sum, which doesn't depend on the order
 occurrences-sum : (x : Path) (ys : List Path) → occurrences x ys ≡ sum_by (λ y. cond (same_path y x) 1 0) ys
 occurrences-sum x [] = refl
 occurrences-sum x (y ∷ ys) = ap (λ n. cond (same_path y x) 1 0 + n) (occurrences-sum x ys) ∙ sym (sum_by-cons (λ z. cond (same_path z x) 1 0) y ys)
@@ -146,11 +146,11 @@ found_path d (x ∷ xs) n = by (same_path x d) refl n (found_path d xs)
     by true is m rest = ap Some (same_path-eq x d is)
     by false is m rest = rest (omega (arith, m))
 
--- the path that went, and those that are left
+-- the path that went together with those that are left
 pub without_path-permutes : (d : Path) (xs : List Path) → 0 < occurrences d xs → IsPermutation xs (d ∷ without_path d xs)
 without_path-permutes d xs n = without_first-permutes (λ x. same_path x d) xs d (found_path d xs n)
 
--- lists are the same up to order where each path is as often in the one as in the other
+-- two lists are the same up to order if each path occurs equally often in both
 pub permutes_by_occurrences : (xs ys : List Path) → ((x : Path) → occurrences x xs ≡ occurrences x ys) → IsPermutation xs ys
 permutes_by_occurrences [] [] same = IsPermutation-refl []
 permutes_by_occurrences [] (y ∷ ys) same = let self = same_path-refl y in let h : 0 ≡ 1 + occurrences y ys = rw self at (same y) in absurd (omega (arith, h))
@@ -172,13 +172,13 @@ has_rest paths ds d has y =
     let h = has y in
     omega (arith, e, h)
 
--- the dropped paths, and those that are left
+-- the dropped paths together with those that are left
 pub without-permutes : (paths dropped : List Path) → HasAll paths dropped → IsPermutation paths (dropped ++ without paths dropped)
 without-permutes paths [] has = IsPermutation-refl paths
 without-permutes paths (d ∷ ds) has =
     IsPermutation-trans _ _ _ (without_path-permutes d paths (has_first paths ds d has)) (IsPermutation-cons d _ _ (without-permutes (without_path d paths) ds (has_rest paths ds d has)))
 
--- those that stood and those that come are the dropped ones and those that stand after it
+-- the old paths and the added ones are the dropped ones and the new paths
 pub paths_exchanged : (paths dropped added : List Path) → HasAll paths dropped → IsPermutation (paths ++ added) (dropped ++ (without paths dropped ++ added))
 paths_exchanged paths dropped added has =
     subst (IsPermutation (paths ++ added)) (append_assoc dropped (without paths dropped) added) (IsPermutation-append_left added paths (dropped ++ without paths dropped) (without-permutes paths dropped has))
@@ -193,7 +193,7 @@ has_filter test (x ∷ xs) y =
       | inr other ↦ rw other (omega (arith, ih))
     ]
 
--- where the chosen paths go, the others stay
+-- if the chosen paths go, the others stay
 pub without-filter : (p : Path → Bool) (xs : List Path) → IsPermutation (filter (λ x. not (p x)) xs) (without xs (filter p xs))
 without-filter p xs =
     let gone = filter p xs in
@@ -208,7 +208,7 @@ without-filter p xs =
 
 -- ---- effects
 
--- how many paths stand where dropped ones go and others come
+-- how many paths there are after some are dropped and others added
 length-exchanged : (paths dropped added : List Path) → HasAll paths dropped → length (without paths dropped ++ added) + length dropped ≡ length paths + length added
 length-exchanged paths dropped added has =
     let same = length_permutation paths (dropped ++ without paths dropped) (without-permutes paths dropped has) in
@@ -216,7 +216,7 @@ length-exchanged paths dropped added has =
     let all = length-append (without paths dropped) added in
     omega (arith, same, both, all)
 
--- an effect that drops chosen paths keeps the limit where it would by the numbers of paths
+-- an effect that drops chosen paths keeps the limit if the numbers of paths allow it
 pub IsWithinLimit-effect : (lsps : Lsps) (test : Path → Bool) (dropped added : List Path) (records : List RecordChange) (wants : Bool) → dropped ≡ filter test lsps.paths → length lsps.paths + length added ≤ 16384 + length dropped → IsWithinLimit lsps (effect_of dropped added records wants)
 IsWithinLimit-effect lsps test dropped added records wants e h =
     let has : HasAll lsps.paths dropped = subst (HasAll lsps.paths) (sym e) (has_filter test lsps.paths) in

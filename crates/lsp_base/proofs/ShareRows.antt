@@ -69,7 +69,7 @@ stale_still_charged : book ((with_stale (record no_lsps { paths = path 1 1 first
 unfolding share reserved unreserved with_stale
 stale_still_charged = refl
 
--- a second path of a full tunnel fits where it reserves no more, another tunnel's doesn't
+-- a second path of a full tunnel fits if it reserves no more; another tunnel's doesn't
 fits_by_sharing : fits links (path 1 1 first 0 1000000 ∷ []) (path 1 2 first 0 1000000) 7 ≡ true
 unfolding share reserved unreserved fits
 fits_by_sharing = refl
@@ -78,7 +78,7 @@ no_fit_for_another : fits links (path 1 1 first 0 1000000 ∷ []) (path 2 1 seco
 unfolding share reserved unreserved fits
 no_fit_for_another = refl
 
--- a path that is held at a better priority fits below one held at a worse
+-- a path held at a better priority fits below one held at a worse priority
 fits_above_worse : fits links (path 1 1 first 5 1000000 ∷ []) (path 2 1 second 3 1000000) 4 ≡ true
 unfolding share reserved unreserved fits
 fits_above_worse = refl

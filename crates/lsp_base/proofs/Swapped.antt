@@ -1,4 +1,4 @@
--- Lists from which the first element that passes a test went, and the last took its place.
+-- Lists from which the first element that passes a test was removed; the last element took its place.
 use Rattle.std.proofs.Common.{◌≡◌, ℕ, suc, ◌+◌, ◌-◌, ◌<◌, ◌≤◌, Bool, true, false, cond, not, nat_lt, List, [], ◌∷◌, ◌++◌, length, take, drop, get_or, position, swap_remove, filter, find, Some, None, IsPermutation, refl, sym, subst, ◌∙◌, ap, arith}
 use Rattle.std.specs.List.{position_or_len}
 use Rattle.std.proofs.lemmas.Bool.Decides.{nat_tests}
@@ -81,7 +81,7 @@ last_in_front-permutes xs =
     let n = length xs - 1 in
     subst (λ ys. IsPermutation ys (last_in_front xs)) (take-append-drop n xs) (IsPermutation-append_comm (take n xs) (drop n xs))
 
--- the element that went, and what is left
+-- the element that went together with what is left
 pub without_first-permutes : {X : Type 0} (test : X → Bool) (xs : List X) (x : X) → find test xs ≡ Some x → IsPermutation xs (x ∷ without_first test xs)
 without_first-permutes test [] x found = absurd (cc (found))
 without_first-permutes {X} test (y ∷ ys) x found = by (test y) found (without_first-permutes test ys x)
@@ -106,7 +106,7 @@ filter-after p x xs ys same = by (p x)
     by true = IsPermutation-cons x _ _ same
     by false = same
 
--- those of another test are the same, whatever their order
+-- the elements that pass another test stay the same, whatever their order
 pub without_first-others : {X : Type 0} (p test : X → Bool) → ((x : X) → test x ≡ true → p x ≡ false) → (xs : List X) → IsPermutation (filter p xs) (filter p (without_first test xs))
 without_first-others p test apart [] = IsPermutation-refl []
 without_first-others {X} p test apart (y ∷ ys) = by (test y) refl (without_first-others p test apart ys)

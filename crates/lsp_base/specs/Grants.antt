@@ -19,11 +19,11 @@ abbrev pub is_number : Option ℕ → ℕ → Bool
 is_number None n = false
 is_number (Some m) n = m == n
 
--- a grant of this SRP-ID
+-- the part is a grant of this SRP-ID
 abbrev pub has_srp : Option ℕ → Part → Bool
 has_srp srp (Reported i) = false
 has_srp srp (Granted s) = is_number srp s
 
--- a grant of the peer that no report has bound yet has PLSP-ID 0
+-- the path is a grant of the peer that no report has bound yet: its PLSP-ID is 0
 abbrev pub is_unbound_grant : ℕ → Option ℕ → Path → Bool
 is_unbound_grant peer srp x = x.peer == peer && x.plsp == 0 && has_srp srp x.part

@@ -68,12 +68,12 @@ occurrences x (y ∷ ys) = (if same_path y x then 1 else 0) + occurrences x ys
 abbrev pub HasAll : List Path → List Path → Type 0
 HasAll paths dropped = (x : Path) → occurrences x dropped ≤ occurrences x paths
 
--- a record set: in its place if there is one, else as the last
+-- the records with this one set: in its place if the LSP has one, else as the last
 abbrev pub put : List Record → ℕ → ℕ → Lsp → List Record
 put [] peer plsp lsp = record { peer = peer; plsp = plsp; lsp = lsp } ∷ []
 put (r ∷ rs) peer plsp lsp = cond (is_record_of peer plsp r) (record { peer = peer; plsp = plsp; lsp = lsp } ∷ rs) (r ∷ put rs peer plsp lsp)
 
--- the record taken away
+-- the records without the LSP's
 abbrev pub taken_away : List Record → ℕ → ℕ → List Record
 taken_away records peer plsp = without_first (is_record_of peer plsp) records
 
@@ -96,11 +96,11 @@ changed lsps peer effect = record {
 abbrev pub made_stale : ℕ → Path → Path
 made_stale peer x = if x.peer == peer then record x { fresh = false } else x
 
--- the peer's paths stale
+-- the LSPs with the peer's paths made stale
 unfoldable pub with_stale : Lsps → ℕ → Lsps
 with_stale lsps peer = record lsps { paths = map (made_stale peer) lsps.paths }
 
--- ---- paths that go, with the records that then have none
+-- ---- paths that go, and the records that then have none
 
 abbrev pub taking : Record → RecordChange
 taking r = record { plsp = r.plsp; lsp = None }

@@ -1,5 +1,5 @@
--- What is known of an LSP that may be missing, and what the PCE asked its peer for and awaits: a grant, or
--- a removal (RFC 8231 section 6.2, RFC 8281 section 5.4).
+-- What is known of an LSP that may be missing, and what the PCE asked its peer for and still awaits: a grant, or a
+-- removal (RFC 8231 section 6.2, RFC 8281 section 5.4).
 use Rattle.std.specs.Prelude.{ℕ, Bool, false, ◌==◌, ◌&&◌, ◌||◌, Option, Some, None, is_some}
 use Rattle.lsp_base.specs.Lsps.{Lsps, lsp_at}
 use Rattle.lsp_base.specs.Grants.{has_grant, has_srp, is_number}

@@ -5,7 +5,7 @@ use Rattle.lsp_base.specs.declared.effect.Effect.{Effect}
 
 pub record Rooms : Type 0 where
   pub content : Lsps
-  -- for how many paths there is room in all, and for how many more records
+  -- how many paths there is room for in all; how many more records there is room for
   pub path_room : ℕ
   pub record_room : ℕ
 

@@ -33,7 +33,7 @@ abbrev pub same_flag : Bool → Bool → Bool
 same_flag true b = b
 same_flag false b = not b
 
--- the same path, in all fields
+-- the paths are the same in all fields
 abbrev pub same_path : Path → Path → Bool
 same_path x y = x.peer == y.peer && x.plsp == y.plsp && same_part x.part y.part && same_tunnel x.tunnel y.tunnel && x.hold == y.hold && x.bandwidth == y.bandwidth && same_links x.links y.links && same_flag x.fresh y.fresh
 

@@ -35,11 +35,11 @@ tunnels_of (x ∷ xs) = if list_any (is_of_tunnel x.tunnel) xs then tunnels_of x
 unfoldable pub reserved : List Path → ℕ → ℕ → ℕ
 reserved paths l p = sum_by (λ t. share paths t l p) (tunnels_of paths)
 
--- 0 if there is no such link
+-- what may be reserved on the link; 0 if there is no such link
 abbrev pub reservable : List Link → ℕ → ℕ
 reservable links l = unwrap_or (option_map (λ k. k.reservable) (slice_get links l)) 0
 
--- what is left; below zero if more was reported than the link can carry
+-- what is left on the link; below zero if more was reported than the link can carry
 unfoldable pub unreserved : List Link → List Path → ℕ → ℕ → ℤ
 unreserved links paths l p = pos (reservable links l) -ℤ pos (reserved paths l p)
 
@@ -49,14 +49,14 @@ unreserved links paths l p = pos (reservable links l) -ℤ pos (reserved paths l
 abbrev pub rises : List Path → Path → ℕ → ℕ → Bool
 rises paths g l p = nat_lt (share paths g.tunnel l p) (share (paths ++ g ∷ []) g.tunnel l p)
 
--- the priorities from one to another, with both
+-- the priorities from one to another, both included
 abbrev pub priorities : ℕ → ℕ → List ℕ
 priorities low high = range_with_len low (high + 1 - low)
 
 abbrev pub fits_at : List Link → List Path → Path → ℕ → ℕ → Bool
 fits_at links paths g l p = not (rises paths g l p) || int_le (pos 0) (unreserved links (paths ++ g ∷ []) l p)
 
--- the links exist, and with the path none is below zero at a priority from holding to setup at which the path reserves
--- more
+-- the links exist, and with one more path none of them is below zero at a priority from holding to setup at which the
+-- path reserves more
 unfoldable pub fits : List Link → List Path → Path → ℕ → Bool
 fits links paths g setup = list_all (λ l. nat_lt l (length links) && list_all (fits_at links paths g l) (priorities g.hold setup)) g.links

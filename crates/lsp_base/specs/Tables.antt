@@ -7,7 +7,7 @@ use Rattle.lsp_base.specs.declared.path.Path.{Path}
 use Rattle.lsp_base.specs.declared.effect.Record.{Record}
 use Rattle.lsp_base.specs.declared.record_table.LspKey.{LspKey}
 
--- the records in order, and for how many more there is room
+-- the records in order, and how many more there is room for
 pub record RecordRoom : Type 0 where
   pub records : List Record
   pub room : ℕ
@@ -22,7 +22,8 @@ same_key a b = a.peer == b.peer && a.plsp == b.plsp
 abbrev pub AreKeyed : List (LspKey × Record) → Type 0
 AreKeyed entries = AllByRecursion (λ e. e.0 ≡ key_of e.1) entries
 
--- the bucket of an LSP's paths: any function of the LSP would do; a prime, so that peers a power of two apart differ
+-- The bucket of an LSP's paths. Any function of the LSP would do; this one takes a prime, so that peers whose numbers
+-- differ by a power of two differ.
 unfoldable pub bucket_number : ℕ → ℕ → ℕ
 bucket_number peer plsp = (peer * 7919 + plsp) % 16381
 
@@ -33,7 +34,7 @@ path_bucket x = bucket_number x.peer x.plsp
 pub record PicksFrom (test : Path → Bool) (peer plsp : ℕ) : Type 0 where
   pub of : (x : Path) → test x ≡ true → (is_path_of peer plsp x || is_path_of peer 0 x) ≡ true
 
--- the bucket of the LSPs of a peer with a name: any function of both would do
+-- the bucket of the LSPs of a peer with a name; any function of both would do
 unfoldable pub name_bucket : ℕ → List ℕ → ℕ
 name_bucket peer name = fold (λ bucket byte. (bucket * 31 + byte) % 16381) (peer % 16381) name
 

@@ -33,7 +33,7 @@ fn append_words(alloc: Global, row: &str, bytes: &mut Vec<u8>) -> Result<()> {
     Ok(())
 }
 
-/// The bytes of words of digits.
+/// Returns the bytes of words of digits.
 pub fn bytes_of(alloc: Global, row: &str) -> Result<Vec<u8>> {
     let mut bytes = Vec::new(alloc);
     append_words(alloc, row, &mut bytes)?;

@@ -1,4 +1,4 @@
-//! Long messages, by the numbers of their items and hops.
+//! Long messages, given by the numbers of their items and hops.
 
 use crate::written::add_written_message;
 use message_words::add_fault;
@@ -6,7 +6,7 @@ use pcep_messages::{Answer, Initiate, Message, StateReport, read_message};
 use std::alloc::{AllocError, Global};
 use std::fmt::Write;
 
-/// How many items a message has, and how many hops their routes.
+/// How many items a message has, and how many hops their routes have.
 #[derive(Clone, Copy)]
 struct Counts {
     items: usize,

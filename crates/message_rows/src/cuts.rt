@@ -5,7 +5,7 @@ use pcep_messages::{MessageFault, read_message};
 use std::alloc::{AllocError, Global};
 use std::fmt::Write;
 
-/// Cuts of the lengths from `first` to `last`, which are all answered alike.
+/// Cuts of the lengths from `first` to `last`, which all have the same answer.
 #[derive(Clone, Copy)]
 struct Run {
     first: usize,
@@ -23,7 +23,7 @@ fn add_run(word: &str, run: Run, text: &mut String) -> Result<(), AllocError> {
     }
 }
 
-/// The run with one more cut. Where that is answered otherwise, the run is added to the text and another begins.
+/// Returns the run with one more cut. If that has another answer, adds the run to the text and begins another.
 fn next_run(
     word: &str,
     run: Run,
@@ -43,7 +43,7 @@ fn next_run(
     })
 }
 
-/// The fault of bytes; None: they are read.
+/// Returns the fault of bytes; `None`: they are read.
 fn fault_of(alloc: Global, bytes: &[u8]) -> Option<MessageFault> {
     read_message(alloc, bytes).err()
 }
@@ -58,7 +58,7 @@ fn append_mended(cut: &[u8], bytes: &mut Vec<u8>) -> Result<(), AllocError> {
     bytes.extend_from_slice(body)
 }
 
-/// The fault of a cut with its own length in the header; None: it is read.
+/// Returns the fault of a cut with its own length in the header; `None`: it is read.
 fn fault_of_mended(alloc: Global, cut: &[u8]) -> Result<Option<MessageFault>, AllocError> {
     let mut bytes = Vec::new(alloc);
     append_mended(cut, &mut bytes)?;
@@ -104,7 +104,7 @@ fn add_mended_cuts(alloc: Global, bytes: &[u8], text: &mut String) -> Result<(),
     add_run("mended, ", run, text)
 }
 
-/// Adds how each proper prefix of a message is answered: with the length left in its header, and, where it is of
+/// Adds how each proper prefix of a message is answered: with the length left in its header, and, if it consists of
 /// whole words, with the length mended.
 pub fn add_cuts(alloc: Global, bytes: &[u8], text: &mut String) -> Result<(), AllocError> {
     add_plain_cuts(alloc, bytes, text)?;

@@ -1,5 +1,5 @@
-//! Says what rows of bytes are. Each line of standard input is a row: a first word, and its text behind a space.
-//! A line that is empty or begins with `#` is printed as it stands.
+//! Says what rows of bytes are. Each line of standard input is a row: a first word, and its text after a space. A line
+//! that is empty or begins with `#` is printed as it is.
 //!
 //! | Row | Prints |
 //! |---|---|
@@ -14,12 +14,12 @@
 //! | `priorities SETUP HOLD` | the priorities that are in force |
 //! | `address TEXT` | the address that the text writes |
 //!
-//! HEX is hexadecimal digits with spaces between bytes; `N*DIGITS` stands for the bytes N times. NOTICE is
-//! `keepalive`, `close REASON` or `error TYPE VALUE`, the last also with `request N` or `srp N` behind it. What can't
-//! be read is answered by a line `fault: ..`, a row of another form by `bad row`.
+//! HEX is hexadecimal digits with spaces between bytes; `N*DIGITS` stands for the bytes N times. NOTICE is `keepalive`,
+//! `close REASON` or `error TYPE VALUE`, the last also with `request N` or `srp N` after it. What can't be read is
+//! answered by a line `fault: ..`, a row of another form by `bad row`.
 //!
-//! The lines of messages and objects have the names of the RFCs. Of a message they say what counts of it, so a report
-//! has an LSPA and a BANDWIDTH where its bytes have none.
+//! The lines of messages and objects have the names of the RFCs. They say what counts of a message, so a report has an
+//! LSPA and a BANDWIDTH even if its bytes have none.
 #![tactic(auto)]
 
 mod bytes;
@@ -37,7 +37,7 @@ use std::alloc::{AllocError, Global};
 use std::io;
 use std::rt::Runtime;
 
-/// What is printed for a line.
+/// Returns what is printed for a line.
 fn printed(alloc: Global, line: &str) -> Result<String, AllocError> {
     let mut text = String::new(alloc);
     add_answer(alloc, line, &mut text)?;

@@ -12,7 +12,7 @@ fn id_in(word: Option<&str>) -> Option<u32> {
     word?.parse::<u32>().ok()
 }
 
-/// What an error is about: nothing, `request N` or `srp N`.
+/// Reads what an error is about: nothing, `request N` or `srp N`.
 fn about_in(kind: Option<&str>, id: Option<&str>) -> Option<About> {
     match kind {
         None => Some(About::Nothing),
@@ -22,7 +22,7 @@ fn about_in(kind: Option<&str>, id: Option<&str>) -> Option<About> {
     }
 }
 
-/// The notice of a row: `keepalive`, `close 3`, `error 6 8 srp 1`.
+/// Reads the notice of a row: `keepalive`, `close 3`, `error 6 8 srp 1`.
 fn notice_in(row: &str) -> Option<Notice> {
     let mut words = row.split_whitespace();
     match words.next()? {

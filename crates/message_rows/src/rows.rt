@@ -10,7 +10,7 @@ use crate::words::{add_address, add_number, add_priorities, add_word};
 use message_words::add_line;
 use std::alloc::{AllocError, Global};
 
-/// Adds what the bytes are, as the row's first word asks.
+/// Adds what the bytes are, in the way that the row's first word asks for.
 fn add_reading(
     alloc: Global,
     word: &str,
@@ -39,7 +39,7 @@ fn add_answer_of_bytes(
     }
 }
 
-/// Adds the answer of a row by its first word and its rest.
+/// Adds the answer of a row, given its first word and its rest.
 fn add_answer_with(
     alloc: Global,
     word: &str,
@@ -57,7 +57,7 @@ fn add_answer_with(
     }
 }
 
-/// Adds what is printed for a line: the answer of a row, or a comment as it stands.
+/// Adds what is printed for a line: the answer of a row, or a comment as it is.
 pub fn add_answer(alloc: Global, line: &str, text: &mut String) -> Result<(), AllocError> {
     if line.is_empty() || line.starts_with("#") {
         return text.push_str(line);

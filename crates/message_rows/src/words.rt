@@ -48,13 +48,13 @@ pub fn add_number(row: &str, text: &mut String) -> Result<(), AllocError> {
     add_metric(number, text)
 }
 
-/// The two numbers of a row.
+/// Reads the two numbers of a row.
 fn pair_in(row: &str) -> Option<(u8, u8)> {
     let (first, second) = row.split_once(' ')?;
     Some((first.parse::<u8>().ok()?, second.parse::<u8>().ok()?))
 }
 
-/// Adds the priorities that are in force where these were asked for.
+/// Adds the priorities that are in force if these were asked for.
 pub fn add_priorities(row: &str, text: &mut String) -> Result<(), AllocError> {
     let Some((setup, hold)) = pair_in(row) else {
         return text.push_str("bad row");

@@ -6,8 +6,8 @@ use pcep_objects::{Object, WriteFault, write_object};
 use std::alloc::{AllocError, Global};
 use std::fmt::Write;
 
-/// Adds the bytes that were written: that they are those that were read, or themselves, or their number where it
-/// is great.
+/// Adds the bytes that were written: says that they are those that were read, or gives them, or their number if there
+/// are many.
 fn add_spelling(written: &[u8], read: &[u8], text: &mut String) -> Result<(), AllocError> {
     if written == read {
         return text.push_str("\n  written again");
@@ -20,7 +20,7 @@ fn add_spelling(written: &[u8], read: &[u8], text: &mut String) -> Result<(), Al
     add_hex(written, text)
 }
 
-/// Adds what came of writing.
+/// Adds the result of writing.
 pub fn add_written(
     outcome: Result<(), WriteFault>,
     written: &[u8],
@@ -33,7 +33,7 @@ pub fn add_written(
     }
 }
 
-/// Adds how a message is written again, where it is of a kind that is written.
+/// Adds how a message is written again, if its kind is written.
 pub fn add_written_message(
     alloc: Global,
     message: &Message,

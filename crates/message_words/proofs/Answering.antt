@@ -1,4 +1,4 @@
--- Each fault is answered as the table of a session has it.
+-- Each fault is answered as the table of a session says.
 use Rattle.std.proofs.Common.{refl}
 use Rattle.pcep_objects.specs.declared.fault.ObjectFault.TheVariants as object
 use Rattle.pcep_messages.specs.declared.fault.MessageFault.{MessageFault}

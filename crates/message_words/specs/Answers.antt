@@ -1,4 +1,4 @@
--- What an open session answers, from what is said of it.
+-- What an open session answers, compared with the words about it.
 use Rattle.std.specs.Prelude.{◌≡◌, Bool, true, false, Option, Some, None}
 use Rattle.pcep_messages.specs.declared.fault.About.{About}
 use Rattle.pcep_messages.specs.declared.fault.MessageFault.{MessageFault}
@@ -14,6 +14,6 @@ notices about None closes = One (Close 3)
 notices about (Some c) false = One (error_about about c.error_type c.value)
 notices about (Some c) true = Two (error_about about c.error_type c.value) (Close 3)
 
--- the session's table answers the fault so
+-- the session's table answers the fault in this way
 abbrev pub IsAnswered : MessageFault → Type 0
 IsAnswered fault = (on_fault fault).notices ≡ notices (about_of fault) (answering_code fault) (ends_session fault)

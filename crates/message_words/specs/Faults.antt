@@ -1,4 +1,4 @@
--- Why bytes can't be read, in words, where in the message it is, and what an open session answers.
+-- Why bytes can't be read, in words, where the fault is in the message, and what an open session answers.
 use Rattle.std.specs.Prelude.{ℕ, ◌≡◌, ◌==◌, ◌&&◌, not, ◌++◌, Bool, true, false, List, [], drop, slice_index, codes, Option, Some, None, is_none, IfSome, Result, Ok, Err, if◌then◌else◌}
 use Rattle.std.specs.Fmt.{decimal}
 use Rattle.error_words.specs.Errors.{error_words}
@@ -38,7 +38,7 @@ object_code (object.UnknownClass p size) = Some (error_code 3 1)
 object_code (object.UnknownType p size) = Some (error_code 3 2)
 object_code fault = None
 
--- None: the message is malformed
+-- the error of the fault; None: the message is malformed
 abbrev pub fault_code : MessageFault → Option ErrorCode
 fault_code (BadObject fault a) = object_code fault
 fault_code (Missing class a) = Some (missing_code class)
@@ -62,7 +62,7 @@ object_fault_name (object.UnknownClass p size) = codes "unknown object class"
 object_fault_name (object.UnknownType p size) = codes "unknown object type"
 object_fault_name object.OutOfMemory = codes "out of memory"
 
--- a fault that has no error
+-- the words for a fault that has no error
 abbrev pub malformed_name : MessageFault → List ℕ
 malformed_name (BadObject fault a) = object_fault_name fault
 malformed_name BadHeader = codes "bad message header"
@@ -84,7 +84,7 @@ about_of (Refused kind value a) = a
 about_of BadHeader = about.Nothing
 about_of OutOfMemory = about.Nothing
 
--- the request that a fault is about, if that is known
+-- the request that a fault is about, if it is known
 abbrev pub about_words : About → List ℕ
 about_words about.Nothing = []
 about_words (about.Request id) = codes ", Request-ID " +> decimal id
@@ -138,7 +138,7 @@ is_kept_with_p (objects.Kept kept) = kept.p
 is_kept_with_p object = false
 
 -- An object that was read has the fault: P is clear in an RP or END-POINTS, an LSP lacks identifiers, or an object that
--- is not supported has P set. A fault of what is missing is at no object.
+-- is not supported has P set. If something is missing, no object has the fault.
 abbrev pub has_fault : MessageFault → Object → Bool
 has_fault (BadP a) object = lacks_p object
 has_fault (MissingIdentifiers a) object = lacks_identifiers object
@@ -211,7 +211,7 @@ kind_name kind =
     else (if kind == 11 then codes "PCUpd"
     else codes "PCInitiate"))))))))
 
--- the kind of a message with a header that is right
+-- the kind of a message whose header is valid
 abbrev pub kind_words : MessageFault → ℕ → List ℕ
 kind_words BadHeader kind = []
 kind_words fault kind = kind_name kind +> codes "\n  "
@@ -219,11 +219,11 @@ kind_words fault kind = kind_name kind +> codes "\n  "
 abbrev pub faulty_words : MessageFault → ℕ → Option ObjectPlace → List ℕ
 faulty_words fault kind place = kind_words fault kind +> fault_words fault +> place_words place +> answer_words (answering_code fault) (ends_session fault)
 
--- the text has the words of the fault more, with a byte at which it is
+-- the text gains the words of the fault, with the byte at which it is
 abbrev pub SaysFault : List ℕ → MessageFault → List ℕ → List ℕ → Type 0
 SaysFault bytes fault old new = (place : Option ObjectPlace) × StandsAt fault bytes place × (new ≡ old ++ faulty_words fault (slice_index bytes 1) place)
 
--- the text has the words more of what the message says, or of its first fault
+-- the text gains the words of what the message says, or of its first fault
 abbrev pub Says : List ℕ → Result Message MessageFault → List ℕ → List ℕ → Type 0
 Says bytes (Ok message) old new = new ≡ old ++ words_of message
 Says bytes (Err fault) old new = SaysFault bytes fault old new

@@ -18,11 +18,11 @@ use Rattle.pcep_objects.specs.declared.object.Operational.TheVariants.{Down, Up,
 use Rattle.pcep_objects.specs.declared.request_objects.NoPathVector.{NoPathVector}
 use Rattle.message_words.specs.declared.fields.LspFields.{LspFields}
 
--- the text has these bytes more, unless memory was refused
+-- the text gains these bytes, unless memory was refused
 abbrev pub Adds : {X E : Type 0} → Result X E → String Global → String Global → List ℕ → Type 0
 Adds result old new words = OnOk result (string_bytes new ≡ string_bytes old ++ words)
 
--- one text, and then another
+-- one text followed by another
 infixr 5 ◌+>◌
 abbrev pub ◌+>◌ : List ℕ → List ℕ → List ℕ
 a +> b = a ++ b
@@ -32,7 +32,7 @@ abbrev pub bit : Bool → List ℕ
 bit false = codes "0"
 bit true = codes "1"
 
--- a word of 32 bits in eight digits
+-- a word of 32 bits as eight digits
 abbrev pub word_digits : ℕ → List ℕ
 word_digits n = encode_lower (big_bytes 4 n)
 
@@ -54,7 +54,7 @@ lsp_field_words f = (codes "LSP plsp-id " +> decimal f.plsp) +> flag_words f +> 
 abbrev pub is_plain : ℕ → Bool
 is_plain byte = nat_le 0x20 byte && nat_le byte 0x7e && not (byte == 34)
 
--- a name in quotation marks, or in digits if it has other bytes
+-- a name in quotation marks, or as digits if it has other bytes
 abbrev pub name_words : List ℕ → List ℕ
 name_words name = if list_all is_plain name then codes " name \"" +> name +> codes "\"" else codes " name 0x" +> encode_lower name
 
@@ -92,7 +92,7 @@ abbrev pub hops_words : List Hop → List ℕ
 hops_words [] = []
 hops_words (hop ∷ hops) = hop_words hop +> hops_words hops
 
--- a name and a word of 32 bits in digits
+-- a name and a word of 32 bits as digits
 abbrev pub named_word : List ℕ → ℕ → List ℕ
 named_word name word = name +> word_digits word
 

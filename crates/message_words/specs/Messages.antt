@@ -1,5 +1,5 @@
 -- Messages: a line for the kind, and one for each object that counts. If the bytes of a report or a request have no
--- LSPA, BANDWIDTH or METRIC, the words say what it counts as.
+-- LSPA, BANDWIDTH or METRIC, the words give the value that it then counts as.
 use Rattle.std.specs.Prelude.{ℕ, Bool, false, List, [], ◌∷◌, codes, Option, Some, None}
 use Rattle.std.specs.Fmt.{decimal}
 use Rattle.pcep_word.specs.Address.{text_of}
@@ -99,7 +99,7 @@ bound_line name (Some bound) = codes "\n  METRIC " +> name +> codes " bound " +>
 abbrev pub minimise_line : MetricType → List ℕ
 minimise_line minimise = codes "\n  METRIC " +> metric_name minimise +> codes " minimise"
 
--- what the path is to have least of, and its bounds
+-- what the path is to minimise, and its bounds
 abbrev pub metric_lines : MetricType → Bounds → List ℕ
 metric_lines minimise b = minimise_line minimise +> bound_line (codes "igp") b.igp +> bound_line (codes "te") b.te +> bound_line (codes "hops") b.hops
 
@@ -173,7 +173,7 @@ update_flags u = codes " delegate " +> bit u.delegate +> codes " admin " +> bit 
 abbrev pub update_front : Update → List ℕ
 update_front u = codes "PCUpd" +> srp_line u.srp +> plsp_line u.plsp +> update_flags u
 
--- the route that is asked for, and what is asked of the path
+-- the route that is asked for, and the demands on the path
 abbrev pub wishes : List Hop → Option Attributes → Option ℕ → List ℕ
 wishes hops attributes bandwidth = ero_line hops +> attribute_line attributes +> wished_bandwidth bandwidth
 

@@ -1,4 +1,4 @@
--- Objects, each a line: its name, then its fields by the names of the RFCs.
+-- Objects, one line each: its name, then its fields by the names of the RFCs.
 use Rattle.std.specs.Prelude.{ℕ, List, [], codes, Option, Some, None}
 use Rattle.std.specs.Fmt.{decimal}
 use Rattle.hex.specs.Hex.{encode_lower}

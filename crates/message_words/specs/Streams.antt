@@ -5,7 +5,7 @@ use Rattle.std.specs.Prelude.{ℕ, ◌+◌, ◌*◌, ◌&&◌, nat_le, List, len
 abbrev pub said_length : List ℕ → ℕ
 said_length bytes = 256 * get_or bytes 2 0 + get_or bytes 3 0
 
--- The first message is as long as its header says, if that is at least the header's four bytes and no more than there are.
--- Else it is all of the bytes.
+-- The first message is as long as its header says, if that is at least the header's four bytes and no more than there
+-- are. Otherwise it is all of the bytes.
 abbrev pub first_length : List ℕ → ℕ
 first_length bytes = if nat_le 4 (said_length bytes) && nat_le (said_length bytes) (length bytes) then said_length bytes else length bytes

@@ -1,4 +1,4 @@
--- Labels that don't rise by more than the toll along any link bound the cost of each walk.
+-- If labels rise by no more than the toll along any link, they bound the cost of each walk.
 use Rattle.std.proofs.Common.{◌≡◌, ℕ, ◌+◌, ◌<◌, ◌≤◌, List, [], ◌∷◌, length, slice_index, All, Some, None, cond, refl, ap, subst, ◌∙◌, arith, inl, inr}
 use Rattle.std.proofs.lemmas.Bool.{cases_lt}
 use Rattle.std.specs.List.{slice_get}
@@ -45,12 +45,12 @@ metric_turned Te n l = refl
 metric_turned Igp n l = refl
 metric_turned Hops n l = refl
 
--- a link costs the same the other way round
+-- a link costs the same if it is turned round
 fee_turned : (q : Query) (n : ℕ) (l : Link) → fee q (arc_of n (turned l)) ≡ toll q n l
 unfolding fee
 fee_turned q n l = ap (λ (price : ℕ). cond (is_open q.unreserved.now q.constraints.now q.own.now n l.colour) (Some price) None) (metric_turned q.constraints.now.minimise n l)
 
--- what holds of each number below one, and of that one, holds below the next
+-- if P holds of each number below n and of n, it holds of each number below n + 1
 pub below_next : (P : ℕ → Type 0) (n : ℕ) → ((v : ℕ) → v < n → P v) → P n → (v : ℕ) → v < n + 1 → P v
 below_next P n below here v under =
     elim (cases_lt v n) [
@@ -58,7 +58,7 @@ below_next P n below here v under =
       | inr more ↦ (let same : n ≡ v = omega arith in subst P same here)
     ]
 
--- labels that were tested at each node are tested along each link
+-- labels that pass the test at each node pass it along each link
 pub relaxed_of : (q : Query) (links : List Link) (labels : List ℕ) (middle : ℕ) → InRange links (length labels) → ((v : ℕ) → v < length labels → IsRelaxedAt q links labels middle v) → IsRelaxed q links labels
 relaxed_of q links labels middle inside tested = record {
   each = λ n l price here pass.

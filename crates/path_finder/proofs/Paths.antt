@@ -85,7 +85,7 @@ leads_of q links a (n ∷ ns) b j o =
 same_from_test : (a x : ℕ) → (a == x) ≡ true → a ≡ x
 same_from_test a x h = grind (arith, nat_tests)
 
--- the walk from where it passes a node
+-- if a walk passes a node, the rest of it from there is a walk
 tail_from : (q : Query) (links : List Link) (x a : ℕ) (ns : List ℕ) (b cost : ℕ) → Leads q links a ns b cost → list_any (λ y. y == x) (nodes_of links a ns) ≡ true → (ms : List ℕ) × (d : ℕ) × Leads q links x ms b d × (d ≤ cost) × (length ms ≤ length ns)
 tail_from q links x a [] b cost h any =
     elim (or_cases (a == x) false any) [
@@ -166,7 +166,7 @@ distinct_least q links source destination limit hops path cost m w =
           absurd (omega arith))
     ]
 
--- the cost of a path of at most 64 links is below the limit, where it keeps the bound
+-- if a path of at most 64 links keeps the bound, its cost is below the limit
 under_limit : (q : Query) (links : List Link) (source destination : ℕ) (path : List ℕ) → HasMetrics links → IsJoined links source path destination → EachOpen links q.unreserved.now q.constraints.now q.own.now path → length path ≤ 64 → IfSome q.constraints.now.bound (λ b. cost_of (least_metric q) links path ≤ b) → cost_of (least_metric q) links path < limit_of q.constraints.now.bound
 under_limit q links source destination path m joined each few bound =
     let h = leads_of q links source path destination joined each in
@@ -262,7 +262,7 @@ no_loop q source destination from to e = record {
       no_round_trip q.topology.now.links a.source a.destination path (start ∙ e ∙ sym end) a.joined a.once a.some);
 }
 
--- where no node owns an end, nothing is admissible
+-- if no node owns an end, nothing is admissible
 pub no_source : (q : Query) → end_node q q.constraints.now.source ≡ None → IsImpossible (searched q) q.constraints.now q.own.now
 no_source q none = record { none = λ path a. (let e : None ≡ Some a.source = sym none ∙ a.from in none-some a.source e) }
 

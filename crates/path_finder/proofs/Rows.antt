@@ -42,7 +42,7 @@ below_first q links destination limit row first = record { each = λ v ns cost h
     go v [] cost h under few = let e : slice_index row v ≡ slice_index row destination = ap (slice_index row) h.0 in omega (arith, first.here)
     go v (n ∷ ns) cost h under few = absurd (omega arith)
 
--- one link in front
+-- walks with one link more in front are bounded by the next row
 one_more : (q : Query) (links : List Link) (destination limit most : ℕ) (old new : List ℕ) → IsNext q links old new limit → ((v : ℕ) (ns : List ℕ) (cost : ℕ) → Leads q links v ns destination cost → cost < limit → length ns ≤ most → slice_index old v ≤ cost) → (v : ℕ) (ns : List ℕ) (cost : ℕ) → Leads q links v ns destination cost → cost < limit → length ns ≤ most + 1 → slice_index new v ≤ cost
 one_more q links destination limit most old new next below v [] cost h under few =
     let k = below v [] cost h under (omega arith) in
@@ -58,7 +58,7 @@ one_more q links destination limit most old new next below v (n ∷ ns) cost h u
 pub below_next : (q : Query) (links : List Link) (destination limit most : ℕ) (old new : List ℕ) → IsNext q links old new limit → IsBelow q links destination limit old most → IsBelow q links destination limit new (most + 1)
 below_next q links destination limit most old new next below = record { each = one_more q links destination limit most old new next below.each }
 
--- where nothing gets less, numbers of links no longer count
+-- if no cost falls any more, the row bounds walks of any number of links
 pub below_all : (q : Query) (links : List Link) (destination limit most : ℕ) (row : List ℕ) → IsNext q links row row limit → IsBelow q links destination limit row most → (v : ℕ) (ns : List ℕ) (cost : ℕ) → Leads q links v ns destination cost → cost < limit → slice_index row v ≤ cost
 below_all q links destination limit most row next below v [] cost h under = below.each v [] cost h under (omega arith)
 below_all q links destination limit most row next below v (n ∷ ns) cost h under =
@@ -68,7 +68,7 @@ below_all q links destination limit most row next below v (n ∷ ns) cost h unde
     let from : slice_index row h.0.from ≡ slice_index row v = ap (slice_index row) h.4 in
     omega arith
 
--- one link behind
+-- a walk with one link more at its end
 pub leads_more : (q : Query) (links : List Link) (a : ℕ) (ns : List ℕ) (b paid n : ℕ) (l : Link) (price to : ℕ) → Leads q links a ns b paid → slice_get links n ≡ Some l → l.from ≡ b → l.to ≡ to → toll q n l ≡ Some price → Leads q links a (ns ++ n ∷ []) to (paid + price)
 leads_more q links a [] b paid n l price to h here from ends pass =
     let zero : paid ≡ 0 = h.1 in

@@ -7,7 +7,7 @@ use Rattle.te_snapshot.specs.Admissible.{IsLeast, IsImpossible, keeps_other_boun
 use Rattle.path_finder.specs.declared.query.Query.{Query}
 use Rattle.path_finder.specs.declared.found.Found.{Found}
 
--- an admissible path of least cost, with its cost, that keeps the other bounds
+-- an admissible path of least cost that keeps the other bounds, with its cost
 pub record IsAnswer (s : NetworkState) (c : Constraints) (own : List OwnShare) (f : Found) : Type 0 where
   pub least : IsLeast s c own f.links f.cost
   pub within : keeps_other_bounds s.network.links c f.links ≡ true

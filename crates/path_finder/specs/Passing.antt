@@ -19,6 +19,6 @@ fee q a =
     if is_open q.unreserved.now q.constraints.now q.own.now a.number a.colour
     then Some (arc_metric q.constraints.now.minimise a) else None
 
--- the same of a link by its number
+-- the same for a link by its number
 abbrev pub toll : Query → ℕ → Link → Option ℕ
 toll q n l = fee q (arc_of n l)

@@ -24,15 +24,15 @@ Leads q links a (n ∷ ns) b cost = (l : Link) × (price : ℕ) × (rest : ℕ) 
 abbrev pub Rises : Query → ℕ → ℕ → Outgoing → Type 0
 Rises q near far arc = (price : ℕ) → fee q arc ≡ Some price → far ≤ near + price
 
--- the same of a link that leaves a node with this label
+-- the same for a link that leaves a node with this label
 abbrev pub RisesFrom : Query → List ℕ → ℕ → Outgoing → Type 0
 RisesFrom q labels label arc = Rises q label (slice_index labels arc.to) arc
 
--- the same of a link, turned round, that enters a node with this label
+-- the same for a link, turned round, that enters a node with this label
 abbrev pub RisesInto : Query → List ℕ → ℕ → Outgoing → Type 0
 RisesInto q labels label arc = Rises q (slice_index labels arc.to) label arc
 
--- the same of the links that leave a node below the middle, and of those that enter one above it
+-- the same for the links that leave a node below the middle, and for those that enter a node above it
 pub record IsRelaxedAt (q : Query) (links : List Link) (labels : List ℕ) (middle v : ℕ) : Type 0 where
   pub from : slice_index labels v < middle → All (RisesFrom q labels (slice_index labels v)) (leaving links v)
   pub into : middle < slice_index labels v → All (RisesInto q labels (slice_index labels v)) (entering links v)
@@ -45,12 +45,12 @@ pub record IsRelaxed (q : Query) (links : List Link) (labels : List ℕ) : Type 
 abbrev pub NoneCheaper : Query → List Link → ℕ → ℕ → ℕ → Type 0
 NoneCheaper q links a b limit = (ns : List ℕ) (cost : ℕ) → Leads q links a ns b cost → limit ≤ cost
 
--- the destination costs nothing from itself, and nothing is known of the others
+-- from the destination to itself the cost is 0, and nothing is known about the other nodes
 pub record IsFirst (row : List ℕ) (destination limit : ℕ) : Type 0 where
   pub here : slice_index row destination ≡ 0
   pub elsewhere : (v : ℕ) → v < length row → v ≢ destination → limit ≤ slice_index row v
 
--- the cost from v is that of one link and then of the old row
+-- the cost from v is that of one link plus the old row's cost from where it ends
 pub record IsMade (q : Query) (links : List Link) (old : List ℕ) (v cost : ℕ) : Type 0 where
   pub n : ℕ
   pub link : Link
@@ -60,22 +60,22 @@ pub record IsMade (q : Query) (links : List Link) (old : List ℕ) (v cost : ℕ
   pub passes : toll q n link ≡ Some price
   pub sum : cost ≡ price + slice_index old link.to
 
--- the new row is no more than what the old one and this link make, below the limit
+-- the new row is at most what the old one and this link give, if that is below the limit
 abbrev pub Reaches : Query → List ℕ → List ℕ → ℕ → ℕ → Link → Type 0
 Reaches q old new limit n l = (price : ℕ) → toll q n l ≡ Some price → price + slice_index old l.to < limit → slice_index new l.from ≤ price + slice_index old l.to
 
--- the new row is the old one with one more link in front, if that is less
+-- the new row is the old one with one more link in front, if that costs less
 pub record IsNext (q : Query) (links : List Link) (old new : List ℕ) (limit : ℕ) : Type 0 where
   pub size : length new ≡ length old
   pub below : (v : ℕ) → slice_index new v ≤ slice_index old v
   pub reaches : (n : ℕ) (l : Link) → slice_get links n ≡ Some l → Reaches q old new limit n l
   pub made : (v : ℕ) → (slice_index new v ≡ slice_index old v) ⊎ IsMade q links old v (slice_index new v)
 
--- each walk of at most `most` links to the destination, of less than the limit, costs at least what the row says
+-- each walk of at most `most` links to the destination that costs less than the limit costs at least what the row says
 pub record IsBelow (q : Query) (links : List Link) (destination limit : ℕ) (row : List ℕ) (most : ℕ) : Type 0 where
   pub each : (v : ℕ) (ns : List ℕ) (cost : ℕ) → Leads q links v ns destination cost → cost < limit → length ns ≤ most → slice_index row v ≤ cost
 
--- the front of a least walk: it leads to where the row knows the rest
+-- the front of a least walk: it leads to a node from which the row knows the rest
 pub record IsFront (q : Query) (links : List Link) (source destination limit : ℕ) (row : List ℕ) (used left : ℕ) (path : List ℕ) (at paid : ℕ) : Type 0 where
   pub inside : at < length row
   pub leads : Leads q links source path at paid
@@ -83,7 +83,7 @@ pub record IsFront (q : Query) (links : List Link) (source destination limit : �
   pub small : paid ≤ 2 ^ 24 * left
   pub least : (ns : List ℕ) (cost : ℕ) → Leads q links source ns destination cost → cost < limit → length ns ≤ used + left → paid + slice_index row at ≤ cost
 
--- a walk of at most `hops` links, and none of at most `hops` links costs less
+-- a walk of at most `hops` links, and no other such walk costs less
 pub record IsLeastWalk (q : Query) (links : List Link) (source destination limit hops : ℕ) (path : List ℕ) (cost : ℕ) : Type 0 where
   pub leads : Leads q links source path destination cost
   pub short : length path ≤ hops

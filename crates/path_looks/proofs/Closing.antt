@@ -1,5 +1,5 @@
--- Nothing is left on a link that goes away, and nothing becomes of that while paths are placed elsewhere; so no path over
--- it is admissible for an LSP with bandwidth.
+-- A link that goes away has no bandwidth left, and that stays so while paths are placed elsewhere; so no path over it
+-- is admissible for an LSP with bandwidth.
 use Rattle.std.proofs.Common.{◌≡◌, ◌≤◌, ◌+◌, ◌-◌, ◌==◌, ◌&&◌, ◌||◌, ℕ, zero, suc, Bool, true, false, not, List, [], ◌∷◌, length, map, Option, Some, None, refl, sym, subst, arith, inl, inr, if◌then◌else◌}
 use Rattle.std.specs.Prelude.{ℤ, pos, find, filter, slice_index_or, IfSome, IfNone}
 use Rattle.std.specs.List.{list_all, list_any, range_with_len}
@@ -17,7 +17,7 @@ use Rattle.path_looks.specs.declared.moves.Mover.{Mover}
 
 -- ---- the table
 
--- what holds of a row that is made, and of one that isn't there, holds at its place
+-- if P holds of the row that is made for a place, and of a missing row, it holds of what stands at the place
 made : (P : List ℤ → Type 0) (f : ℕ → List ℤ) (a n i j : ℕ) → j ≡ a + i → P [] → P (f j) → P (slice_index_or (map f (range_with_len a n)) i [])
 made P f a zero i j same none here = none
 made P f a (suc n) zero j same none here = subst (λ (k : ℕ). P (f k)) (omega (arith, same)) here
@@ -59,7 +59,7 @@ still_closed closed table m f avoids empty = record {
   none = λ p. made (λ row. slice_index_or row p (pos 0) ≡ pos 0) (taken_row m f.links table) 0 (length table) closed closed (omega arith) refl (kept_row m f.links table closed p avoids (empty.none p));
 }
 
--- a path over other links leaves it so
+-- placing a path over other links leaves the link closed
 pub stays_closed : (closed : ℕ) (table rows : List (List ℤ)) (m : Mover) (f : Found) → rows ≡ taken m f.links table → uses closed f ≡ false → IsClosed closed table → IsClosed closed rows
 stays_closed closed table rows m f same avoids empty = subst (λ (xs : List (List ℤ)). IsClosed closed xs) (sym same) (still_closed closed table m f avoids empty)
 
@@ -108,7 +108,7 @@ module _ (n : Network) (closed : ℕ) (table : List (List ℤ)) (m : Mover) wher
         | inr other ↦ rw (other_number l closed other) (not_over shut ls each.3)
       ]
 
-  -- the search answers an LSP with bandwidth no path over the link
+  -- for an LSP with bandwidth the search finds no path over the link
   pub refused_outright : (found : Option Found) → IsClosed closed table → ((m.wanted).priorities).hold ≤ ((m.wanted).priorities).setup
       → IfSome found (IsAnswer (state_of n table) m.wanted (held_elsewhere closed m.own))
       → IfNone found (IsRefused (state_of n table) m.wanted (held_elsewhere closed m.own))

@@ -1,4 +1,4 @@
--- One LSP more is tried.
+-- One more LSP is tried.
 use Rattle.std.proofs.Common.{◌≡◌, ℕ, List, [], ◌∷◌, ◌++◌, Some, None}
 use Rattle.std.specs.Prelude.{ℤ}
 use Rattle.te_snapshot.specs.Network.{Network}

@@ -1,4 +1,4 @@
--- A path that costs less than those that an LSP has.
+-- A path that costs less than the paths that an LSP has.
 use Rattle.std.specs.Prelude.{ℕ, ◌≡◌, ◌<◌, ◌≤◌, ◌&&◌, nat_le, min, List, length, Option, Some, None, IfSome, IfNone, if◌then◌else◌, fold}
 use Rattle.lsp_words.specs.declared.object.MetricType.{MetricType}
 use Rattle.te_base.specs.declared.network.Link.{Link}
@@ -20,7 +20,7 @@ lesser None cost = cost
 lesser (Some best) None = Some best
 lesser (Some best) (Some cost) = Some (min best cost)
 
--- what the cheapest of the paths costs, if one of them has a cost
+-- the cost of the cheapest of the paths, if one of them has a cost
 abbrev pub standing_cost : MetricType → List Link → List Path → Option ℕ
 standing_cost m links paths = fold (λ best x. lesser best (known_cost m links x)) None paths
 
@@ -30,7 +30,7 @@ pub record IsCheaper (s : NetworkState) (c : Constraints) (own : List OwnShare) 
   pub standing : standing_cost c.minimise s.network.links paths ≡ Some x.standing
   pub less : x.path.cost < x.standing
 
--- if the search answers a path, it costs at least as much
+-- if the search finds a path, it costs at least as much
 pub record IsUnbeatenAt (s : NetworkState) (c : Constraints) (own : List OwnShare) (standing : ℕ) : Type 0 where
   pub found : Option Found
   pub answer : IfSome found (IsAnswer s c own)

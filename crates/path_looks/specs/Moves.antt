@@ -34,8 +34,8 @@ held_elsewhere closed own = filter (λ held. not (held.link == closed)) own
 
 -- ---- what a path takes
 
--- what is left of a link at a priority once a path is there: from its holding priority on it takes what its tunnel doesn't
--- hold there yet
+-- what is left of a link at a priority after a path takes it: from its holding priority on the path takes what its
+-- tunnel doesn't hold there yet
 abbrev pub left_beside : Mover → ℕ → List ℤ → ℕ → ℤ
 left_beside m l left p =
     if nat_le (m.wanted).priorities.hold p then saturate_signed w64 (slice_index_or left p (pos 0) -ℤ pos ((m.wanted).bandwidth - own_share m.own l p))
@@ -47,7 +47,7 @@ row_beside m l left = map (left_beside m l left) (priorities 0 7)
 abbrev pub taken_row : Mover → List ℕ → List (List ℤ) → ℕ → List ℤ
 taken_row m links table l = if list_any (λ k. k == l) links then row_beside m l (row table l) else row table l
 
--- what is left of each link once the path is there
+-- what is left of each link after the path takes its links
 unfoldable pub taken : Mover → List ℕ → List (List ℤ) → List (List ℤ)
 taken m links table = map (taken_row m links table) (range_with_len 0 (length table))
 
@@ -61,8 +61,8 @@ pub record IsPlaced (n : Network) (closed : ℕ) (table : List (List ℤ)) (m : 
   pub answer : IsAnswer (state_of n table) m.wanted (held_elsewhere closed m.own) f
   pub avoids : uses closed f ≡ false
 
--- On this table the search found no path, or the one of least cost that it found uses the link. For an LSP with
--- bandwidth no path is admissible, or a least one breaks another bound.
+-- On this table the search found no path, or the path of least cost that it found uses the link. For an LSP with
+-- bandwidth, no path is admissible, or a least one breaks another bound.
 pub record IsUnplaced (n : Network) (closed : ℕ) (table : List (List ℤ)) (m : Mover) : Type 0 where
   pub found : Option Found
   pub answer : IfSome found (IsAnswer (state_of n table) m.wanted (held_elsewhere closed m.own))
@@ -73,7 +73,8 @@ pub record IsUnplaced (n : Network) (closed : ℕ) (table : List (List ℤ)) (m 
 abbrev pub moved : Mover → Option Found → Move
 moved m path = record { peer = m.peer; plsp = m.plsp; wanted = m.wanted; path = path }
 
--- On a table these LSPs were tried, one after the other, and went there; this table is what they leave.
+-- Starting with a table, these LSPs were tried one after the other and got these places; the last table is what they
+-- leave.
 pub data Tried (n : Network) (closed : ℕ) (start : List (List ℤ)) : List Mover → List Move → List (List ℤ) → Type 0 where
   Begins : Tried n closed start [] [] start
   Goes : (ms : List Mover) (moves : List Move) (table : List (List ℤ)) (m : Mover) (f : Found) → Tried n closed start ms moves table

@@ -19,14 +19,14 @@ any_colours = record { exclude_any = 0; include_any = 0; include_all = 0 }
 abbrev pub no_bounds : OtherBounds
 no_bounds = record { igp = None; te = None }
 
--- the same without what an obstacle names: a path of no bandwidth finds room on each link
+-- the same constraints without what an obstacle names; without bandwidth a path finds room on each link
 abbrev pub relaxed : Obstacle → Constraints → Constraints
 relaxed obstacle.Bandwidth c = record c { bandwidth = 0 }
 relaxed obstacle.Colours c = record c { colours = any_colours }
 relaxed obstacle.Bounds c = record c { bound = None; hop_bound = None; other_bounds = no_bounds }
 relaxed obstacle.Several c = record c { bandwidth = 0; colours = any_colours; bound = None; hop_bound = None; other_bounds = no_bounds }
 
--- There is no path without any one of the obstacles that come before this one: bandwidth, colours, bounds, several.
+-- There is still no path if any one of the obstacles before this one is removed: bandwidth, colours, bounds, several.
 abbrev pub RefusesBefore : NetworkState → Constraints → Obstacle → Type 0
 RefusesBefore s c obstacle.Bandwidth = Unit {0}
 RefusesBefore s c obstacle.Colours = IsRefused s (relaxed obstacle.Bandwidth c) []
@@ -34,7 +34,7 @@ RefusesBefore s c obstacle.Bounds = IsRefused s (relaxed obstacle.Bandwidth c) [
 RefusesBefore s c obstacle.Several = IsRefused s (relaxed obstacle.Bandwidth c) [] × IsRefused s (relaxed obstacle.Colours c) [] × IsRefused s (relaxed obstacle.Bounds c) []
 
 -- For a tunnel that holds nothing yet: an admissible path of least cost; or there is none, and this is one without the
--- first obstacle that helps; or there is none whatever its bandwidth, colours and bounds.
+-- first obstacle whose removal helps; or there is none whatever its bandwidth, colours and bounds.
 abbrev pub IsPathAnswer : NetworkState → Constraints → PathAnswer → Type 0
 IsPathAnswer s c (Path found) = IsAnswer s c [] found
 IsPathAnswer s c (Blocked by found) = IsRefused s c [] × RefusesBefore s c by × IsAnswer s (relaxed by c) [] found
@@ -55,7 +55,7 @@ abbrev pub one_or_none : Option FullLink → List FullLink
 one_or_none None = []
 one_or_none (Some f) = f ∷ []
 
--- those of the links on which it doesn't fit, in their order
+-- those of the links on which the bandwidth doesn't fit, in their order
 abbrev pub full_links : List (List ℤ) → Constraints → List ℕ → List FullLink
 full_links unreserved c [] = []
 full_links unreserved c (l ∷ ls) = one_or_none (first_full unreserved c l) ++ full_links unreserved c ls

@@ -1,4 +1,4 @@
-//! A path, or what prevents it.
+//! A path, or what prevents one.
 ghost use Rattle.std.specs.Prelude.{◌≡◌, [], IfOk, IfSome, IfNone, None};
 ghost use Rattle.path_finder.specs.Answers.{IsAnswer, IsRefused};
 ghost use Rattle.path_looks.specs.Paths.{any_colours, no_bounds, relaxed, IsPathAnswer, RefusesBefore};
@@ -29,7 +29,7 @@ pub enum Obstacle {
 pub enum PathAnswer {
     /// A path of least cost.
     Path(Found),
-    /// There is none, but without the obstacle there is this one of least cost.
+    /// There is none, but without the obstacle there is this path of least cost.
     Blocked { by: Obstacle, path: Found },
     /// There is none, whatever its bandwidth, colours and bounds.
     NoWay,
@@ -106,7 +106,7 @@ fn search_without(
     search(alloc, snapshot, &relaxed(by, wanted))
 }
 
-/// Finds the first of bandwidth, colours and bounds without which there is a path, or all of them together.
+/// Finds the first of bandwidth, colours and bounds whose removal gives a path, or all of them together.
 fn first_obstacle(
     alloc: Global,
     snapshot: &Snapshot,

@@ -1,4 +1,4 @@
-//! A path that costs less than those that an LSP has.
+//! A path that costs less than the paths that an LSP has.
 ghost use Rattle.std.specs.Prelude.{◌≡◌, ◌<◌, ◌≤◌, Some, IfOk, IfSome, IfNone};
 ghost use Rattle.path_looks.specs.Cheaper.{known_cost, lesser, standing_cost, IsCheaper, IsUnbeaten};
 
@@ -16,7 +16,7 @@ pub struct Cheaper {
     pub standing: u64,
 }
 
-/// The greatest number of links of a path whose cost is known.
+/// The most links of a path whose cost is known.
 const LINK_LIMIT: usize = 64;
 
 /// Adds up the cost of a path of 1 to 64 links.

@@ -26,7 +26,7 @@ fn left_at(snapshot: &Snapshot, link: LinkNumber, priority: u8) -> i64
     snapshot.table().left(link, Priority::capped(priority))
 }
 
-/// Tests whether so much is left for a bandwidth.
+/// Tests whether enough is left for a bandwidth.
 fn is_borne(left: i64, bandwidth: u64) -> bool
     requires { bandwidth < 2 ^ 48 }
     ensures { result ≡ (nat_le bandwidth 0 || int_le (pos (bandwidth - 0)) left) }
@@ -67,8 +67,8 @@ fn first_full(snapshot: &Snapshot, wanted: &Constraints, link: LinkNumber) -> Op
     }
 }
 
-/// Lists those of these links on which what is asked for doesn't fit, with the best of the priorities at which each is
-/// too full.
+/// Lists those of these links on which what is asked for doesn't fit, each with the best of the priorities at which it
+/// is too full.
 pub fn full_links(
     alloc: Global,
     snapshot: &Snapshot,

@@ -22,7 +22,7 @@ fn room_on(snapshot: &Snapshot, wanted: &Constraints, link: LinkNumber) -> LinkR
     LinkRoom { link, left }
 }
 
-/// Returns the one of two links on which less is left. If both have the same, it is the first.
+/// Returns the one of two links on which less is left; the first if both have the same.
 fn tighter(best: Option<LinkRoom>, other: LinkRoom) -> Option<LinkRoom>
     ensures { result ≡ tighter best other }
 {

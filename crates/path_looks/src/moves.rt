@@ -16,7 +16,7 @@ use std::sync::Arc;
 use te_base::LinkNumber;
 use te_snapshot::{OwnShare, OwnShares, Snapshot, Table, Topology, own_share};
 
-/// An LSP that is to go elsewhere: what it asks for, and what its tunnel holds.
+/// An LSP that should go elsewhere: what it asks for, and what its tunnel holds.
 #[derive(Drop)]
 pub struct Mover {
     pub peer: u32,
@@ -91,7 +91,7 @@ fn held_elsewhere(
     Ok(held)
 }
 
-/// Reads what is left of a link at a priority once a path of the LSP is there.
+/// Reads what is left of a link at a priority after a path of the LSP takes it.
 fn left_beside(mover: &Mover, link: LinkNumber, left: &[i64; 8], priority: usize) -> i64
     requires { priority < 8 }
     ensures { result ≡ left_beside mover.now link left.now priority }
@@ -105,7 +105,7 @@ fn left_beside(mover: &Mover, link: LinkNumber, left: &[i64; 8], priority: usize
     left[priority].saturating_sub(newly as i64)
 }
 
-/// Reads what is left of a link once a path of the LSP is there.
+/// Reads what is left of a link after a path of the LSP takes it.
 fn row_beside(mover: &Mover, link: LinkNumber, left: &[i64; 8]) -> [i64; 8]
     ensures { result ≡ row_beside mover.now link left.now }
 {
@@ -123,7 +123,7 @@ fn uses(links: &[LinkNumber], link: LinkNumber) -> bool
     links.iter().any(|number| *number == link)
 }
 
-/// Reads what is left of a link once a path over these links is there.
+/// Reads what is left of a link after a path over these links takes them.
 fn taken_row(mover: &Mover, links: &[LinkNumber], table: &[[i64; 8]], link: LinkNumber) -> [i64; 8]
     requires { link < length table.now }
     ensures { result ≡ taken_row mover.now links.now table.now link }
@@ -135,7 +135,7 @@ fn taken_row(mover: &Mover, links: &[LinkNumber], table: &[[i64; 8]], link: Link
     }
 }
 
-/// Copies the table as it is once a path over these links is there.
+/// Copies the table as it is after a path over these links takes them.
 #[tactic(auto, unfolding(crate::specs::Moves::taken), using(crate::proofs::Rows::one_row_more))]
 fn taken(
     alloc: Global,
@@ -229,7 +229,7 @@ fn moved(mover: &Mover, path: Option<Found>) -> Move
     }
 }
 
-/// Tries an LSP elsewhere. If it finds a place, it takes that from the table.
+/// Tries an LSP elsewhere. If it finds a place, the table is left without what that takes.
 fn try_one(
     alloc: Global,
     topology: &Arc<Topology, Global>,
@@ -274,8 +274,8 @@ fn try_all(
     Ok(moves)
 }
 
-/// Finds where LSPs would go if a link went away. They go one after the other, and each finds taken what those before
-/// it took. Nothing is booked.
+/// Finds where LSPs would go if a link went away. They go one after the other, and each finds that those before it have
+/// taken their share. Nothing is booked.
 #[tactic(auto, using(crate::proofs::Closing::starts_closed))]
 pub fn moves_without(
     alloc: Global,

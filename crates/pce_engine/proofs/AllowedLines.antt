@@ -1,4 +1,4 @@
--- What the searches may answer along bytes, they may along the lines that the bytes make.
+-- What the searches may answer along bytes they may answer along the lines that the bytes make.
 use Rattle.std.proofs.Common.{◌≡◌, ℕ, ◌==◌, Bool, true, false, List, [], ◌∷◌, ◌++◌, Some, None, Result, Ok, Err, IfOk, fold, refl, sym, ap, subst, ◌∙◌, append_assoc, arith}
 use Rattle.std.proofs.lemmas.Bool.Decides.{nat_tests}
 use Rattle.std.proofs.lemmas.List.{append-nil}
@@ -16,7 +16,8 @@ also_none (Ok x) P h = (h, tt)
 also_none (Err e) P h = tt
 
 module _ (answers : Searches) where
-  -- these lines lead to the stage: what the searches of further lines may answer, they may after these
+  -- these lines lead to the stage: what the searches of further lines may answer from there, they may answer after
+  -- these lines
   abbrev GoesOn : List (List ℕ) → Stage → Type 0
   GoesOn ls s = (more : List (List ℕ)) → Allowed answers more s → Allowed answers (ls ++ more) start
 
@@ -31,7 +32,8 @@ module _ (answers : Searches) where
   may_fault ls p s fault more e goes =
       goes (p ∷ more) (subst (λ (t : Result (LineAnswer Stage) ScriptFault). IfOk t (λ t. MayFind (answers s.number) s.standing p × Allowed answers more t.after)) (sym e) tt)
 
-  -- the byte that ends a line lets its search answer so
+  -- if the searches are allowed along bytes that begin with a line break, the search of the line that it ends is
+  -- allowed
   may_break : (r : Result (LineAnswer Stage) ScriptFault) (b : ℕ) (bytes : List ℕ) (m : Machine) → (b == 10) ≡ true → answer_of_line (answers m.stage.number) m.stage m.pending ≡ r → AllowedBytes answers (b ∷ bytes) m
       → IfOk (after_line r) (λ t. MayFind (answers m.stage.number) m.stage.standing m.pending × AllowedBytes answers bytes t.after)
   may_break (Ok r) b bytes m e is h =
@@ -83,7 +85,7 @@ module _ (answers : Searches) where
   last_line ls [] s goes may = subst (λ (ls : List (List ℕ)). Allowed answers ls start) (append-nil ls) (goes [] tt)
   last_line ls (b ∷ p) s goes may = goes ((b ∷ p) ∷ []) (also_none (answer_of_line (answers s.number) s (b ∷ p)) (MayFind (answers s.number) s.standing (b ∷ p)) may)
 
-  -- the input ended where the bytes lead
+  -- the input ended after these bytes
   pub allowed_whole : (input text : List ℕ) (m : Machine) → Goes answers input [] started text m → MayClose (answers m.stage.number) m.stage m.pending → Allowed answers (lines_of input) start
   allowed_whole input text m h may =
       let k = fronts input [] [] [] start text m (λ more k. k) h in

@@ -26,7 +26,7 @@ closes_nothing (Err HistoryFull) old new s h = nothing_last old new s (Some Hist
 
 -- ---- with one
 
--- what the last line prints, and how the script ends behind it
+-- what the last line prints, and how the script ends after it
 abbrev closed : Result (LineAnswer Stage) ScriptFault → Outcome
 closed given = on_line_answer [] given (λ all t. record { text = all; fault = ending t.number t.standing })
 
@@ -80,7 +80,7 @@ pub closes_halted : (e : ScriptFault) (w : Option (List ℕ)) (s : Stage) (line 
 closes_halted e w s [] none out some h = absurd (some refl)
 closes_halted e w s (b ∷ bs) none out some h = halted_last e w s b bs none out h
 
--- what is written where the writing did not fail
+-- what holds on success holds if the writing did not fail
 pub written : {A E : Type 0} (r : Result A E) (P : Type 0) → OnOk r P → false ≡ is_err r → P
 written (Ok a) P h is = h
 written (Err e) P h is = absurd (cc (is))

@@ -1,4 +1,4 @@
--- Searches of a first piece and of what follows it are those of both.
+-- The searches of a first piece and of what follows it are the searches of both.
 use Rattle.std.proofs.Common.{◌≡◌, ℕ, ◌+◌, ◌<◌, ◌≤◌, ◌==◌, suc, Bool, true, false, cond, List, [], ◌∷◌, ◌++◌, length, take, drop, get_or, drop-cons, take-append-drop, Option, Some, None, Result, Ok, Err, IfOk, nat_lt, refl, sym, ap, subst, ◌∙◌, arith, rules, tests}
 use Rattle.std.proofs.lemmas.List.{take_more}
 use Rattle.std.proofs.lemmas.Bool.Decides.{nat_tests}
@@ -9,7 +9,7 @@ use Rattle.pce_engine.specs.Script.{Searches, Stage, answer_of_line}
 use Rattle.pce_engine.specs.Machine.{Machine, Fed, after_line, took, fed_on, fed, MayTake, AllowedBytes, Leads, Goes, Halts, Breaks}
 use Rattle.pce_engine.proofs.Laws.{took_break, took_other, next_answer, fed_append}
 
--- the answers of a before the line with this number, and those of b from it on
+-- the answers of a for lines before this number, and those of b from it on
 abbrev pub joined : Searches → Searches → ℕ → Searches
 joined a b number = λ i. cond (nat_lt i number) (a i) (b i)
 
@@ -27,7 +27,7 @@ line_rises answer m (Ok r) t e h =
     ap (λ (u : LineAnswer Machine). u.after.stage.number) (sym same) ∙ next_answer answer m.stage m.pending r e
 line_rises answer m (Err fault) t e h = cc
 
--- at a line break the next number comes
+-- a line break advances to the next number
 break_rises : (answer : Option (List ℕ)) (m : Machine) (b : ℕ) (t : LineAnswer Machine) → (b == 10) ≡ true → took answer m b ≡ Ok t → t.after.stage.number ≡ m.stage.number + 1
 break_rises answer m b t e h = line_rises answer m (answer_of_line answer m.stage m.pending) t refl (sym (took_break answer m b e) ∙ h)
 
@@ -57,7 +57,8 @@ rises (b ∷ bytes) a text m new n h = rises_at (took (a m.stage.number) m b) b 
 
 -- ---- only the answers of the lines that come count
 
--- what holds of a byte under an answer holds under one that is the same where the byte ends a line
+-- if the answer is the same wherever the byte ends a line, what holds of the byte under one answer holds under the
+-- other
 abbrev MayGoOn : Option (List ℕ) → ℕ → Machine → (Machine → Type 0) → Type 0
 MayGoOn answer b m next = IfOk (took answer m b) (λ t. MayTake answer m b × next t.after)
 
@@ -73,7 +74,7 @@ other_may answer other b m next e h =
     let here = subst (λ (r : Result (LineAnswer Machine) ScriptFault). IfOk r (λ t. MayTake answer m b × next t.after)) (took_other answer m b e) h in
     subst (λ (r : Result (LineAnswer Machine) ScriptFault). IfOk r (λ t. MayTake other m b × next t.after)) (sym (took_other other m b e)) (λ is. absurd (no is), here.1)
 
--- from a number on
+-- answers that agree from the machine's number on lead to the same
 abbrev SameFrom : List ℕ → Type 0
 SameFrom bytes = (b c : Searches) (text : List ℕ) (m : Machine) → ((i : ℕ) → m.stage.number ≤ i → c i ≡ b i) → (fed c bytes text m ≡ fed b bytes text m) × (AllowedBytes b bytes m → AllowedBytes c bytes m)
 
@@ -97,7 +98,7 @@ same_from (x ∷ bytes) b c text m same =
           (goes_with (took answer m x) (MayTake answer m x) (AllowedBytes b bytes) (AllowedBytes c bytes) (λ t e k. (same_from bytes b c (text ++ t.text) t.after (later t e)).1 k) h),
     )
 
--- below the number at which the bytes lead
+-- so do answers that agree below the number at which the bytes arrive
 abbrev SameBelow : List ℕ → Type 0
 SameBelow bytes = (a c : Searches) (text : List ℕ) (m : Machine) (new : List ℕ) (n : Machine) → ((i : ℕ) → i < n.stage.number → c i ≡ a i) → Goes a bytes text m new n → Goes c bytes text m new n
 
@@ -107,13 +108,13 @@ below_at : (r : Result (LineAnswer Machine) ScriptFault) (P : Type 0) (bytes : L
 below_at (Ok t) P bytes a c text m new n same ih h k = let rest = ih a c (text ++ t.text) t.after new n same (h, k.1) in (rest.0, (k.0, rest.1))
 below_at (Err fault) P bytes a c text m new n same ih h k = let bad : Some fault ≡ None = ap (λ (f : Fed). f.fault) h in absurd cc
 
--- the line that a byte ends comes before the number at which the bytes lead
+-- the line that a byte ends has a number below the one at which the bytes arrive
 break_below : (r : Result (LineAnswer Machine) ScriptFault) (b : ℕ) (bytes : List ℕ) (a : Searches) (text : List ℕ) (m : Machine) (new : List ℕ) (n : Machine) → (b == 10) ≡ true → took (a m.stage.number) m b ≡ r
     → fed_on text m r (fed a bytes) ≡ record { text = new; machine = n; fault = None } → m.stage.number < n.stage.number
 break_below (Ok t) b bytes a text m new n e is h = omega (arith, break_rises (a m.stage.number) m b t e is, rises bytes a (text ++ t.text) t.after new n h)
 break_below (Err fault) b bytes a text m new n e is h = let bad : Some fault ≡ None = ap (λ (f : Fed). f.fault) h in absurd cc
 
--- the byte goes on alike under both
+-- the byte leads on in the same way under both answers
 abbrev Alike : Searches → Searches → ℕ → List ℕ → List ℕ → Machine → List ℕ → Machine → Type 0
 Alike a c b bytes text m new n =
     (fed_on text m (took (a m.stage.number) m b) (fed c bytes) ≡ record { text = new; machine = n; fault = None }) × MayGoOn (a m.stage.number) b m (AllowedBytes c bytes)
@@ -153,7 +154,7 @@ also_may [] c rest text m mid k goes more = let same : m ≡ k = ap (λ (f : Fed
 also_may (b ∷ bytes) c rest text m mid k goes more =
     also_at (took (c m.stage.number) m b) (MayTake (c m.stage.number) m b) bytes c rest text m mid k (λ c rest text m mid k goes more. also_may bytes c rest text m mid k goes more) goes.0 goes.1 more
 
--- both pieces, where the second starts at the number at which the first one led
+-- both pieces, if the second starts at the number at which the first one arrived
 pub join : (front rest text : List ℕ) (m : Machine) (mid : List ℕ) (k : Machine) (a b : Searches) → Goes a front text m mid k → AllowedBytes b rest k
     → (fed (joined a b k.stage.number) (front ++ rest) text m ≡ fed b rest mid k) × AllowedBytes (joined a b k.stage.number) (front ++ rest) m
 join front rest text m mid k a b goes more =
@@ -164,7 +165,7 @@ join front rest text m mid k a b goes more =
 
 -- ---- one byte more
 
--- what a byte leaves that was taken
+-- what a byte that was taken leaves
 pub one_byte : (b : ℕ) (text : List ℕ) (m : Machine) (new : List ℕ) (n : Machine) (answer : Option (List ℕ)) (line : List ℕ) → MayTake answer m b → took answer m b ≡ Ok (line_answer line n) → new ≡ text ++ line → Goes (λ _. answer) (b ∷ []) text m new n
 one_byte b text m new n answer line may e more = (
   ap (λ r. fed_on text m r (fed (λ _. answer) [])) e ∙ ap (λ (t : List ℕ). record { text = t; machine = n; fault = None }) (sym more),
@@ -182,7 +183,7 @@ goes_more bytes i old m text n new k within so_far byte =
     let c = joined so_far.0 (λ _. byte.0) n.stage.number in
     (c, subst (λ (front : List ℕ). Goes c front old m new k) (sym (take_more bytes i 0 within)) (both.0 ∙ one.0, both.1))
 
--- a byte that meets a fault, whatever a search would answer
+-- a fault that these bytes meet, for answers that the searches may give
 abbrev Faults : ScriptFault → List ℕ → List ℕ → Machine → List ℕ → Type 0
 Faults e bytes old m new = (c : Searches) × AllowedBytes c bytes m × ((fed c bytes old m).text ≡ new) × ((fed c bytes old m).fault ≡ Some e)
 

@@ -9,7 +9,7 @@ use Rattle.script_lines.proofs.Cutting.{cut_break, cut_other}
 use Rattle.pce_engine.specs.Script.{Searches, Stage, start, answered, counted, answer_of_line, Outcome, on_line_answer, printed, script, next_number, text_of_lines}
 use Rattle.pce_engine.specs.Machine.{Machine, started, Fed, after_line, took, fed_on, fed, Leads, completed}
 
--- the lines of what was cut, and of the bytes after it
+-- the lines of what was cut and of the bytes after it
 abbrev pub cut_on : Cut → List ℕ → List (List ℕ)
 cut_on c bytes = with_rest (fold cut_at c bytes).0 (fold cut_at c bytes).1
 
@@ -48,14 +48,14 @@ next_answer answer s line r e = number_after (answered answer s line) s.number r
 abbrev pub after : List ℕ → Fed → Fed
 after front f = record { text = front ++ f.text; machine = f.machine; fault = f.fault }
 
--- ---- where the searches answer so
+-- ---- if the searches answer this
 
 module _ (answers : Searches) where
-  -- after these lines the script goes on from this text and stage
+  -- after these lines the script goes on with this text and stage
   abbrev GoesOn : List (List ℕ) → List ℕ → Stage → Type 0
   GoesOn ls text s = (more : List (List ℕ)) → printed answers (ls ++ more) [] start ≡ printed answers more text s
 
-  -- one line more
+  -- one more line
   goes_on : (ls : List (List ℕ)) (p text : List ℕ) (s : Stage) (r : LineAnswer Stage) → answer_of_line (answers s.number) s p ≡ Ok r → GoesOn ls text s → GoesOn (ls ++ p ∷ []) (text ++ r.text) r.after
   goes_on ls p text s r e goes more =
       ap (λ (all : List (List ℕ)). printed answers all [] start) (append_assoc ls (p ∷ []) more) ∙ goes (p ∷ more) ∙ ap (λ t. on_line_answer text t (printed answers more)) e
@@ -97,7 +97,7 @@ module _ (answers : Searches) where
 
   -- ---- the whole lines of a front
 
-  -- where no fault stops the bytes, their whole lines lead to the same text
+  -- if no fault stops the bytes, their whole lines lead to the same text
   abbrev Prints : List ℕ → Type 0
   Prints bytes = (ls : List (List ℕ)) (p text : List ℕ) (s : Stage) (all : List ℕ) (n : Machine) → GoesOn ls text s → Leads answers bytes text (record { stage = s; pending = p }) all n
       → (printed answers (fold cut_at (ls, p) bytes).0 [] start).text ≡ all
@@ -128,7 +128,7 @@ module _ (answers : Searches) where
 
   -- ---- the number of the next line
 
-  -- where no fault stops the bytes, each of their whole lines is counted
+  -- if no fault stops the bytes, each of their whole lines is counted
   abbrev Counts : List ℕ → Type 0
   Counts bytes = (ls : List (List ℕ)) (p text : List ℕ) (s : Stage) (all : List ℕ) (n : Machine) → s.number ≡ length ls + 1 → Leads answers bytes text (record { stage = s; pending = p }) all n
       → n.stage.number ≡ length (fold cut_at (ls, p) bytes).0 + 1

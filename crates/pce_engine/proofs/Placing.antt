@@ -1,4 +1,4 @@
--- Sessions in their places: found, replaced, taken away, added.
+-- Sessions in their places: found, replaced, removed, added.
 use Rattle.std.proofs.Common.{inl, inr, Ordering, Less, Equal, Greater, ◌≡◌, ◌≢◌, ℕ, Bool, true, false, cond, List, [], ◌∷◌, Option, Some, None, is_some, IsSome, refl, sym, ◌∙◌, ap, subst}
 use Rattle.std.proofs.lemmas.Bool.{cases_eq}
 use Rattle.std.specs.BTreeMap.{insert_entry}
@@ -9,7 +9,7 @@ use Rattle.pce_engine.specs.Sessions.{Sessions, is_peer}
 use Rattle.pce_engine.specs.Places.{session_before, sessions_at, IsApart, ArePlaced}
 use Rattle.engine_core.specs.declared.client.Client.{Client}
 
--- nothing isn't something
+-- a missing session isn't a session
 none_is_no_some : false ≢ true
 none_is_no_some e = absurd cc
 
@@ -39,7 +39,7 @@ placed_replaced old new place keeps now (entry ∷ places) placed = (first, plac
       | inr differs ↦ ap is_some (keeps entry.1 differs) ∙ placed.0
     ]
 
--- a place that has no session is no entry's
+-- no entry has a place without a session
 pub vacant_apart : (clients : Slab Client) (place : ℕ) → get clients place ≡ None → (places : List (ℕ × ℕ)) → ArePlaced clients places → IsApart place places
 vacant_apart clients place vacant [] placed = tt
 vacant_apart clients place vacant (entry ∷ places) placed = (λ e. not_here e, vacant_apart clients place vacant places placed.2)
@@ -47,12 +47,12 @@ vacant_apart clients place vacant (entry ∷ places) placed = (λ e. not_here e,
     not_here : place ≢ entry.1
     not_here e = none_is_no_some (sym (ap is_some (ap (get clients) (sym e) ∙ vacant)) ∙ placed.0)
 
--- the session of a entry
+-- the session of an entry
 abbrev pub session_at : Slab Client → Option ℕ → Option Client
 session_at clients None = None
 session_at clients (Some place) = get clients place
 
--- the lists before and after the first entry are one with its session
+-- the entry at the front has a session, and comes first in the list
 session_here : (clients : Slab Client) (entry : ℕ × ℕ) (rest : Sessions) → IsSome (get clients entry.1) → (client : Client) × (get clients entry.1 ≡ Some client) × (session_before entry.0 (get clients entry.1) rest ≡ (entry.0, client) ∷ rest)
 session_here clients entry rest h = by_slot (get clients entry.1) refl h
   where
@@ -61,7 +61,7 @@ session_here clients entry rest h = by_slot (get clients entry.1) refl h
     by_slot (Some client) e h = (client, e, ap (λ slot. session_before entry.0 slot rest) e)
 
 module _ (test : ℕ → Bool) where
-  -- a entry that is found isn't at a place where none is
+  -- an entry that is found isn't at a place where no entry is
   pub found_apart : (other place : ℕ) (places : List (ℕ × ℕ)) → IsApart other places → lookup test places ≡ Some place → other ≢ place
   found_apart other place [] apart found = absurd cc
   found_apart other place (entry ∷ places) apart found = by_key (test entry.0) refl found (found_apart other place places apart.1)
@@ -97,7 +97,7 @@ module _ (test : ℕ → Bool) where
       by_key client e true t later = rw (e, t)
       by_key client e false t later = rw (e, t) later
 
-  -- a place that a peer has isn't empty
+  -- the place of a peer's session isn't empty
   pub found_placed : (clients : Slab Client) (place : ℕ) (places : List (ℕ × ℕ)) → ArePlaced clients places → lookup test places ≡ Some place → IsSome (get clients place)
   found_placed clients place [] placed found = absurd cc
   found_placed clients place (entry ∷ places) placed found = by_key (test entry.0) found (found_placed clients place places placed.2)
@@ -137,7 +137,7 @@ module _ (test : ℕ → Bool) where
       let here = session_here old entry (sessions_at old places) placed.0 in
       replaced_first old new place client here.0 entry places keeps now placed.1 here.1 (test entry.0) refl found (replaced old new place client keeps now places placed.2)
 
-  -- a session is taken away
+  -- a session is removed
   no_entry_less : (place : ℕ) (places : List (ℕ × ℕ)) → IsApart place places → IsApart place (remove_entry test places)
   no_entry_less place [] apart = tt
   no_entry_less place (entry ∷ places) apart = by_key (test entry.0) (no_entry_less place places apart.1)
@@ -166,7 +166,7 @@ module _ (test : ℕ → Bool) where
       let here = session_here old entry (sessions_at old places) placed.0 in
       gone_first old new place here.0 entry places keeps placed here.1 (test entry.0) refl found (gone old new place keeps places placed.2)
 
-  -- no session of these keys is there, and none is taken away
+  -- if no session has this key, removing it changes nothing
   pub none_gone : (clients : Slab Client) (places : List (ℕ × ℕ)) → ArePlaced clients places → lookup test places ≡ None → sessions_at clients places ≡ remove_entry test (sessions_at clients places)
   none_gone clients [] placed none = refl
   none_gone clients (entry ∷ places) placed none =
@@ -228,7 +228,7 @@ added old new peer place client keeps now (entry ∷ places) apart placed none =
 pub roomier : (old new : Slab Client) → new ≡ record old { capacity = new.capacity } → (places : List (ℕ × ℕ)) → ArePlaced old places → ArePlaced new places
 roomier old new same places placed = subst (λ clients. ArePlaced clients places) (sym same) placed
 
--- after room was made, a session is added at the place that is vacant
+-- after room was made, a session is added at the vacant place
 pub added_in_room : (old roomy new : Slab Client) (peer place : ℕ) (client : Client) → roomy ≡ record old { capacity = roomy.capacity } → Updates roomy new place (Some client) → get roomy place ≡ None
     → (places : List (ℕ × ℕ)) → ArePlaced old places → lookup (is_peer peer) (sessions_at old places) ≡ None → IsAdded old new places peer place client
 added_in_room old roomy new peer place client same updates vacant places placed none =

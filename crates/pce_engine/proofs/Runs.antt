@@ -52,7 +52,7 @@ keeps_same : (a : Option (List ℕ)) → Keeps a a
 keeps_same None = tt
 keeps_same (Some xs) = refl
 
--- where the front leads, the input does too
+-- the front leads to a machine, and the rest of the input goes on from there
 on_from : (front more text : List ℕ) (m : Machine) (a b : Searches) → Goes a front [] started text m → AllowedBytes b more m
     → (fed (joined a b m.stage.number) (front ++ more) [] started ≡ after text (fed b more [] m)) × AllowedBytes (joined a b m.stage.number) (front ++ more) started
 on_from front more text m a b so_far may =
@@ -115,7 +115,7 @@ stop_case e input bytes was now old mid new m turns r c b may k stops =
     let (ys, is, rest) = consumed r.rest bytes now (subst (λ (o : Option (List ℕ)). Consumes o now bytes) r.known c) in
     stop_text input bytes ys old mid new m e r.front r.text r.answers b (r.whole ∙ ap (λ (t : List ℕ). r.front ++ t) rest) r.so_far r.written may k stops
 
--- memory ran out within a piece: the whole lines before it, and those of the piece that were answered, stand
+-- memory ran out within a piece: what the whole lines before it and the answered lines of the piece print was written
 stop_memory : (input bytes : List ℕ) (was now old mid new : Option (List ℕ)) (m : Machine) (turns : ℕ) (text : List ℕ) (number : ℕ) → Reading input was old mid m turns → Consumes was now bytes → length bytes ≤ piece_bound
     → LeadsPartly bytes [] m text number → Appends mid new text → WritesBefore number old new now input
 stop_memory input bytes was now old mid new m turns text number r c small part k =
@@ -157,7 +157,7 @@ read_fails input was now old mid m turns r k =
       written = subst (Appends old mid) (sym (text_of_front r.answers r.front r.text m r.so_far.0)) r.written;
     }
 
--- there were too many
+-- the reader was asked as often as it may be
 pub reads_on : (input : List ℕ) (was old mid : Option (List ℕ)) (m : Machine) (turns : ℕ) → Reading input was old mid m turns → most_turns ≤ turns → ReadsOn old mid was input
 unfolding read_fails
 reads_on input was old mid m turns r many =
@@ -171,7 +171,7 @@ both_empty a b c e p q = e ∙ rw (p, q)
 closed_script : (c : Searches) (input text : List ℕ) (m : Machine) → Leads c input [] started text m → script c input ≡ after_text text (closed_with (c m.stage.number) [] m.stage m.pending)
 closed_script c input text m so_far = script_by_bytes c input ∙ ap (completed c) so_far ∙ closed_front (c m.stage.number) text m.stage m.pending
 
--- the last line's search answers this, and those before it as they did
+-- the last line's search answers this, and the searches of the lines before it answer as they did
 ends_with : (input text : List ℕ) (old mid new : Option (List ℕ)) (m : Machine) (fault : Option ScriptFault) (a : Searches) → Goes a input [] started text m → Appends old mid text
     → WritesLast mid new fault m.stage m.pending → WritesScript old new fault input
 ends_with input text old mid new m fault a so_far first k =

@@ -10,13 +10,13 @@ use Rattle.script_lines.specs.declared.orders.Order.TheVariants.{Take}
 use Rattle.pce_engine.specs.Standing.{with_database, obeyed, MaySearch, AnswersSearched}
 use Rattle.pce_engine.specs.declared.standing.Standing.{Standing}
 
--- a line without a search is answered as it is, whatever a search would answer
+-- a line that searches for nothing has this answer, whatever a search would answer
 pub no_search : {X : Type 0} (view : X → List ℕ) (result : Result X CommandFault) (order : Option Order) (line : Option (List ℕ) → Result (LineAnswer Standing) CommandFault) (old new : Standing)
     → MaySearch None old order → AnswersLine view result (line None) new → AnswersSearched view result order line old new
 no_search view (Ok x) order line old new may h = (None, may, h)
 no_search view (Err fault) order line old new may h = h
 
--- the database alone changes
+-- only the database changes
 pub of_database : {X : Type 0} (view : X → List ℕ) (result : Result X CommandFault) (given : Result (LineAnswer Content) CommandFault) (old : Standing) (after : Content)
     → AnswersLine view result given after → AnswersLine view result (given >>= λ t. Ok (with_database old t)) (record old { database = after })
 of_database view (Ok x) given old after h = ap (λ r. r >>= λ t. Ok (with_database old t)) h

@@ -1,4 +1,4 @@
--- Bytes without a line break make the line longer that hasn't ended, and do no more.
+-- Bytes without a line break only make the unfinished line longer.
 use Rattle.std.proofs.Common.{◌≡◌, ℕ, zero, suc, ◌+◌, ◌<◌, ◌≤◌, ◌==◌, Bool, true, false, List, [], ◌∷◌, ◌++◌, length, take, drop, get_or, ◌-◌, get_or-drop, length-drop, take-append-drop, append-nil, append_assoc, Option, None, Result, Ok, Err, IfErr, OnOk, refl, sym, ap, subst, ◌∙◌, arith}
 use Rattle.std.proofs.lemmas.List.{take_more}
 use Rattle.std.proofs.lemmas.Grind.{common_steps}
@@ -13,7 +13,7 @@ use Rattle.pce_engine.specs.MachineOf.{machine_of}
 use Rattle.pce_engine.proofs.Laws.{took_other}
 use Rattle.pce_engine.proofs.Joins.{goes_more, breaks}
 
--- none of the bytes from a place on, up to another, is a line break
+-- none of the bytes from one place up to another is a line break
 abbrev pub IsUnbroken : List ℕ → ℕ → ℕ → Type 0
 IsUnbroken bytes start end = (j : ℕ) → start ≤ j → j < end → (get_or bytes j 0 == 10) ≡ false
 
@@ -21,7 +21,7 @@ IsUnbroken bytes start end = (j : ℕ) → start ≤ j → j < end → (get_or b
 abbrev pub Led : List ℕ → ℕ → List ℕ → Machine → List ℕ → Machine → Type 0
 Led bytes count old m text n = (answers : Searches) × Goes answers (take count bytes) old m text n
 
--- with more of the line that hasn't ended
+-- the machine with more bytes in its unfinished line
 abbrev pub with_more : Machine → List ℕ → Machine
 with_more n line = record { stage = n.stage; pending = n.pending ++ line }
 
@@ -44,7 +44,7 @@ line_more bytes start d line within =
     ∙ ap (λ (t : List ℕ). line ++ t) (sym (take_more rest d 0 short))
     ∙ ap (λ (k : ℕ). line ++ take k rest) next
 
--- the bytes from a place on, up to another, where none of them is a line break
+-- the bytes from one place up to another, if none of them is a line break
 pub goes_along : (bytes : List ℕ) (start d : ℕ) (old : List ℕ) (m : Machine) (text : List ℕ) (n : Machine) → start + d ≤ length bytes → IsUnbroken bytes start (start + d) → Led bytes start old m text n
     → Led bytes (start + d) old m text (with_more n (take d (drop start bytes)))
 goes_along bytes start zero old m text n within unbroken led =
@@ -58,7 +58,7 @@ goes_along bytes start (suc d) old m text n within unbroken led =
     subst (λ (i : ℕ). Led bytes i old m text (with_more n (take (suc d) (drop start bytes)))) (omega arith)
     (subst (λ (p : List ℕ). Led bytes (at + 1) old m text (record { stage = n.stage; pending = p })) (line_more bytes start d n.pending (omega (arith, within))) more)
 
--- what stands from a place up to another
+-- the bytes from one place up to another
 abbrev pub stretch : List ℕ → ℕ → ℕ → List ℕ
 stretch bytes start end = take (end - start) (drop start bytes)
 
@@ -69,7 +69,7 @@ goes_to bytes start end old m text n from within unbroken led =
     subst (λ (i : ℕ). Led bytes i old m text (with_more n (stretch bytes start end))) same
     (goes_along bytes start (end - start) old m text n (omega (arith, from, within)) (λ j a b. unbroken j a (omega (arith, b, from))) led)
 
--- and the line break behind it
+-- these bytes, and the line break after them
 pub goes_past : (bytes : List ℕ) (start end : ℕ) (old : List ℕ) (m : Machine) (text : List ℕ) (n : Machine) (new : List ℕ) (k : Machine) → start ≤ end → end < length bytes → get_or bytes end 0 ≡ 10
     → IsUnbroken bytes start end → Led bytes start old m text n
     → (answer : Option (List ℕ)) × (line : List ℕ) × MayTake answer (with_more n (stretch bytes start end)) 10 × (took answer (with_more n (stretch bytes start end)) 10 ≡ Ok (line_answer line k)) × (new ≡ text ++ line)
@@ -87,7 +87,7 @@ breaks_past e bytes start end old m text n new from within is unbroken led halts
     breaks e bytes end old m text at new within (goes_to bytes start end old m text n from (omega (arith, within)) unbroken led)
     (subst (λ (b : ℕ). Halts n.stage.number e (took None at b) text new) (sym is) halts)
 
--- want of memory at the line that hasn't ended
+-- memory ran out at the unfinished line
 pub lacks : (bytes : List ℕ) (start : ℕ) (old : List ℕ) (m : Machine) (text : List ℕ) (n : Machine) → Led bytes start old m text n → LeadsPartly bytes old m text n.stage.number
 lacks bytes start old m text n led = record {
   front = take start bytes;
@@ -111,15 +111,15 @@ unbroken_at : (k : Bool) (bytes : List ℕ) (start i : ℕ) → IsUnbroken bytes
 unbroken_at true bytes start i unbroken e j from below h = let same : j ≡ i = grind (arith, nat_tests) in rw same e
 unbroken_at false bytes start i unbroken e j from below h = let less : j < i = grind (arith, nat_tests) in unbroken j from less
 
--- a byte more that is no line break
+-- one more byte that is no line break
 pub unbroken_more : (bytes : List ℕ) (start i : ℕ) → IsUnbroken bytes start i → (get_or bytes i 0 == 10) ≡ false → IsUnbroken bytes start (i + 1)
 unbroken_more bytes start i unbroken e j from below = unbroken_at (j == i) bytes start i unbroken e j from below refl
 
--- where the line is that hasn't ended, once bytes came
+-- the machine after bytes were added to its unfinished line
 pub grown : (s t : Script) (line : List ℕ) → t.stage ≡ s.stage → t.pending.items ≡ s.pending.items ++ line → machine_of t ≡ with_more (machine_of s) line
 grown s t line same more = rw (same, more) refl
 
--- what is left once the last line break was taken
+-- what is left after the last line break was taken
 pub fed_last : {X : Type 0} → (r : Result X ScriptFault) (bytes : List ℕ) (start : ℕ) (old : List ℕ) (m : Machine) (text : List ℕ) (s t : Script) → start ≤ length bytes → IsUnbroken bytes start (length bytes) → Led bytes start old m text (machine_of s)
     → t.stage ≡ s.stage → OnOk r (t.pending.items ≡ s.pending.items ++ stretch bytes start (length bytes)) → IfErr r (λ fault. fault ≡ OutOfMemory s.stage.number) → Feeds r bytes old m text (machine_of t)
 fed_last (Ok x) bytes start old m text s t from unbroken led same ok err =

@@ -15,12 +15,12 @@ Writes old new fault outcome = Appends old new outcome.text × (outcome.fault �
 abbrev pub WritesScript : Option (List ℕ) → Option (List ℕ) → Option ScriptFault → List ℕ → Type 0
 WritesScript old new fault input = (answers : Searches) × Allowed answers (lines_of input) start × Writes old new fault (script answers input)
 
--- the bytes that the reader is asked for at once
+-- how many bytes the reader is asked for at once
 abbrev pub piece_bound : ℕ
 piece_bound = 4096
 
 -- What all lines before the one with this number print was written, for answers that their searches may give. Those
--- lines are the beginning of the input. The bytes that were read beyond them are of the last piece.
+-- lines are the beginning of the input. Any bytes that were read beyond them belong to the last piece.
 pub record WritesBefore (number : ℕ) (old new left : Option (List ℕ)) (input : List ℕ) : Type 0 where
   pub front : List ℕ
   pub rest : List ℕ
@@ -33,8 +33,8 @@ pub record WritesBefore (number : ℕ) (old new left : Option (List ℕ)) (input
   pub known : left ≡ Some unread
   pub behind : length rest ≤ piece_bound + length unread
 
--- what the whole lines print that came before the bytes which the reader has left was written, for answers that their
--- searches may give
+-- what the whole lines before the bytes that the reader has left print was written, for answers that their searches may
+-- give
 pub record WritesRead (old new left : Option (List ℕ)) (input : List ℕ) : Type 0 where
   pub front : List ℕ
   pub answers : Searches
@@ -43,8 +43,8 @@ pub record WritesRead (old new left : Option (List ℕ)) (input : List ℕ) : Ty
   pub written : Appends old new (text_of_lines answers front)
 
 -- A bad line, a link text's fault and a full history come where the script has them, after the text of all lines
--- before. If a read failed, the output has the whole lines that were read. If memory ran out, it has those before the
--- line at which it did. After a failing write nothing is said.
+-- before. If a read failed, the output has the text of the whole lines that were read. If memory ran out, it has the
+-- text of the lines before the one at which it ran out. If a write failed, nothing is claimed.
 abbrev pub EndsBy : ScriptFault → Option (List ℕ) → Option (List ℕ) → Option (List ℕ) → List ℕ → Type 0
 EndsBy (OutOfMemory line) old new left input = WritesBefore line old new left input
 EndsBy ReadFault old new left input = WritesRead old new left input
@@ -72,12 +72,12 @@ ClosesBy ReadFault old new s line = ⊥
 ClosesBy WriteFault old new s line = Unit {0}
 ClosesBy e old new s line = WritesLast old new (Some e) s line
 
--- What the end of the input leaves, whose last line is this.
+-- What the end of the input leaves, if this is its last line.
 abbrev pub Closes : {X : Type 0} → Result X ScriptFault → Option (List ℕ) → Option (List ℕ) → Stage → List ℕ → Type 0
 Closes (Ok x) old new s line = WritesLast old new None s line
 Closes (Err e) old new s line = ClosesBy e old new s line
 
--- What the end of the input leaves after its last line, if this fault is the script's: nothing is allocated.
+-- What the end of the input leaves after its last line, if this is the script's fault. Nothing is allocated here.
 abbrev pub ClosesAt : {X : Type 0} → Result X ScriptFault → Option (List ℕ) → Option (List ℕ) → Option ScriptFault → Type 0
 ClosesAt (Ok x) old new fault = Appends old new [] × (fault ≡ None)
 ClosesAt (Err (OutOfMemory number)) old new fault = ⊥

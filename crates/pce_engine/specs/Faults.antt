@@ -1,4 +1,4 @@
--- The faults of a script: those of the database among them, and the text of each.
+-- The faults of a script, with those of the database, and the text of each.
 use Rattle.std.specs.Prelude.{ℕ, List, ◌++◌, codes}
 use Rattle.std.specs.Fmt.{decimal}
 use Rattle.te_base.specs.Faults.{fault_number}
@@ -16,12 +16,12 @@ numbered number line.BadLine = BadLine number
 numbered number (line.Store database.OutOfMemory) = OutOfMemory number
 numbered number (line.Store database.HistoryFull) = HistoryFull
 
--- the fault of a link text, met at the line with this number; running out of memory is given as such
+-- the fault of a link text, at the line with this number; if memory ran out, that is the fault
 abbrev pub te_numbered : ℕ → TeFault → ScriptFault
 te_numbered number te.OutOfMemory = OutOfMemory number
 te_numbered number fault = Te fault
 
--- running out of memory is given as such, wherever it came
+-- the text of a fault of a link text; if memory ran out, that is the fault
 abbrev pub te_text : TeFault → List ℕ
 te_text te.OutOfMemory = codes "out of memory"
 te_text fault = codes "te fault " ++ decimal (fault_number fault)

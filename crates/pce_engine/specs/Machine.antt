@@ -1,4 +1,4 @@
--- The same byte by byte, as the reader's pieces come.
+-- What a script prints, byte by byte, as the reader's pieces come.
 use Rattle.std.specs.Prelude.{◌≡◌, ℕ, ◌==◌, List, [], ◌∷◌, ◌++◌, Option, Some, None, Result, Ok, Err, IfOk, if◌then◌else◌}
 use Rattle.pce_engine.specs.declared.fault.ScriptFault.{ScriptFault}
 use Rattle.pce_engine.specs.declared.fault.ScriptFault.TheVariants.{ReadFault, WriteFault, OutOfMemory}
@@ -9,7 +9,7 @@ use Rattle.pce_engine.specs.Script.{Searches, Stage, start, answered, answer_of_
 abbrev pub stage_of : code.Stage → Stage
 stage_of s = record { number = s.number; header = s.header.items; standing = s.standing }
 
--- the stage, and the bytes of a line that hasn't ended
+-- the stage, and the bytes of the unfinished line
 pub record Machine : Type 0 where
   pub stage : Stage
   pub pending : List ℕ
@@ -43,7 +43,7 @@ fed answers (b ∷ bs) text m = fed_on text m (took (answers m.stage.number) m b
 abbrev pub MayTake : Option (List ℕ) → Machine → ℕ → Type 0
 MayTake answer m byte = byte ≡ 10 → MayFind answer m.stage.standing m.pending
 
--- each search of the lines that these bytes end may answer so
+-- each search of the lines that these bytes end may answer this
 abbrev pub AllowedBytes : Searches → List ℕ → Machine → Type 0
 AllowedBytes answers [] m = Unit {0}
 AllowedBytes answers (b ∷ bs) m = IfOk (took (answers m.stage.number) m b) (λ t. MayTake (answers m.stage.number) m b × AllowedBytes answers bs t.after)
@@ -56,22 +56,21 @@ Leads answers bytes text m new n = fed answers bytes text m ≡ record { text = 
 abbrev pub Goes : Searches → List ℕ → List ℕ → Machine → List ℕ → Machine → Type 0
 Goes answers bytes text m new n = Leads answers bytes text m new n × AllowedBytes answers bytes m
 
--- What a call on the line with this number answers and leaves, if the script has this. If memory ran out it names the
--- line, and a line meets no fault of a reader or a writer.
+-- What a call on the line with this number answers and leaves, if the script has this fault. If memory ran out, the
+-- fault names the line. A line meets no fault of a reader or a writer.
 abbrev pub Fails : {Y : Type 0} → ℕ → ScriptFault → Result Y ScriptFault → Type 0
 Fails number (OutOfMemory line) given = line ≡ number
 Fails number ReadFault given = ⊥
 Fails number WriteFault given = ⊥
 Fails number fault given = given ≡ Err fault
 
--- What a call on a line answers and leaves: some answer that its search may give leads there. A fault comes before the
--- search.
+-- What a call on a line answers and leaves, for some answer that its search may give. A fault comes before the search.
 abbrev pub AnswersLine : {X : Type 0} → (X → List ℕ) → Result X ScriptFault → List ℕ → Stage → Stage → Type 0
 AnswersLine view (Ok x) line s t = (answer : Option (List ℕ)) × MayFind answer s.standing line × (answered answer s line ≡ Ok (line_answer (view x) t))
 AnswersLine view (Err e) line s t = Fails s.number e (answered None s line)
 
--- A fault at the line with this number, or at a byte of it: nothing was added. If memory ran out it names the line, and
--- any other fault is the script's.
+-- A fault at the line with this number, or at a byte of it: nothing was added. If memory ran out, the fault names the
+-- line; any other fault is the script's.
 abbrev pub Halts : {A : Type 0} → ℕ → ScriptFault → Result A ScriptFault → List ℕ → List ℕ → Type 0
 Halts number (OutOfMemory line) given old new = (new ≡ old) × (line ≡ number)
 Halts number ReadFault given old new = ⊥
@@ -88,7 +87,7 @@ abbrev pub Takes : {X : Type 0} → Result X ScriptFault → ℕ → List ℕ �
 Takes (Ok x) byte old m new n = (answer : Option (List ℕ)) × (text : List ℕ) × MayTake answer m byte × (took answer m byte ≡ Ok (line_answer text n)) × (new ≡ old ++ text)
 Takes (Err e) byte old m new n = Halts m.stage.number e (took None m byte) old new
 
--- some of the bytes were taken: all lines before the one with this number
+-- some of the bytes were taken: those of all lines before this number
 pub record LeadsPartly (bytes text : List ℕ) (m : Machine) (new : List ℕ) (number : ℕ) : Type 0 where
   pub front : List ℕ
   pub rest : List ℕ
@@ -98,7 +97,7 @@ pub record LeadsPartly (bytes text : List ℕ) (m : Machine) (new : List ℕ) (n
   pub leads : Goes answers front text m new machine
   pub numbered : machine.stage.number ≡ number
 
--- A fault among some bytes. If memory ran out, it did so at the line that it names.
+-- A fault among some bytes. If memory ran out, it ran out at the line that the fault names.
 abbrev pub Breaks : ScriptFault → List ℕ → List ℕ → Machine → List ℕ → Type 0
 Breaks (OutOfMemory line) bytes old m new = LeadsPartly bytes old m new line
 Breaks ReadFault bytes old m new = ⊥

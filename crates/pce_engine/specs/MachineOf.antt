@@ -1,4 +1,4 @@
--- Where the code's script is.
+-- The machine for the state of the code's script.
 use Rattle.pce_engine.specs.declared.script.Script.{Script}
 use Rattle.pce_engine.specs.Machine.{Machine, stage_of}
 

@@ -4,7 +4,7 @@ use Rattle.slab.specs.Slab.{Slab, get}
 use Rattle.engine_core.specs.declared.client.Client.{Client}
 use Rattle.pce_engine.specs.Sessions.{Sessions}
 
--- a peer's session, if there is one, before others
+-- a peer's session, if there is one, before the others
 abbrev pub session_before : ℕ → Option Client → Sessions → Sessions
 session_before peer None rest = rest
 session_before peer (Some client) rest = (peer, client) ∷ rest

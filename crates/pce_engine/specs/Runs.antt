@@ -11,8 +11,8 @@ use Rattle.pce_engine.specs.Script.{Searches}
 use Rattle.pce_engine.specs.Ends.{piece_bound, WritesScript, WritesRead, WritesLast, EndsBy, ClosesBy}
 use Rattle.pce_engine.specs.Machine.{Machine, started, fed, AllowedBytes, Goes, LeadsPartly}
 
--- A fault stopped it, and what it printed before was written. If memory ran out, that is what all lines of the piece
--- before the one that it names print.
+-- A fault stopped it, and what it printed before was written. If memory ran out, that is the text of all lines of the
+-- piece before the one that the fault names.
 abbrev pub Stops : ScriptFault → List ℕ → Machine → Option (List ℕ) → Option (List ℕ) → Type 0
 Stops (OutOfMemory line) bytes m old new = (text : List ℕ) × LeadsPartly bytes [] m text line × Appends old new text
 Stops ReadFault bytes m old new = ⊥
@@ -36,18 +36,18 @@ Gave bytes was now = Consumes was now bytes × (0 < length bytes) × (length byt
 abbrev pub GaveNothing : Option (List ℕ) → Option (List ℕ) → Type 0
 GaveNothing was now = Consumes was now [] × IsAtEnd now
 
--- A turn ended the run by a fault: the read failed and nothing was written, or the bytes that it gave stopped the
+-- A turn ended the run with a fault: the read failed and nothing was written, or the bytes that it gave stopped the
 -- script, or its last line did.
 abbrev pub TurnFails : ScriptFault → Option (List ℕ) → Option (List ℕ) → Option (List ℕ) → Option (List ℕ) → Machine → Type 0
 TurnFails e was now old new m = ((e ≡ ReadFault) × Keeps was now × (new ≡ old)) ⊎ (((bytes : List ℕ) × Gave bytes was now × Stops e bytes m old new) ⊎ (GaveNothing was now × ClosesBy e old new m.stage m.pending))
 
--- What a turn leaves: one read, and what is written of it.
+-- What a turn leaves: one read, and what is written because of it.
 abbrev pub Turns : Result Turn ScriptFault → Option (List ℕ) → Option (List ℕ) → Option (List ℕ) → Option (List ℕ) → Machine → Machine → Type 0
 Turns (Ok More) was now old new m n = (bytes : List ℕ) × Gave bytes was now × GoesOn bytes m old new n
 Turns (Ok Finished) was now old new m n = GaveNothing was now × WritesLast old new None m.stage m.pending
 Turns (Err e) was now old new m n = TurnFails e was now old new m
 
--- some of the input was read, at least a byte a turn, and what it prints was written
+-- some of the input was read, at least one byte a turn, and what it prints was written
 pub record Reading (input : List ℕ) (remaining old new : Option (List ℕ)) (m : Machine) (turns : ℕ) : Type 0 where
   pub front : List ℕ
   pub rest : List ℕ
@@ -63,7 +63,7 @@ pub record Reading (input : List ℕ) (remaining old new : Option (List ℕ)) (m
 abbrev pub most_turns : ℕ
 most_turns = 2 ^ 32
 
--- as often as the reader may be asked it gave a byte or more, and there may be others
+-- the reader was asked as often as it may be, gave at least one byte each time, and may have more
 abbrev pub ReadsOn : Option (List ℕ) → Option (List ℕ) → Option (List ℕ) → List ℕ → Type 0
 ReadsOn old new left input = (r : WritesRead old new left input) × (most_turns ≤ length r.front)
 

@@ -17,7 +17,7 @@ use Rattle.script_lines.specs.LineAnswer.{LineAnswer, line_answer, ◌>>=◌}
 
 -- ---- one line
 
--- the number of the next line, the link text so far, and the database and sessions once the link text has ended
+-- the number of the next line, the link text so far, and, once the link text has ended, the database and sessions
 pub record Stage : Type 0 where
   pub number : ℕ
   pub header : List ℕ
@@ -30,18 +30,18 @@ start = record { number = 1; header = []; standing = None }
 unfoldable pub base_in : List ℕ → Result Ted TeFault
 base_in text = if is_utf8 text then base_of text else Err NotToml
 
--- `---` ends the link text, another line belongs to it
+-- `---` ends the link text; any other line belongs to it
 unfoldable pub header_line : Stage → List ℕ → Result (LineAnswer Stage) TeFault
 header_line s line =
     if bytes_eq line (codes "---") then (base_in s.header >>= λ base. Ok (line_answer [] (record s { standing = Some (at_start base) })))
     else Ok (line_answer [] (record s { header = (s.header ++ line) ++ 10 ∷ [] }))
 
--- what a line of the link text leaves; its fault gets its number
+-- the result of a line of the link text; its fault gets the line's number
 abbrev pub numbered_header : Stage → Result (LineAnswer Stage) TeFault → Result (LineAnswer Stage) ScriptFault
 numbered_header s (Ok t) = Ok t
 numbered_header s (Err fault) = Err (te_numbered s.number fault)
 
--- what a line after the link text leaves; its fault gets its number
+-- the result of a line after the link text; its fault gets the line's number
 abbrev pub numbered_line : Stage → Result (LineAnswer Standing) CommandFault → Result (LineAnswer Stage) ScriptFault
 numbered_line s (Ok t) = Ok (line_answer t.text (record s { standing = Some t.after }))
 numbered_line s (Err fault) = Err (numbered s.number fault)
@@ -78,12 +78,12 @@ pub record Outcome : Type 0 where
   pub text : List ℕ
   pub fault : Option ScriptFault
 
--- a script without `---` has a bad line one past the last
+-- a script without `---` has a bad line, one past the last
 abbrev pub ending : ℕ → Option Standing → Option ScriptFault
 ending number None = Some (BadLine number)
 ending number (Some standing) = None
 
--- on from a line, with what was written before it
+-- goes on after a line, adding its text to what was written before it
 abbrev pub on_line_answer : List ℕ → Result (LineAnswer Stage) ScriptFault → (List ℕ → Stage → Outcome) → Outcome
 on_line_answer text (Ok t) go = go (text ++ t.text) t.after
 on_line_answer text (Err fault) go = record { text = text; fault = Some fault }
@@ -100,7 +100,7 @@ script answers bytes = printed answers (lines_of bytes) [] start
 abbrev pub text_of_lines : Searches → List ℕ → List ℕ
 text_of_lines answers bytes = (printed answers (cut bytes).0 [] start).text
 
--- each search of these lines may answer so, from this stage on; a line that meets a fault searches for nothing
+-- each search of these lines may answer this, from this stage on; a line that meets a fault searches for nothing
 abbrev pub Allowed : Searches → List (List ℕ) → Stage → Type 0
 Allowed answers [] s = Unit {0}
 Allowed answers (line ∷ lines) s = IfOk (answer_of_line (answers s.number) s line) (λ t. MayFind (answers s.number) s.standing line × Allowed answers lines t.after)

@@ -1,4 +1,4 @@
--- The lines that speak for a peer: its session begins, takes bytes, ends.
+-- The lines that speak for a peer: its session begins, takes bytes, or ends.
 use Rattle.std.specs.Prelude.{ℕ, false, List, Option, Some, None, is_some, Result, Ok, Err, if◌then◌else◌}
 use Rattle.engine_core.specs.Engine.{new_client}
 use Rattle.engine_core.specs.declared.client.Client.{Client}
@@ -9,12 +9,12 @@ use Rattle.script_lines.specs.declared.fault.CommandFault.{CommandFault}
 use Rattle.script_lines.specs.declared.fault.CommandFault.TheVariants.{BadLine}
 use Rattle.pce_engine.specs.declared.standing.Standing.{Standing}
 
--- an open session; else the line is bad
+-- the open session; without one the line is bad
 abbrev pub live_or_bad : Option Client → Result Client CommandFault
 live_or_bad None = Err BadLine
 live_or_bad (Some c) = Ok c
 
--- after a line the session of a peer goes on, or has ended
+-- after a line, the session of a peer goes on or has ended
 abbrev pub after_talk : ℕ → Standing → LineAnswer Talk → LineAnswer Standing
 after_talk peer s t = line_answer t.text (record s { database = t.after.database; sessions = kept peer t.after.client s.sessions })
 
@@ -32,7 +32,7 @@ end_line peer s = do
   t ← hung peer c s.database
   Ok (after_talk peer s t)
 
--- a new session, and its Open
+-- a new session, which sends its Open
 abbrev pub with_new : ℕ → Standing → Client → LineAnswer Standing
 with_new peer s c = line_answer (left_text peer false c) (record s { sessions = placed peer (sent_out c) s.sessions })
 

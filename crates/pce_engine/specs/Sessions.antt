@@ -15,14 +15,14 @@ is_peer peer = is_at (nat_cmp peer)
 abbrev pub session_of : ℕ → Sessions → Option Client
 session_of peer sessions = lookup (is_peer peer) sessions
 
--- a session that has ended isn't among them
+-- the sessions without a peer's, if it has ended
 abbrev pub gone_if : Bool → ℕ → Sessions → Sessions
 gone_if ended peer sessions = if ended then remove_entry (is_peer peer) sessions else sessions
 
--- the session of a peer goes on as this one, or it has ended
+-- the sessions with a peer's as it is now, or without it if it has ended
 abbrev pub kept : ℕ → Client → Sessions → Sessions
 kept peer c sessions = gone_if (is_closed c.session.state) peer (set_value (is_peer peer) sessions c)
 
--- a session is added, unless it has ended
+-- the sessions with a new one, unless it has ended
 abbrev pub placed : ℕ → Client → Sessions → Sessions
 placed peer c sessions = if is_closed c.session.state then sessions else insert_entry nat_cmp sessions peer c

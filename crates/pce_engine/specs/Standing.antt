@@ -22,7 +22,7 @@ use Rattle.script_lines.specs.declared.orders.Order.{Order}
 use Rattle.script_lines.specs.declared.orders.Order.TheVariants.{Report, Book, History, Open, Up, Bytes, End, Tick, Submit, Take, Roll}
 use Rattle.pce_engine.specs.declared.standing.Standing.{Standing}
 
--- the link text has ended: there are no sessions
+-- the link text has ended; there are no sessions yet
 abbrev pub at_start : Ted → Standing
 at_start te = record { database = nothing_happened te; sessions = []; moment_ms = 0 }
 
@@ -34,7 +34,7 @@ with_database s t = line_answer t.text (record s { database = t.after })
 abbrev pub served_in_turn : List ℕ → Standing → Result (LineAnswer Standing) CommandFault
 served_in_turn peers s = each (λ peer. message_line peer []) peers s
 
--- every open session, in rising order of their peers
+-- every open session is served, in rising order of their peers
 unfoldable pub all_served : Standing → Result (LineAnswer Standing) CommandFault
 all_served s = served_in_turn (keys_of s.sessions) s
 
@@ -49,7 +49,7 @@ may_queue (Return peer plsp) = true
 may_queue (Delete peer plsp) = true
 may_queue event = false
 
--- then every session is served, after what was printed
+-- after such an event every session is served, and what that prints follows
 abbrev pub served_if : Bool → LineAnswer Standing → Result (LineAnswer Standing) CommandFault
 served_if queues t = if queues then behind t.text (all_served t.after) else Ok t
 
@@ -83,7 +83,7 @@ abbrev pub MaySearch : Option (List ℕ) → Standing → Option Order → Type 
 MaySearch answer s (Some Take) = MayAnswerTo (step s.database.state event.Take).reply answer
 MaySearch answer s order = Unit {0}
 
--- what a call answers and leaves: some answer that the search may give leads there. A fault comes before the search
+-- what a call answers and leaves, for some answer that the search may give; a fault comes before the search
 abbrev pub AnswersSearched : {X : Type 0} → (X → List ℕ) → Result X CommandFault → Option Order → (Option (List ℕ) → Result (LineAnswer Standing) CommandFault) → Standing → Standing → Type 0
 AnswersSearched view (Ok x) order line old new = (answer : Option (List ℕ)) × MaySearch answer old order × (line answer ≡ Ok (line_answer (view x) new))
 AnswersSearched view (Err fault) order line old new = Fails fault (line None)

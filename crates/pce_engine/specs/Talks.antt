@@ -1,4 +1,4 @@
--- A session in one line: what the engine does with it, and what is printed of it.
+-- A session in one line: what the engine does with it, and what is printed about it.
 use Rattle.std.specs.Prelude.{ℕ, Bool, List, [], ◌∷◌, ◌++◌, codes, Result, Ok, Err, if◌then◌else◌}
 use Rattle.std.specs.Fmt.{decimal}
 use Rattle.hex.specs.Hex.{encode_lower}
@@ -17,12 +17,12 @@ use Rattle.script_lines.specs.declared.fault.CommandFault.TheVariants.{Store}
 
 -- ---- what is printed
 
--- bytes that are to be sent, if there are some
+-- the text of bytes that are to be sent, if there are any
 abbrev pub output_text : ℕ → List ℕ → List ℕ
 output_text peer [] = []
 output_text peer (b ∷ bs) = codes "out " ++ decimal peer ++ codes " " ++ encode_lower (b ∷ bs) ++ codes "\n"
 
--- the session has ended, or it came up
+-- the text for a session that has ended, or has come up
 abbrev pub change_text : ℕ → Bool → State → List ℕ
 change_text peer was_up Closed = codes "down " ++ decimal peer ++ codes "\n"
 change_text peer was_up Up = if was_up then [] else codes "up " ++ decimal peer ++ codes "\n"
@@ -32,7 +32,7 @@ change_text peer was_up state = []
 abbrev pub left_text : ℕ → Bool → Client → List ℕ
 left_text peer was_up c = output_text peer c.session.output ++ change_text peer was_up c.session.state
 
--- its bytes are sent
+-- the session after its bytes were sent
 abbrev pub sent_out : Client → Client
 sent_out c = record c { session = output_taken c.session }
 
@@ -50,11 +50,11 @@ abbrev pub talk_of : Result (Client × Content) Fault → Result Talk CommandFau
 talk_of (Ok done) = Ok (talk done.0 done.1)
 talk_of (Err fault) = Err (Store fault)
 
--- what is printed of a session, whose bytes are sent
+-- what is printed of a session, and the session after its bytes were sent
 abbrev pub talk_answer : ℕ → Bool → Talk → LineAnswer Talk
 talk_answer peer was_up done = line_answer (left_text peer was_up done.client) (talk (sent_out done.client) done.database)
 
--- bytes of the peer at a moment
+-- bytes of the peer come at a moment
 unfoldable pub talked : ℕ → List ℕ → ℕ → Client → Content → Result (LineAnswer Talk) CommandFault
 talked peer piece now_ms c d = do
   done ← talk_of (performed (served peer piece now_ms c) d)
@@ -66,6 +66,6 @@ hung peer c d = do
   done ← talk_of (performed (hung_up peer c) d)
   Ok (talk_answer peer (is_up c.session.state) done)
 
--- a router that opens a session as this server does, and accepts this server's Open: an Open and a Keepalive
+-- what a router sends to open a session as this server does, and to accept this server's Open: an Open and a Keepalive
 abbrev pub router_opening : List ℕ
 router_opening = own_open ++ 0x20 ∷ 2 ∷ 0 ∷ 4 ∷ []

@@ -1,4 +1,4 @@
--- A grant that a report covers holds nothing of its own.
+-- A grant that a report covers reserves nothing of its own.
 use Rattle.std.proofs.Common.{◌≡◌, ◌≤◌, ◌==◌, ◌&&◌, ◌||◌, ℕ, Bool, true, false, cond, List, [], ◌∷◌, ◌++◌, map, filter, refl, sym, ap, subst, arith}
 use Rattle.std.specs.Prelude.{max, nat_le}
 use Rattle.std.specs.List.{list_all, list_any}
@@ -18,7 +18,7 @@ covers_it g x = covers g x && is_path_of g.peer g.plsp x
 abbrev bandwidth_of : Path → ℕ
 bandwidth_of x = x.bandwidth
 
--- the greatest bandwidth of the paths that pass
+-- the greatest bandwidth of the paths that pass the test
 abbrev top : (Path → Bool) → List Path → ℕ
 top held xs = greatest (map bandwidth_of (filter held xs))
 

@@ -1,4 +1,4 @@
--- What is seen of paths over a link, and of one path more.
+-- What is seen of paths over a link, and of one more path.
 use Rattle.std.proofs.Common.{◌≡◌, ◌==◌, ◌&&◌, ◌||◌, ℕ, Bool, true, false, not, cond, List, [], ◌∷◌, ◌++◌, filter, Option, Some, None, refl, sym, ap, ◌∙◌}
 use Rattle.std.specs.Prelude.{filter_map, option_map, option_to_list}
 use Rattle.std.specs.List.{cons_option, list_any}
@@ -41,7 +41,7 @@ same_as l k x is =
     let number : (l.known).plsp ≡ (k.known).plsp = eqb-true (l.known).plsp (k.known).plsp both.1 in
     ap (λ v. v == (x.known).peer && (k.known).plsp == (x.known).plsp) (sym peer) ∙ ap (λ v. (l.known).peer == (x.known).peer && v == (x.known).plsp) (sym number)
 
--- where those of another LSP are left out, this one is as it was
+-- leaving out another LSP doesn't change whether this one is listed
 listed_apart : (l x : KnownLsp) → same_lsp l x ≡ false → (ks : List KnownLsp) → listed x (filter (other l) ks) ≡ listed x ks
 listed_apart l x apart [] = refl
 listed_apart l x apart (k ∷ ks) = by (same_lsp l k) refl (listed_apart l x apart ks)
@@ -93,7 +93,7 @@ once_with lsps ls x = by (lsp_at lsps.records x.peer x.plsp)
         let l = lsp_of lsps.paths x.peer x.plsp lsp in
         once_more ls l ∙ ap (λ b. cond b (each_once ls) (each_once ls ++ l ∷ [])) (sym (listed_once ls l))
 
--- what is seen of the paths before, with the LSP of one more that goes over the link and isn't listed
+-- one more path goes over the link and its LSP isn't listed: what was seen of the paths before, and then that LSP
 pub with_new : (lsps : Lsps) (link : ℕ) (before : List Path) (x : Path) (seen after : List KnownLsp) → (has_link link x && not (is_listed seen x)) ≡ true → after ≡ seen ++ option_to_list (lsp_in lsps x.peer x.plsp) → seen ≡ lsps_over lsps link before → after ≡ lsps_over lsps link (before ++ x ∷ [])
 with_new lsps link before x seen after new is seen_of =
     let both = and_parts (has_link link x) (not (is_listed seen x)) new in
@@ -109,7 +109,7 @@ with_new lsps link before x seen after new is seen_of =
     by true us vs n = absurd (cc (n))
     by false us vs n = refl
 
--- the same of a path that doesn't go over the link, or whose LSP is listed
+-- one more path doesn't go over the link, or its LSP is listed: nothing more is seen
 pub without_new : (lsps : Lsps) (link : ℕ) (before : List Path) (x : Path) (seen : List KnownLsp) → (has_link link x && not (is_listed seen x)) ≡ false → seen ≡ lsps_over lsps link before → seen ≡ lsps_over lsps link (before ++ x ∷ [])
 without_new lsps link before x seen stays seen_of = seen_of ∙ by (has_link link x) (is_listed (each_once ls) x) refl refl (sym (ap (λ s. has_link link x && not (is_listed s x)) seen_of) ∙ stays)
   where

@@ -26,7 +26,7 @@ module _ {X : Type 0} (p : X → Bool) where
       by true rest = omega (arith, rest)
       by false rest = rest
 
-  -- no more than a page, where the other list is full sooner too
+  -- a page has no more items, even if the other list is full sooner
   pub few_first : (xs : List X) (a b : Option ℕ) → IfSome a (λ n. length (filter p (take n xs)) ≡ 256) → IfNone a (length (filter p xs) ≤ 256) → length (filter p (up_to xs (least a b))) ≤ 256
   few_first xs None None full none = none
   few_first xs None (Some b) full none = omega (arith, none, whole b xs)
@@ -56,7 +56,7 @@ full_both p q xs ys (Some a) (Some b) fa na fb nb = by (nat_le a b) refl
     by true is = let below = leb-true a b is in let e : a ≡ min a b = omega (arith, below) in subst both e (omega (arith, fa, fb, more q a b ys below))
     by false is = let below : b ≤ a = omega (arith, leb-false a b is) in let e : b ≡ min a b = omega (arith, below) in subst both e (omega (arith, fa, fb, more p b a xs below))
 
--- it ends behind its start, and before the end of one of the lists
+-- the page ends after its start, and before the end of one of the lists
 pub inside_both : {X Y : Type 0} (xs : List X) (ys : List Y) (a b : Option ℕ) → IfSome a (λ n. (0 < n) × (n < length xs)) → IfSome b (λ n. (0 < n) × (n < length ys)) → IfSome (least a b) (λ n. (0 < n) × (n < max (length xs) (length ys)))
 inside_both xs ys None None ia ib = tt
 inside_both xs ys None (Some b) ia ib = (ib.0, omega (arith, ib.1))

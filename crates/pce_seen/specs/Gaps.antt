@@ -1,5 +1,5 @@
--- Where the route of a reported path has a gap: its links, one behind the other, are to lead from the sender of its LSP to the
--- endpoint (RFC 8231 section 7.3.1).
+-- Where the route of a reported path has a gap: its links, one after the other, should lead from the sender of its LSP
+-- to the endpoint (RFC 8231 section 7.3.1).
 use Rattle.std.specs.Prelude.{ℕ, ◌==◌, Bool, true, List, [], ◌∷◌, map, Option, Some, None, option_map, slice_get, if◌then◌else◌}
 use Rattle.te_base.specs.Owners.{owner_of}
 use Rattle.te_base.specs.Ted.{Ted}
@@ -20,23 +20,24 @@ from_of links l = option_map (λ k. k.from) (slice_get links l)
 abbrev pub to_of : List Link → ℕ → Option ℕ
 to_of links l = option_map (λ k. k.to) (slice_get links l)
 
--- they are one node, as far as both are known
+-- both ends are one node, or one of them isn't known
 abbrev pub meets : Option ℕ → Option ℕ → Bool
 meets None b = true
 meets (Some a) None = true
 meets (Some a) (Some b) = a == b
 
--- The first gap of a route that has come to a node: `here`, if it doesn't go on there. At its end it is to be at `end`.
+-- The first gap of a route that has come to a node: `here`, if the route doesn't go on from that node. At its end the
+-- route should be at `end`.
 abbrev pub gap_after : List Link → Option ℕ → Gap → Option ℕ → List ℕ → Option Gap
 gap_after links end here node [] = if meets node end then None else Some here
 gap_after links end here node (l ∷ ls) = if meets node (from_of links l) then gap_after links end (After l) (to_of links l) ls else Some here
 
--- the first gap of a route from one node to another; a path without links is on no route
+-- the first gap of a route from one node to another; a path without links has no gap
 abbrev pub gap_between : List Link → Option ℕ → Option ℕ → List ℕ → Option Gap
 gap_between links start end [] = None
 gap_between links start end (l ∷ ls) = gap_after links end (Before l) start (l ∷ ls)
 
--- the node that owns the address; none is known if nobody does
+-- the node that owns the address, if the address is given and a node owns it
 abbrev pub owner_or : List Owner → Option ℕ → Option ℕ
 owner_or owners None = None
 owner_or owners (Some a) = owner_of owners a

@@ -13,12 +13,12 @@ use Rattle.pce_seen.specs.declared.grants.Deletion.{Deletion}
 use Rattle.pce_seen.specs.declared.grants.GrantPage.{GrantPage}
 use Rattle.pce_seen.specs.declared.grants.KnownGrant.{KnownGrant}
 
--- the peer is the named one; any is, if none is named
+-- the peer is the named one; if none is named, any peer is
 abbrev pub is_named : Option ℕ → ℕ → Bool
 is_named None n = true
 is_named (Some peer) n = n == peer
 
--- a grant of the peer: asked for, and settled by no report
+-- a grant of the peer: it is asked for, and no report has settled it
 abbrev pub is_grant_asked : Option ℕ → Path → Bool
 is_grant_asked peer x = is_named peer x.peer && not (is_reported x.part)
 
@@ -38,14 +38,14 @@ abbrev pub up_to : {X : Type 0} → List X → Option ℕ → List X
 up_to xs None = xs
 up_to xs (Some n) = take n xs
 
--- the lesser of two places; no place stands behind all others
+-- the lesser of two places; None stands after all places
 abbrev pub least : Option ℕ → Option ℕ → Option ℕ
 least None b = b
 least (Some a) None = Some a
 least (Some a) (Some b) = Some (min a b)
 
--- Where the page that starts at `from` ends and the next one starts: it has 256 grants and 256 deletions at most, and 256
--- of one kind if another page follows.
+-- Where the page that starts at `from` ends and the next one starts. A page has at most 256 grants and 256 deletions,
+-- and 256 of one kind if another page follows.
 pub record IsGrantSpan (lsps : Lsps) (peer : Option ℕ) (from : ℕ) (next : Option ℕ) : Type 0 where
   pub few_grants : length (filter (is_grant_asked peer) (passed lsps.paths from next)) ≤ 256
   pub few_deletions : length (filter (is_deletion_asked peer) (passed lsps.records from next)) ≤ 256
@@ -53,7 +53,7 @@ pub record IsGrantSpan (lsps : Lsps) (peer : Option ℕ) (from : ℕ) (next : Op
   pub onward : IfSome next (λ n. from < n)
   pub inside : IfSome next (λ n. n < max (length lsps.paths) (length lsps.records))
 
--- ---- what a report says of a grant
+-- ---- what a report says about a grant
 
 -- The path, as its peer reported it, holds all that the grant holds: it is of the grant's tunnel, is on each of its links,
 -- and has at least its bandwidth, at its priority or a better one.
@@ -69,12 +69,12 @@ abbrev pub is_of_srp : ℕ → Part → Bool
 is_of_srp srp (Granted n) = n == srp
 is_of_srp srp (Reported lsp) = false
 
--- the grant of this SRP-ID is bound to this LSP, a path of which covers it
+-- the grant of this SRP-ID is bound to this LSP, and a path of the LSP covers it
 abbrev pub is_grant_covered : List Path → ℕ → ℕ → ℕ → Bool
 is_grant_covered paths peer plsp srp = list_any (λ g. (is_of_srp srp g.part && is_covered paths g) && is_path_of peer plsp g) paths
 
--- the path was reported on a link of the network: its router reports it other than DOWN (RFC 8231 section 7.3), and with a
--- route that is known
+-- the path was reported on links of the network: its router reports it other than DOWN (RFC 8231 section 7.3), and its
+-- route is known
 abbrev pub has_links : Path → Bool
 has_links x = is_reported x.part && nat_lt 0 (length x.links)
 

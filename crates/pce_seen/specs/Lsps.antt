@@ -13,15 +13,15 @@ use Rattle.pce_seen.specs.declared.lsps.HeldPath.{HeldPath}
 abbrev pub known_lsp : List Path → Record → KnownLsp
 known_lsp paths r = record { known = r; paths = filter (is_path_of r.peer r.plsp) paths }
 
--- the same of an LSP by its peer and its PLSP-ID
+-- the same for an LSP by its peer and its PLSP-ID
 abbrev pub lsp_of : List Path → ℕ → ℕ → Lsp → KnownLsp
 lsp_of paths peer plsp lsp = known_lsp paths (record { peer = peer; plsp = plsp; lsp = lsp })
 
--- what is seen of one LSP, if there is such a one
+-- what is seen of one LSP, if there is one
 abbrev pub lsp_in : Lsps → ℕ → ℕ → Option KnownLsp
 lsp_in lsps peer plsp = option_map (lsp_of lsps.paths peer plsp) (lsp_at lsps.records peer plsp)
 
--- the LSP is one of the peer; any is, where no peer is named
+-- the LSP is one of the peer; if no peer is named, any LSP is
 abbrev pub is_asked : Option ℕ → Record → Bool
 is_asked None r = true
 is_asked (Some peer) r = r.peer == peer
@@ -31,8 +31,8 @@ abbrev pub passed : {X : Type 0} → List X → ℕ → Option ℕ → List X
 passed xs from None = drop from xs
 passed xs from (Some next) = take (next - from) (drop from xs)
 
--- A page from this place on has each LSP that is asked for, up to where the next page starts: none is skipped. It has 256
--- at most, and 256 where another page follows.
+-- A page from this place on has each LSP that is asked for, up to where the next page starts: none is skipped. It has
+-- at most 256 LSPs, and exactly 256 if another page follows.
 pub record IsPage (lsps : Lsps) (peer : Option ℕ) (from : ℕ) (page : LspPage) : Type 0 where
   pub each : page.lsps.items ≡ map (known_lsp lsps.paths) (filter (is_asked peer) (passed lsps.records from page.next))
   pub few : length page.lsps.items ≤ 256
@@ -40,7 +40,7 @@ pub record IsPage (lsps : Lsps) (peer : Option ℕ) (from : ℕ) (page : LspPage
   pub onward : IfSome page.next (λ next. from < next)
   pub inside : IfSome page.next (λ next. next < length lsps.records)
 
--- what a path holds of each of its links
+-- what a path holds on each of its links
 abbrev pub held_path : Path → HeldPath
 held_path x = record { peer = x.peer; plsp = x.plsp; part = x.part; tunnel = x.tunnel; hold = x.hold; bandwidth = x.bandwidth }
 

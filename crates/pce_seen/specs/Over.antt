@@ -9,12 +9,12 @@ use Rattle.pce_seen.specs.declared.lsps.KnownLsp.{KnownLsp}
 abbrev pub same_lsp : KnownLsp → KnownLsp → Bool
 same_lsp k l = (k.known).peer == (l.known).peer && (k.known).plsp == (l.known).plsp
 
--- each LSP once, where it stands first
+-- each LSP once, at its first place
 abbrev pub each_once : List KnownLsp → List KnownLsp
 each_once [] = []
 each_once (l ∷ ls) = l ∷ filter (λ k. not (same_lsp l k)) (each_once ls)
 
--- the LSP of a path, with all of its paths; a grant that is bound to no LSP has none
+-- the LSP of a path, with all of its paths; None for a grant that is bound to no LSP
 abbrev pub lsp_with : Lsps → Path → Option KnownLsp
 lsp_with lsps x = lsp_in lsps x.peer x.plsp
 
@@ -27,7 +27,7 @@ abbrev pub paths_up_to : List Path → Option ℕ → List Path
 paths_up_to paths None = paths
 paths_up_to paths (Some rest) = take rest paths
 
--- The LSPs over a link, up to the path at `rest`: 512 at most, and 512 where others may follow.
+-- The LSPs over a link, up to the path at `rest`: at most 512, and exactly 512 if others may follow.
 pub record AreOver (lsps : Lsps) (link : ℕ) (seen : List KnownLsp) (rest : Option ℕ) : Type 0 where
   pub each : seen ≡ lsps_over lsps link (paths_up_to lsps.paths rest)
   pub few : length seen ≤ 512

@@ -16,7 +16,7 @@ with_first kept h = if is_beside kept h then kept else kept ++ h ∷ []
 abbrev pub first_of_each : List HeldPath → List HeldPath
 first_of_each paths = fold with_first [] paths
 
--- Of each tunnel the path that has the greatest bandwidth there, which is what the tunnel holds; the greatest first.
+-- Of each tunnel, the path with the greatest bandwidth there, which is what the tunnel holds. The greatest come first.
 pub record IsByTunnel (held tunnels : List HeldPath) : Type 0 where
   pub sorted : List HeldPath
   pub same : IsPermutation held sorted

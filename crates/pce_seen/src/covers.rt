@@ -1,4 +1,4 @@
-//! Whether a report covers a grant, and whether an LSP has a way.
+//! Tests whether a report covers a grant, and whether an LSP has a way.
 ghost use Rattle.std.specs.Prelude.{◌≡◌, ℕ, true, false, List, ◌++◌, ◌∷◌};
 ghost use Rattle.std.specs.List.{list_all};
 ghost use Rattle.lsp_base.specs.Same.{is_reported};
@@ -23,8 +23,8 @@ fn goes_over_all(path: &Path, grant: &Path) -> bool
         .all(|link| is_path_over(path, *link))
 }
 
-/// Tests whether a reported path covers a grant: it is of the grant's tunnel, goes over each of the grant's links, and
-/// holds there at least what the grant holds, at its priority or a better one.
+/// Tests whether a reported path covers a grant: it belongs to the grant's tunnel, goes over each of the grant's links,
+/// and holds there at least what the grant holds, at its priority or a better one.
 #[derive(Clone, Copy)]
 struct Covering<'a> {
     grant: &'a Path,
@@ -52,8 +52,8 @@ pub fn is_covered(lsps: &LspBase, grant: &Path) -> bool
     lsps.any_path_of_lsp(grant.peer, grant.plsp, &Covering { grant })
 }
 
-/// A grant that a report covers can be dropped: without it each tunnel reserves as much on each link at each priority
-/// (shared explicit reservation, RFC 3209 section 2.4.3).
+/// States that a grant that a report covers can be dropped: without it each tunnel reserves as much on each link at
+/// each priority (shared explicit reservation, RFC 3209 section 2.4.3).
 pub fn covered_grants_hold_nothing()
     ensures { (before after : List Path) (g : Path) → is_reported g.part ≡ false → is_covered (before ++ g ∷ after) g ≡ true
         → (t : Tunnel) (l p : ℕ) → share (before ++ after) t l p ≡ share (before ++ g ∷ after) t l p }

@@ -8,7 +8,8 @@ use sequence::PlainData;
 use std::alloc::AllocError;
 use te_base::{Link, LinkNumber, NodeNumber, TeBase};
 
-/// The place of a gap in a route: its links, one behind the other, don't lead from the sender of the LSP to its endpoint.
+/// The place of a gap in a route: its links, one after the other, don't lead from the sender of the LSP to its
+/// endpoint.
 #[derive(Clone, Copy, Debug, PartialEq, Eq)]
 pub enum Gap {
     /// The first link doesn't leave the sender.
@@ -23,7 +24,7 @@ impl PlainData for Gap {
     }
 }
 
-/// The node that a link leaves.
+/// Returns the node that a link leaves.
 fn from_of(links: &[Link], link: LinkNumber) -> Option<NodeNumber>
     ensures { result ≡ from_of links.now link }
 {
@@ -33,7 +34,7 @@ fn from_of(links: &[Link], link: LinkNumber) -> Option<NodeNumber>
     }
 }
 
-/// The node that a link reaches.
+/// Returns the node that a link reaches.
 fn to_of(links: &[Link], link: LinkNumber) -> Option<NodeNumber>
     ensures { result ≡ to_of links.now link }
 {
@@ -43,7 +44,7 @@ fn to_of(links: &[Link], link: LinkNumber) -> Option<NodeNumber>
     }
 }
 
-/// Tests whether these are one node, as far as both are known.
+/// Tests whether both are one node, or one of them isn't known.
 fn meets(a: Option<NodeNumber>, b: Option<NodeNumber>) -> bool
     ensures { result ≡ meets a b }
 {
@@ -53,7 +54,7 @@ fn meets(a: Option<NodeNumber>, b: Option<NodeNumber>) -> bool
     }
 }
 
-/// Finds the first gap of a route that has come to a node, and is to end at another.
+/// Finds the first gap of a route that has come to a node, and should end at another.
 fn gap_after(
     links: &[Link],
     end: Option<NodeNumber>,

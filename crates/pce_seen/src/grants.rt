@@ -1,4 +1,4 @@
-//! Grants that stand, and deletions that are awaited.
+//! Grants that stand, and awaited deletions.
 ghost use Rattle.std.specs.Prelude.{◌≡◌, ◌<◌, ◌≤◌, max, length, map, filter, take, IfOk, IfSome};
 ghost use Rattle.pce_seen.specs.Grants.{deletion_of, is_deletion_asked, is_grant_asked, is_named, up_to, IsGrantSpan};
 ghost use Rattle.pce_seen.specs.Lsps.{passed};
@@ -14,7 +14,7 @@ use std::alloc::{AllocError, Global};
 #[derive(Drop)]
 pub struct KnownGrant {
     pub path: Path,
-    /// The name that the LSP of an initiation is to have, until a report binds the grant to the LSP.
+    /// The name that the LSP of an initiation should have, until a report binds the grant to the LSP.
     pub name: Option<LspName>,
 }
 
@@ -29,15 +29,15 @@ pub struct Deletion {
 /// Grants and deletions of one moment, in the order of the paths and of the records.
 #[derive(Drop)]
 pub struct GrantPage {
-    /// How many steps were ever taken. Between two pages of one count nothing has happened.
+    /// How many steps were ever taken. If two pages have the same count, nothing has happened between them.
     pub steps: u64,
     pub grants: Vec<KnownGrant>,
     pub deletions: Vec<Deletion>,
-    /// The place at which the next page starts, among the paths and among the records; `None` if neither has one there.
+    /// The place of the next page, among the paths and among the records; `None` if neither has an item there.
     pub next: Option<u64>,
 }
 
-/// Tests whether a peer is the named one; any is, if none is named.
+/// Tests whether a peer is the named one; if none is named, any peer is.
 fn is_named(named: Option<u32>, peer: u32) -> bool
     ensures { result ≡ is_named named peer }
 {
@@ -47,7 +47,7 @@ fn is_named(named: Option<u32>, peer: u32) -> bool
     }
 }
 
-/// Tests whether a path is a grant of the peer, or of any if none is named.
+/// Tests whether a path is a grant of the peer, or of any peer if none is named.
 pub fn is_grant_asked(peer: Option<u32>, path: &Path) -> bool
     ensures { result ≡ is_grant_asked peer path.now }
 {
@@ -110,11 +110,11 @@ fn page_end(paths: &[Path], records: &[Record], peer: Option<u32>) -> Option<usi
 pub struct GrantSpan<'a> {
     pub paths: &'a [Path],
     pub records: &'a [Record],
-    /// The place at which the next page starts.
+    /// The place of the next page.
     pub next: Option<u64>,
 }
 
-/// Finds what a page of grants covers that starts at a place, of one peer or of all.
+/// Finds what a page of grants covers that starts at this place, for one peer or for all.
 pub fn grant_span(lsps: &LspBase, peer: Option<u32>, from: u64) -> GrantSpan<'_>
     ensures paths { result.paths.now ≡ passed lsps.now.content.paths from result.next }
     ensures records { result.records.now ≡ passed lsps.now.content.records from result.next }
@@ -136,7 +136,7 @@ pub fn grant_span(lsps: &LspBase, peer: Option<u32>, from: u64) -> GrantSpan<'_>
     }
 }
 
-/// Says under which SRP-ID the deletion of an LSP is awaited.
+/// Returns the deletion of an LSP, with the SRP-ID under which it is awaited.
 fn deletion_of(known: &Record) -> Deletion
     ensures { result ≡ deletion_of known.now }
 {
@@ -147,7 +147,7 @@ fn deletion_of(known: &Record) -> Deletion
     }
 }
 
-/// Lists the deletions that are awaited of a peer, or of all.
+/// Lists the awaited deletions of a peer, or of all peers.
 pub fn deletions_of(
     alloc: Global,
     peer: Option<u32>,

@@ -1,14 +1,14 @@
-//! What is seen of a database in one look, as plain data, and walks over the LSP-DB for it. `database_looks` and the questions of
-//! `pce_view` say what of a database is seen.
+//! What is seen of a database in one look, as plain data, and the walks over the LSP-DB that this needs.
+//! `database_looks` and the questions of `pce_view` say what is seen of a database.
 //!
 //! - `lsps`: LSPs with their paths, and the paths over a link
-//! - `grants`: grants that stand and deletions that are awaited, in pages; `covers`: whether a report covers a grant
+//! - `grants`: grants that stand and awaited deletions, in pages; `covers`: tests whether a report covers a grant
 //!   (`specs/Grants.antt`)
 //! - `gaps`, `places`: where the routes of paths have gaps (`specs/Gaps.antt`)
 //! - `paging`: pages of a list
 //! - `peers`, `steps`: routers with their sessions, kept steps of the history
 //! - `seen`: the network and its counts
-//! - `origins`: by which steps the paths of an LSP came
+//! - `origins`: the steps by which the paths of an LSP came
 //! - `moves`: LSPs with what a path search for them reads
 //! - `over`: the LSPs over a link
 //! - `tunnels`: the tunnels of the paths over a link

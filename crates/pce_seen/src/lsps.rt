@@ -5,7 +5,7 @@ use pcep_word::{Bandwidth, Priority};
 use sequence::Sequence;
 use te_base::{Link, Node};
 
-/// How many LSPs a page has at most.
+/// The most LSPs of a page.
 pub const PAGE_LIMIT: usize = 256;
 
 /// An LSP with its paths: those that its peer reported, and grants that are bound to it.
@@ -18,18 +18,18 @@ pub struct KnownLsp {
 /// LSPs of one moment, in the order of their records.
 #[derive(Drop)]
 pub struct LspPage {
-    /// How many steps were ever taken. Between two pages of one count nothing has happened.
+    /// How many steps were ever taken. If two pages have the same count, nothing has happened between them.
     pub steps: u64,
     pub lsps: Vec<KnownLsp>,
-    /// The place at which the next page starts; `None` where no record follows.
+    /// The place of the next page; `None` if no record follows.
     pub next: Option<u64>,
 }
 
-/// A path over a link: what it holds there.
+/// A path over a link, with what it holds there.
 #[derive(Clone, Copy)]
 pub struct HeldPath {
     pub peer: u32,
-    /// 0 of a grant that is not bound to an LSP.
+    /// 0 for a grant that is not bound to an LSP.
     pub plsp: Plsp,
     pub part: Part,
     pub tunnel: Tunnel,

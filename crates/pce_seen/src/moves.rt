@@ -10,7 +10,7 @@ pub const TRIED_LIMIT: usize = 512;
 pub struct Movable {
     pub snapshot: Snapshot,
     pub page: LspPage,
-    /// Of each LSP of the page, in their order.
+    /// What the tunnel of each LSP of the page holds, in their order.
     pub own: Vec<OwnShares>,
 }
 
@@ -18,9 +18,9 @@ pub struct Movable {
 #[derive(Drop)]
 pub struct Displaced {
     pub snapshot: Snapshot,
-    /// 512 at most, in the order of their paths.
+    /// The LSPs, at most 512, in the order of their paths.
     pub lsps: Vec<KnownLsp>,
     pub own: Vec<OwnShares>,
-    /// The place of the path from which on others may go over the link too; `None` where none follows.
+    /// The place of the path from which on others may go over the link too; `None` if none follows.
     pub rest: Option<u64>,
 }

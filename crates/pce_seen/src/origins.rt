@@ -1,26 +1,26 @@
-//! By which steps the paths of an LSP came.
+//! The steps by which the paths of an LSP came.
 use lsp_base::Path;
 use lsp_words::Plsp;
 
-/// By what a path came.
+/// How a path came.
 #[derive(Clone, Copy, Debug, PartialEq, Eq)]
 pub enum Origin {
-    /// Its router reported it, by the kept step at this place among all steps that were ever taken.
+    /// Its router reported it, in the kept step at this place among all steps that were ever taken.
     Report { step: u64 },
-    /// It was granted to a ticket, by the kept step at this place.
+    /// It was granted to a ticket, in the kept step at this place.
     Grant { step: u64, ticket: u64 },
-    /// None of the kept steps that were read says.
+    /// None of the kept steps that were read says so.
     Unknown,
 }
 
-/// A path, and by what it came.
+/// A path, and how it came.
 #[derive(Drop)]
 pub struct TracedPath {
     pub path: Path,
     pub origin: Origin,
 }
 
-/// The paths of an LSP, and by which of the kept steps each came.
+/// The paths of an LSP, and the kept step by which each came.
 #[derive(Drop)]
 pub struct LspOrigins {
     pub peer: u32,

@@ -48,7 +48,7 @@ fn add_lsp(seen: &mut Vec<KnownLsp>, lsp: Option<KnownLsp>) -> Result<(), AllocE
     }
 }
 
-/// Adds the LSP of a path over a link with all of its paths, where it isn't listed yet.
+/// Adds the LSP of a path over a link with all of its paths, if it isn't listed yet.
 fn add_over(
     alloc: Global,
     seen: &mut Vec<KnownLsp>,
@@ -68,7 +68,7 @@ fn add_over(
     }
 }
 
-/// Sees the LSPs over a link, 512 at most, and at which path others may follow.
+/// Sees the LSPs over a link, at most 512, and the path from which on others may follow.
 pub fn lsps_over(
     alloc: Global,
     lsps: &LspBase,

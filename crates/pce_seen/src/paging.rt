@@ -5,7 +5,7 @@ ghost use Rattle.pce_seen.specs.Grants.{least};
 use crate::lsps::PAGE_LIMIT;
 use keyed_list::Test;
 
-/// Counts the items up to where a page is full and the next one starts; `None` if all are on the page.
+/// Counts the items up to where the page is full and the next one starts; `None` if all are on the page.
 pub(crate) fn full_at<T, R: Test<T>>(items: &[T], rule: &R) -> Option<usize>
     ensures some { IfSome result (λ size. (0 < size) × (size < length items.now)) }
     ensures full { IfSome result (λ size. length (filter (R.passes rule.now) (take size items.now)) ≡ 256) }
@@ -34,7 +34,7 @@ pub(crate) fn sooner(a: Option<usize>, b: Option<usize>) -> Option<usize>
     }
 }
 
-/// Lends the items from a place on.
+/// Lends the items from this place on.
 pub(crate) fn items_from<T>(items: &[T], from: u64) -> &[T]
     ensures { result.now ≡ drop from items.now }
 {
@@ -46,7 +46,7 @@ pub(crate) fn items_from<T>(items: &[T], from: u64) -> &[T]
     }
 }
 
-/// Lends the items up to a place.
+/// Lends the items up to this place.
 pub(crate) fn items_up_to<T>(items: &[T], size: usize) -> &[T]
     ensures { result.now ≡ take size items.now }
 {
@@ -57,7 +57,7 @@ pub(crate) fn items_up_to<T>(items: &[T], size: usize) -> &[T]
     }
 }
 
-/// Lends the page that starts at a place: 256 items at most.
+/// Lends the page that starts at this place: at most 256 items.
 pub fn page_from<T>(items: &[T], from: u64) -> &[T]
     ensures { result.now ≡ take 256 (drop from items.now) }
 {

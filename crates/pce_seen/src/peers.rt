@@ -17,14 +17,14 @@ pub struct KnownPeer {
     pub waiting_messages: u64,
 }
 
-/// Whose an LSP is, and whether it is delegated.
+/// The peer of an LSP, and whether the LSP is delegated.
 #[derive(Clone, Copy)]
 pub struct LspOwner {
     pub peer: u32,
     pub is_delegated: bool,
 }
 
-/// The peers in the order of their coming, and whose each LSP is, in the order of the records.
+/// The peers in the order in which they came, and the owner of each LSP, in the order of the records.
 #[derive(Drop)]
 pub struct SeenPeers {
     pub peers: Vec<KnownPeer>,

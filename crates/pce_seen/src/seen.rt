@@ -2,7 +2,7 @@
 use te_base::{Link, Node};
 use te_snapshot::Snapshot;
 
-/// How much there is of what.
+/// How many there are of each kind.
 #[derive(Clone, Copy)]
 pub struct Counts {
     /// All steps that were ever taken.
@@ -11,7 +11,7 @@ pub struct Counts {
     pub grants: u64,
     /// The steps before the last roll.
     pub rolled: u64,
-    /// The steps that are kept since.
+    /// The steps that are kept since then.
     pub kept: u64,
     pub nodes: u64,
     pub links: u64,

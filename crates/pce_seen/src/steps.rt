@@ -1,7 +1,7 @@
 //! Kept steps of the history.
 use lsp_base::Why;
 
-/// What kind of event a step took.
+/// The kind of event that a step took.
 #[derive(Clone, Copy)]
 pub enum EventKind {
     Up,
@@ -19,7 +19,7 @@ pub enum EventKind {
     Reload,
 }
 
-/// What came of a step.
+/// The result of a step.
 #[derive(Clone, Copy)]
 pub enum Outcome {
     Done,
@@ -43,7 +43,7 @@ pub enum Outcome {
     Refused(Why),
 }
 
-/// A kept step: the kind of its event, the peer that the event is of, and what came of it.
+/// A kept step: the kind of its event, the event's peer, and the result.
 #[derive(Clone, Copy)]
 pub struct KnownStep {
     pub event: EventKind,

@@ -62,7 +62,7 @@ pub(crate) fn copy_lsp(
     }
 }
 
-/// Copies what is known of an LSP.
+/// Copies what is known about an LSP.
 fn copy_record(peer: u32, plsp: Plsp, lsp: &Lsp) -> Result<Record, AllocError>
     ensures { IfOk result (λ known. known ≡ record { peer = peer; plsp = plsp; lsp = lsp.now }) }
 {
@@ -73,7 +73,7 @@ fn copy_record(peer: u32, plsp: Plsp, lsp: &Lsp) -> Result<Record, AllocError>
     })
 }
 
-/// Sees one LSP, if there is such a one.
+/// Sees one LSP, if there is one.
 pub fn lsp_of(
     alloc: Global,
     lsps: &LspBase,
@@ -95,7 +95,7 @@ pub fn lsp_of(
     }
 }
 
-/// Tests whether an LSP is one of the peer; any is, where no peer is named.
+/// Tests whether an LSP is one of the peer; if no peer is named, any LSP is.
 fn is_asked(peer: Option<u32>, known: &Record) -> bool
     ensures { result ≡ is_asked peer known.now }
 {
@@ -121,7 +121,7 @@ impl Test<Record> for Asked {
     }
 }
 
-/// Adds an LSP with its paths, where it is asked for.
+/// Adds an LSP with its paths, if it is asked for.
 fn add_asked(
     alloc: Global,
     seen: &mut Vec<KnownLsp>,
@@ -153,7 +153,7 @@ fn copy_asked(
     Ok(seen)
 }
 
-/// Sees a page of LSPs, of one peer or of all, from the record at a place on.
+/// Sees a page of LSPs, of one peer or of all, from the record at this place on.
 pub fn page_of(
     alloc: Global,
     lsps: &LspBase,
@@ -186,7 +186,7 @@ pub(crate) fn is_path_over(path: &Path, link: LinkNumber) -> bool
     path.links.as_slice().iter().any(|number| *number == link)
 }
 
-/// Says what a path holds of each of its links.
+/// Returns what a path holds on each of its links.
 fn held_path(path: &Path) -> HeldPath
     ensures { result ≡ held_path path.now }
 {

@@ -8,7 +8,7 @@ use crate::lsps::HeldPath;
 use lsp_base::Tunnel;
 use std::alloc::{AllocError, Global};
 
-/// No path has so much bandwidth.
+/// More bandwidth than any path has.
 const TOO_MUCH: u64 = 1 << 48;
 
 /// Orders paths by their bandwidth, the greatest first.
@@ -56,8 +56,8 @@ fn first_of_each(alloc: Global, paths: &[HeldPath]) -> Result<Vec<HeldPath>, All
     Ok(kept)
 }
 
-/// Lists the tunnels of the paths over a link by what they hold there, the greatest first: of each tunnel the path that
-/// has the greatest bandwidth, since its paths share what they reserve (RFC 3209 section 2.4.3).
+/// Lists the tunnels of the paths over a link by what they hold there, the greatest first. Each tunnel is listed by its
+/// path of the greatest bandwidth, since its paths share what they reserve (RFC 3209 section 2.4.3).
 pub fn tunnels_on(alloc: Global, held: &[HeldPath]) -> Result<Vec<HeldPath>, AllocError>
     ensures { IfOk result (λ tunnels. IsByTunnel held.now tunnels.items) }
 {

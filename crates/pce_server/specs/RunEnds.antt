@@ -16,9 +16,10 @@ use Rattle.shared_pce.specs.declared.audit.Audit.{Audit}
 abbrev pub is_down : Peer → Bool
 is_down p = not p.up
 
--- The audit of a run over this network, with these seats: the database is what all that happened made of the network, each
--- seat had seen a beginning of that, and the seats received each step once. The history replays and is sound, and the sums are
--- its steps and its grants. No peer is up in the database: each session that came up was followed by its Down.
+-- The audit of a run over this network, with these seats: the database is what all that happened made of the network,
+-- each seat had seen a beginning of that, and the seats received each step once. The history replays and is sound, and
+-- the sums are its steps and its grants. No peer is up in the database: each session that came up was followed by its
+-- Down.
 pub record IsAuditOf (text : Ted) (parts : ℕ) (seats : List SeatContent) (audit : Audit) : Type 0 where
   pub past : List (Happening Event)
   pub came_to : audit.database ≡ database_at text past
@@ -30,6 +31,6 @@ pub record IsAuditOf (text : Ted) (parts : ℕ) (seats : List SeatContent) (audi
   pub grants : audit.grants ≡ grants_of audit.database
   pub down : (peer : ℕ) → is_up audit.database.state peer ≡ false
 
--- with some seats
+-- the audit is that of a run with some seats
 abbrev pub EndsIn : Ted → Audit → Type 0
 EndsIn text audit = (parts : ℕ) × (seats : List SeatContent) × IsAuditOf text parts seats audit

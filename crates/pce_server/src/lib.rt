@@ -1,11 +1,12 @@
 //! The server: threads that serve routers over TCP from one shared database (RFC 5440 section 4.2). `serve_run` is a
-//! whole run: one thread for each connection, at most 64 at once; workers that search for paths; a keeper of time,
-//! which forgets peers that stay down; the caller's own thread, which answers an operator's lines; a thread for each
-//! operator at the control socket (`control_socket`), four at once; and one for all viewers by HTTP (`http_views`). At its end the database is closed with the audit of all seats (`shared_pce`).
+//! whole run: one thread for each connection, at most 64 at once; workers, which search for paths; a timer, which
+//! forgets peers that stay down; the caller's own thread, which answers an operator's lines; a thread for each operator
+//! at the control socket (`control_socket`), four at once; and one for all viewers over HTTP (`http_views`). At its end
+//! the database is closed with the audit of all seats (`shared_pce`).
 //!
-//! What is said on a connection and to an operator is proved in `server_talk`, and what a session makes of bytes, what a
-//! step does and what an audit says in the layers below it; that threads run, that sockets deliver and that nothing
-//! waits for ever is shown by tests alone.
+//! `server_talk` proves what is sent on a connection and to an operator, and the layers below it prove what a session
+//! makes of bytes, what a step does and what an audit says. Only tests show that threads run, that sockets deliver and
+//! that nothing waits for ever.
 //!
 //! ```text
 //! fn run<R: Wait + Threads + Clock + Net<Listener = TcpListener, Stream = TcpStream> + AllocGlobal + Log + Sync>(rt: &R, listener: &TcpListener, te: TeBase) -> Result<Audit, RunFault>
@@ -18,10 +19,10 @@
 //! ```
 //!
 //! Each kind of thread has a crate of its own: `server_connections` (the acceptor and the connections),
-//! `server_operators`, `server_viewers`, `server_workers` (the keeper of time too) and `server_log`. They stand on
+//! `server_operators`, `server_viewers`, `server_workers` (also the timer) and `server_log`. They are built on
 //! `server_base`, which has what each thread is lent. Here they are started and joined.
 //!
-//! - `starting`: what a run says as it starts, and how many connections have a place in it
+//! - `starting`: what a run logs when it starts, and how many connections have a place in it
 //! - `server`: a whole run
 #![tactic(auto)]
 

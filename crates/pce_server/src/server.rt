@@ -32,35 +32,35 @@ use std::time::{Clock, Instant};
 use step_core::Peer;
 use te_base::TeBase;
 
-/// Where a run is reached.
+/// Where clients reach a run.
 #[derive(Drop)]
 pub struct Listeners<'a> {
     pub routers: &'a TcpListener,
-    /// The control socket, where there is one.
+    /// The control socket, if there is one.
     pub control: Option<&'a UnixListener>,
     /// Where viewers connect, if they may.
     pub viewers: Option<ViewerListener<'a>>,
 }
 
-/// Which routers are heard, and which are waited for.
+/// Which routers are served, and which are waited for.
 #[derive(Clone, Copy)]
 pub struct Routers<'a> {
-    /// Only routers whose address a node of this network owns are heard; all, where there is none.
+    /// Only routers whose address a node of this network owns are served; if it is `None`, all are.
     pub known: &'a Option<TeBase>,
     /// Addresses of routers that are waited for before tickets are taken.
     pub settle_for: &'a [u32],
 }
 
-/// Serves routers and operator over a network of which nothing was reported yet, until both have ended, and closes
-/// the database. What happens is logged by a thread of its own, so that no other waits for whoever reads the log. At most
-/// 64 connections have a place. Where all are taken, who comes has one that isn't up yet ended, or is closed.
+/// Serves routers and operator over a network of which nothing was reported yet, until both have ended, and closes the
+/// database. A thread of its own writes the log, so that no other thread waits for whoever reads it. At most 64
+/// connections have a place. If all places are taken, a new connection ends one that isn't up yet, or is closed itself.
 ///
-/// With a control socket more operators are heard, four at once, and an endless run ends by the line `end` alone, whoever
-/// says it. One that fails ends alone. Viewers are shown what stands until the run is over; they change nothing, and a
-/// run goes on without them.
+/// With a control socket more operators are served, four at once, and an endless run ends only by the line `end`,
+/// whoever writes it. An operator that fails ends only itself. Viewers are shown the state until the run is over; they
+/// change nothing, and a run goes on without them.
 ///
-/// After a fault that ends the run, sessions are closed and connections accepted no more. Where the writer fails, the run
-/// goes on without an operator.
+/// After a fault that ends the run, sessions are closed and no more connections are accepted. If the writer fails, the
+/// run goes on without an operator.
 pub fn serve_run<R, I: Patient, O: Write, P: Plan + Sync>(
     rt: &R,
     listeners: &Listeners<'_>,
@@ -135,7 +135,7 @@ where
     )
 }
 
-/// Puts the database behind its lock with a pool of all seats, serves until the end, and closes it.
+/// Puts the database under its lock, with a pool of all seats, serves until the end, and closes it.
 fn opened_run<B: Brands + Send + Sync, R, I: Patient, O: Write, P: Plan + Sync>(
     rt: &R,
     listeners: &Listeners<'_>,
@@ -184,7 +184,7 @@ where
     close(rt, alloc, shared, pool.into_seats(alloc)?)
 }
 
-/// Says how the run starts, and serves until the end.
+/// Logs how the run starts, and serves until the end.
 fn logged_run<B: Brands + Send + Sync, R, I: Patient, O: Write, P: Plan + Sync>(
     rt: &R,
     alloc: Global,
@@ -226,8 +226,8 @@ fn are_all_down(peers: &[Peer]) -> bool
     peers.iter().all(|peer| !peer.up)
 }
 
-/// Closes the database with all seats, and logs what its audit says. A peer that is still up there is one of which no Down
-/// could be submitted: a run that leaves one ends like one that owes a Down, and nothing is said of its audit.
+/// Closes the database with all seats, and logs what its audit says. A peer that is still up in it is one whose Down
+/// could not be submitted. A run that leaves one ends like a run that owes a Down, and nothing is said about its audit.
 fn close<R: Net + Log, B: Brands>(
     rt: &R,
     alloc: Global,
@@ -249,7 +249,7 @@ fn close<R: Net + Log, B: Brands>(
     }
 }
 
-/// Serves all until the end. All seats rest in the pool then.
+/// Serves all until the end, when all seats rest in the pool.
 fn serve_all<B: Brands + Send + Sync, R, I: Patient, O: Write, P: Plan + Sync>(
     rt: &R,
     alloc: Global,
@@ -330,7 +330,7 @@ where
     }
 }
 
-/// The thread that writes the log. A run without memory for that ends.
+/// Runs the thread that writes the log. If there is no memory for that, the run ends.
 fn log_all<R: Wait + Clock + Net + Log, B: Brands>(context: &Context<'_, R, B>) {
     let written = write_log(context.rt, context.alloc, context.log, &context.moments());
     if written.is_err() {
@@ -338,9 +338,10 @@ fn log_all<R: Wait + Clock + Net + Log, B: Brands>(context: &Context<'_, R, B>) 
     }
 }
 
-/// Starts the threads, hears the operator, and joins them in order: the acceptor first, for workers are needed as
-/// long as connections live, and the log last. Slots: of connections,
-/// then of workers, of whoever makes room, of whoever drops a covered grant, of the keeper of time, of the operator, and of those at the control socket.
+/// Starts the threads, serves the operator, and joins the threads in order: the acceptor first, since workers are
+/// needed as long as there are connections, and the log last. The slots are those of connections, then of workers, of
+/// the seat that makes room, of the seat that drops a covered grant, of the timer, of the operator, and of those at the
+/// control socket.
 fn run_threads<B: Brands + Send + Sync, R, I: Patient, O: Write, P: Plan + Sync>(
     context: &Context<'_, R, B>,
     routers: &TcpListener,

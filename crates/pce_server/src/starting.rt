@@ -1,4 +1,4 @@
-//! What a run says as it starts, and how many connections have a place in it.
+//! What a run logs when it starts, and how many connections have a place in it.
 ghost use Rattle.std.specs.Prelude.{◌≡◌, ◌*◌, ◌≤◌};
 ghost use Rattle.server_rules.specs.Ranges.{AreSessions, AreOrders};
 
@@ -9,14 +9,14 @@ use shared_pce::RollAt;
 use std::net::TcpListener;
 use te_base::TeBase;
 
-/// The number of descriptors that a run may have beside those of its connections.
+/// The number of descriptors that a run may need apart from those of its connections.
 const OTHER_DESCRIPTORS: u64 = 128;
 
 /// The number of kept steps at which the history is rolled, of the 1,048,576 that it holds.
 const ROLL_STEPS: u64 = 1_000_000;
 
-/// When the history is rolled: at 1,000,000 kept steps, or if they take half of the memory that the history may take.
-/// Receipts hold the other half at the most: the rolled steps, until their seats fold them.
+/// Returns when the history is rolled: at 1,000,000 kept steps, or when they take half of the memory that the history
+/// may take. Receipts hold at most the other half: those of rolled steps, until their seats fold them.
 pub(crate) fn roll_at(orders: Orders) -> RollAt
     requires { AreOrders orders }
     ensures steps { result.steps ≡ 1000000 }
@@ -28,7 +28,7 @@ pub(crate) fn roll_at(orders: Orders) -> RollAt
     }
 }
 
-/// How many connections have a place, at most.
+/// Returns how many connections have a place at most.
 pub(crate) fn live_of(sessions: Sessions) -> u64
     requires { AreSessions sessions }
     ensures { (1 ≤ result) × (result ≤ 64) }
@@ -39,7 +39,8 @@ pub(crate) fn live_of(sessions: Sessions) -> u64
     }
 }
 
-/// That there are too few descriptors for as many connections as may live and as many that end, of three each.
+/// Returns a line if there are too few descriptors for as many connections as may be open and as many that end, with
+/// three each.
 pub(crate) fn few_descriptors(orders: Orders) -> Option<LogLine>
     requires { AreOrders orders }
 {
@@ -51,7 +52,7 @@ pub(crate) fn few_descriptors(orders: Orders) -> Option<LogLine>
     }
 }
 
-/// Where routers may connect, and to how large a network.
+/// Returns the line that says where routers may connect, and how large the network is.
 pub(crate) fn listening_line(listener: &TcpListener, te: &TeBase) -> LogLine {
     let (address, port) = match listener.local_addr() {
         Ok(local) => (peer_of(local), local.port()),

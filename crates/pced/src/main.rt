@@ -1,11 +1,10 @@
-//! A stateful path computation element for MPLS-TE. `pced serve` serves routers over TCP, and an operator's lines
-//! on standard input (`pce_server`) and at a control socket; docs/OPERATING.md says how to run it. `pced tell` speaks to
-//! such a server (`control_socket`). `pced script` reads a link text, a line
-//! `---` and lines on standard input, and writes what they print: the bytes and the ends of PCEP sessions, the
-//! replies to state reports, the bandwidth book, the history. What a script prints is proved of
-//! `pce_engine::run_script`. Here are the arguments, the exit statuses and the texts on standard error;
-//! docs/FORMAT.md lists all of them. `pced decode` says in words what messages are (`message_words`), `pced check` what is
-//! wrong in a link text (`te_words`).
+//! A stateful path computation element for MPLS-TE. `pced serve` serves routers over TCP, and an operator's lines on
+//! standard input (`pce_server`) and at a control socket; docs/OPERATING.md says how to run it. `pced tell` sends lines
+//! to such a server (`control_socket`). `pced script` reads a link text, a line `---` and lines on standard input, and
+//! writes what they print: the bytes and the ends of PCEP sessions, the replies to state reports, the bandwidth book,
+//! the history. The proof of what a script prints is that of `pce_engine::run_script`. Here are the arguments, the exit
+//! statuses and the texts on standard error; docs/FORMAT.md lists all of them. `pced decode` says in words what
+//! messages are (`message_words`), `pced check` what is wrong in a link text (`te_words`).
 #![tactic(auto)]
 
 mod serve;
@@ -36,7 +35,7 @@ use std::sync::Wait;
 use std::thread::Threads;
 use std::time::Duration;
 
-/// Help and the version go to standard output, a refusal of the words to standard error.
+/// Prints help and the version to standard output, a refusal of the words to standard error.
 fn print_error<R: Files + Print + Eprint + AllocGlobal>(rt: &R, error: &Error) -> io::Result<()> {
     match error.kind() {
         ErrorKind::DisplayVersion => print_version(rt),
@@ -44,7 +43,7 @@ fn print_error<R: Files + Print + Eprint + AllocGlobal>(rt: &R, error: &Error) -
     }
 }
 
-/// Words that are no command, likewise.
+/// Does the same for words that are no command, and returns the status.
 fn refuse<R: Files + Print + Eprint + AllocGlobal>(rt: &R, error: Error) -> io::Result<u8>
     ensures { IfOk result (λ given. given ≡ refused_status (kind_of error)) }
 {
@@ -57,7 +56,7 @@ fn refuse<R: Files + Print + Eprint + AllocGlobal>(rt: &R, error: Error) -> io::
     }
 }
 
-/// Whether standard error takes a text at once, or is read within a second.
+/// Tests whether standard error takes a text at once, or is read within a second.
 fn is_error_read<R: AllocGlobal + Net>(rt: &R) -> bool {
     match ErrorOutput::new(rt, rt.alloc()) {
         Ok(mut output) => output.is_ready(Duration::from_secs(1)),
@@ -65,7 +64,7 @@ fn is_error_read<R: AllocGlobal + Net>(rt: &R) -> bool {
     }
 }
 
-/// Writes what is told of a start that failed, if anything is.
+/// Writes the messages about a start that failed, if there are any.
 fn tell_of_start<R: Eprint>(rt: &R, told: &str) -> io::Result<()> {
     if told.is_empty() {
         return Ok(());
@@ -73,8 +72,8 @@ fn tell_of_start<R: Eprint>(rt: &R, told: &str) -> io::Result<()> {
     eprintln!(rt; "{told}")
 }
 
-/// How a server ended, likewise, after what is told of its start. Both are left out if nobody reads standard error, so that
-/// the program ends.
+/// Prints how a server ended, after the messages about its start, and returns the status. Both are left out if nobody
+/// reads standard error, so that the program ends.
 fn end_serving<R: Eprint + AllocGlobal + Net>(
     rt: &R,
     outcome: Result<(), ServeFault>,
@@ -106,7 +105,7 @@ fn serve_to_end<
     end_serving(rt, outcome, &told)
 }
 
-/// How lines were answered, likewise.
+/// Prints how lines were answered, and returns the status.
 fn end_lines<R: Eprint>(rt: &R, outcome: Result<LinesEnd, TellFault>) -> io::Result<u8>
     ensures status { IfOk result (λ given. given ≡ ended_tell_status outcome) }
     ensures nothing_to_write { IsOk outcome → IsOk result }

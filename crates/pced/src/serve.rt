@@ -27,7 +27,7 @@ use te_base::TeBase;
 use te_places::places_text;
 use text_files::read_file;
 
-/// The port of a decimal number below 65,536.
+/// Reads the port of a decimal number below 65,536.
 fn port_in(word: &str) -> Option<u16> {
     if !word.bytes().all(|byte| byte.is_ascii_digit()) {
         return None;
@@ -35,7 +35,7 @@ fn port_in(word: &str) -> Option<u16> {
     word.parse::<u16>().ok()
 }
 
-/// The address and the port of `ADDR:PORT`.
+/// Reads the address and the port of `ADDR:PORT`.
 fn place_in(word: &str) -> Option<SocketAddr> {
     let (address, port) = word.split_once(':')?;
     let address = Ipv4::parse(address)?;
@@ -43,7 +43,7 @@ fn place_in(word: &str) -> Option<SocketAddr> {
     Some(SocketAddr::from((Ipv4Addr::from_bits(address.0), port)))
 }
 
-/// The address and the port that an option gives.
+/// Reads the address and the port that an option gives.
 fn place_of(told: &mut String, option: &str, word: &str) -> Result<SocketAddr, ServeFault> {
     match place_in(word) {
         Some(place) => Ok(place),
@@ -54,7 +54,7 @@ fn place_of(told: &mut String, option: &str, word: &str) -> Result<SocketAddr, S
     }
 }
 
-/// The most verbose level of the log.
+/// Reads the most verbose level of the log.
 fn level_of(told: &mut String, word: &str) -> Result<LevelFilter, ServeFault> {
     match LevelFilter::from_str(word) {
         Ok(level) => Ok(level),
@@ -68,7 +68,7 @@ fn level_of(told: &mut String, word: &str) -> Result<LevelFilter, ServeFault> {
     }
 }
 
-/// The routers that are waited for, for a time that is above 0 if there are any.
+/// Returns the routers that are waited for. If there are any, the time for that must be above 0.
 fn settle_for_of<'a>(
     told: &mut String,
     words: &'a ServeWords<'_>,
@@ -88,7 +88,7 @@ fn settle_for_of<'a>(
     }
 }
 
-/// The links and nodes of a text in a file.
+/// Reads the links and nodes of a text in a file.
 fn base_in(alloc: Global, told: &mut String, text: &[u8]) -> Result<TeBase, ServeFault> {
     match read_base(alloc, text) {
         Ok(base) => Ok(base),
@@ -106,7 +106,7 @@ fn read_base(alloc: Global, text: &[u8]) -> Result<TeBase, TeFault> {
     }
 }
 
-/// The network that only known routers are of, if others aren't to be heard.
+/// Returns the network that all routers must belong to, if others may not be served.
 fn known_in(
     alloc: Global,
     told: &mut String,
@@ -119,7 +119,7 @@ fn known_in(
     Ok(Some(base_in(alloc, told, text)?))
 }
 
-/// The fault of a listener, or of what the system gives.
+/// Returns the fault of a listener, or of what the system gives.
 fn device_fault(error: &io::Error) -> ServeFault {
     match error.kind() {
         io::ErrorKind::OutOfMemory => ServeFault::Run(RunFault::Store(Fault::OutOfMemory)),
@@ -155,7 +155,7 @@ fn listen<R: Net<Listener = TcpListener, Stream = TcpStream>>(
     }
 }
 
-/// The control socket, if there is to be one.
+/// Opens the control socket, if there should be one.
 fn open_control(
     files: &HostRuntime,
     alloc: Global,
@@ -174,7 +174,7 @@ fn open_control(
     }
 }
 
-/// Takes the file of the control socket away. One that can't be removed is found stale by the next server.
+/// Removes the file of the control socket. If it can't be removed, the next server finds it stale.
 fn close_control(
     files: &HostRuntime,
     alloc: Global,
@@ -186,7 +186,7 @@ fn close_control(
     }
 }
 
-/// Where operators connect, if they may.
+/// Returns where operators connect, if they may.
 fn listener_of(control: &Option<ControlFile>) -> Option<&UnixListener> {
     match control {
         Some(file) => Some(file.listener()),
@@ -194,7 +194,7 @@ fn listener_of(control: &Option<ControlFile>) -> Option<&UnixListener> {
     }
 }
 
-/// The address and the port of viewers, if there are to be any.
+/// Returns the address and the port for viewers, if there should be any.
 fn http_place_of(told: &mut String, word: Option<&str>) -> Result<Option<SocketAddr>, ServeFault> {
     match word {
         Some(word) => Ok(Some(place_of(told, "--http", word)?)),
@@ -213,7 +213,7 @@ fn listen_http<R: Net<Listener = TcpListener, Stream = TcpStream>>(
     }
 }
 
-/// Where the nodes of a link text are on a map, where that is to be shown.
+/// Writes where the nodes of a link text are on a map, if that should be shown.
 fn places_in(alloc: Global, text: &[u8], is_shown: bool) -> Result<Vec<u8>, ServeFault> {
     if !is_shown {
         return Ok(Vec::new(alloc));
@@ -227,7 +227,7 @@ fn places_in(alloc: Global, text: &[u8], is_shown: bool) -> Result<Vec<u8>, Serv
     }
 }
 
-/// Keys that nobody knows, for viewers, where they may connect.
+/// Draws keys that nobody knows, for viewers, if they may connect.
 fn viewer_keys(
     files: &HostRuntime,
     told: &mut String,
@@ -245,7 +245,7 @@ fn viewer_keys(
     }
 }
 
-/// Where the run is reached.
+/// Returns where the run can be reached.
 fn listeners_at<'a>(
     routers: &'a TcpListener,
     control: Option<&'a UnixListener>,
@@ -270,7 +270,7 @@ fn listeners_at<'a>(
     }
 }
 
-/// The number of the range that is nearest to this one.
+/// Returns the number of the range that is nearest to this one.
 fn within(least: u64, number: u64, most: u64) -> u64
     requires { least ≤ most }
     ensures { (least ≤ result) × (result ≤ most) }
@@ -293,7 +293,7 @@ fn sessions_within(sessions: Sessions) -> Sessions
     }
 }
 
-/// The orders with each number in its range. The command line's parser refuses others, so these are the same.
+/// Returns the orders with each number in its range. The command line's parser refuses others, so they are the same.
 fn orders_within(orders: Orders) -> Orders
     ensures { AreOrders result }
 {
@@ -309,8 +309,8 @@ fn orders_within(orders: Orders) -> Orders
     }
 }
 
-/// Serves until the end of the run. Each operator's thread reads the link text through the system's own `files`. If the start
-/// fails, what failed, on what and why is added to `told`.
+/// Serves until the end of the run. Each operator's thread reads the link text through the system's own `files`. If the
+/// start fails, adds to `told` what failed, on what and why.
 pub fn serve<
     R: Runtime<A = Global>
         + Net<Listener = TcpListener, Stream = TcpStream>

@@ -1,4 +1,4 @@
--- The exit status of a run that a fault ended: as that of a script (script_commands), and 4 for an audit.
+-- The exit status of a run that a fault ended: that of a script (script_commands), and 4 for an audit.
 use Rattle.std.specs.Prelude.{ℕ, Bool, true, false, Option, Some, None, Result, Ok, Err}
 use Rattle.std.specs.declared.io.ErrorKind as system
 use Rattle.std.specs.declared.io.ErrorKind.TheVariants as error
@@ -20,12 +20,12 @@ use Rattle.pced_commands.specs.declared.tell.LinesEnd.{LinesEnd}
 use Rattle.pced_commands.specs.declared.tell.LinesEnd.TheVariants.{AllHeard, SomeRefused}
 use Rattle.script_commands.specs.Statuses.{te_status}
 
--- the exit status of a link text that was looked at
+-- the exit status of a check of a link text
 abbrev pub checked_status : Option TeFault → ℕ
 checked_status None = 0
 checked_status (Some fault) = te_status fault
 
--- an audit that found no room judged nothing
+-- the exit status of an audit's fault; if memory ran out, nothing was judged
 abbrev pub audit_status : AuditFault → ℕ
 audit_status audit.OutOfMemory = 5
 audit_status fault = 4
@@ -46,7 +46,7 @@ abbrev pub ended_serve_status : {X : Type 0} → Result X ServeFault → ℕ
 ended_serve_status (Ok x) = 0
 ended_serve_status (Err fault) = serve_status fault
 
--- the fault of an exchange with a server that failed
+-- the fault of a failed exchange with a server
 abbrev pub tell_fault : system.ErrorKind → TellFault
 tell_fault error.OutOfMemory = tell.OutOfMemory
 tell_fault error.BrokenPipe = tell.BrokenOff
@@ -62,7 +62,7 @@ tell_status tell.BrokenOff = 3
 tell_status tell.Device = 3
 tell_status tell.OutOfMemory = 5
 
--- the exit status of lines that were answered
+-- the exit status after lines were answered
 abbrev pub lines_status : LinesEnd → ℕ
 lines_status AllHeard = 0
 lines_status SomeRefused = 2
@@ -71,14 +71,14 @@ abbrev pub ended_tell_status : Result LinesEnd TellFault → ℕ
 ended_tell_status (Ok end) = lines_status end
 ended_tell_status (Err fault) = tell_status fault
 
--- the exit status of words that are no command: 0 where they ask for help or the version
+-- the exit status for words that are no command: 0 if they ask for help or the version
 abbrev pub refused_status : words.ErrorKind → ℕ
 refused_status word.OutOfMemory = 5
 refused_status word.DisplayHelp = 0
 refused_status word.DisplayVersion = 0
 refused_status _ = 2
 
--- the fault of a command whose file isn't read
+-- the fault of a command whose file can't be read
 abbrev pub unread_fault : Bool → ScriptFault
 unread_fault true = OutOfMemory 0
 unread_fault false = ReadFault

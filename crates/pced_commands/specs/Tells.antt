@@ -13,7 +13,7 @@ first_word line = up_to (position (λ b. b == 32) line) line
 abbrev pub shows : List ℕ → Bool
 shows line = is_question (first_word line)
 
--- a line that asks to see something asks for JSON by the word in front; any other is sent as it is
+-- if JSON is wanted, a line that asks to see something gets the word `json` in front; any other line is sent as it is
 abbrev pub sent : Bool → List ℕ → List ℕ
 sent true line = if shows line then codes "json " ++ line else line
 sent false line = line

@@ -1,4 +1,4 @@
--- What is said of the fault that a server ended by.
+-- What is printed about the fault that ended a server.
 use Rattle.std.specs.Prelude.{ℕ, List, codes}
 use Rattle.pce_engine.specs.Faults.{te_text}
 use Rattle.server_signals.specs.Texts.{run_text}

@@ -1,4 +1,4 @@
-//! `pced check`: what is to be said of a link text in a file.
+//! `pced check`: what is printed about a link text in a file.
 
 use crate::statuses::{checked_status, unread};
 use script_commands::status;
@@ -11,7 +11,7 @@ use te_base::TeFault;
 use te_words::check_text;
 use text_files::{FileFault, read_file};
 
-/// Adds what is to be said of the bytes of a link text, and gives its fault.
+/// Adds what is printed about the bytes of a link text, and returns its fault.
 pub fn add_checked(
     alloc: Global,
     bytes: &[u8],
@@ -37,7 +37,7 @@ fn print_checked<R: Print + AllocGlobal>(
     Ok(checked_status(found))
 }
 
-/// Says why the file isn't read, and gives the status.
+/// Prints why the file can't be read, and returns the status.
 fn print_unread<R: Eprint>(rt: &R, file: &str, fault: &FileFault) -> io::Result<u8> {
     eprintln!(*rt; "cannot read {file}: {fault}")?;
     let fault = unread(fault.is_out_of_memory());
@@ -45,8 +45,8 @@ fn print_unread<R: Eprint>(rt: &R, file: &str, fault: &FileFault) -> io::Result<
     Ok(status(fault))
 }
 
-/// Prints the first fault of the link text in a file in words, or what its network has, and gives the status. What is no
-/// regular file of at most 16 MB isn't read.
+/// Prints the first fault of the link text in a file in words, or what its network has, and returns the status. Only a
+/// regular file of at most 16 MB is read.
 pub fn check<R: Files<File = File> + Print + Eprint + AllocGlobal>(
     rt: &R,
     file: &str,

@@ -9,13 +9,13 @@ use te_base::TeFault;
 /// Why a server did not run to its end. `Display` gives the text for standard error.
 #[derive(Clone, Copy, Debug, PartialEq, Eq)]
 pub enum ServeFault {
-    /// What is to be listened on is no `ADDR:PORT`, a router is no address, or there is no such level of the log.
+    /// The address to listen on is no `ADDR:PORT`, a router is no address, or the log has no such level.
     BadArgument,
     /// The file can't be read, or the listener can't be made.
     Device,
     /// The link text has this fault.
     Te(TeFault),
-    /// The run ended by this fault.
+    /// The run ended with this fault.
     Run(RunFault),
 }
 

@@ -1,11 +1,11 @@
 //! What `pced tell` and `pced check` do, and the exit status and the text of each fault of theirs and of `pced serve`
 //! (docs/FORMAT.md lists all of them).
 //!
-//! - `descriptors`, `stamped`: what `serve` needs of the system, and the time in front of a log line
+//! - `descriptors`, `stamped`: what `serve` needs from the system, and the time before a log line
 //! - `fault`: why `serve` ends with a fault (`specs/Texts`)
 //! - `tell`: lines for a running server (`specs/Tells`)
 //! - `statuses`: exit statuses (`specs/Statuses`)
-//! - `checked`: what is said of a link text
+//! - `checked`: what is printed about a link text
 //! - `version`: which program this is
 #![tactic(auto)]
 

@@ -1,4 +1,4 @@
-//! Log lines with their time in front.
+//! Log lines that begin with their time.
 use jiff_core::civil::DateTime;
 use log::kv::Source;
 use log::span::Spans;
@@ -25,7 +25,7 @@ impl fmt::Display for Stamp {
     }
 }
 
-/// The time it is. `None` where the system doesn't say.
+/// Returns the present time. `None` if the system doesn't say.
 fn time_now<R: Clock>(rt: &R) -> Option<Stamp> {
     let time = SystemTime::now(rt).ok()?;
     let passed = time.duration_since(SystemTime::UNIX_EPOCH).ok()?;
@@ -36,7 +36,7 @@ fn time_now<R: Clock>(rt: &R) -> Option<Stamp> {
 /// Where the system says what standard error is.
 const STANDARD_ERROR: &str = "/proc/self/fd/2";
 
-/// Whether these are the device and the inode that a text `DEVICE:INODE` names.
+/// Tests whether these are the device and the inode that a text `DEVICE:INODE` names.
 fn is_named(stream: &str, device: u64, inode: u64) -> bool {
     match stream.split_once(':') {
         Some((first, second)) => {
@@ -46,8 +46,8 @@ fn is_named(stream: &str, device: u64, inode: u64) -> bool {
     }
 }
 
-/// Whether standard error goes to systemd's journal: JOURNAL_STREAM names its device and inode (systemd.exec(5)). A
-/// standard error that was put elsewhere is none, though the variable is set.
+/// Tests whether standard error goes to systemd's journal: JOURNAL_STREAM names its device and inode (systemd.exec(5)).
+/// If standard error was redirected elsewhere it doesn't, though the variable is set.
 fn is_journal<R: Env + Files + AllocGlobal>(rt: &R) -> bool {
     let Ok(stream) = env::var(rt, "JOURNAL_STREAM") else {
         return false;
@@ -58,7 +58,7 @@ fn is_journal<R: Env + Files + AllocGlobal>(rt: &R) -> bool {
     }
 }
 
-/// Writes lines to standard error, with their time in front where whoever takes them doesn't note it.
+/// Writes lines to standard error, each beginning with its time unless the reader notes that itself.
 #[derive(Drop)]
 pub struct Stamped<'a, R> {
     rt: &'a R,
@@ -66,7 +66,7 @@ pub struct Stamped<'a, R> {
 }
 
 impl<'a, R: Env + Files + AllocGlobal> Stamped<'a, R> {
-    /// systemd's journal notes the time of each line itself.
+    /// Makes the writer. systemd's journal notes the time of each line itself.
     pub fn new(rt: &'a R) -> Stamped<'a, R> {
         Stamped {
             rt,

@@ -15,7 +15,7 @@ use te_base::TeFault;
 /// The audit at the end failed.
 const AUDIT: u8 = 4;
 
-/// The exit status of a server that the fault ended.
+/// Returns the exit status of a server that the fault ended.
 fn run_status(fault: RunFault) -> u8
     ensures { result ≡ run_status fault }
 {
@@ -26,7 +26,7 @@ fn run_status(fault: RunFault) -> u8
     }
 }
 
-/// The exit status of `serve` after a fault.
+/// Returns the exit status of `serve` after a fault.
 pub fn serve_status(fault: ServeFault) -> u8
     ensures { result ≡ serve_status fault }
 {
@@ -38,7 +38,7 @@ pub fn serve_status(fault: ServeFault) -> u8
     }
 }
 
-/// The exit status of a link text that was looked at.
+/// Returns the exit status of a check of a link text.
 pub fn checked_status(found: Option<TeFault>) -> u8
     ensures { result ≡ checked_status found }
 {
@@ -49,7 +49,7 @@ pub fn checked_status(found: Option<TeFault>) -> u8
     }
 }
 
-/// The exit status of `tell` after a fault.
+/// Returns the exit status of `tell` after a fault.
 pub fn tell_status(fault: TellFault) -> u8
     ensures { result ≡ tell_status fault }
 {
@@ -60,7 +60,7 @@ pub fn tell_status(fault: TellFault) -> u8
     }
 }
 
-/// The exit status of lines that were answered.
+/// Returns the exit status after lines were answered.
 pub fn lines_status(end: LinesEnd) -> u8
     ensures { result ≡ lines_status end }
 {
@@ -70,7 +70,7 @@ pub fn lines_status(end: LinesEnd) -> u8
     }
 }
 
-/// The exit status of words that are no command: 0 where they ask for help or the version.
+/// Returns the exit status for words that are no command: 0 if they ask for help or the version.
 pub fn refused(kind: ErrorKind) -> u8
     ensures { result ≡ refused_status kind }
 {
@@ -81,7 +81,7 @@ pub fn refused(kind: ErrorKind) -> u8
     }
 }
 
-/// The fault of a command whose file isn't read.
+/// Returns the fault of a command whose file can't be read.
 pub(crate) fn unread(is_out_of_memory: bool) -> ScriptFault
     ensures { result ≡ unread_fault is_out_of_memory }
 {

@@ -1,4 +1,4 @@
-//! `pced tell`: lines for a running server, each on a connection of its own, and what it answers.
+//! `pced tell`: sends lines to a running server, each on a connection of its own, and prints its answers.
 ghost use Rattle.std.specs.Prelude.{◌≡◌, ◌++◌, IfOk, codes, string_bytes};
 ghost use Rattle.pced_commands.specs.Statuses.{tell_fault};
 ghost use Rattle.pced_commands.specs.Tells.{first_word, sent, shows};
@@ -17,7 +17,7 @@ use thiserror::Error;
 /// Why lines weren't all answered. `Display` gives the text for standard error.
 #[derive(Clone, Copy, Debug, PartialEq, Eq, Error)]
 pub enum TellFault {
-    /// A line break stands in a line.
+    /// A line contains a line break.
     #[error("bad argument")]
     BadArgument,
     /// No server listens at the path.
@@ -33,7 +33,7 @@ pub enum TellFault {
     OutOfMemory,
 }
 
-/// What came of the lines that were sent.
+/// The result of the lines that were sent.
 #[derive(Clone, Copy, Debug, PartialEq, Eq)]
 pub enum LinesEnd {
     AllHeard,
@@ -41,7 +41,7 @@ pub enum LinesEnd {
     SomeRefused,
 }
 
-/// The fault of an exchange with the server that failed by this kind.
+/// Returns the fault of an exchange with the server that failed with this error.
 fn tell_fault(kind: ErrorKind) -> TellFault
     ensures { result ≡ tell_fault kind }
 {
@@ -55,7 +55,7 @@ fn tell_fault(kind: ErrorKind) -> TellFault
     }
 }
 
-/// The first word of a line.
+/// Returns the first word of a line.
 fn first_word(line: &str) -> &str
     ensures { result.now ≡ first_word line.now }
 {
@@ -65,14 +65,14 @@ fn first_word(line: &str) -> &str
     }
 }
 
-/// Whether a line asks to see something, by its first word. Only such lines are answered as JSON.
+/// Tests whether a line asks to see something, by its first word. Only such lines are answered as JSON.
 fn shows(line: &str) -> bool
     ensures { result ≡ shows line.now }
 {
     is_question(first_word(line))
 }
 
-/// What is sent for a line. One that shows nothing is sent as it is.
+/// Returns what is sent for a line. One that shows nothing is sent as it is.
 fn sent(alloc: Global, is_json: bool, line: &str) -> Result<String, AllocError>
     ensures { IfOk result (λ text. string_bytes text ≡ sent is_json line.now) }
 {
@@ -83,7 +83,7 @@ fn sent(alloc: Global, is_json: bool, line: &str) -> Result<String, AllocError>
     }
 }
 
-/// What came of a line that was heard. One that asked for the end has come to it once the server is gone.
+/// Returns the result of a line that was heard. If it asked for the end, waits until the server is gone.
 fn heard<R: Net + Clock>(rt: &R, path: &str, line: &str) -> Result<LinesEnd, TellFault> {
     if line == "end" && !await_end(rt, path) {
         return Err(TellFault::BrokenOff);
@@ -113,7 +113,7 @@ fn tell_line<R: Net + Clock, O: Write>(
     }
 }
 
-/// Sends a line, as the words ask for it.
+/// Sends a line, in the form that the words ask for.
 fn tell_one<R: Net + Clock, O: Write>(
     rt: &R,
     alloc: Global,
@@ -130,7 +130,7 @@ fn tell_one<R: Net + Clock, O: Write>(
     }
 }
 
-/// What came of these lines and of one more.
+/// Returns the result of these lines and one more.
 fn worse_end(all: LinesEnd, one: LinesEnd) -> LinesEnd {
     match one {
         LinesEnd::AllHeard => all,
@@ -153,7 +153,7 @@ fn tell_words<R: Net + Clock, O: Write>(
     Ok(all)
 }
 
-/// The fault of standard input that failed by this kind.
+/// Returns the fault of standard input that failed with this error.
 fn input_fault(error: &io::Error) -> TellFault {
     match error.kind() {
         ErrorKind::OutOfMemory => TellFault::OutOfMemory,
@@ -161,7 +161,7 @@ fn input_fault(error: &io::Error) -> TellFault {
     }
 }
 
-/// Sends each line of standard input once it has come, up to its end.
+/// Sends each line of standard input as soon as it comes, up to its end.
 fn tell_input<R: Runtime<A = Global> + Net, O: Write>(
     rt: &R,
     words: &TellWords<'_>,
@@ -178,7 +178,7 @@ fn tell_input<R: Runtime<A = Global> + Net, O: Write>(
     Ok(all)
 }
 
-/// Sends the lines of the words; where there are none, those of standard input. The first fault ends it.
+/// Sends the lines of the words; if there are none, those of standard input. The first fault ends it.
 pub fn tell_all<R: Runtime<A = Global> + Net>(
     rt: &R,
     words: &TellWords<'_>,

@@ -51,7 +51,7 @@ fn diamond(alloc: Global) -> Result<TeBase, Fail> {
     Ok(TeBase::read(alloc, DIAMOND)?)
 }
 
-/// A database of which nothing was reported.
+/// Makes a database of which nothing was reported.
 fn new_database(alloc: Global) -> Result<Database, Fail>
     ensures { IfOk result (λ database. steps_of database ≡ 0) }
 {

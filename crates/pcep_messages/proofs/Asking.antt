@@ -40,7 +40,7 @@ or_or : (a b c : Bool) → ((a || b) || c) ≡ (a || (b || c))
 or_or true b c = refl
 or_or false b c = refl
 
--- one more object, each part by itself
+-- one more object, each of its parts separately
 abbrev each_taken : Asked → Object → Asked
 each_taken asked object = record {
   rp = asked.rp;
@@ -58,7 +58,7 @@ each_taken asked object = record {
   };
 }
 
--- an object of a class that a request doesn't name
+-- an object of a class that a request doesn't name changes nothing
 abbrev ignored : Asked → Asked
 ignored asked = record {
   rp = asked.rp;
@@ -153,7 +153,7 @@ takes a o os = ap (λ (b : Asked). with_objects b os) (by_each a o) ∙ with_one
 
 -- ---- faults at a place
 
--- the first of the objects that follow, where this END-POINTS was the first so far
+-- the first fault of the objects that follow, given the first END-POINTS so far
 abbrev faults : About → Option EndPoints → List Object → Option MessageFault
 faults about first [] = None
 faults about first (o ∷ os) = option_or (place_fault about first o) (faults about (option_or first (end_points_of o)) os)
@@ -176,7 +176,7 @@ only_kept about ends (objects.Close x ∷ os) = only_kept about ends os
 only_kept about ends (objects.Lsp x ∷ os) = only_kept about ends os
 only_kept about ends (objects.Srp x ∷ os) = only_kept about ends os
 
--- the first END-POINTS, by its P flag
+-- the first END-POINTS, depending on its P flag
 at_first : (about : About) (p : Bool) (rest kept : Option MessageFault) → rest ≡ kept → option_or (if not p then Some (BadP about) else None) rest ≡ (if p then kept else Some (BadP about))
 at_first about true rest kept e = e
 at_first about false rest kept e = refl
@@ -199,7 +199,7 @@ in_place about (objects.Close x ∷ os) = in_place about os
 in_place about (objects.Lsp x ∷ os) = in_place about os
 in_place about (objects.Srp x ∷ os) = in_place about os
 
--- ---- a request that has begun, and those behind it
+-- ---- a request that has begun, and those after it
 
 abbrev request_by : Option MessageFault → Asked → Option ObjectFault → Result PathRequest MessageFault
 request_by None whole own = request_from whole own
@@ -211,7 +211,7 @@ others os own first = first >>= λ r. requests_of os own >>= λ rs. Ok (r ∷ rs
 abbrev open_then : Asked → List Object → Option ObjectFault → Result (List PathRequest) MessageFault
 open_then a os own = others os own (request_by (faults (about_rp a.rp) a.ends (up_to_rp os)) (with_objects a (up_to_rp os)) (own_fault os own))
 
--- the objects behind an RP say what was read of its request
+-- the objects after an RP give what was read of its request
 at_fault : (rp : Rp) (os : List Object) (own : Option ObjectFault) (one other : Option MessageFault) → one ≡ other
     → request_by one (with_objects (begun rp) os) own ≡ request_or_fault rp os own other
 at_fault rp os None None other e = rw (← e) refl
@@ -252,7 +252,7 @@ done : (requests : List PathRequest) (a : Asked) (own : Option ObjectFault) → 
 done requests a own =
     last_request requests (request_from a own) ∙ ap (λ (b : Asked). with_front requests (request_from b own >>= λ x. Ok (x ∷ []))) (sym (with_none a))
 
--- one more object of the request, whose place may be wrong
+-- one more object of the request, which may be at a wrong place
 by_place : (requests : List PathRequest) (fault : Option MessageFault) (a : Asked) (os : List Object) (own : Option ObjectFault) (more : Option MessageFault) (whole : Asked)
     → gives (state requests (Some a)) os own ≡ with_front requests (others os own (request_by more whole (own_fault os own)))
     → ((unless fault (state requests (Some a)) >>= λ t. run after t os) >>= λ t. finished t own)
@@ -263,7 +263,7 @@ by_place requests (Some f) a os own more whole goes = refl
 abbrev ends_of : Asked → Object → Option EndPoints
 ends_of a o = option_or a.ends (end_points_of o)
 
--- what a step takes in is what counts of all
+-- what the steps take in is what counts of all objects
 one_more : (requests : List PathRequest) (a : Asked) (o : Object) (os : List Object) (own : Option ObjectFault)
     → gives (state requests (Some (taken a o))) os own ≡ with_front requests (open_then (taken a o) os own)
     → ((unless (place_fault (about_rp a.rp) a.ends o) (state requests (Some (taken a o))) >>= λ t. run after t os) >>= λ t. finished t own)
@@ -276,7 +276,7 @@ one_more requests a o os own goes =
 abbrev begun_at : Rp → List PathRequest → Result State MessageFault
 begun_at rp requests = Ok (state requests (Some (begun rp)))
 
--- an RP ends the request in front of it
+-- an RP ends the request before it
 begins : (requests : List PathRequest) (rp : Rp) (p : Bool) (os : List Object) (own : Option ObjectFault) → rp.p ≡ p
     → ((before : List PathRequest) → gives (state before (Some (begun rp))) os own ≡ with_front before (open_then (begun rp) os own))
     → ((at_rp rp requests >>= λ t. run after t os) >>= λ t. finished t own) ≡ with_front requests (requests_of (objects.Rp rp ∷ os) own)
@@ -317,9 +317,9 @@ goes_on requests a (objects.Close x ∷ os) own = one_more requests a (objects.C
 goes_on requests a (objects.Lsp x ∷ os) own = one_more requests a (objects.Lsp x) os own (goes_on requests (taken a (objects.Lsp x)) os own)
 goes_on requests a (objects.Srp x ∷ os) own = one_more requests a (objects.Srp x) os own (goes_on requests (taken a (objects.Srp x)) os own)
 
--- ---- the reader, from the front of the message on
+-- ---- the reader, from the beginning of the message on
 
--- an object in front of the first RP
+-- an object before the first RP
 in_front : (fault : Option MessageFault) (os : List Object) (own : Option ObjectFault) (more : Option MessageFault)
     → gives begin os own ≡ requests_behind more os own
     → ((unless fault begin >>= λ t. run after t os) >>= λ t. finished t own) ≡ requests_behind (option_or fault more) os own
@@ -330,7 +330,7 @@ kept_behind : (fault : Option MessageFault) (x : Kept) (os : List Object) (own :
 kept_behind None x os own = refl
 kept_behind (Some f) x os own = refl
 
--- the objects behind it say the rest
+-- an object before the first RP makes no difference to the objects after it
 kept_first : (fault : Option MessageFault) (x : Kept) (os : List Object) (own : Option ObjectFault)
     → requests_behind (option_or fault (first_of fault_in_front (up_to_rp os))) os own ≡ requests_behind (option_or fault (first_of fault_in_front (up_to_rp os))) (objects.Kept x ∷ os) own
 kept_first (Some f) x os own = refl

@@ -1,4 +1,4 @@
--- The objects of a PCErr fit, and are spelled one list after the other.
+-- The objects of a PCErr fit, and are written one list after the other.
 use Rattle.std.proofs.Common.{◌≡◌, ℕ, true, false, List, [], ◌∷◌, ◌++◌, map, refl, ap, ◌∙◌, append_assoc}
 use Rattle.std.specs.List.{flat_map}
 use Rattle.std.proofs.lemmas.List.Concat.{flat_map-append}
@@ -9,7 +9,7 @@ use Rattle.pcep_objects.specs.declared.session_objects.PcepError.{PcepError}
 use Rattle.pcep_messages.specs.Spelling.{rp_object, srp_object, error_objects, object_spelled, object_fits, objects_spelled, objects_fit}
 use Rattle.pcep_messages.specs.declared.message.Errors.{Errors}
 
--- each of a list spelled
+-- the bytes of each object of a list
 abbrev pub each_spelled : {A : Type 0} → (A → Object) → List A → List ℕ
 each_spelled object xs = flat_map (λ x. object_spelled (object x)) xs
 

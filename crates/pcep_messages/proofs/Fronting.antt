@@ -1,4 +1,4 @@
--- In front of the first item nothing of one was read, whatever objects were taken in.
+-- Before the first item nothing of one has been read, whatever objects were taken in.
 use Rattle.std.proofs.Common.{◌≡◌, List, Result, Ok, Err, subst, ap}
 use Rattle.std.specs.Prelude.{Some}
 use Rattle.std.specs.Option.{option_or}

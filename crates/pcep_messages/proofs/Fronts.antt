@@ -1,4 +1,4 @@
--- What stands in front of what was appended, object by object.
+-- What stands before the appended bytes, object by object.
 use Rattle.std.proofs.Common.{◌≡◌, ℕ, List, ◌++◌, length, take, ap, ◌∙◌, append_assoc}
 use Rattle.std.proofs.Math.Seq.{take-length}
 use Rattle.pcep_objects.proofs.Fronts as objects

@@ -20,7 +20,7 @@ use Rattle.pcep_messages.proofs.NormalObjects.{normal_objects}
 use Rattle.pcep_messages.proofs.PartsAgain.{errors_again, reply_again, update_again, MayBeNormal, initiate_again}
 use Rattle.pcep_messages.proofs.Spelled.{all_good, found_again, whole, message_again}
 
--- the objects of the message were found, and no fault
+-- the objects of the message were found, without a fault
 abbrev IsFoundAgain : Message → List ℕ → Type 0
 IsFoundAgain message body = found_in body ≡ record { objects = objects_written message; fault = None }
 

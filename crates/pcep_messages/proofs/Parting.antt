@@ -1,4 +1,4 @@
--- Parts that are taken in one after the other, as a loop does, are the parts of all objects.
+-- Taking in objects one after the other, as a loop does, gives the parts of all objects.
 use Rattle.std.proofs.Common.{◌≡◌, ℕ, List, [], ◌∷◌, map, fold, Option, Some, None, Result, Ok, Err, refl, sym, ap, ◌∙◌}
 use Rattle.std.specs.Option.{option_or}
 use Rattle.pcep_objects.specs.declared.fault.BodyFault.{BodyFault}
@@ -23,7 +23,7 @@ use Rattle.pcep_messages.specs.Parts as all
 use Rattle.pcep_messages.specs.PartSteps.{no_parts, and_then, joined, kept, ArePartsOf}
 use Rattle.pcep_messages.proofs.Taking.{or_assoc, or_none}
 
--- parts that were taken in, with the objects that follow
+-- parts that were taken in, together with the objects that follow
 abbrev pub with_objects : Parts → List Object → all.Parts
 with_objects parts objects = record {
   opening = option_or parts.opening (first_of opening_of objects);
@@ -47,7 +47,7 @@ greater_none : (b : Option ℕ) → greater_of b None ≡ b
 greater_none None = refl
 greater_none (Some b) = refl
 
--- an object that asks for no bandwidth leaves it
+-- an object that asks for no bandwidth doesn't change the bandwidth
 quiet : (parts : Parts) (whole : all.Parts) (os : List Object)
     → record whole { bandwidth = fold greater_of (greater_of parts.bandwidth None) (map requested_of os) } ≡ record whole { bandwidth = fold greater_of parts.bandwidth (map requested_of os) }
 quiet parts whole os = ap (λ (b : Option ℕ). record whole { bandwidth = fold greater_of b (map requested_of os) }) (greater_none parts.bandwidth)
@@ -69,7 +69,7 @@ takes parts (objects.Close x) os = quiet parts (with_objects parts (objects.Clos
 takes parts (objects.Lsp x) os = quiet parts (with_objects parts (objects.Lsp x ∷ os)) os ∙ ap (λ (y : Option (LspObject)). record (with_objects parts os) { lsp = y }) (sym (or_assoc parts.lsp (Some x) (first_of lsp_of os)))
 takes parts (objects.Srp x) os = quiet parts (with_objects parts (objects.Srp x ∷ os)) os ∙ ap (λ (y : Option (Srp)). record (with_objects parts os) { srp = y }) (sym (or_assoc parts.srp (Some x) (first_of srp_of os)))
 
--- the parts so far, with those of the rest, and its fault are those of all
+-- the parts so far with those of the rest are the parts of all objects, and the rest has the same fault
 abbrev pub Continues : Parts → Found → Found → Type 0
 Continues parts rest whole = (with_objects parts rest.objects ≡ all.parts_of whole.objects) × (rest.fault ≡ whole.fault)
 

@@ -1,4 +1,4 @@
--- The objects of a written message give its parts, and these the message.
+-- The objects of a written message give its parts, and these give the message.
 use Rattle.std.proofs.Common.{◌≡◌, ℕ, ◌≤◌, min, Bool, false, List, [], ◌∷◌, ◌++◌, map, Option, Some, None, Result, Ok, refl, ap, ◌∙◌, arith}
 use Rattle.std.specs.List.{filter_map}
 use Rattle.std.proofs.lemmas.List.Elements.{filter_map-append}
@@ -40,7 +40,7 @@ left_out h f each (z ∷ zs) = rw (each z) (left_out h f each zs)
 in_three : {Y : Type 0} (h : Object → Option Y) (xs ys zs : List Object) → filter_map h ((xs ++ ys) ++ zs) ≡ (filter_map h xs ++ filter_map h ys) ++ filter_map h zs
 in_three h xs ys zs = filter_map-append h (xs ++ ys) zs ∙ ap (λ w. w ++ filter_map h zs) (filter_map-append h xs ys)
 
--- an error's objects, by what each names
+-- the objects of a PCErr, by what each names
 named : {Y : Type 0} (h : Object → Option Y) (errors : Errors) → filter_map h (error_objects errors)
     ≡ (filter_map h (map (rp_object false) errors.requests) ++ filter_map h (map (srp_object false) errors.srps)) ++ filter_map h (map (λ error. objects.Error error) errors.errors)
 named h errors = in_three h (map (rp_object false) errors.requests) (map (srp_object false) errors.srps) (map (λ error. objects.Error error) errors.errors)

@@ -1,5 +1,5 @@
--- Objects that are taken in one after the other, as a loop does: after says what one object makes of a state, finished what the end of
--- the objects does, or an object that has a fault of its own.
+-- Objects that are taken in one after the other, as a loop does. `after` says what one object makes of a state,
+-- `finished` what the end of the objects does, or an object that has a fault of its own.
 use Rattle.std.proofs.Common.{◌≡◌, ℕ, Bool, List, [], ◌∷◌, ◌++◌, Option, Some, None, Result, Ok, Err, refl, sym, ap, subst, ◌∙◌, append_assoc}
 use Rattle.pcep_objects.specs.Steps.{◌>>=◌}
 use Rattle.pcep_objects.specs.declared.fault.BodyFault.{BodyFault}
@@ -33,7 +33,7 @@ fails_from (BadP a) r f total h so_far = sym so_far ∙ rw h refl
 fails_from (Refused k v a) r f total h so_far = sym so_far ∙ rw h refl
 fails_from OutOfMemory r f total h so_far = tt
 
--- what is given of one reading is given of an equal one
+-- what gives one reading gives an equal one
 pub gives_after : {X Y : Type 0} (view : X → Y) (answer : Result X MessageFault) (one other : Result Y MessageFault) → one ≡ other → Gives view answer one → Gives view answer other
 gives_after view answer one other e given = subst (λ (r : _). Gives view answer r) e given
 
@@ -46,7 +46,7 @@ run after s (object ∷ objects) = after object s >>= λ t. run after t objects
 abbrev pub run_to_end : {S Y : Type 0} → (Object → S → Result S MessageFault) → (S → Option ObjectFault → Result Y MessageFault) → S → List Object → Option ObjectFault → Result Y MessageFault
 run_to_end after finished s objects own = run after s objects >>= λ t. finished t own
 
--- what the rest of the bytes gives from a state on
+-- what the rest of the bytes gives, starting from a state
 abbrev pub rest_gives : {S Y : Type 0} → (Object → S → Result S MessageFault) → (S → Option ObjectFault → Result Y MessageFault) → Bool → S → List ℕ → Result Y MessageFault
 rest_gives after finished checks_p s rest = run_to_end after finished s (found_by checks_p rest).objects (found_by checks_p rest).fault
 

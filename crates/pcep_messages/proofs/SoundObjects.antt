@@ -1,4 +1,4 @@
--- The objects that are found in bytes have numbers as their fields keep them.
+-- The objects that are found in bytes have numbers in the ranges of their fields.
 use Rattle.std.proofs.Common.{◌≡◌, ℕ, zero, suc, ◌-◌, ◌^◌, ◌<◌, Bool, true, false, not, cond, eqb, List, [], ◌∷◌, length, take, drop, get_or, Option, Some, None, Result, Ok, Err, refl, sym, ap, subst, ◌∙◌, arith}
 use Rattle.std.proofs.lemmas.Bool.{false≢true}
 use Rattle.std.specs.List.{AllByRecursion}
@@ -41,7 +41,7 @@ abbrev pub MayBe : {A : Type 0} → (A → Type 0) → Option A → Type 0
 MayBe Good None = Unit {0}
 MayBe Good (Some x) = Good x
 
--- what counts of the object has numbers as their fields keep them
+-- what counts of the object has numbers in the ranges of its fields
 pub record IsSound (object : Object) : Type 0 where
   pub rp : MayBe IsRp (parts.rp_of object)
   pub end_points : MayBe IsEndPoints (parts.end_points_of object)

@@ -1,4 +1,4 @@
--- Objects that are spelled one after the other are found again, behind a message's header.
+-- Objects that are written one after the other are found again, after a message's header.
 use Rattle.std.proofs.Common.{◌≡◌, ℕ, ◌+◌, ◌%◌, ◌^◌, ◌<◌, true, false, eqb, ltb, List, [], ◌∷◌, ◌++◌, length, drop, None, Ok, refl, ap, ◌∙◌, arith}
 use Rattle.std.specs.List.{AllByRecursion}
 use Rattle.std.proofs.lemmas.Bool.{le-ltb, eq-eqb, and_parts}

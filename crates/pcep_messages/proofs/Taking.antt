@@ -1,4 +1,4 @@
--- A reader that takes in the objects of a state report one after the other gives the reports of its items.
+-- Taking in the objects of a state report one after the other gives the reports of its items.
 use Rattle.std.proofs.Common.{◌≡◌, ℕ, max, Bool, true, false, List, [], ◌∷◌, ◌++◌, map, fold, Option, Some, None, Result, Ok, Err, refl, sym, ap, ◌∙◌, arith}
 use Rattle.std.specs.Option.{option_or}
 use Rattle.pcep_objects.specs.Steps.{◌>>=◌}
@@ -68,12 +68,12 @@ takes_lspa item lspa os =
     ap (λ (n : ℕ). record (with_objects item (objects.Lspa lspa ∷ os)) { bandwidth = fold max n (map bandwidth_of os) }) (max_nothing item.bandwidth)
     ∙ ap (λ (x : Option (Lspa)). record (with_objects item os) { lspa = x }) (sym (or_assoc item.lspa (Some lspa) (first_of lspa_of os)))
 
--- the objects of an item say what was read of it
+-- the objects of an item give what was read of it
 said_by : (os : List Object) (own : Option ObjectFault) → report_of os own ≡ report_from (with_objects no_objects os) own
 said_by os None = refl
 said_by os (Some fault) = refl
 
--- ---- an item that has begun, and those behind it
+-- ---- an item that has begun, and those after it
 
 abbrev open_by : Item → List (List Object) → Option ObjectFault → Result (List StateReport) MessageFault
 open_by whole items own = report_from whole (own_fault items own) >>= λ report. reports_of items own >>= λ reports. Ok (report ∷ reports)
@@ -112,14 +112,14 @@ last_report reports (Err e) = refl
 done : (reports : List StateReport) (item : Item) (own : Option ObjectFault) → with_report reports (report_from item own) ≡ with_front reports (open_by (with_objects item []) [] own)
 done reports item own = last_report reports (report_from item own) ∙ ap (λ (i : Item). with_front reports (open_by i [] own)) (sym (with_none item))
 
--- a start ends the item in front of it
+-- the start of an item ends the item before it
 next_item : (reports : List StateReport) (r : Result StateReport MessageFault) (item : Item) (behind_srp : Bool) (os : List Object) (own : Option ObjectFault) (others : Result (List StateReport) MessageFault)
     → ((before : List StateReport) → gives (state before item behind_srp) os own ≡ with_front before others)
     → ((started (place_of behind_srp) item (with_report reports r) >>= λ t. run after t os) >>= λ t. finished t own) ≡ with_front reports (r >>= λ x. others >>= λ xs. Ok (x ∷ xs))
 next_item reports (Ok x) item behind_srp os own others goes = goes (reports ++ x ∷ []) ∙ sym (regroup reports x others)
 next_item reports (Err e) item behind_srp os own others goes = refl
 
--- the same, by the item that was read
+-- the same for the item that was read
 ends_item : (reports : List StateReport) (read item : Item) (behind_srp : Bool) (os : List Object) (own : Option ObjectFault) (others : Result (List StateReport) MessageFault)
     → ((before : List StateReport) → gives (state before item behind_srp) os own ≡ with_front before others)
     → ((started (place_of behind_srp) item (with_report reports (report_from read None)) >>= λ t. run after t os) >>= λ t. finished t own)
@@ -146,7 +146,7 @@ by_lsp reports read lsp os own goes =
     ∙ ap (λ (others : Result (List StateReport) MessageFault). with_front reports (report_from (with_objects read []) None >>= λ x. others >>= λ xs. Ok (x ∷ xs)))
     (sym (begins_with_lsp lsp (named_in os) own))
 
--- an object of the item that is read
+-- an object of the item that is being read
 abbrev joined : List StateReport → List Object → Option ObjectFault → Item → Result (List StateReport) MessageFault
 joined reports os own whole = with_front reports (open_by whole (items_in false (named_in os)) own)
 
@@ -176,7 +176,7 @@ goes_on reports item false (objects.Lsp l ∷ os) own = by_lsp reports item l os
 goes_on reports item true (objects.Srp s ∷ os) own = by_srp reports item s os own (λ before. goes_on before (begun_by_srp s) true os own)
 goes_on reports item false (objects.Srp s ∷ os) own = by_srp reports item s os own (λ before. goes_on before (begun_by_srp s) true os own)
 
--- ---- the reader, from the front of the message on
+-- ---- the reader, from the beginning of the message on
 
 pub from_front : (os : List Object) (own : Option ObjectFault) → run_to_end after finished begin os own ≡ reports_in (named_in os) own
 from_front [] own = refl

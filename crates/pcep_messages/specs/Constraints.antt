@@ -9,7 +9,7 @@ use Rattle.pcep_messages.specs.declared.message.Bounds.{Bounds}
 use Rattle.lsp_words.specs.declared.object.MetricType.{MetricType}
 use Rattle.lsp_words.specs.declared.object.MetricType.TheVariants.{Igp, Te, Hops}
 
--- a PLSP-ID
+-- the PLSP-ID of an object, if it has one
 abbrev pub plsp_of : Object → Option ℕ
 plsp_of (objects.Lsp lsp) = Some lsp.plsp
 plsp_of object = None
@@ -18,11 +18,11 @@ abbrev pub is_rro : Object → Bool
 is_rro (objects.Rro hops) = true
 is_rro object = false
 
--- a BANDWIDTH of either type above 0
+-- the object is a BANDWIDTH of either type above 0
 abbrev pub is_above_zero : Object → Bool
 is_above_zero object = nat_lt 0 (bandwidth_of object)
 
--- the bandwidth that an object asks for: the type for an existing LSP asks for none
+-- the bandwidth that an object asks for; the type for an existing LSP asks for none
 abbrev pub bandwidth_asked : Object → ℕ
 bandwidth_asked (objects.Bandwidth Requested bandwidth) = bandwidth
 bandwidth_asked object = 0
@@ -33,19 +33,19 @@ metric_number Igp = 1
 metric_number Te = 2
 metric_number Hops = 3
 
--- any other type is ignored
+-- a metric by its type; any other type is ignored
 abbrev pub metric_type : ℕ → Option MetricType
 metric_type number =
     if number == metric_number Igp then Some Igp
     else (if number == metric_number Te then Some Te
     else (if number == metric_number Hops then Some Hops else None))
 
--- a METRIC with B clear says which metric is to be least
+-- a METRIC with B clear says which metric is to be minimised
 abbrev pub minimised_by : Object → Option MetricType
 minimised_by (objects.Metric metric) = if metric.bound then None else metric_type metric.metric_type
 minimised_by object = None
 
--- if no object says so, it is the TE metric
+-- the TE metric if no object names one
 abbrev pub or_te : Option MetricType → MetricType
 or_te minimised = unwrap_or minimised Te
 
@@ -54,7 +54,7 @@ abbrev pub bound_on : ℕ → Object → Option ℕ
 bound_on number (objects.Metric metric) = if metric.bound && metric.metric_type == number then Some metric.value else None
 bound_on number object = None
 
--- the lesser of two bounds, of which either may be missing
+-- the lesser of two bounds, either of which may be missing
 abbrev pub lesser : Option ℕ → Option ℕ → Option ℕ
 lesser None other = other
 lesser (Some bound) None = Some bound

@@ -1,4 +1,4 @@
--- What counts of several objects: the first of each class, and of BANDWIDTHs the greatest (RFC 5440 section 7).
+-- What counts of several objects: the first of each class, and the greatest BANDWIDTH (RFC 5440 section 7).
 use Rattle.std.specs.Prelude.{ℕ, max, List, [], ◌∷◌, map, fold, Option, Some, None}
 use Rattle.std.specs.Option.{option_or}
 use Rattle.pcep_objects.specs.declared.object.BandwidthType.TheVariants.{Requested}
@@ -15,7 +15,7 @@ use Rattle.pcep_objects.specs.declared.request_objects.Rp.{Rp}
 use Rattle.pcep_objects.specs.declared.session_objects.Close.{Close}
 use Rattle.pcep_objects.specs.declared.session_objects.Open.{Open}
 
--- the first of something that elements may have
+-- the first value that one of the elements has
 abbrev pub first_of : {A B : Type 0} → (A → Option B) → List A → Option B
 first_of part [] = None
 first_of part (x ∷ xs) = option_or (part x) (first_of part xs)
@@ -64,7 +64,7 @@ abbrev pub close_of : Object → Option Close
 close_of (objects.Close close) = Some close
 close_of object = None
 
--- the bandwidth of a BANDWIDTH of either type; any other object has none
+-- the bandwidth of a BANDWIDTH of either type; 0 for any other object
 abbrev pub bandwidth_of : Object → ℕ
 bandwidth_of (objects.Bandwidth kind bandwidth) = bandwidth
 bandwidth_of object = 0
@@ -78,7 +78,7 @@ abbrev pub requested_of : Object → Option ℕ
 requested_of (objects.Bandwidth Requested bandwidth) = Some bandwidth
 requested_of object = None
 
--- the greater of two bandwidths, of which either may be missing
+-- the greater of two bandwidths, either of which may be missing
 abbrev pub greater_of : Option ℕ → Option ℕ → Option ℕ
 greater_of None other = other
 greater_of (Some bandwidth) None = Some bandwidth

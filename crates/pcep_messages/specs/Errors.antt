@@ -25,7 +25,7 @@ abbrev pub named_error : Object → Option PcepError
 named_error (objects.Error error) = Some error
 named_error object = None
 
--- each in the order of the message
+-- the requests and errors that a PCErr names, each in the order of the message
 abbrev pub errors_of : List Object → Errors
 errors_of objects = record {
   requests = filter_map named_request objects;
@@ -33,6 +33,6 @@ errors_of objects = record {
   errors = filter_map named_error objects;
 }
 
--- the body of a PCErr, which lacks nothing
+-- the body of a PCErr that lacks nothing
 unfoldable pub errors_body : List ℕ → Result Message MessageFault
 errors_body body = unless_bad (found_in body).fault about.Nothing (Ok (messages.Error (errors_of (found_in body).objects)))

@@ -1,4 +1,4 @@
--- Faults of messages: their numbers, and what a function returned against what reading gives.
+-- The numbers of the faults of messages, and how the result of a function is compared with the definition of reading.
 use Rattle.std.specs.Prelude.{◌≡◌, ℕ, Result, Ok, Err}
 use Rattle.pcep_messages.specs.declared.fault.MessageFault.{MessageFault}
 use Rattle.pcep_messages.specs.declared.fault.MessageFault.TheVariants.{BadHeader, BadObject, Missing, MissingIdentifiers, BadP, Refused, OutOfMemory}
@@ -12,12 +12,12 @@ fault_number (BadP about) = 5
 fault_number (Refused kind value about) = 6
 fault_number OutOfMemory = 7
 
--- a fault that was returned is the one of reading, unless memory ran out
+-- the returned fault is the one that reading gives, unless memory ran out
 abbrev pub Fails : {Y : Type 0} → MessageFault → Result Y MessageFault → Type 0
 Fails OutOfMemory read = Unit {0}
 Fails fault read = read ≡ Err fault
 
--- what was returned, seen by view, is what reading gives, unless memory ran out
+-- the returned value, seen by view, is what reading gives, unless memory ran out
 abbrev pub Gives : {X Y : Type 0} → (X → Y) → Result X MessageFault → Result Y MessageFault → Type 0
 Gives view (Ok x) read = read ≡ Ok (view x)
 Gives view (Err fault) read = Fails fault read

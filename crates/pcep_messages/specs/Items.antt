@@ -28,12 +28,12 @@ starts behind_srp (objects.Srp srp) = true
 starts behind_srp (objects.Lsp lsp) = not behind_srp
 starts behind_srp object = false
 
--- the objects in front of the first start
+-- the objects before the first start
 abbrev pub up_to_start : (behind_srp : Bool) → List Object → List Object
 up_to_start behind_srp [] = []
 up_to_start behind_srp (object ∷ objects) = if starts behind_srp object then [] else object ∷ up_to_start (is_srp object) objects
 
--- each start with the objects after it up to the next
+-- each start with the objects after it, up to the next start
 abbrev pub items_in : (behind_srp : Bool) → List Object → List (List Object)
 items_in behind_srp [] = []
 items_in behind_srp (object ∷ objects) =

@@ -19,7 +19,7 @@ abbrev pub has_header : List ℕ → Bool
 has_header bytes =
     not (nat_lt (length bytes) 4) && slice_index bytes 0 / 2 ^ 5 == 1 && field 2 2 bytes == length bytes && length bytes % 4 == 0
 
--- a state report
+-- the message of a state report with this body
 abbrev pub report_message : List ℕ → Result Message MessageFault
 report_message body = report_body body >>= λ reports. Ok (Report reports)
 

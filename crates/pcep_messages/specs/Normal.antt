@@ -1,4 +1,4 @@
--- Normal messages: each field is one that the wire can have, so that the message is spelled as it reads.
+-- Normal messages: each field has a value that the wire can carry, so that the message is written as it reads.
 use Rattle.std.specs.Prelude.{ℕ, ◌^◌, ◌<◌, ◌≤◌, true, Option, Some, None}
 use Rattle.std.specs.List.{AllByRecursion}
 use Rattle.pcep_word.specs.Priority.{InForce}
@@ -36,7 +36,7 @@ pub record IsReply (reply : PathReply) : Type 0 where
   pub request : IsWord reply.request
   pub answer : IsAnswer reply.answer
 
--- the numbers of each `Priorities`
+-- both priorities are in their ranges
 pub record ArePriorities (priorities : InForce) : Type 0 where
   pub setup : priorities.setup ≤ 7
   pub hold : priorities.hold ≤ priorities.setup

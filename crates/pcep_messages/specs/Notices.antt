@@ -10,7 +10,7 @@ use Rattle.pcep_messages.specs.declared.notice.PcError.{PcError}
 use Rattle.pcep_messages.specs.declared.notice.Notice.{Notice}
 use Rattle.pcep_messages.specs.declared.notice.Notice.TheVariants.{Keepalive, Error, Close}
 
--- a PCErr names what it is about: a request, or a stateful request
+-- a PCErr names the request, or the stateful request, that it is about
 abbrev pub requests_about : About → List ℕ
 requests_about (about.Request id) = id ∷ []
 requests_about a = []
@@ -26,13 +26,13 @@ error_about a kind value = messages.Error (record {
   errors = record { error_type = kind; value = value } ∷ [];
 })
 
--- the message that a notice is
+-- the message for a notice
 abbrev pub message_of_notice : Notice → Message
 message_of_notice Keepalive = messages.Keepalive
 message_of_notice (Error error) = error_about error.about error.kind error.value
 message_of_notice (Close reason) = messages.Close reason
 
--- its bytes
+-- the bytes of a notice
 abbrev pub notice_text : Notice → List ℕ
 notice_text notice = written (message_of_notice notice)
 

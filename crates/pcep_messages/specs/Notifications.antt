@@ -1,4 +1,4 @@
--- PCNtf (RFC 5440 section 6.6): nothing of it is used, but an object's own fault counts.
+-- PCNtf (RFC 5440 section 6.6): none of it is used, but an object's own fault counts.
 use Rattle.std.specs.Prelude.{ℕ, List, Option, Some, None, Result, Ok, Err}
 use Rattle.pcep_objects.specs.declared.fault.ObjectFault.{ObjectFault}
 use Rattle.pcep_messages.specs.Objects.{found_in}

@@ -13,15 +13,15 @@ pub record Found : Type 0 where
 abbrev pub stopped_by : ObjectFault → Found
 stopped_by fault = record { objects = []; fault = Some fault }
 
--- What is at the front, and the rest after its bytes. An object of an unknown class or type is skipped; in a message
--- that checks their P flag, one that must be processed is a fault.
+-- The object at the front, followed by what the rest has. An object of an unknown class or type is skipped; in a
+-- message that checks their P flag, one that must be processed is a fault.
 abbrev pub followed_by : Bool → Result (Object × ℕ) ObjectFault → (ℕ → Found) → Found
 followed_by checks_p (Ok x) rest = record { objects = x.0 ∷ (rest x.1).objects; fault = (rest x.1).fault }
 followed_by checks_p (Err (UnknownClass p n)) rest = if checks_p && p then stopped_by (UnknownClass p n) else rest n
 followed_by checks_p (Err (UnknownType p n)) rest = if checks_p && p then stopped_by (UnknownType p n) else rest n
 followed_by checks_p (Err fault) rest = stopped_by fault
 
--- skip counts the bytes of an object that was read and are still to pass
+-- `skip` is how many bytes of an object that was read are still to be passed
 unfoldable pub found_from : Bool → ℕ → List ℕ → Found
 found_from checks_p skip [] = record { objects = []; fault = None }
 found_from checks_p (suc skip) (b ∷ bytes) = found_from checks_p skip bytes

@@ -1,5 +1,5 @@
--- The steps by which a reader takes in the objects of a message of one item, one after the other. No public
--- clause cites them: a lemma shows that they give the parts of the objects (Parts).
+-- The steps by which a reader takes in the objects of a message of one item, one after the other. No public clause
+-- cites them: a lemma shows that they give the parts of the objects (Parts).
 use Rattle.std.specs.Prelude.{◌≡◌, Option, Some, None, Result, Ok, Err}
 use Rattle.std.specs.Option.{option_or}
 use Rattle.pcep_objects.specs.declared.fault.BodyFault.{BodyFault}
@@ -26,7 +26,7 @@ no_parts = record {
   srp = None;
 }
 
--- one more object
+-- the parts with one more object
 abbrev pub and_then : Parts → Object → Parts
 and_then parts (objects.Open object) = record parts { opening = option_or parts.opening (Some object) }
 and_then parts (objects.Rp object) = record parts { rp = option_or parts.rp (Some object) }
@@ -41,12 +41,12 @@ and_then parts (objects.Lsp object) = record parts { lsp = option_or parts.lsp (
 and_then parts (objects.Srp object) = record parts { srp = option_or parts.srp (Some object) }
 and_then parts object = parts
 
--- with the object of a body, unless that has a fault
+-- the parts with the object of a body, unless the body has a fault
 abbrev pub joined : Result Object BodyFault → Parts → Result Parts BodyFault
 joined (Ok object) parts = Ok (and_then parts object)
 joined (Err fault) parts = Err fault
 
--- what a reader keeps, as the definitions have it
+-- the parts that a reader keeps, as those of the definitions
 abbrev pub kept : Parts → all.Parts
 kept parts = record {
   opening = parts.opening;

@@ -31,7 +31,7 @@ pub record Parts : Type 0 where
   pub lsp : Option LspObject
   pub srp : Option Srp
 
--- the first object of each class, and of BANDWIDTHs of type 1 the greatest; objects of other classes are skipped
+-- the first object of each class, and the greatest BANDWIDTH of type 1; objects of other classes are skipped
 unfoldable pub parts_of : List Object → Parts
 parts_of objects = record {
   opening = first_of opening_of objects;
@@ -47,11 +47,11 @@ parts_of objects = record {
   srp = first_of srp_of objects;
 }
 
--- an object's own fault comes before what is said of the parts
+-- an object's own fault comes before any fault of the parts
 abbrev pub unless_bad : {A : Type 0} → Option ObjectFault → About → Result A MessageFault → Result A MessageFault
 unless_bad None about read = read
 unless_bad (Some fault) about read = Err (BadObject fault about)
 
--- What a body with these objects reads as. `about` says what a fault after the parts is about.
+-- What a body with these objects reads as. `about` says what a fault is about, given the parts.
 abbrev pub read_parts : {A : Type 0} → (Parts → About) → (Parts → Result A MessageFault) → Found → Result A MessageFault
 read_parts about read found = unless_bad found.fault (about (parts_of found.objects)) (read (parts_of found.objects))

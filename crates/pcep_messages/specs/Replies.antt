@@ -1,4 +1,4 @@
--- What a PCRep says of a path that was asked for (RFC 5440 section 6.5), or the first fault.
+-- What a PCRep says about a path that was asked for (RFC 5440 section 6.5), or the first fault.
 use Rattle.std.specs.Prelude.{ℕ, List, Option, Some, None, Result, Ok, Err}
 use Rattle.std.specs.Option.{option_map}
 use Rattle.pcep_objects.specs.Kinds.{class_number}
@@ -38,7 +38,7 @@ answer_or_missing about (Some no_path) ero metric = Ok (answers.NoPath no_path.v
 answer_or_missing about None (Some hops) metric = Ok (answers.Found hops (option_map cost_of metric))
 answer_or_missing about None None metric = Err (Missing (class_number kinds.Ero) about)
 
--- RP has to be there too
+-- RP must be present too
 abbrev pub reply_or_missing : Answer → Option Rp → Result Message MessageFault
 reply_or_missing answer None = Err (Missing (class_number kinds.Rp) about.Nothing)
 reply_or_missing answer (Some rp) = Ok (messages.Reply (record { request = rp.id; answer = answer }))

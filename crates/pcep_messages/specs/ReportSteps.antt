@@ -1,5 +1,5 @@
--- The steps by which a reader takes in the objects of a state report, one after the other. No public clause
--- cites them: a lemma shows that they give the reports of the items (Reports).
+-- The steps by which a reader takes in the objects of a state report, one after the other. No public clause cites them:
+-- a lemma shows that they give the reports of the items (Reports).
 use Rattle.std.specs.Prelude.{◌≡◌, max, List, [], ◌∷◌, ◌++◌, Option, Some, None, Result, Ok, Err}
 use Rattle.std.specs.Option.{option_or}
 use Rattle.pcep_objects.specs.Steps.{◌>>=◌}
@@ -18,7 +18,7 @@ use Rattle.pcep_messages.specs.declared.items.ItemPosition.{ItemPosition}
 use Rattle.pcep_messages.specs.declared.items.ItemPosition.TheVariants.{InFront, BehindSrp, Within}
 use Rattle.pcep_messages.specs.declared.message.StateReport.{StateReport}
 
--- the reports of the items that have ended, what was read of the next, and where in it the reader is
+-- the reports of the items that have ended, what was read of the next item, and where in it the reader is
 pub record State : Type 0 where
   pub reports : List StateReport
   pub item : Item
@@ -38,22 +38,22 @@ report_from item None = report_or_fault item.srp item.lsp item.ero item.rro item
 abbrev pub with_report : List StateReport → Result StateReport MessageFault → Result (List StateReport) MessageFault
 with_report reports last = last >>= λ report. Ok (reports ++ report ∷ [])
 
--- the reports with that of the item that ends
+-- the reports with that of the item that ends here
 abbrev pub ended : ItemPosition → List StateReport → Item → Result (List StateReport) MessageFault
 ended InFront reports item = Ok reports
 ended place reports item = with_report reports (report_from item None)
 
--- an object that starts no item is in one
+-- an object that starts no item must be inside one
 abbrev pub inside : ItemPosition → List StateReport → Item → Result State MessageFault
 inside InFront reports item = Err (Refused 6 8 about.Nothing)
 inside place reports item = Ok (record { reports = reports; item = item; place = Within })
 
--- the place after such an object
+-- the reader's place after such an object
 abbrev pub IsInside : ItemPosition → Result ItemPosition MessageFault → Type 0
 IsInside InFront result = result ≡ Err (Refused 6 8 about.Nothing)
 IsInside place result = result ≡ Ok Within
 
--- in front of the first item nothing of one was read
+-- before the first item, nothing of one was read
 abbrev pub IsEmptyInFront : ItemPosition → Item → Type 0
 IsEmptyInFront InFront item = item ≡ no_objects
 IsEmptyInFront place item = Unit {0}
@@ -80,7 +80,7 @@ after (objects.Lspa lspa) s = inside s.place s.reports (record s.item { lspa = o
 after (objects.Bandwidth kind bandwidth) s = inside s.place s.reports (record s.item { bandwidth = max s.item.bandwidth bandwidth })
 after object s = Ok s
 
--- at the end of the objects, or at an object that has a fault of its own
+-- the reports at the end of the objects, or at an object that has a fault of its own
 abbrev pub finished_at : ItemPosition → List StateReport → Item → Option ObjectFault → Result (List StateReport) MessageFault
 finished_at InFront reports item own = Err (no_item own)
 finished_at place reports item own = with_report reports (report_from item own)
@@ -88,12 +88,12 @@ finished_at place reports item own = with_report reports (report_from item own)
 abbrev pub finished : State → Option ObjectFault → Result (List StateReport) MessageFault
 finished s own = finished_at s.place s.reports s.item own
 
--- what a step returned, with the reports and the item as they are then
+-- a step returned what the definition gives, with these reports and this item
 abbrev pub Steps : Result State MessageFault → Result ItemPosition MessageFault → List StateReport → Item → Type 0
 Steps step (Ok place) reports item = step ≡ Ok (record { reports = reports; item = item; place = place })
 Steps step (Err fault) reports item = Fails fault step
 
--- what a step returned that may add a report
+-- a step that may add a report returned what the definition gives
 abbrev pub Ends : {U : Type 0} → Result (List StateReport) MessageFault → Result U MessageFault → List StateReport → Type 0
 Ends step (Ok done) reports = step ≡ Ok reports
 Ends step (Err fault) reports = Fails fault step

@@ -29,7 +29,7 @@ abbrev pub about_srp : Option ℕ → About
 about_srp None = about.Nothing
 about_srp (Some id) = about.Srp id
 
--- an LSP has to have identifiers, unless its PLSP-ID is 0
+-- an LSP must have identifiers, unless its PLSP-ID is 0
 abbrev pub lacks_identifiers : LspObject → Bool
 lacks_identifiers lsp = not (lsp.plsp == 0) && is_none lsp.identifiers
 
@@ -47,7 +47,7 @@ abbrev pub is_protected : Option Lspa → Bool
 is_protected None = false
 is_protected (Some lspa) = lspa.local_protection
 
--- ---- one item, by the first of each of its objects and its greatest bandwidth; without ERO the route is empty
+-- ---- one item, given the first of each of its objects and its greatest bandwidth; without ERO the route is empty
 
 abbrev pub report_with : Option Srp → LspObject → Option (List Hop) → Option (List Hop) → Option Lspa → ℕ → StateReport
 report_with srp lsp ero rro lspa bandwidth = record {
@@ -71,22 +71,22 @@ report_with srp lsp ero rro lspa bandwidth = record {
   rsvp_error = lsp.rsvp_error;
 }
 
--- No LSP is 6/8 (LSP missing), an LSP without its identifiers is MissingIdentifiers, no ERO is 6/9 (ERO missing) unless the LSP was
--- removed.
+-- A missing LSP is 6/8 (LSP missing), an LSP without its identifiers is MissingIdentifiers, and a missing ERO is 6/9
+-- (ERO missing) unless the LSP was removed.
 abbrev pub report_or_fault : Option Srp → Option LspObject → Option (List Hop) → Option (List Hop) → Option Lspa → ℕ → Result StateReport MessageFault
 report_or_fault srp None ero rro lspa bandwidth = Err (Refused 6 8 (about_srp (srp_id srp)))
 report_or_fault srp (Some lsp) ero rro lspa bandwidth =
     if lacks_identifiers lsp then Err (MissingIdentifiers (about_srp (srp_id srp)))
     else (if is_none ero && not lsp.remove then Err (Refused 6 9 (about_srp (srp_id srp))) else Ok (report_with srp lsp ero rro lspa bandwidth))
 
--- An object with a fault of its own ends no item: of the item only the LSP was looked at, which comes before that object and can lack
--- its identifiers.
+-- The fault of an item in which an object has a fault of its own. Only the item's LSP was checked, which comes before
+-- that object and may lack its identifiers.
 abbrev pub cut_off : Option Srp → Option LspObject → ObjectFault → MessageFault
 cut_off srp None fault = BadObject fault (about_srp (srp_id srp))
 cut_off srp (Some lsp) fault =
     if lacks_identifiers lsp then MissingIdentifiers (about_srp (srp_id srp)) else BadObject fault (about_srp (srp_id srp))
 
--- the objects of an item, and perhaps an object's own fault after those
+-- the report of an item's objects; an object's own fault may follow them
 abbrev pub report_of : List Object → Option ObjectFault → Result StateReport MessageFault
 report_of objects (Some fault) = Err (cut_off (first_of srp_of objects) (first_of lsp_of objects) fault)
 report_of objects None =
@@ -107,7 +107,7 @@ reports_of (item ∷ items) fault = do
   reports ← reports_of items fault
   Ok (report ∷ reports)
 
--- if there is no item, that is 6/8 (LSP missing), unless an object has a fault of its own
+-- the fault if there is no item: an object's own fault, else 6/8 (LSP missing)
 abbrev pub no_item : Option ObjectFault → MessageFault
 no_item None = Refused 6 8 about.Nothing
 no_item (Some fault) = BadObject fault about.Nothing
@@ -116,7 +116,7 @@ abbrev pub reports_or_none : List (List Object) → Option ObjectFault → Resul
 reports_or_none [] fault = Err (no_item fault)
 reports_or_none (item ∷ items) fault = reports_of (item ∷ items) fault
 
--- an object in front of the first start is 6/8 (LSP missing) too
+-- an object before the first start is 6/8 (LSP missing) too
 abbrev pub reports_behind : List Object → List (List Object) → Option ObjectFault → Result (List StateReport) MessageFault
 reports_behind [] items fault = reports_or_none items fault
 reports_behind (object ∷ front) items fault = Err (Refused 6 8 about.Nothing)
@@ -124,6 +124,6 @@ reports_behind (object ∷ front) items fault = Err (Refused 6 8 about.Nothing)
 abbrev pub reports_in : List Object → Option ObjectFault → Result (List StateReport) MessageFault
 reports_in named fault = reports_behind (up_to_start false named) (items_in false named) fault
 
--- the body of a state report
+-- what the body of a state report reads as
 unfoldable pub report_body : List ℕ → Result (List StateReport) MessageFault
 report_body body = reports_in (named_in (found_in body).objects) (found_in body).fault

@@ -1,5 +1,5 @@
--- The steps by which a reader takes in the objects of a PCReq, one after the other. No public clause cites
--- them: a lemma shows that they give the requests (Requests).
+-- The steps by which a reader takes in the objects of a PCReq, one after the other. No public clause cites them: a
+-- lemma shows that they give the requests (Requests).
 use Rattle.std.specs.Prelude.{◌≡◌, max, false, true, not, ◌&&◌, ◌||◌, nat_lt, List, [], ◌∷◌, ◌++◌, Option, Some, None, is_none, Result, Ok, Err, if◌then◌else◌}
 use Rattle.std.specs.Option.{option_or}
 use Rattle.pcep_objects.specs.Steps.{◌>>=◌}
@@ -17,7 +17,7 @@ use Rattle.pcep_messages.specs.declared.fault.MessageFault.{MessageFault}
 use Rattle.pcep_messages.specs.declared.fault.MessageFault.TheVariants.{BadObject, BadP}
 use Rattle.pcep_messages.specs.declared.message.PathRequest.{PathRequest}
 
--- the requests that have ended, and what was read of the next
+-- the requests that have ended, and what was read of the next one
 pub record State : Type 0 where
   pub requests : List PathRequest
   pub asked : Option Asked
@@ -25,7 +25,7 @@ pub record State : Type 0 where
 abbrev pub begin : State
 begin = record { requests = []; asked = None }
 
--- a request of which its RP was read
+-- a request of which only the RP was read
 abbrev pub begun : Rp → Asked
 begun rp = record {
   rp = rp;
@@ -39,7 +39,7 @@ begun rp = record {
   bounds = record { igp = None; te = None; hops = None };
 }
 
--- one more object of a request
+-- a request with one more object
 abbrev pub taken : Asked → Object → Asked
 taken asked (objects.EndPoints ends) = record asked { ends = option_or asked.ends (Some ends) }
 taken asked (objects.Lsp lsp) = record asked { plsp = option_or asked.plsp (Some lsp.plsp) }
@@ -59,12 +59,12 @@ taken asked (objects.Metric metric) = record asked {
 }
 taken asked object = asked
 
--- the fault of an object at its place in a request: only the first END-POINTS has to have P set
+-- the fault of an object at its place in a request: only the first END-POINTS must have P set
 abbrev pub place_fault : About → Option EndPoints → Object → Option MessageFault
 place_fault about first (objects.EndPoints ends) = if is_none first && not ends.p then Some (BadP about) else None
 place_fault about first object = kept_fault about object
 
--- the request of what was read
+-- the request that was read
 abbrev pub request_from : Asked → Option ObjectFault → Result PathRequest MessageFault
 request_from asked (Some fault) = Err (BadObject fault (about_rp asked.rp))
 request_from asked None =
@@ -74,7 +74,7 @@ request_from asked None =
 abbrev pub with_request : List PathRequest → Result PathRequest MessageFault → Result (List PathRequest) MessageFault
 with_request requests last = last >>= λ request. Ok (requests ++ request ∷ [])
 
--- the requests with the one that ends
+-- the requests with the one that ends here
 abbrev pub ended : Option Asked → List PathRequest → Result (List PathRequest) MessageFault
 ended None requests = Ok requests
 ended (Some asked) requests = with_request requests (request_from asked None)
@@ -98,7 +98,7 @@ abbrev pub after : Object → State → Result State MessageFault
 after (objects.Rp rp) s = after_rp rp s.asked s.requests
 after object s = at_other s.asked object s.requests
 
--- at the end of the objects, or at an object that has a fault of its own
+-- the requests at the end of the objects, or at an object that has a fault of its own
 abbrev pub finished_at : Option Asked → List PathRequest → Option ObjectFault → Result (List PathRequest) MessageFault
 finished_at None requests own = Err (no_request own)
 finished_at (Some asked) requests own = with_request requests (request_from asked own)
@@ -106,17 +106,17 @@ finished_at (Some asked) requests own = with_request requests (request_from aske
 abbrev pub finished : State → Option ObjectFault → Result (List PathRequest) MessageFault
 finished s own = finished_at s.asked s.requests own
 
--- what a step returned, with the requests and what was read of the next as they are then
+-- a step returned what the definition gives, with these requests and this part of the next one
 abbrev pub Steps : {U : Type 0} → Result State MessageFault → Result U MessageFault → List PathRequest → Option Asked → Type 0
 Steps step (Ok done) requests asked = step ≡ Ok (record { requests = requests; asked = asked })
 Steps step (Err fault) requests asked = Fails fault step
 
--- what a step returned that may add a request
+-- a step that may add a request returned what the definition gives
 abbrev pub Ends : {U : Type 0} → Result (List PathRequest) MessageFault → Result U MessageFault → List PathRequest → Type 0
 Ends step (Ok done) requests = step ≡ Ok requests
 Ends step (Err fault) requests = Fails fault step
 
--- the same of an object that is no RP, whatever requests have ended
+-- the same for an object that is no RP, whatever requests have ended
 abbrev pub Joins : {U : Type 0} → Option Asked → Object → Result U MessageFault → Option Asked → Type 0
 Joins asked object (Ok done) asked' = (requests : List PathRequest) → at_other asked object requests ≡ Ok (record { requests = requests; asked = asked' })
 Joins asked object (Err fault) asked' = (requests : List PathRequest) → at_other asked object requests ≡ Err fault

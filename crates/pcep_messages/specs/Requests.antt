@@ -34,24 +34,24 @@ abbrev pub is_rp : Object → Bool
 is_rp (objects.Rp rp) = true
 is_rp object = false
 
--- the objects in front of the first RP
+-- the objects before the first RP
 abbrev pub up_to_rp : List Object → List Object
 up_to_rp [] = []
 up_to_rp (object ∷ objects) = if is_rp object then [] else object ∷ up_to_rp objects
 
--- an SVEC, IRO or LOAD-BALANCING that has to be taken into account is 4/1
+-- an SVEC, IRO or LOAD-BALANCING that must be taken into account is 4/1
 abbrev pub kept_fault : About → Object → Option MessageFault
 kept_fault about (objects.Kept kept) = if kept.p then Some (Refused 4 1 about) else None
 kept_fault about object = None
 
--- the first fault at a place among a request's objects: its first END-POINTS has P clear (10/1), or there is such an
--- object
+-- the first fault at a place among a request's objects: its first END-POINTS has P clear (10/1), or it has an SVEC, IRO
+-- or LOAD-BALANCING that must be taken into account
 abbrev pub fault_in_place : About → List Object → Option MessageFault
 fault_in_place about [] = None
 fault_in_place about (objects.EndPoints ends ∷ behind) = if ends.p then first_of (kept_fault about) behind else Some (BadP about)
 fault_in_place about (object ∷ behind) = option_or (kept_fault about object) (fault_in_place about behind)
 
--- ---- one request, by its RP and what counts of the objects behind it
+-- ---- one request, given its RP and what counts of the objects after it
 
 abbrev pub request_with : Rp → EndPoints → Option ℕ → ℕ → Option Lspa → Option MetricType → Bounds → PathRequest
 request_with rp ends plsp bandwidth lspa minimised bounds = record {
@@ -66,16 +66,16 @@ request_with rp ends plsp bandwidth lspa minimised bounds = record {
   bounds = bounds;
 }
 
--- a new path for an existing LSP with bandwidth needs the path that it takes
+-- reoptimizing an LSP that has bandwidth needs the path that it takes now
 abbrev pub lacks_rro : Rp → (has_rro : Bool) → (has_bandwidth : Bool) → Bool
 lacks_rro rp has_rro has_bandwidth = rp.reoptimize && not has_rro && has_bandwidth
 
--- the end of a request: without END-POINTS it is 6/3, a reoptimization without RRO is 6/2
+-- the end of a request: a missing END-POINTS is 6/3, a reoptimization without RRO is 6/2
 abbrev pub whole_request : Rp → Option EndPoints → (lacks : Bool) → (EndPoints → PathRequest) → Result PathRequest MessageFault
 whole_request rp None lacks request = Err (Refused 6 3 (about_rp rp))
 whole_request rp (Some ends) lacks request = if lacks then Err (Refused 6 2 (about_rp rp)) else Ok (request ends)
 
--- an object with a fault of its own ends no request
+-- the request, or the fault of an object that has one of its own
 abbrev pub request_or_own_fault : Rp → List Object → Option ObjectFault → Result PathRequest MessageFault
 request_or_own_fault rp objects (Some fault) = Err (BadObject fault (about_rp rp))
 request_or_own_fault rp objects None =
@@ -87,7 +87,7 @@ abbrev pub request_or_fault : Rp → List Object → Option ObjectFault → Opti
 request_or_fault rp objects own (Some fault) = Err fault
 request_or_fault rp objects own None = request_or_own_fault rp objects own
 
--- An RP, the objects after it up to the next RP, and perhaps an object's own fault after those. The RP must have P set.
+-- An RP, the objects after it up to the next RP, and perhaps an object's own fault after them. The RP must have P set.
 abbrev pub request_of : Rp → List Object → Option ObjectFault → Result PathRequest MessageFault
 request_of rp objects own =
     if not rp.p then Err (BadP (about_rp rp))
@@ -97,7 +97,7 @@ request_of rp objects own =
 abbrev pub own_fault : List Object → Option ObjectFault → Option ObjectFault
 own_fault objects fault = if list_any is_rp objects then None else fault
 
--- each RP with the objects after it up to the next
+-- each RP with the objects after it, up to the next RP
 abbrev pub requests_of : List Object → Option ObjectFault → Result (List PathRequest) MessageFault
 requests_of [] fault = Ok []
 requests_of (objects.Rp rp ∷ behind) fault = do
@@ -106,8 +106,8 @@ requests_of (objects.Rp rp ∷ behind) fault = do
   Ok (request ∷ requests)
 requests_of (object ∷ behind) fault = requests_of behind fault
 
--- Before the first RP there may only be SVECs, which need not be processed: any other object is 6/1 (RP missing), an
--- SVEC with P 4/1.
+-- Only SVECs that need not be processed may come before the first RP. Any other object is 6/1 (RP missing), an SVEC
+-- with P is 4/1.
 abbrev pub fault_of_kept : KeptClass → Bool → Option MessageFault
 fault_of_kept Svec p = if p then Some (Refused 4 1 about.Nothing) else None
 fault_of_kept Iro p = Some (Refused 6 1 about.Nothing)
@@ -117,7 +117,7 @@ abbrev pub fault_in_front : Object → Option MessageFault
 fault_in_front (objects.Kept kept) = fault_of_kept kept.class kept.p
 fault_in_front object = Some (Refused 6 1 about.Nothing)
 
--- if there is no RP, that is 6/1, unless an object has a fault of its own
+-- the fault if there is no RP: an object's own fault, else 6/1
 abbrev pub no_request : Option ObjectFault → MessageFault
 no_request None = Refused 6 1 about.Nothing
 no_request (Some fault) = BadObject fault about.Nothing
@@ -132,6 +132,6 @@ requests_in objects own = requests_behind (first_of fault_in_front (up_to_rp obj
 unfoldable pub requests_in_body : List ℕ → Result (List PathRequest) MessageFault
 requests_in_body body = requests_in (found_in_request body).objects (found_in_request body).fault
 
--- the body of a PCReq
+-- what the body of a PCReq reads as
 unfoldable pub request_body : List ℕ → Result Message MessageFault
 request_body body = requests_in_body body >>= λ requests. Ok (messages.Request requests)

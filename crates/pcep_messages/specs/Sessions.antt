@@ -17,7 +17,7 @@ use Rattle.pcep_messages.specs.declared.message.Message.TheVariants as messages
 abbrev pub about_nothing : Parts → About
 about_nothing parts = about.Nothing
 
--- OPEN has to be there
+-- OPEN must be present
 abbrev pub opening_or_missing : Option Open → Result Message MessageFault
 opening_or_missing None = Err (Missing (class_number kinds.Open) about.Nothing)
 opening_or_missing (Some opening) = Ok (messages.Opening opening)
@@ -25,7 +25,7 @@ opening_or_missing (Some opening) = Ok (messages.Opening opening)
 unfoldable pub opening_body : List ℕ → Result Message MessageFault
 opening_body body = read_parts about_nothing (λ parts. opening_or_missing parts.opening) (found_in body)
 
--- a Keepalive has no objects; those that are there are skipped
+-- a Keepalive has no objects; any that are there are skipped
 unfoldable pub keepalive_body : List ℕ → Result Message MessageFault
 keepalive_body body = read_parts about_nothing (λ parts. Ok messages.Keepalive) (found_in body)
 

@@ -1,5 +1,5 @@
--- The one spelling of the messages that are written: a header and objects in order (RFC 5440 section 6,
--- RFC 8231 section 6, RFC 8281 section 5).
+-- The one way in which messages are written: a header and objects in order (RFC 5440 section 6, RFC 8231 section 6, RFC
+-- 8281 section 5).
 use Rattle.std.specs.Prelude.{ℕ, ◌+◌, ◌^◌, Bool, true, false, ◌&&◌, List, [], ◌∷◌, ◌++◌, length, map, Option, Some, None, nat_lt}
 use Rattle.std.specs.List.{flat_map, list_all}
 use Rattle.byteorder.specs.Endian.{big_bytes}
@@ -25,14 +25,14 @@ use Rattle.pcep_messages.specs.declared.message.Update.{Update}
 
 -- ---- objects
 
--- an RP with this P flag and no other
+-- an RP with this P flag and no other flag
 abbrev pub rp_object : Bool → ℕ → Object
 rp_object p id = objects.Rp (record { p = p; priority = 0; reoptimize = false; bidirectional = false; loose = false; id = id })
 
 abbrev pub srp_object : Bool → ℕ → Object
 srp_object remove id = objects.Srp (record { remove = remove; id = id })
 
--- an LSP with flags D and A, and no other
+-- an LSP with flags D and A as given, and no other flag
 abbrev pub lsp_object : ℕ → Bool → Bool → Option (List ℕ) → LspObject
 lsp_object plsp delegate admin name = record {
   plsp = plsp;
@@ -69,7 +69,7 @@ bandwidth_objects (Some bandwidth) = objects.Bandwidth Requested bandwidth ∷ [
 abbrev pub constraint_objects : Option Attributes → Option ℕ → List Object
 constraint_objects attributes bandwidth = attributes_objects attributes ++ bandwidth_objects bandwidth
 
--- METRIC with C set
+-- METRIC with C set, if there is a cost
 abbrev pub cost_objects : Option Cost → List Object
 cost_objects None = []
 cost_objects (Some cost) = objects.Metric (record { bound = false; computed = true; metric_type = cost.metric_type; value = cost.value }) ∷ []
@@ -108,7 +108,7 @@ abbrev pub initiate_objects : Initiate → List Object
 initiate_objects (initiates.Create create) = create_objects create
 initiate_objects (initiates.Remove srp plsp) = remove_objects srp plsp
 
--- the objects of a message of a kind that is written
+-- the objects of a message, if its kind is written
 abbrev pub objects_written : Message → List Object
 objects_written (messages.Opening opening) = objects.Open opening ∷ []
 objects_written (messages.Reply reply) = reply_objects reply
@@ -118,7 +118,7 @@ objects_written (messages.Update update) = update_objects update
 objects_written (messages.Initiate initiate) = initiate_objects initiate
 objects_written message = []
 
--- PCReq, PCNtf, PCRpt and what isn't read aren't written
+-- PCReq, PCNtf, PCRpt and messages whose body isn't read aren't written
 abbrev pub is_written : Message → Bool
 is_written (messages.Request requests) = false
 is_written messages.Notify = false
@@ -151,7 +151,7 @@ object_fits object = spelling.fits object
 abbrev pub objects_spelled : List Object → List ℕ
 objects_spelled objects = flat_map object_spelled objects
 
--- a body after its header: version 1 and no flags, the type, the length with the header's
+-- a body with its header: version 1 and no flags, the type, the length including the header
 abbrev pub message_spelled : ℕ → List ℕ → List ℕ
 message_spelled kind body = (0x20 ∷ kind ∷ []) ++ big_bytes 2 (length body + 4) ++ body
 

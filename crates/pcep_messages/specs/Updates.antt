@@ -42,7 +42,7 @@ update_with srp lsp parts = record {
   bandwidth = parts.bandwidth;
 }
 
--- SRP, LSP and ERO have to be there; with R of SRP set no ERO has to
+-- SRP, LSP and ERO must be present; if R of SRP is set, ERO may be missing
 abbrev pub update_or_missing : Parts → Option Srp → Option LspObject → Result Message MessageFault
 update_or_missing parts None lsp = Err (Missing (class_number kinds.Srp) (about_parts parts))
 update_or_missing parts (Some srp) None = Err (Missing (class_number kinds.Lsp) (about_parts parts))
@@ -68,13 +68,13 @@ create_with srp lsp end_points hops parts = record {
   bandwidth = parts.bandwidth;
 }
 
--- a new LSP also has to have ERO and END-POINTS
+-- a new LSP must also have ERO and END-POINTS
 abbrev pub create_or_missing : Srp → LspObject → Parts → Option (List Hop) → Option EndPoints → Result Message MessageFault
 create_or_missing srp lsp parts None end_points = Err (Missing (class_number kinds.Ero) (about_parts parts))
 create_or_missing srp lsp parts (Some hops) None = Err (Missing (class_number kinds.EndPoints) (about_parts parts))
 create_or_missing srp lsp parts (Some hops) (Some end_points) = Ok (messages.Initiate (initiates.Create (create_with srp lsp end_points hops parts)))
 
--- SRP and LSP have to be there; with R of SRP set they are enough, and the LSP is to go
+-- SRP and LSP must be present; if R of SRP is set they are enough, and the LSP is to be deleted
 abbrev pub initiate_or_missing : Parts → Option Srp → Option LspObject → Result Message MessageFault
 initiate_or_missing parts None lsp = Err (Missing (class_number kinds.Srp) (about_parts parts))
 initiate_or_missing parts (Some srp) None = Err (Missing (class_number kinds.Lsp) (about_parts parts))

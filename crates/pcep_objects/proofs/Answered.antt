@@ -1,4 +1,4 @@
--- A total function with a value or a fault has one answer.
+-- A total function that gives a value or a fault has exactly one answer.
 use Rattle.std.proofs.Common.{◌≡◌, Result, Ok, Err, refl, inl, inr}
 use Rattle.pcep_objects.specs.Steps.{HasOneAnswer}
 

@@ -16,7 +16,7 @@ pub weight : (b : Bool) (n : ℕ) → cond b n 0 ≡ n * bit b
 weight true n = omega arith
 weight false n = omega arith
 
--- a flag is set where its bit is 1
+-- a flag is set exactly if its bit is 1
 pub has_bit : (b : Bool) (k n : ℕ) → n / 2 ^ k % 2 ≡ bit b → has n (2 ^ k) ≡ b
 has_bit true k n e =
     let pos : 0 < 2 ^ k = pow_pos k in

@@ -1,4 +1,4 @@
--- What stands in front of what was appended.
+-- What stands before the appended bytes.
 use Rattle.std.proofs.Common.{◌≡◌, ℕ, ◌+◌, false, List, [], ◌∷◌, ◌++◌, length, take, drop, Result, Ok, Err, OnOk, refl, sym, ap, ◌∙◌, append_assoc}
 use Rattle.std.proofs.lemmas.List.{take_at, take-append-drop}
 use Rattle.byteorder.specs.Endian.{big_bytes}
@@ -20,7 +20,7 @@ pub on_ok : {A E : Type 0} (r : Result A E) (P Q : Type 0) → (P → Q) → OnO
 on_ok (Ok x) P Q f p = f p
 on_ok (Err e) P Q f p = p
 
--- an LSP in its parts
+-- an LSP part by part
 pub lsp_parts : (old one two new : List ℕ) (size word : ℕ) (tlv ids : List ℕ) → size ≡ length (big_bytes 4 word ++ tlv ++ ids) + 4
     → one ≡ old ++ ((32 ∷ 16 ∷ []) ++ big_bytes 2 size ++ big_bytes 4 word) → two ≡ one ++ tlv → new ≡ two ++ ids → new ≡ old ++ spelled 32 1 false (big_bytes 4 word ++ tlv ++ ids)
 lsp_parts old one two new size word tlv ids s e f g =

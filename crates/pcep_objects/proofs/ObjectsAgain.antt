@@ -26,7 +26,7 @@ use Rattle.pcep_objects.proofs.RequestAgain.{rp_again, no_path_again, end_points
 use Rattle.pcep_objects.proofs.TlvAgain.{length_tlv}
 use Rattle.pcep_objects.proofs.PathAgain.{bandwidth_again, metric_again, lspa_again, lsp_again}
 
--- each kind is the one of its class and type
+-- each kind is found again by its class and type
 kind_again : (kind : Kind) → kind_at (class_number kind) (type_number kind) ≡ Some kind
 kind_again kinds.Open = refl
 kind_again kinds.Rp = refl

@@ -1,4 +1,4 @@
--- TLVs that are walked one after the other are those that the bytes are cut into.
+-- Walking over TLVs one after the other passes those that the bytes are cut into.
 use Rattle.std.proofs.Common.{◌≡◌, ℕ, zero, suc, ◌-◌, ◌+◌, ◌<◌, ◌≤◌, ◌⊎◌, inl, inr, Bool, true, false, ◌&&◌, ◌||◌, cond, ltb, eqb, List, [], ◌∷◌, length, take, drop, Option, Some, None, Result, Ok, Err, refl, sym, ap, ◌∙◌, arith}
 use Rattle.std.proofs.lemmas.Bool.{and_parts, eq-eqb, eqb-true, ne_eqb, ltb-false}
 use Rattle.std.proofs.lemmas.List.{take-take}
@@ -9,11 +9,11 @@ use Rattle.pcep_objects.specs.Steps.{◌>>=◌, field, cut}
 use Rattle.pcep_objects.specs.Tlvs.{Tlv, padded, tlv_size, tlv_at, tlvs_in, skipped_tlvs, first_of, may_have, are_sized, first_sized, value_in, first_fitting, fitting_in}
 use Rattle.pcep_objects.proofs.Cutting.{step}
 
--- what was found before, or what is found
+-- the value that was found before, or else what is found now
 abbrev pub or_found : Option (List ℕ) → Result (Option (List ℕ)) BodyFault → Result (Option (List ℕ)) BodyFault
 or_found found r = r >>= λ value. Ok (option_or found value)
 
--- TLVs behind one more
+-- one TLV before these
 abbrev pub behind : ℕ → List ℕ → Result (List Tlv) BodyFault → Result (List Tlv) BodyFault
 behind number value tlvs = tlvs >>= λ more. Ok (record { number = number; value = value } ∷ more)
 

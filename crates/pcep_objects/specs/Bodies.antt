@@ -1,4 +1,4 @@
--- The bodies of objects, class by class. Reserved bits and flags without a name are ignored.
+-- The bodies of objects, class by class. Reserved bits and unnamed flags are ignored.
 use Rattle.std.specs.Prelude.{ℕ, Bool, ◌/◌, ◌%◌, ◌^◌, min, true, false, not, List, length, drop, slice_index, Option, Some, None, Result, Ok, Err, nat_lt, ◌==◌, if◌then◌else◌}
 use Rattle.std.specs.Option.{option_map}
 use Rattle.pcep_word.specs.Word.{bandwidth_of}
@@ -57,9 +57,9 @@ operational_of word =
     let o = word / 2 ^ 4 % 8 in
     if o == 0 then Down else (if o == 2 then Active else (if o == 3 then GoingDown else (if o == 4 then GoingUp else Up)))
 
--- LSP (RFC 8231 section 7.3, RFC 8281 section 5.3.1): a PLSP-ID of 20 bits and 12 flags, and TLVs, of which it
--- names SYMBOLIC-PATH-NAME (17, RFC 8231 section 7.3.2) and IPV4-LSP-IDENTIFIERS (18, of 16 bytes), and of those of the size given here
--- LSP-ERROR-CODE (20, RFC 8231 section 7.3.3) and RSVP-ERROR-SPEC (21, RFC 8231 section 7.3.4)
+-- LSP (RFC 8231 section 7.3, RFC 8281 section 5.3.1): a PLSP-ID of 20 bits, 12 flags, and TLVs. It names
+-- SYMBOLIC-PATH-NAME (17, RFC 8231 section 7.3.2) and IPV4-LSP-IDENTIFIERS (18, of 16 bytes), and, if they have the
+-- size given here, LSP-ERROR-CODE (20, RFC 8231 section 7.3.3) and RSVP-ERROR-SPEC (21, RFC 8231 section 7.3.4)
 unfoldable pub lsp_body : List ℕ → Result Object BodyFault
 lsp_body body =
     if nat_lt (length body) 4 then Err BadLength else (do

@@ -1,4 +1,4 @@
--- The faults of objects: their numbers, and the faults of bodies among them.
+-- The numbers of the faults of objects, including those of bodies.
 use Rattle.std.specs.Prelude.{ℕ}
 use Rattle.pcep_objects.specs.declared.fault.BodyFault.{BodyFault}
 use Rattle.pcep_objects.specs.declared.fault.BodyFault.TheVariants as body

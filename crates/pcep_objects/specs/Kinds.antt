@@ -3,7 +3,7 @@ use Rattle.std.specs.Prelude.{ℕ, Bool, ◌&&◌, Option, Some, None, is_some, 
 use Rattle.pcep_objects.specs.declared.kind.Kind.{Kind}
 use Rattle.pcep_objects.specs.declared.kind.Kind.TheVariants.{Open, Rp, NoPath, EndPoints, RequestedBandwidth, CurrentBandwidth, Metric, Ero, Rro, Lspa, Iro, Svec, Notification, Error, LoadBalancing, Close, Lsp, Srp}
 
--- type 1 of a class
+-- the kind of type 1 of a class
 abbrev pub first_type : ℕ → Option Kind
 first_type class =
     if class == 1 then Some Open
@@ -25,7 +25,7 @@ first_type class =
     else (if class == 33 then Some Srp
     else None))))))))))))))))
 
--- by class and type. Only BANDWIDTH has a type 2. None: it isn't known
+-- The kind of a class and a type. Only BANDWIDTH has a type 2. None: it isn't known
 abbrev pub kind_at : ℕ → ℕ → Option Kind
 kind_at class number =
     if number == 1 then first_type class else (if class == 5 && number == 2 then Some CurrentBandwidth else None)

@@ -19,8 +19,8 @@ abbrev pub capabilities_written : Capabilities → List ℕ
 capabilities_written capabilities =
     word_spelled 16 ((if capabilities.update then 0x1 else 0) + (if capabilities.create then 0x4 else 0))
 
--- OPEN (RFC 5440 section 7.3): version (3 bits) and flags (5), Keepalive, DeadTimer, SID, TLVs. The
--- version isn't tested; 1 is written.
+-- OPEN (RFC 5440 section 7.3): version (3 bits) and flags (5), Keepalive, DeadTimer, SID, TLVs. The version isn't
+-- checked when read, and is written as 1.
 unfoldable pub open_of : List ℕ → Result Open BodyFault
 open_of body =
     if nat_lt (length body) 4 then Err BadLength else (do

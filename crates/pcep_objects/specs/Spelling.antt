@@ -1,4 +1,4 @@
--- The one spelling of an object: reserved bits, flags without a name and padding are zero.
+-- The one way in which an object is written: reserved bits, unnamed flags and padding are zero.
 use Rattle.std.specs.Prelude.{◌≡◌, ◌≢◌, ◌⊎◌, ℕ, slice_index, ◌+◌, ◌-◌, ◌*◌, ◌%◌, ◌^◌, ◌<◌, ◌≤◌, Bool, true, false, ◌&&◌, List, [], ◌∷◌, ◌++◌, length, replicate, Option, Some, None, nat_lt, if◌then◌else◌}
 use Rattle.std.specs.List.{flat_map, AllByRecursion}
 use Rattle.byteorder.specs.Endian.{big_bytes}
@@ -29,7 +29,7 @@ use Rattle.pcep_objects.specs.declared.object.Srp.{Srp}
 use Rattle.pcep_objects.specs.declared.object.Object.{Object}
 use Rattle.pcep_objects.specs.declared.object.Object.TheVariants as objects
 
--- a body after its header: the class, the type with the P flag, the length with the header's
+-- a body with its header: the class, the type with the P flag, the length including the header
 abbrev pub spelled : ℕ → ℕ → Bool → List ℕ → List ℕ
 spelled class number p body = (class ∷ (number * 16 + (if p then 2 else 0)) ∷ []) ++ big_bytes 2 (length body + 4) ++ body
 
@@ -133,7 +133,7 @@ kind_of (objects.Close object) = kinds.Close
 kind_of (objects.Lsp object) = kinds.Lsp
 kind_of (objects.Srp object) = kinds.Srp
 
--- P is written as an RP has it, set for END-POINTS, and clear elsewhere
+-- P is copied in an RP, set in END-POINTS, and clear in all other objects
 abbrev pub p_written : Object → Bool
 p_written (objects.Rp object) = object.p
 p_written (objects.EndPoints object) = true
@@ -177,17 +177,17 @@ parts_fit object = true
 abbrev pub fits : Object → Bool
 fits object = parts_fit object && nat_lt (length (body_written object) + 4) (2 ^ 16)
 
--- ---- normal objects: those that bytes read as, with P as it is written
+-- ---- normal objects: values that bytes read as, with P as it is written
 
 abbrev pub IsByte : ℕ → Type 0
 IsByte number = number < 256
 
--- a subobject that is no host: it is of another type than 1, or its prefix length is not 32
+-- a subobject that is no host: its type isn't 1, or its prefix length isn't 32
 abbrev pub IsOther : Bool → ℕ → List ℕ → Type 0
 IsOther explicit kind bytes =
     (plain_type explicit kind ≢ 1) ⊎ ((plain_type explicit kind ≡ 1) × (length bytes ≡ 6) × (slice_index bytes 4 ≢ 32))
 
--- a hop that bytes read as
+-- a hop that bytes can read as
 abbrev pub IsHop : Bool → Hop → Type 0
 IsHop explicit (Host address true) = (address < 2 ^ 32) × (explicit ≡ true)
 IsHop explicit (Host address false) = address < 2 ^ 32
@@ -234,7 +234,7 @@ pub record IsLsp (lsp : LspObject) : Type 0 where
   pub error_code : MayBeWord lsp.error_code
   pub rsvp_error : MayBeRsvpError lsp.rsvp_error
 
--- P of an object whose P flag the value carries is as it is written
+-- if the value carries the P flag of its object, the flag is as it is written
 abbrev pub HasWrittenP : Object → Type 0
 HasWrittenP (objects.EndPoints object) = object.p ≡ true
 HasWrittenP (objects.Kept object) = object.p ≡ false

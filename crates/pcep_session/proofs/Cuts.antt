@@ -1,4 +1,4 @@
--- The same bytes at the same moments, however they are cut.
+-- The same bytes at the same moments give the same, however they are cut.
 use Rattle.std.proofs.Common.{◌≡◌, ℕ, Bool, true, false, List, [], ◌∷◌, ◌++◌, refl, sym, ap, ◌∙◌, subst}
 use Rattle.std.specs.Prelude.{Some}
 use Rattle.std.specs.List.{flat_map}
@@ -11,7 +11,7 @@ use Rattle.pcep_session.specs.declared.table.Input.{Input}
 use Rattle.pcep_session.proofs.Pieces.{turn_of, given, rests, cut_otherwise, drains_closed}
 use Rattle.pcep_session.proofs.Outputs.{drains_with, fed_with, with_again}
 
--- next is one function, so there is one way to draw
+-- `next` is a function, so there is only one way to drain a session
 drains_one : (xs ys : List Input) (c e e' : Contents) → Drains c xs e → Drains c ys e' → (xs ≡ ys) × (e ≡ e')
 drains_one [] [] c e e' d d' = (refl, ap (λ (t : Turn). t.after) (sym d ∙ d'))
 drains_one [] (y ∷ ys) c e e' d d' = absurd (given y (ap (λ (t : Turn). t.input) (sym d'.1 ∙ d)))
@@ -37,7 +37,7 @@ fed_closed c p t shut = rw (shut) refl
 abbrev all : List (List ℕ) → List ℕ
 all ps = flat_map (λ x. x) ps
 
--- a piece, and what comes behind it in one piece
+-- a piece, and all that comes after it as one piece
 two_pieces : (l : Bool) (t : ℕ) (p q : List ℕ) (c m e : Contents) (xs ys : List Input) → is_closed c.state ≡ l
     → Drains (fed_or_same p t c) xs m → NoTimerIsDue (fed_or_same p t c) xs → Drains (fed_or_same q t m) ys e → Drains (fed_or_same (p ++ q) t c) (xs ++ ys) e
 two_pieces false t p q c m e xs ys live first b rest =
@@ -50,7 +50,7 @@ two_pieces true t p q c m e xs ys shut first b rest =
     let then_ : Drains m ys e = subst (λ (k : Contents). Drains k ys e) (fed_closed m q t (drains_closed xs c m shut here)) rest in
     subst (λ (k : Contents). Drains k (xs ++ ys) e) (sym (fed_closed c (p ++ q) t shut)) (joined xs ys c m e here then_)
 
--- what was taken of the output stands in front of what is left
+-- the part of the output that was taken comes before the part that is left
 behind_taken : (t : ℕ) (q : List ℕ) (part rest : List ℕ) (drained left e : Contents) (xs : List Input) → drained ≡ with_output part left
     → Drains (fed_or_same q t left) xs (with_output rest e) → Drains (fed_or_same q t drained) xs (with_output (part ++ rest) e)
 behind_taken t q part rest drained left e xs same d =
@@ -74,7 +74,7 @@ at_once t (q ∷ qs) p c e xs taken (first, others, part, rest, drained, left, d
     (two_pieces (is_closed c.state) t p (all (q ∷ qs)) c drained (with_output (part ++ rest) e) first others refl d b
     (behind_taken t (all (q ∷ qs)) part rest drained left e others same (at_once t qs q left e others rest later))))
 
--- each moment's bytes in one piece, and nothing taken
+-- each moment's bytes come in one piece, and no output is taken
 WholeDrains : Contents → List Burst → List Input → Contents → Type 0
 WholeDrains c [] xs e = (xs ≡ []) × (e ≡ c)
 WholeDrains c (b ∷ bs) xs e =

@@ -24,7 +24,7 @@ use Rattle.pcep_session.specs.declared.table.State.{State}
 use Rattle.pcep_session.specs.declared.table.State.TheVariants.{OpenWait, KeepWait, Up, Closed}
 use Rattle.pcep_session.proofs.Pieces.{turn_of, rests, whole_fits, whole_header, bad_header}
 
--- what is left, once it is known whether the session has ended
+-- how many turns are left, depending on whether the session has ended or a timer is due
 by_timer_left : (b : Bool) → (1 ≤ cond b 2 1) × (cond b 2 1 ≤ 2)
 by_timer_left true = (omega arith, omega arith)
 by_timer_left false = (omega arith, omega arith)
@@ -50,11 +50,11 @@ at_most true s c shut = (cc)
 closed_left : (c : Contents) → c.state ≡ Closed → turns_left c ≡ cond c.down_pending 1 0
 closed_left c shut = ap (λ (s : State). turns_left_in s c) shut
 
--- what a turn leaves, and one more where it gave something
+-- the turns that are left after a turn, plus one if it gave something
 abbrev left_by : Turn → ℕ
 left_by t = turns_left t.after + length (given t.input)
 
--- a message takes its bytes
+-- a message takes its bytes away
 kept_less : (s : State) (bytes : List ℕ) → length (kept_bytes s bytes) ≤ length bytes
 kept_less OpenWait bytes = omega arith
 kept_less KeepWait bytes = omega arith
@@ -81,7 +81,7 @@ bad_falls c four =
     let left : turns_left t.after ≡ cond c.down_pending 1 0 = closed_left t.after (bad_closes c.state c.peer (is_fifth c.moment_ms c.unrecognized)) in
     omega (arith, by_down_left c.down_pending)
 
--- a timer ends the session, or sends a Keepalive, and then it isn't due
+-- a timer ends the session, or sends a Keepalive and is then no longer due
 quiet_now : (m : ℕ) → is_due 30000 (m - m) ≡ false
 quiet_now m = let none : m - m ≡ 0 = omega arith in rw none refl
 
@@ -105,7 +105,7 @@ timer_falls Up waited false true c e left =
 timer_falls Up waited false false c e left = omega arith
 timer_falls Closed waited silent quiet c e left = omega arith
 
--- next
+-- the call `next`
 front_falls : (f : NextMessage) (c : Contents) → front_of c.bytes ≡ f → is_closed c.state ≡ false → left_by (by_front f c) ≤ turns_left c
 front_falls Waiting c e live =
     timer_falls c.state (is_due 60000 (c.moment_ms - c.received_ms)) (is_silent c.peer (c.moment_ms - c.received_ms)) (is_due 30000 (c.moment_ms - c.sent_ms)) c refl
@@ -130,7 +130,7 @@ state_falls Closed c e = down_falls c.down_pending c refl e
 next_falls : (c : Contents) → left_by (next c) ≤ turns_left c
 next_falls c = state_falls c.state c refl
 
--- what is sent only puts the Keepalive off
+-- sending something only delays the Keepalive
 not_sooner : (s : State) (waited silent quiet now : Bool) → now ≡ false → cond (is_some (due s waited silent now)) 2 1 ≤ cond (is_some (due s waited silent quiet)) 2 1
 not_sooner OpenWait true silent quiet now e = omega arith
 not_sooner OpenWait false silent quiet now e = omega arith
@@ -166,7 +166,7 @@ text_adds_none Up None c = omega arith
 text_adds_none Up (Some text) c = said_left (is_closed c.state) c text refl
 text_adds_none Closed text c = omega arith
 
--- the Down of an end was counted
+-- the Down of an end was counted already
 end_adds_none : (l : Bool) (error : Option PcError) (reason : Option ℕ) (c : Contents) → is_closed c.state ≡ l
     → turns_left (or_same c (if l then Err faults.Closed else Ok (ended error reason c))) ≤ turns_left c
 end_adds_none true error reason c shut = omega arith
@@ -190,7 +190,7 @@ call_falls Take_output c e = omega (arith, taken_left c.state c)
 pub run_out : TurnsRunOut
 run_out c = (at_most (is_closed c.state) c.state c refl, λ call. call_falls call c)
 
--- nothing is given again once nothing was
+-- if nothing was given, nothing is given later
 pub rests_on : (n : ℕ) (c : Contents) → (next c).input ≡ None → (next (after_turns n c)).input ≡ None
 rests_on zero c e = e
 rests_on (suc n) c e =

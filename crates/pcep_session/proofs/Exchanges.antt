@@ -31,7 +31,7 @@ open_message = 32 ∷ 1 ∷ 0 ∷ 20 ∷ 1 ∷ 16 ∷ 0 ∷ 16 ∷ 32 ∷ 30 ∷
 abbrev keepalive : List ℕ
 keepalive = 32 ∷ 2 ∷ 0 ∷ 4 ∷ []
 
--- bytes that come at once at moment 0, and next twice
+-- bytes that come at once at moment 0, and then `next` twice
 abbrev fed : List ℕ → List Call
 fed bytes = Feed bytes 0 ∷ Next ∷ Next ∷ []
 
@@ -86,12 +86,12 @@ no_identifiers = (refl, refl)
 abbrev unknown : List Call
 unknown = fed (32 ∷ 99 ∷ 0 ∷ 4 ∷ [])
 
--- the fifth within a minute ends the session
+-- the fifth of these within a minute ends the session
 five_unknown : Gives 0 (comes_up ++ unknown ++ unknown ++ unknown ++ unknown ++ unknown) (came_up ++ Handled ∷ Handled ∷ Handled ∷ Handled ∷ Down ∷ []) (up_output ++ error 2 0 ++ error 2 0 ++ error 2 0 ++ error 2 0 ++ error 2 0 ++ close 5)
 unfolding front_of arrival message_in object_spelled parts_of opening_body keepalive_body close_body report_body found_from object_at header_at open_of close_of word_in value_in fitting_in skipped_tlvs tlvs_in ero_body lsp_body hops_of hop_of subobject_size tlv_size cut
 five_unknown = (refl, refl)
 
--- the fifth, 60,000 ms after the others, does not
+-- the fifth, 60,000 ms after the others, doesn't end it
 five_unknown_in_a_minute_and_more : Gives 0 (comes_up ++ unknown ++ unknown ++ unknown ++ unknown ++ Tick 60000 ∷ unknown) (came_up ++ Handled ∷ Handled ∷ Handled ∷ Handled ∷ Handled ∷ []) (up_output ++ error 2 0 ++ error 2 0 ++ error 2 0 ++ error 2 0 ++ error 2 0)
 unfolding front_of arrival message_in object_spelled parts_of opening_body keepalive_body close_body report_body found_from object_at header_at open_of close_of word_in value_in fitting_in skipped_tlvs tlvs_in ero_body lsp_body hops_of hop_of subobject_size tlv_size cut
 five_unknown_in_a_minute_and_more = (refl, refl)

@@ -1,4 +1,4 @@
--- Where no bytes wait, none are kept.
+-- If no bytes wait, none are kept.
 use Rattle.std.proofs.Common.{◌≡◌, ℕ, ◌≤◌, ◌-◌, List, [], length, drop, ap, arith, length-drop}
 
 pub none_kept : (start : ℕ) (items : List ℕ) → start ≤ length items - start → drop start items ≡ [] → length items ≡ 0

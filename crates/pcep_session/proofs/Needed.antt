@@ -37,7 +37,7 @@ long_needs : (bytes : List ℕ) → 4 ≤ length bytes → bytes_needed bytes �
 unfolding bytes_needed
 long_needs bytes h = rw (is_long (length bytes) h) refl
 
--- where still more are needed, as many are
+-- while there are too few bytes, the number needed stays the same
 needed_more : (bytes more : List ℕ) → length (bytes ++ more) < bytes_needed bytes → bytes_needed (bytes ++ more) ≡ bytes_needed bytes
 unfolding bytes_needed
 needed_more [] more h = short_needs more h
@@ -47,7 +47,7 @@ needed_more (a ∷ b ∷ c ∷ []) more h = short_needs (a ∷ b ∷ c ∷ more)
 needed_more (a ∷ b ∷ c ∷ d ∷ bytes) more h =
     long_needs (a ∷ b ∷ c ∷ d ∷ (bytes ++ more)) (omega arith) ∙ sym (long_needs (a ∷ b ∷ c ∷ d ∷ bytes) (omega arith))
 
--- behind handled ones
+-- the same for the bytes after those that were handled
 pub waits_behind : (len start needed : ℕ) (items bytes : List ℕ) → len ≡ length items → needed ≡ bytes_needed (drop start items) → drop start items ≡ bytes
     → nat_lt (len - start) needed ≡ is_waiting (front_of bytes)
 waits_behind len start needed items bytes all known left =

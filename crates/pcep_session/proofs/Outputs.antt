@@ -1,4 +1,4 @@
--- A turn doesn't look at the output that was there before it.
+-- A turn doesn't depend on the output that was there before it.
 use Rattle.std.proofs.Common.{◌≡◌, ℕ, Bool, true, false, List, [], ◌∷◌, ◌++◌, refl, sym, ap, ◌∙◌, append_assoc}
 use Rattle.std.specs.Prelude.{Option, Some, None, is_some, take}
 use Rattle.pcep_session.specs.Framing.{front_of}

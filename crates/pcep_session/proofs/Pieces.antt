@@ -40,7 +40,7 @@ turn_of input after = record { input = input; after = after }
 abbrev pub then_more : List ℕ → Turn → Turn
 then_more q t = turn_of t.input (more_again q t.after)
 
--- what stands at the front stays there
+-- what stands at the front stays there if more bytes come
 abbrev pub front_if : (short bad cut : Bool) → ℕ → NextMessage
 front_if short bad cut n = cond short Waiting (cond bad Bad (cond cut Waiting (Whole n)))
 
@@ -99,12 +99,12 @@ whole_header bytes n h =
     let e = whole_is (nat_lt (length bytes) 4) (is_bad bytes) (nat_lt (length bytes) (message_length bytes)) (message_length bytes) n h in
     subst (λ (m : ℕ). 4 ≤ m) e.1 (at_least (message_length bytes) 4 (second_false _ _ _ e.2))
 
--- so has what is bad
+-- so do bytes with a bad header
 pub bad_header : (bytes : List ℕ) → front_of bytes ≡ Bad → 4 ≤ length bytes
 unfolding front_of
 bad_header bytes h = at_least (length bytes) 4 (bad_is (nat_lt (length bytes) 4) (is_bad bytes) (nat_lt (length bytes) (message_length bytes)) (message_length bytes) h)
 
--- a turn doesn't look behind its message
+-- a turn doesn't depend on what comes after its message
 going_more : (s : State) (why : Option EndReason) (q : List ℕ) (c : Contents) → going_to s why (more q c) ≡ more_again q (going_to s why c)
 going_more OpenWait why q c = refl
 going_more KeepWait why q c = refl
@@ -139,7 +139,7 @@ next_more q c live h =
     ∙ front_turn (front_of c.bytes) q c refl h
     ∙ ap (λ (t : Turn). then_more q t) (sym (goes_on c.state c live))
 
--- where nothing is left to do, next changes nothing
+-- if nothing is left to do, `next` changes nothing
 pub given : (x : Input) → Some x ≡ None → ⊥
 given x e = (cc)
 
@@ -189,7 +189,7 @@ pub drains_moment : (xs : List Input) (c m : Contents) → Drains c xs m → m.m
 drains_moment [] c m d = sym (ap (λ (t : Turn). t.after.moment_ms) d) ∙ state_moment c.state c
 drains_moment (x ∷ xs) c m d = drains_moment xs d.0 m d.2 ∙ sym (ap (λ (t : Turn). t.after.moment_ms) d.1) ∙ state_moment c.state c
 
--- a session that has ended stays so
+-- a session that has ended stays ended
 down_state : (b : Bool) (c : Contents) → (after_end b c).after.state ≡ c.state
 down_state true c = refl
 down_state false c = refl
@@ -203,7 +203,7 @@ closed_state Closed c h = down_state c.down_pending c
 by_live : (b : Bool) (c : Contents) → is_closed c.state ≡ b → (q : List ℕ) → more_again q c ≡ unless_closed b q c
 by_live b c h q = ap (λ (x : Bool). unless_closed x q c) h
 
--- the inputs of the first piece come as well where more bytes stand behind it
+-- the first piece gives the same inputs if more bytes come after it
 pub one_piece : (xs ys : List Input) (q : List ℕ) (c m e : Contents) → Drains c xs m → NoTimerIsDue c xs → Drains (more_again q m) ys e → Drains (more_again q c) (xs ++ ys) e
 one_piece [] ys q c m e d b rest = subst (λ (k : Contents). Drains (more_again q k) ys e) (state_rests c.state c m d) rest
 one_piece (x ∷ xs) ys q c m e d b rest =

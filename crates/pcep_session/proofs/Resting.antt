@@ -47,7 +47,7 @@ none_is : (input : Option Input) → is_some input ≡ false → input ≡ None
 none_is None none = refl
 none_is (Some input) none = (cc)
 
--- what gives nothing changes nothing
+-- a turn that gives nothing changes nothing
 pub nothing_given : (c : Contents) → is_some (next c).input ≡ false → next c ≡ turn_of None c
 nothing_given c none =
     let turn : next c ≡ turn_of None (next c).after = ap (λ (input : Option Input). turn_of input (next c).after) (none_is (next c).input none) in

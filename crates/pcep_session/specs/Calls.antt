@@ -19,11 +19,11 @@ use Rattle.pcep_session.specs.declared.table.State.TheVariants.{OpenWait, Up, Cl
 abbrev pub own_open : List ℕ
 own_open = 0x20 ∷ 1 ∷ 0 ∷ 20 ∷ 1 ∷ 0x10 ∷ 0 ∷ 16 ∷ 0x20 ∷ 30 ∷ 120 ∷ 0 ∷ 0 ∷ 16 ∷ 0 ∷ 4 ∷ 0 ∷ 0 ∷ 0 ∷ 5 ∷ []
 
--- the same as a message
+-- the same Open as a message
 abbrev pub own_opening : Message
 own_opening = messages.Opening (record { keepalive = 30; dead_timer = 120; sid = 0; capabilities = Some (record { update = true; create = true }) })
 
--- new
+-- the call `new`
 abbrev pub begun : ℕ → Contents
 begun now_ms = record {
   state = OpenWait;
@@ -38,18 +38,18 @@ begun now_ms = record {
   output = own_open;
 }
 
--- tick: a smaller moment is ignored
+-- the call `tick`: a smaller moment is ignored
 abbrev pub ticked : ℕ → Contents → Contents
 ticked now_ms c = record c { moment_ms = max c.moment_ms now_ms }
 
--- feed
+-- the call `feed`
 abbrev pub fed : List ℕ → ℕ → Contents → Contents
 fed piece now_ms c = record c { bytes = c.bytes ++ piece; moment_ms = max c.moment_ms now_ms }
 
 abbrev pub fed_by : List ℕ → ℕ → Contents → Result Contents SessionFault
 fed_by piece now_ms c = if is_closed c.state then Err faults.Closed else Ok (fed piece now_ms c)
 
--- send: the one spelling of a message, if it has one
+-- the call `send`: the bytes of a message, if it has any
 abbrev pub text_of : Message → Option (List ℕ)
 text_of message = if is_written message && fits message then Some (written message) else None
 
@@ -57,7 +57,7 @@ abbrev pub sent_text : Option (List ℕ) → Contents → Result Contents Sessio
 sent_text None c = Err faults.TooLong
 sent_text (Some text) c = Ok (record c { sent_ms = c.moment_ms; output = c.output ++ text })
 
--- a session sends once it is up
+-- a session sends only once it is up
 abbrev pub sent_in : State → Option (List ℕ) → Contents → Result Contents SessionFault
 sent_in Up text c = sent_text text c
 sent_in Closed text c = Err faults.Closed
@@ -66,11 +66,11 @@ sent_in state text c = Err faults.NotUp
 abbrev pub sent : Message → Contents → Result Contents SessionFault
 sent message c = sent_in c.state (text_of message) c
 
--- report_error
+-- the call `report_error`
 abbrev pub error_reported : PcError → Contents → Result Contents SessionFault
 error_reported error c = sent_in c.state (Some (error_text error)) c
 
--- end: a PCErr and a Close as given
+-- the call `end`: a PCErr and a Close as given
 abbrev pub text_of_error : Option PcError → List ℕ
 text_of_error None = []
 text_of_error (Some error) = error_text error
@@ -85,22 +85,22 @@ ended error reason c = record c { state = Closed; bytes = []; end = Some (Caller
 abbrev pub ended_by : Option PcError → Option ℕ → Contents → Result Contents SessionFault
 ended_by error reason c = if is_closed c.state then Err faults.Closed else Ok (ended error reason c)
 
--- take_output
+-- the call `take_output`
 abbrev pub output_taken : Contents → Contents
 output_taken c = record c { output = [] }
 
--- memory is asked for only if the state allows the call
+-- the state allows the call: only then is memory asked for
 abbrev pub IsAllowed : Result Contents SessionFault → Type 0
 IsAllowed (Err faults.Closed) = ⊥
 IsAllowed (Err faults.NotUp) = ⊥
 IsAllowed step = Unit {0}
 
--- the refusal is the step's, unless memory was lacking
+-- the refusal is the step's, unless memory ran out
 abbrev pub Refuses : SessionFault → Result Contents SessionFault → Type 0
 Refuses faults.OutOfMemory step = IsAllowed step
 Refuses fault step = step ≡ Err fault
 
--- what a call leaves that may be refused: its step, or what was there before
+-- what a call that may be refused leaves: its step, or what was there before
 abbrev pub Does : {T : Type 0} → Result T SessionFault → Contents → Contents → Result Contents SessionFault → Type 0
 Does (Ok x) old new step = step ≡ Ok new
 Does (Err fault) old new step = (new ≡ old) × Refuses fault step

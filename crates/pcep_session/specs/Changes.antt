@@ -1,4 +1,4 @@
--- The steps of a turn as the code takes them: what may lack memory first, then the change.
+-- The steps of a turn as the code takes them: first the one that may lack memory, then the change.
 use Rattle.std.specs.Prelude.{◌≡◌, ℕ, List, Option, Some, None, Result, Ok, Err, drop}
 use Rattle.pcep_objects.specs.declared.session_objects.Open.{Open}
 use Rattle.pcep_session.specs.Turns.{unrecognized_after}
@@ -9,7 +9,7 @@ use Rattle.pcep_session.specs.declared.table.Arrival.{Arrival}
 use Rattle.pcep_session.specs.declared.table.State.{State}
 use Rattle.pcep_session.specs.declared.table.State.TheVariants.{Up, Closed}
 
--- None: they stay
+-- the changed moments; None: they stay as they are
 abbrev pub changed_or : Option (List ℕ) → List ℕ → List ℕ
 changed_or None moments = moments
 changed_or (Some changed) moments = changed
@@ -25,7 +25,7 @@ received_as size moments peer c = record c {
   peer = peer;
 }
 
--- a session sends once it is up
+-- a session sends only once it is up
 abbrev pub IsUpOr : Result (Unit {0}) SessionFault → State → Type 0
 IsUpOr (Ok x) state = state ≡ Up
 IsUpOr (Err fault) Up = ⊥

@@ -14,20 +14,21 @@ abbrev pub Drains : Contents → List Input → Contents → Type 0
 Drains c [] after = next c ≡ record { input = None; after = after }
 Drains c (i ∷ is) after = (mid : Contents) × (next c ≡ record { input = Some i; after = mid }) × Drains mid is after
 
--- no timer is due: each of these inputs comes of bytes
+-- no timer is due: each of these inputs comes from bytes
 abbrev pub NoTimerIsDue : Contents → List Input → Type 0
 NoTimerIsDue c [] = Unit {0}
 NoTimerIsDue c (i ∷ is) = (front_of c.bytes ≢ Waiting) × NoTimerIsDue (next c).after is
 
--- feed, with the session as before if it has ended
+-- the session after `feed`; a session that has ended stays as it was
 abbrev pub fed_or_same : List ℕ → ℕ → Contents → Contents
 fed_or_same piece now_ms c = or_same c (fed_by piece now_ms c)
 
--- the same session with this output in front of its own
+-- the same session with this output before its own
 abbrev pub with_output : List ℕ → Contents → Contents
 with_output output c = record c { output = output ++ c.output }
 
--- Pieces that come at one moment. After each, `next` is called to None, and the output, or a part of it, may be taken.
+-- Pieces that come at one moment. After each of them, `next` is called until it gives None, and the output, or a part
+-- of it, may be taken.
 abbrev pub DrainsEach : ℕ → Contents → List (List ℕ) → List Input → List ℕ → Contents → Type 0
 DrainsEach now_ms c [] inputs taken after = (inputs ≡ []) × (taken ≡ []) × (after ≡ c)
 DrainsEach now_ms c (piece ∷ pieces) inputs taken after =
@@ -63,7 +64,7 @@ SameBytes [] (d ∷ ds) = ⊥
 SameBytes (b ∷ bs) [] = ⊥
 SameBytes (b ∷ bs) (d ∷ ds) = (b.now_ms ≡ d.now_ms) × (bytes_of b ≡ bytes_of d) × SameBytes bs ds
 
--- They give the same inputs, and the same session with the same output, all that was taken in front of it.
+-- Both give the same inputs, and the same session with the same output, if all that was taken is put before it.
 abbrev pub CutAnyWay : Type 0
 CutAnyWay =
     (c e e' : Contents) (bs ds : List Burst) (xs ys : List Input) (taken taken' : List ℕ) → SameBytes bs ds

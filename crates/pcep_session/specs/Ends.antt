@@ -6,8 +6,8 @@ use Rattle.pcep_session.specs.declared.contents.Contents.{Contents}
 use Rattle.pcep_session.specs.declared.table.State.{State}
 use Rattle.pcep_session.specs.declared.table.State.TheVariants.{Closed}
 
--- no more turns than this give something until more bytes or a later moment come: each handles a message of at
--- least one byte, but for a Keepalive that is due and a Down
+-- how many turns at most give something until more bytes or a later moment come: each handles a message of at least one
+-- byte, except for a Keepalive that is due and a Down
 abbrev pub most_turns : Contents → ℕ
 most_turns c = length c.bytes + 2
 
@@ -20,8 +20,8 @@ after_turns (suc n) c = after_turns n (next c).after
 abbrev pub TurnsEnd : Type 0
 TurnsEnd = (c : Contents) → (next (after_turns (most_turns c) c)).input ≡ None
 
--- The turns that are left at most: one for each byte, one for a timer that is due, and one for the Down, which
--- a session that goes on may come to.
+-- How many turns are left at most: one for each byte, one for a timer that is due, and one for the Down that a session
+-- may still come to.
 abbrev pub turns_left_in : State → Contents → ℕ
 turns_left_in Closed c = if c.down_pending then 1 else 0
 turns_left_in state c = length c.bytes + (if is_some (due_in c) then 2 else 1)
@@ -29,14 +29,14 @@ turns_left_in state c = length c.bytes + (if is_some (due_in c) then 2 else 1)
 abbrev pub turns_left : Contents → ℕ
 turns_left c = turns_left_in c.state c
 
--- more bytes or a later moment
+-- the call brings more bytes or a later moment
 abbrev pub brings_more : Call → Bool
 brings_more (Feed piece now_ms) = true
 brings_more (Tick now_ms) = true
 brings_more call = false
 
--- Each input that `next` gives takes one of the turns that are left, and of the other calls only feed and tick
--- add any.
+-- Each input that `next` gives uses up one of the turns that are left. Of the other calls only `feed` and `tick` add
+-- turns.
 abbrev pub TurnsRunOut : Type 0
 TurnsRunOut =
     (c : Contents) → (turns_left c ≤ most_turns c)

@@ -1,4 +1,4 @@
--- The faults of a session: their numbers, and the faults of writing among them.
+-- The numbers of the faults of a session, including those of writing.
 use Rattle.std.specs.Prelude.{ℕ}
 use Rattle.pcep_objects.specs.declared.fault.WriteFault.{WriteFault}
 use Rattle.pcep_objects.specs.declared.fault.WriteFault.TheVariants as writing

@@ -4,7 +4,7 @@ use Rattle.pcep_objects.specs.Steps.{field}
 use Rattle.pcep_session.specs.declared.framing.NextMessage.{NextMessage}
 use Rattle.pcep_session.specs.declared.framing.NextMessage.TheVariants.{Waiting, Bad, Whole}
 
--- the length of the message, header included
+-- the length of the message, including its header
 abbrev pub message_length : List ℕ → ℕ
 message_length bytes = field 2 2 bytes
 
@@ -12,7 +12,7 @@ message_length bytes = field 2 2 bytes
 abbrev pub is_bad : List ℕ → Bool
 is_bad bytes = not (slice_index bytes 0 / 2 ^ 5 == 1) || nat_lt (message_length bytes) 4 || not (message_length bytes % 4 == 0)
 
--- The four bytes of a header say whether it is bad. Of a message that isn't whole nothing else is looked at.
+-- The four bytes of a header say whether it is bad. If a message isn't complete, nothing else of it is looked at.
 unfoldable pub front_of : List ℕ → NextMessage
 front_of bytes =
     if nat_lt (length bytes) 4 then Waiting
@@ -20,7 +20,7 @@ front_of bytes =
     else (if nat_lt (length bytes) (message_length bytes) then Waiting
     else Whole (message_length bytes)))
 
--- How many bytes there must be until there is something to handle: the four of a header, and if it is good, those of
+-- How many bytes there must be until there is something to handle: the four of a header, and if it is valid, those of
 -- its message.
 unfoldable pub bytes_needed : List ℕ → ℕ
 bytes_needed bytes =

@@ -45,7 +45,7 @@ abbrev pub output_of : Call → Contents → List ℕ
 output_of Take_output c = c.output
 output_of call c = []
 
--- What a list of calls gives: the inputs, the session after it, and all the output, also what is not taken yet.
+-- What a list of calls gives: the inputs, the session after them, and all the output, including what is not taken yet.
 pub record Ran : Type 0 where
   pub inputs : List Input
   pub output : List ℕ
@@ -58,7 +58,7 @@ abbrev pub run : List Call → Contents → Ran
 run [] c = record { inputs = []; output = c.output; after = c }
 run (call ∷ calls) c = behind (inputs_of call c) (output_of call c) (run calls (after_call call c))
 
--- a whole session
+-- a whole session, from its beginning
 abbrev pub session : ℕ → List Call → Ran
 session now_ms calls = run calls (begun now_ms)
 
@@ -91,7 +91,7 @@ abbrev pub AllMeet : List Made → Contents → Contents → Type 0
 AllMeet [] c after = after ≡ c
 AllMeet (made ∷ rest) c after = (mid : Contents) × Meets made c mid × AllMeet rest mid after
 
--- a call that found no memory doesn't count
+-- the call, unless it ran out of memory: then it doesn't count
 abbrev pub counted : {T : Type 0} → Result T SessionFault → Call → List Call
 counted (Err OutOfMemory) call = []
 counted answer call = call ∷ []

@@ -32,7 +32,7 @@ goes_on state notices = record { notices = notices; state = state; end = None; i
 abbrev pub ends : Notices → EndReason → Reaction
 ends notices end = record { notices = notices; state = Closed; end = Some end; input = input.Down }
 
--- it ends itself, and says this
+-- the session ends itself, and sends this
 abbrev pub closes : Notices → Reaction
 closes notices = ends notices (Said notices)
 
@@ -44,38 +44,38 @@ closed_by_peer reason = ends Nothing (PeerClose reason)
 abbrev pub gives : Message → Reaction
 gives message = record { notices = Nothing; state = Up; end = None; input = input.Message message }
 
--- a PCErr, by what it is about, Error-Type and Error-value (RFC 5440 section 7.15)
+-- a PCErr, given what it is about, its Error-Type and its Error-value (RFC 5440 section 7.15)
 abbrev pub error_about : About → ℕ → ℕ → Notice
 error_about a kind value = Error (record { about = a; kind = kind; value = value })
 
 abbrev pub error : ℕ → ℕ → Notice
 error kind value = error_about about.Nothing kind value
 
--- OpenWait: an Open and nothing else
+-- in OpenWait: an Open and nothing else is accepted
 abbrev pub in_open_wait : Arrival → Reaction
 in_open_wait (Read (messages.Opening open_)) = goes_on KeepWait (One Keepalive)
 in_open_wait arrival = closes (One (error 1 1))
 
--- KeepWait: a Keepalive brings the session up, with the capabilities of the peer's Open
+-- in KeepWait: a Keepalive brings the session up, with the capabilities of the peer's Open
 abbrev pub in_keep_wait : Option Capabilities → Arrival → Reaction
 in_keep_wait capabilities (Read messages.Keepalive) = record { notices = Nothing; state = Up; end = None; input = input.Up capabilities }
 in_keep_wait capabilities (Read (messages.Error errors)) = closes (One (error 1 6))
 in_keep_wait capabilities (Read (messages.Close reason)) = closed_by_peer reason
 in_keep_wait capabilities arrival = closes (One (error 1 1))
 
--- Up: an object with a fault of its own
+-- in Up: an object with a fault of its own
 abbrev pub on_object : About → ObjectFault → Reaction
 on_object a (UnknownClass p size) = goes_on Up (One (error_about a 3 1))
 on_object a (UnknownType p size) = goes_on Up (One (error_about a 3 2))
 on_object a fault = closes (One (Close 3))
 
--- the Error-value of type 6, a mandatory object is missing (RFC 5440 section 7.15, RFC 8231 section 8.5):
--- RP 1, END-POINTS 3, LSP 8, SRP 10, else that of an ERO, 9
+-- the Error-value of type 6, a mandatory object is missing (RFC 5440 section 7.15, RFC 8231 section 8.5): RP 1,
+-- END-POINTS 3, LSP 8, SRP 10, otherwise that of an ERO, 9
 abbrev pub missing_value : ℕ → ℕ
 missing_value class =
     if class == 2 then 1 else (if class == 4 then 3 else (if class == 32 then 8 else (if class == 33 then 10 else 9)))
 
--- Up: a message that is refused
+-- in Up: a message that is refused
 abbrev pub on_fault : MessageFault → Reaction
 on_fault (faults.BadObject fault a) = on_object a fault
 on_fault (faults.Missing class a) = goes_on Up (One (error_about a 6 (missing_value class)))
@@ -84,13 +84,13 @@ on_fault (faults.Refused kind value a) = goes_on Up (One (error_about a kind val
 on_fault (faults.MissingIdentifiers a) = closes (Two (error_about a 6 11) (Close 3))
 on_fault fault = closes (One (Close 3))
 
--- Up: a message that is accepted
+-- in Up: a message that is accepted
 abbrev pub on_accepted : Message → Reaction
 on_accepted (messages.Close reason) = closed_by_peer reason
 on_accepted messages.Keepalive = goes_on Up Nothing
 on_accepted message = gives message
 
--- Up: an unrecognized message ends the session if it is the fifth within a minute
+-- in Up: an unrecognized message ends the session if it is the fifth within a minute
 abbrev pub on_unrecognized : Bool → Reaction
 on_unrecognized false = goes_on Up (One (error 2 0))
 on_unrecognized true = closes (Two (error 2 0) (Close 5))
@@ -108,8 +108,8 @@ reaction KeepWait capabilities fifth arrival = in_keep_wait capabilities arrival
 reaction Up capabilities fifth arrival = in_up fifth arrival
 reaction Closed capabilities fifth arrival = closes Nothing
 
--- The timers of a session (RFC 5440 section 6.2 and appendix A, 6.3), and which is due in a state. Waited: the
--- minute of OpenWait or KeepWait is over. Silent: nothing was received for the peer's DeadTimer. Quiet: nothing
+-- The timers of a session (RFC 5440 section 6.2 and appendix A, 6.3), and which of them is due in a state. `waited`:
+-- the minute of OpenWait or KeepWait is over. `silent`: nothing was received for the peer's DeadTimer. `quiet`: nothing
 -- was sent for the session's Keepalive, 30 s.
 abbrev pub due : State → (waited silent quiet : Bool) → Option Timer
 due OpenWait true silent quiet = Some timers.OpenWait
@@ -118,7 +118,7 @@ due Up waited true quiet = Some timers.Dead
 due Up waited false true = Some timers.Keepalive
 due state waited silent quiet = None
 
--- a timer that is due
+-- the reaction to a timer that is due
 abbrev pub on_timer : Timer → Reaction
 on_timer timers.OpenWait = closes (One (error 1 2))
 on_timer timers.KeepWait = closes (One (error 1 7))

@@ -1,4 +1,4 @@
--- One turn of a session: its next whole message, else the timer that is due, else nothing.
+-- One turn of a session: it handles its next whole message, else the timer that is due, else nothing.
 use Rattle.std.specs.Prelude.{◌≡◌, ℕ, ◌-◌, ◌*◌, Bool, true, false, not, ◌&&◌, ◌||◌, List, [], ◌∷◌, ◌++◌, length, take, drop, filter, slice_index, Option, Some, None, is_some, Result, Ok, Err, nat_lt, ◌==◌, if◌then◌else◌}
 use Rattle.lsp_words.specs.declared.object.Capabilities.{Capabilities}
 use Rattle.pcep_objects.specs.declared.session_objects.Open.{Open}
@@ -37,8 +37,8 @@ abbrev pub capabilities_of : Option Open → Option Capabilities
 capabilities_of None = None
 capabilities_of (Some open_) = open_.capabilities
 
--- A session that is up looks at the type first: of an Open, PCRep, PCUpd, PCInitiate and of unknown types the
--- body isn't read. The others are Keepalive, PCReq, PCNtf, PCErr, Close and PCRpt.
+-- A session that is up looks at the type first: the body of an Open, PCRep, PCUpd, PCInitiate or an unknown type isn't
+-- read. The others are Keepalive, PCReq, PCNtf, PCErr, Close and PCRpt.
 abbrev pub is_read_when_up : ℕ → Bool
 is_read_when_up kind = kind == 2 || kind == 3 || kind == 5 || kind == 6 || kind == 7 || kind == 10
 
@@ -51,16 +51,16 @@ arrival_when_up stateful message =
     if not (is_read_when_up (slice_index message 1)) then Unrecognized
     else (if slice_index message 1 == 10 && not stateful then UnannouncedReport else arrival_of (message_in message))
 
--- a whole message that comes in this state. Stateful: the peer's Open had STATEFUL-PCE-CAPABILITY.
+-- A whole message that comes in this state. The flag says whether the peer's Open had STATEFUL-PCE-CAPABILITY.
 unfoldable pub arrival : State → Bool → List ℕ → Arrival
 arrival Up stateful message = arrival_when_up stateful message
 arrival state stateful message = arrival_of (message_in message)
 
--- the moments less than 60,000 ms ago
+-- the moments that are less than 60,000 ms ago
 abbrev pub recent : ℕ → List ℕ → List ℕ
 recent now_ms moments = filter (λ m. nat_lt (now_ms - m) 60000) moments
 
--- four are, so that one more is the fifth
+-- there are four recent ones, so that one more is the fifth
 abbrev pub is_fifth : ℕ → List ℕ → Bool
 is_fifth now_ms moments = nat_lt 3 (length (recent now_ms moments))
 
@@ -68,7 +68,7 @@ abbrev pub unrecognized_after : Arrival → ℕ → List ℕ → List ℕ
 unrecognized_after Unrecognized now_ms moments = recent now_ms moments ++ now_ms ∷ []
 unrecognized_after arrival now_ms moments = moments
 
--- the peer's Open is kept
+-- the peer's Open after this arrival
 abbrev pub peer_after : Arrival → Option Open → Option Open
 peer_after (Read (messages.Opening open_)) peer = Some open_
 peer_after arrival peer = peer
@@ -82,11 +82,11 @@ abbrev pub sent_at : Notices → ℕ → ℕ → ℕ
 sent_at Nothing now_ms sent_ms = sent_ms
 sent_at notices now_ms sent_ms = now_ms
 
--- what is sent goes into the output
+-- the notices go into the output
 abbrev pub sending : Notices → Contents → Contents
 sending notices c = record c { sent_ms = sent_at notices c.moment_ms c.sent_ms; output = c.output ++ notices_text notices }
 
--- a message of `size` bytes is handled; a bad header has none
+-- a message of `size` bytes is handled; a bad header takes no bytes
 abbrev pub received : Arrival → ℕ → Contents → Contents
 received a size c = record c {
   bytes = drop size c.bytes;
@@ -120,11 +120,11 @@ reaction_to a c = reaction c.state (capabilities_of c.peer) (is_fifth c.moment_m
 abbrev pub on_arrival : Arrival → ℕ → Contents → Turn
 on_arrival a size c = turn_by (reaction_to a c) (received a size c)
 
--- a timer is due at exactly its age
+-- a timer is due exactly at its age
 abbrev pub is_due : ℕ → ℕ → Bool
 is_due after_ms age_ms = not (nat_lt age_ms after_ms)
 
--- the peer's DeadTimer, in seconds; 0: never (RFC 5440 section 7.3)
+-- nothing was received for the peer's DeadTimer, in seconds; 0: the timer never ends the session (RFC 5440 section 7.3)
 abbrev pub is_silent : Option Open → ℕ → Bool
 is_silent None age_ms = false
 is_silent (Some open_) age_ms = not (open_.dead_timer == 0) && is_due (open_.dead_timer * 1000) age_ms
@@ -142,7 +142,7 @@ by_front Waiting c = by_timer (due_in c) c
 by_front Bad c = on_arrival BadHeader 0 c
 by_front (Whole size) c = on_arrival (arrival c.state (is_some (capabilities_of c.peer)) (take size c.bytes)) size c
 
--- a session that was ended gives the Down that is pending
+-- a session that has ended gives the Down that is pending
 abbrev pub after_end : Bool → Contents → Turn
 after_end true c = record { input = Some input.Down; after = record c { down_pending = false } }
 after_end false c = record { input = None; after = c }

@@ -1,4 +1,4 @@
--- Laws of dotted addresses: a text is an address's text exactly where it is read as that address.
+-- Laws of dotted addresses: a text is an address's text exactly if it is read as that address.
 use Rattle.std.proofs.Common.{◌≡◌, ◌≢◌, ℕ, suc, Bool, true, false, Option, Some, None, IfSome, option_map, option_and_then, List, [], ◌∷◌, ◌++◌, length, get_or, ◌+◌, ◌-◌, ◌*◌, ◌/◌, ◌%◌, ◌^◌, ◌<◌, ◌≤◌, eqb, leb, cond, ◌&&◌, inl, inr, refl, sym, ap, ◌∙◌, arith}
 use Rattle.std.proofs.lemmas.Bool.{cases_lt, eqb-true, ne_eqb, le-leb, leb-true, and_parts}
 use Rattle.std.proofs.lemmas.Fmt.{decimal_digit, decimal_step}
@@ -50,7 +50,7 @@ octet_again n h =
       ]
     ]
 
--- what an octet is, read back
+-- an octet's text, read back
 pub record IsOctet (p : List ℕ) (n : ℕ) : Type 0 where
   pub small : n < 256
   pub text : p ≡ decimal n
@@ -61,7 +61,7 @@ digit_low b e = let p = and_parts (leb 48 b) (leb b 57) e in (leb-true _ _ p.0, 
 leading_low : (b : ℕ) → is_leading b ≡ true → (49 ≤ b) × (b ≤ 57)
 leading_low b e = let p = and_parts (leb 49 b) (leb b 57) e in (leb-true _ _ p.0, leb-true _ _ p.1)
 
--- a test that gave a value held
+-- if a test gave a value, the test held
 given : {A : Type 0} (t : Bool) (x y : A) → cond t (Some x) None ≡ Some y → (t ≡ true) × (x ≡ y)
 given true x y e = (refl, cc)
 given false x y e = cc
@@ -153,7 +153,7 @@ unfolding cut
 cut_is [] p rest e = cc
 cut_is (b ∷ text) p rest e = here_or (eqb b 46) b text p rest refl (cut_is text) e
 
--- what each place says of a list's bytes
+-- if no byte of a list is a dot, the list has no dots
 pub plain_from : (p : List ℕ) → ((i : ℕ) → i < length p → get_or p i 0 ≢ 46) → NoDots p
 plain_from [] h = tt
 plain_from (b ∷ p) h = (h 0 (omega arith), plain_from p (λ i lt. let k : suc i < length (b ∷ p) = omega arith in h (suc i) k))

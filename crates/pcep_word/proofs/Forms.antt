@@ -27,7 +27,7 @@ Packed-parts w lt = parts_of w (eqb (exponent w) 0) refl lt
 normal_or : (w m e : ℕ) → Packed w m e → (e ≡ 1) ⊎ (8388608 ≤ m)
 normal_or w m e p = elim (cases_lt 1 e) [ inl lt ↦ inr (p.normal lt) | inr le ↦ inl (omega (arith, p.positive)) ]
 
--- which of two words is greater
+-- how a greater word differs in its parts from a lesser one
 pub Packed-below : (w x m n e f : ℕ) → Packed w m e → Packed x n f → w < x → ((e < f) × (8388608 ≤ n)) ⊎ ((e ≡ f) × (m < n))
 Packed-below w x m n e f p q lt =
     elim (cases_lt e f) [

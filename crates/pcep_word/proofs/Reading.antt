@@ -1,5 +1,5 @@
--- What is read from a word: a bandwidth rounded up, a bound rounded down, each as computed, and again
--- from the word that it is written as.
+-- What is read from a word: a bandwidth rounded up, a bound rounded down. The computed definitions agree, and a value
+-- is read again from the word that it is written as.
 use Rattle.std.proofs.Common.{◌≡◌, ℕ, min, Bool, Option, Some, None, IfSome, IfNone, ◌+◌, ◌-◌, ◌*◌, ◌/◌, ◌%◌, ◌^◌, ◌<◌, ◌≤◌, ◌⊎◌, inl, inr, eqb, leb, ltb, not, ◌&&◌, cond, true, false, refl, sym, ap, ◌∙◌, arith}
 use Rattle.std.proofs.Math.Nat.{lt_of_mul-lt-mul_right, le_of_mul-le-mul_right, mul-le-mul_right}
 use Rattle.std.proofs.lemmas.Nat.{pow_pos, div-add-mod', mod_below}

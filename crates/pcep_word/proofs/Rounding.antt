@@ -1,4 +1,4 @@
--- Rounding to whole numbers: powers that move from side to side.
+-- Rounding to whole numbers: powers are moved from one side to the other.
 use Rattle.std.proofs.Common.{◌≡◌, ℕ, min, ◌+◌, ◌-◌, ◌*◌, ◌/◌, ◌^◌, ◌<◌, ◌≤◌, ◌⊎◌, inl, inr, arith}
 use Rattle.std.proofs.Math.Nat.{lt_of_mul-lt-mul_right, le_of_mul-le-mul_right, mul-le-mul_right, mul-le-mul, pow-le-pow_right}
 use Rattle.std.proofs.lemmas.Nat.{pow-add, pow_pos, div-add-mod', mod_below}
@@ -40,7 +40,7 @@ same_scaled m l s t e = rw (e, pow-add 2 l t) (omega arith)
 pub pow_mono : (i j : ℕ) → i ≤ j → 2 ^ i ≤ 2 ^ j
 pow_mono i j h = pow-le-pow_right (omega arith) h
 
--- m / 2 ^ r rounded up, where r past 24 changes nothing at an m of 24 bits
+-- v is m / 2 ^ r rounded up; for an m of 24 bits, an r above 24 counts as 24
 pub up_is : (m r k v s : ℕ) → m < 2 ^ 24 → (k ≡ r) ⊎ ((k ≡ 24) × (24 ≤ r)) → r + s ≡ 150 → m ≤ v * 2 ^ k → v * 2 ^ k < m + 2 ^ k → IsLeast (λ u. m * 2 ^ s ≤ units u) v
 unfolding units
 up_is m r k v s small (inl same) e covers tight =

@@ -1,5 +1,4 @@
--- The word of a number is the least whose value is not below it, and each bandwidth has one of exactly
--- its value.
+-- The word of a number is the least whose value is not below it, and each bandwidth has a word of exactly its value.
 use Rattle.std.proofs.Common.{◌≡◌, ◌≢◌, ℕ, add-one, ◌+◌, ◌-◌, ◌*◌, ◌^◌, ◌<◌, ◌≤◌, inl, inr, refl, sym, ap, ◌∙◌, arith}
 use Rattle.std.proofs.Math.Nat.{lt_of_mul-lt-mul_right, le_of_mul-le-mul_right, mul-le-mul_right, mul-lt-mul_of_pos_right, mul-le-mul}
 use Rattle.std.proofs.lemmas.Nat.{pow-add, pow_pos, leading_top}
@@ -59,7 +58,7 @@ top_units v t low =
     let b : 2 ^ 23 * 2 ^ (t + 127) ≡ 2 ^ t * 2 ^ 150 = sym (pow-add 2 23 (t + 127)) ∙ ap (λ (i : ℕ). 2 ^ i) (let i : 23 + (t + 127) ≡ t + 150 = omega arith in i) ∙ pow-add 2 t 150 in
     omega (arith, a, b)
 
--- a word below stands for less
+-- a lesser word stands for less
 word_below : (v t m x : ℕ) → t < 48 → 8388608 * 2 ^ (t + 127) ≤ units v → IsNormal v t m → x < (t + 126) * 8388608 + m → units v ≤ magnitude x → ⊥
 unfolding magnitude
 word_below v t m x small top n lt h =

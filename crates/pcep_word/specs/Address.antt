@@ -37,8 +37,7 @@ infixl 10 ◌>>=◌
 abbrev pub ◌>>=◌ : {A B : Type 0} → Option A → (A → Option B) → Option B
 o >>= f = option_and_then f o
 
--- The address that a text writes. The clauses of Ipv4::parse say that it is the inverse of text_of, and of nothing
--- more.
+-- The address that a text writes. The clauses of Ipv4::parse say that it reads what text_of writes, and nothing else.
 unfoldable pub address_of : List ℕ → Option ℕ
 address_of text = do
   first ← cut text

@@ -30,7 +30,7 @@ module _ (f : View → ℕ) where
   total-none g [] none h = refl
   total-none g (x ∷ xs) none h = omega (arith, h 0 x refl (omega (arith, none)), total-none g xs (omega (arith, none)) (λ by u e z. h (suc by) u e z))
 
-  -- where one has all of g, and who has none of it has none of f, one has all of f
+  -- if one view has all of g, and a view without any g has no f, then that view has all of f
   alone : (g : View → ℕ) (l : List View) (j : ℕ) (v : View) → get_elem? l j ≡ some v → total g l ≡ g v → ((by : ℕ) (u : View) → get_elem? l by ≡ some u → g u ≡ 0 → f u ≡ 0) → total f l ≡ f v
   alone g [] j v e all h = absurd (some-ne-none v (sym e))
   alone g (x ∷ xs) zero v e all h =
@@ -63,7 +63,7 @@ plain_snoc : (l : List View) (w : View) → AreAllPlain l → IsPlain w → AreA
 unfolding AreAllPlain
 plain_snoc l w lent mine by u e = ⊎_elim (λ (x : get_elem? l by ≡ some u). lent by u x) (λ (x : w ≡ u). subst IsPlain x mine) (at_snoc l w u by e)
 
--- what the one has is what the two have
+-- what the two views have together is what the one has
 pub record Adds (v a b : View) : Type 0 where
   pub keeps : a.keeps + b.keeps ≡ v.keeps
   pub parts : a.parts + b.parts ≡ v.parts

@@ -12,11 +12,11 @@ use Rattle.place_tokens.specs.declared.rule.View.{View}
 abbrev pub times : ℕ → List ℕ → ℕ
 times p xs = count_by (λ x. x == p) xs
 
--- one if the place is below n
+-- 1 if the place is below n, else 0
 abbrev pub once_below : ℕ → ℕ → ℕ
 once_below p n = if nat_lt p n then 1 else 0
 
--- from the floor on the places rise
+-- the places rise, from the floor on
 abbrev pub RiseFrom : ℕ → List ℕ → Type 0
 RiseFrom floor [] = Unit {0}
 RiseFrom floor (x ∷ xs) = (floor ≤ x) × RiseFrom (x + 1) xs
@@ -36,11 +36,11 @@ pub record Opening : Type 0 where
 abbrev pub view : ℕ → ℕ → ℕ → List ℕ → List (List ℕ) → View
 view keeps parts next own lent = record { keeps = keeps; parts = parts; next = next; own = own; lent = lent }
 
--- what is left of a token that was taken in by another
+-- what is left of a token after another took it in
 abbrev pub nothing : View
 nothing = view 0 0 0 [] []
 
--- one part, and no place
+-- a token with one part and no place
 abbrev pub part_only : View
 part_only = view 0 1 0 [] []
 
@@ -52,11 +52,11 @@ abbrev pub total : (View → ℕ) → List View → ℕ
 total f [] = 0
 total f (v ∷ vs) = f v + total f vs
 
--- with no part it knows no place, and who doesn't keep has no next place
+-- with no part it knows no place; if it doesn't keep, it has no next place
 abbrev pub IsPlain : View → Type 0
 IsPlain v = (v.parts ≡ 0 → (p : ℕ) → times_of p v ≡ 0) × (v.keeps ≡ 0 → v.next ≡ 0)
 
--- the parts are this many, one keeps, and each place below the next one is known once, and no other
+-- there are this many parts, one token keeps, and each place below the next one is known once, and no other
 pub record IsDrawnOnce (all : ℕ) (views : List View) : Type 0 where
   pub whole : total (λ v. v.parts) views ≡ all
   pub one : total (λ v. v.keeps) views ≡ 1
@@ -73,15 +73,15 @@ KnowsBelow v = (p : ℕ) → 0 < times_of p v → p < v.next
 
 -- ---- the tokens between two moves
 
--- the keeper's, which was lent these lists
+-- the keeper's state, which was lent these lists
 abbrev pub keeping : ℕ → ℕ → List (List ℕ) → Me (Unit {0}) View
 keeping parts next lent = (view 1 parts next [] lent, [])
 
--- a seat's, which drew these places
+-- a seat's state, which drew these places
 abbrev pub holding : List ℕ → Me (Unit {0}) View
 holding places = (view 0 1 0 places [], [])
 
--- a seat's while the keeper is lent what it knows
+-- a seat's state while the keeper is lent what it knows
 abbrev pub emptied : Me (Unit {0}) View
 emptied = (nothing, [])
 

@@ -1,4 +1,4 @@
--- The exit status of a run that a fault ended: 2 for what was given, 3 for a device, 5 for room.
+-- The exit status of a run that a fault ended: 2 for what was given, 3 for a device, 5 for memory.
 use Rattle.std.specs.Prelude.{ℕ, Result, Ok, Err}
 use Rattle.std.specs.declared.io.ErrorKind as system
 use Rattle.std.specs.declared.io.ErrorKind.TheVariants as error
@@ -7,7 +7,7 @@ use Rattle.te_base.specs.declared.fault.TeFault.TheVariants as te
 use Rattle.pce_engine.specs.declared.fault.ScriptFault.{ScriptFault}
 use Rattle.pce_engine.specs.declared.fault.ScriptFault.TheVariants.{BadLine, Te, ReadFault, WriteFault, OutOfMemory, HistoryFull}
 
--- want of memory is given as such, wherever it came
+-- if memory ran out, that is the fault, wherever it came
 abbrev pub te_status : TeFault → ℕ
 te_status te.OutOfMemory = 5
 te_status fault = 2

@@ -11,7 +11,7 @@ cut_break ls p b e = rw e
 pub cut_other : (ls : List (List ℕ)) (p : List ℕ) (b : ℕ) → (b == 10) ≡ false → cut_at (ls, p) b ≡ (ls, p ++ b ∷ [])
 cut_other ls p b e = rw e
 
--- one byte more
+-- one more byte
 pub break_cut : (bytes : List ℕ) (b : ℕ) → b ≡ 10 → cut (bytes ++ b ∷ []) ≡ ((cut bytes).0 ++ (cut bytes).1 ∷ [], [])
 break_cut bytes b e = fold_push cut_at ([], []) bytes b ∙ cut_break (cut bytes).0 (cut bytes).1 b (grind (arith, nat_tests))
 
@@ -47,7 +47,7 @@ fronts (b ∷ more) bytes f = subst WholeLines (append_assoc bytes (b ∷ []) mo
 pub front_of : (bytes : List ℕ) → WholeLines bytes
 front_of bytes = fronts bytes [] record { front = []; whole = refl; ended = refl }
 
--- the lines of bytes that end in a line break, and of others
+-- the lines of bytes that end in a line break, and of bytes that don't
 pub ended_lines : (bytes : List ℕ) → (cut bytes).1 ≡ [] → lines_of bytes ≡ (cut bytes).0
 ended_lines bytes e = ap (λ (rest : List ℕ). with_rest (cut bytes).0 rest) e
 

@@ -19,7 +19,7 @@ more : {S : Type 0} (text : List ℕ) (r : Result (LineAnswer S) CommandFault) (
 more text (Ok t) go_on = behind_both text t.text (go_on t.after)
 more text (Err fault) go_on = refl
 
--- the first has its answer, and the others go on behind it
+-- the first line has its answer, and the others go on after it
 pub each_goes_on : {X S : Type 0} (line : X → S → Result (LineAnswer S) CommandFault) (x : X) (xs : List X) (s after : S) (text new : List ℕ)
     → behind text (line x s) ≡ Ok (line_answer new after) → behind text (each line (x ∷ xs) s) ≡ behind new (each line xs after)
 each_goes_on line x xs s after text new e = more text (line x s) (each line xs) ∙ ap (λ r. r >>= λ first. behind first.text (each line xs first.after)) e
@@ -34,14 +34,14 @@ fails_as BadLine a b e h = sym e ∙ h
 fails_as (Store OutOfMemory) a b e h = tt
 fails_as (Store HistoryFull) a b e h = sym e ∙ h
 
--- a fault of the first is that of all
+-- if the first line has a fault, so have all of them
 pub each_fails : {X S : Type 0} (line : X → S → Result (LineAnswer S) CommandFault) (x : X) (xs : List X) (s : S) (text : List ℕ) (whole : Result (LineAnswer S) CommandFault) (fault : CommandFault)
     → behind text (each line (x ∷ xs) s) ≡ whole → Fails fault (behind text (line x s)) → Fails fault whole
 each_fails line x xs s text whole fault e h =
     fails_as fault (behind text (line x s) >>= λ first. behind first.text (each line xs first.after)) whole (sym (more text (line x s) (each line xs)) ∙ e)
     (fails_more fault (behind text (line x s)) (λ first. behind first.text (each line xs first.after)) h)
 
--- none are left
+-- no lines are left
 pub each_ends : {X S : Type 0} (line : X → S → Result (LineAnswer S) CommandFault) (xs : List X) (s : S) (text : List ℕ) → xs ≡ [] → behind text (each line xs s) ≡ Ok (line_answer text s)
 each_ends line [] s text e = ap (λ (all : List ℕ). Ok (line_answer all s)) (append-nil text)
 each_ends line (x ∷ xs) s text e = absurd (cc)

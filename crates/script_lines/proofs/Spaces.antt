@@ -1,4 +1,4 @@
--- What has no space stays as it is without spaces.
+-- Removing the spaces of a text without spaces leaves it as it is.
 use Rattle.std.proofs.Common.{◌≡◌, ℕ, ◌||◌, Bool, true, false, List, [], ◌∷◌, refl, ap}
 use Rattle.std.specs.List.{list_any}
 use Rattle.asks.specs.Words.{is_space}

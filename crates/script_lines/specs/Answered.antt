@@ -1,4 +1,4 @@
--- What an operator's line comes to in a store.
+-- What an operator's line does in a store.
 use Rattle.std.specs.Prelude.{◌≡◌, ℕ, List, [], ◌∷◌, Option, Some, None, Result, Ok, Err}
 use Rattle.step_core.specs.declared.event.Event.{Event}
 use Rattle.step_core.specs.declared.event.Reply.{Reply}
@@ -26,17 +26,17 @@ NotTaken moves is_full BadLine old new = ⊥
 NotTaken moves is_full (Store OutOfMemory) old new = moves old [] new
 NotTaken moves is_full (Store HistoryFull) old new = moves old [] new × is_full new
 
--- an event, and why it was not taken, if it wasn't
+-- the event was submitted and answered, or it wasn't, for this reason
 abbrev pub AnswersEvent : {X S : Type 0} → (X → List ℕ) → (S → List Deed → S → Type 0) → (S → Type 0) → Event → Result X CommandFault → S → S → Type 0
 AnswersEvent view moves is_full event (Ok text) old new = Replied moves event (view text) old new
 AnswersEvent view moves is_full event (Err fault) old new = NotTaken moves is_full fault old new
 
--- a roll, or memory was refused to it
+-- the history was rolled, or memory ran out
 abbrev pub AnswersRoll : {X S : Type 0} → (X → List ℕ) → (S → List Deed → S → Type 0) → (S → ℕ → S → Type 0) → Result X CommandFault → S → S → Type 0
 AnswersRoll view moves rolls (Ok text) old new = Rolled rolls (view text) old new
 AnswersRoll view moves rolls (Err fault) old new = moves old [] new × (fault ≡ Store OutOfMemory)
 
--- what a line asks for is done, once, and answered; a bad line leaves the store alone
+-- what a line asks for is done once and answered; a bad line leaves the store as it was
 abbrev pub Answers : {X S : Type 0} → (X → List ℕ) → (S → List Deed → S → Type 0) → (S → ℕ → S → Type 0) → (S → Type 0) → Option Command → Result X CommandFault → S → S → Type 0
 Answers view moves rolls is_full None result old new = (result ≡ Err BadLine) × (new ≡ old)
 Answers view moves rolls is_full (Some Roll) result old new = AnswersRoll view moves rolls result old new

@@ -4,7 +4,7 @@ use Rattle.std.specs.Fmt.{decimal, signed_decimal}
 use Rattle.step_core.specs.States.{State}
 use Rattle.te_snapshot.specs.Left.{all_left}
 
--- each number behind a space
+-- each number, after a space
 abbrev pub amounts_text : List ℤ → List ℕ
 amounts_text [] = []
 amounts_text (left ∷ amounts) = codes " " ++ signed_decimal left ++ amounts_text amounts
@@ -12,7 +12,7 @@ amounts_text (left ∷ amounts) = codes " " ++ signed_decimal left ++ amounts_te
 abbrev pub link_line : ℕ → List ℤ → List ℕ
 link_line link amounts = codes "link " ++ decimal link ++ amounts_text amounts ++ codes "\n"
 
--- a line for each link, from the one with this number on: what is left of it at each priority, the best first
+-- a line for each link, starting with this number: what is left of it at each priority, the best priority first
 abbrev pub table_text : ℕ → List (List ℤ) → List ℕ
 table_text link [] = []
 table_text link (amounts ∷ rows) = link_line link amounts ++ table_text (link + 1) rows

@@ -23,7 +23,7 @@ expire_event line = do
   peer ← peer_in line
   Some (Expire peer)
 
--- an event of one LSP
+-- an event about one LSP
 abbrev pub lsp_event : (ℕ → ℕ → Event) → Option LspId → Option Event
 lsp_event event None = None
 lsp_event event (Some lsp) = Some (event lsp.peer lsp.plsp)
@@ -36,7 +36,8 @@ commit_event line = do
   offer ← offer_in words.1
   Some (Commit ticket offer)
 
--- a path of least TE metric between two addresses; links of all colours may be taken, and nothing else binds it
+-- a path of least TE metric between two addresses; links of all colours may be taken, and there are no other
+-- constraints
 abbrev pub plain_constraints : ℕ → ℕ → ℕ → InForce → Constraints
 plain_constraints source destination bandwidth priorities = record {
   source = Some source;
@@ -76,7 +77,7 @@ drop_event line = do
   srp ← number_in words.1
   Some (Refused peer srp)
 
--- what an operator may ask for, of a script and of a server: `return PEER PLSP`, `update PEER PLSP`, `delete PEER PLSP` and
+-- what an operator may ask of a script and of a server: `return PEER PLSP`, `update PEER PLSP`, `delete PEER PLSP` and
 -- `initiate PEER NAME FROM TO BW SETUP HOLD`
 unfoldable pub operator_event_with : List ℕ → List ℕ → Option Event
 operator_event_with word rest =
@@ -86,7 +87,7 @@ operator_event_with word rest =
     else if bytes_eq word (codes "initiate") then initiate_event rest
     else None
 
--- what a server's operator may: also `drop PEER SRP`
+-- what a server's operator may ask: also `drop PEER SRP`
 unfoldable pub server_event_with : List ℕ → List ℕ → Option Event
 server_event_with word rest = if bytes_eq word (codes "drop") then drop_event rest else operator_event_with word rest
 
@@ -102,7 +103,7 @@ link_values_in line = do
   reservable ← long_number_in last.1
   checked_values igp te colour reservable
 
--- `N IGP TE COLOUR RESERVABLE`: the number of a link that is there or not, and its values
+-- `N IGP TE COLOUR RESERVABLE`: the number of a link, which need not exist, and its values
 unfoldable pub link_reload_in : List ℕ → Option LinkReload
 link_reload_in line = do
   words ← cut_at_space line
@@ -115,7 +116,7 @@ reload_event line = do
   entry ← link_reload_in line
   Some (Reload (entry ∷ []))
 
--- and what a script may: also `expire PEER`, `commit N LINKS` and `reload N IGP TE COLOUR RESERVABLE`
+-- what a script may ask: also `expire PEER`, `commit N LINKS` and `reload N IGP TE COLOUR RESERVABLE`
 unfoldable pub event_with : List ℕ → List ℕ → Option Event
 event_with word rest =
     if bytes_eq word (codes "expire") then expire_event rest
@@ -123,7 +124,7 @@ event_with word rest =
     else if bytes_eq word (codes "reload") then reload_event rest
     else operator_event_with word rest
 
--- None for a bad line
+-- the event of an operator's line; None for a bad line
 unfoldable pub operator_event_in : List ℕ → Option Event
 operator_event_in line = do
   words ← cut_at_space line
@@ -140,7 +141,7 @@ pub data Command : Type 0 where
   Roll : Command
   Submit : Event → Command
 
--- None for a bad line
+-- the command of a line; None for a bad line
 unfoldable pub command_in : List ℕ → Option Command
 command_in line = if bytes_eq line (codes "roll") then Some Roll else option_map Submit (event_in line)
 

@@ -1,4 +1,4 @@
--- What a line asks for once the link text has ended.
+-- What a line asks for after the link text has ended.
 use Rattle.std.specs.Prelude.{ℕ, List, Option, Some, None, Result, Ok, codes, if◌then◌else◌}
 use Rattle.std.specs.Str.{bytes_eq, is_utf8}
 use Rattle.pcep_messages.specs.Messages.{message_in}
@@ -83,6 +83,6 @@ order_in line =
     else if bytes_eq line (codes "roll") then Some Roll
     else long_order line
 
--- None for a bad line
+-- the order of a line; None for a bad line
 unfoldable pub order_of : List ℕ → Option Order
 order_of line = if is_utf8 line then order_in line else None

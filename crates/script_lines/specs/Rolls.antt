@@ -5,7 +5,7 @@ use Rattle.history_core.specs.Histories.{Content, steps_of, rolled_up}
 use Rattle.script_lines.specs.LineAnswer.{LineAnswer, line_answer}
 use Rattle.script_lines.specs.declared.fault.CommandFault.{CommandFault}
 
--- how many steps were taken before the base, from now on
+-- says how many steps were taken before the base, from now on
 abbrev pub rolled_text : ℕ → List ℕ
 rolled_text steps = codes "rolled " ++ decimal steps
 

@@ -25,11 +25,11 @@ abbrev pub answer_of : Result (Reply × Content) Fault → Result Answer Command
 answer_of (Ok done) = Ok (answer done.0 done.1)
 answer_of (Err fault) = Err (Store fault)
 
--- one event
+-- the answer to one event
 unfoldable pub submitted : Content → Event → Result Answer CommandFault
 submitted d event = answer_of (applied d event)
 
--- what a script's peer may take
+-- the capabilities of a script's peer
 abbrev pub both : Capabilities
 both = record { update = true; create = true }
 
@@ -40,7 +40,7 @@ came_up d peer = do
   marked ← submitted up.after (event.Marker peer)
   Ok marked.after
 
--- the peer is up from here on
+-- the database with the peer up
 unfoldable pub up_at_least : Content → ℕ → Result Content CommandFault
 up_at_least d peer = if is_up d.state peer then Ok d else came_up d peer
 
@@ -53,7 +53,7 @@ event_line event d = do
   given ← submitted d event
   Ok (line_answer (reply_line given.reply) given.after)
 
--- each report in turn
+-- the reports are submitted in turn
 abbrev pub reports_answer : ℕ → List StateReport → Content → Result (LineAnswer Content) CommandFault
 reports_answer peer reports d = each (λ report. event_line (event.Report peer report)) reports d
 

@@ -12,22 +12,22 @@ use Rattle.script_lines.specs.Submits.{submitted}
 use Rattle.script_lines.specs.LineAnswer.{LineAnswer, line_answer, ◌>>=◌, Fails}
 use Rattle.script_lines.specs.declared.fault.CommandFault.{CommandFault}
 
--- what a job's line says, where its search answers this
+-- the line of a job, if its search answers this
 abbrev pub job_line : Job → Option (List ℕ) → List ℕ
 job_line job answer = job_text (job.ticket).id ++ codes " " ++ answer_text answer
 
--- the reply to Take
+-- the text of the reply to Take
 abbrev pub taken_text : Option (List ℕ) → Reply → List ℕ
 taken_text answer (reply.Job job) = job_line job answer
 taken_text answer reply = reply_text reply
 
--- `take`, where the search answers this
+-- `take`, if the search answers this
 unfoldable pub take_line : Option (List ℕ) → Content → Result (LineAnswer Content) CommandFault
 take_line answer d = do
   given ← submitted d event.Take
   Ok (line_answer (taken_text answer given.reply ++ codes "\n") given.after)
 
--- some answer that the search may give leads there; a fault comes before the search
+-- a call returned and left what the line gives for some answer of its search; a fault comes before the search
 abbrev pub AnswersTaken : {X : Type 0} → (X → List ℕ) → Result X CommandFault → Content → Content → Type 0
 AnswersTaken view (Ok x) old new = (answer : Option (List ℕ)) × MayAnswerTo (step old.state event.Take).reply answer × (take_line answer old ≡ Ok (line_answer (view x) new))
 AnswersTaken view (Err fault) old new = Fails fault (take_line None old)

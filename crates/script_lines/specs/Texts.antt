@@ -16,7 +16,7 @@ use Rattle.history_core.specs.declared.step.Step.{Step}
 abbrev pub word_bound : ℕ
 word_bound = 20
 
--- the room, in bytes, in which the text of a reply is added without asking for memory
+-- how many bytes of a reply's text are added without asking for memory
 abbrev pub reply_room : ℕ
 reply_room = 64
 
@@ -31,7 +31,7 @@ out_text messages = codes "out " ++ decimal messages
 abbrev pub refused_text : Why → List ℕ
 refused_text why = codes "refused " ++ decimal (number_of why)
 
--- a path is asked for by a ticket, a ticket was taken, a grant or a removal has an SRP-ID
+-- the texts for: a ticket asks for a path, a ticket was taken, a grant or a removal has an SRP-ID
 abbrev pub asked_text : ℕ → List ℕ
 asked_text ticket = codes "asked " ++ decimal ticket
 
@@ -94,7 +94,7 @@ event_text (event.Reload entries) = codes "reload"
 abbrev pub step_line : ℕ → Step → List ℕ
 step_line number step = codes "step " ++ decimal number ++ codes " " ++ event_text step.event ++ codes " " ++ brief_text step.brief ++ codes "\n"
 
--- a line for each step, the first of which has this place among all steps
+-- a line for each step; the first step has this place among all steps
 abbrev pub steps_from : ℕ → List Step → List ℕ
 steps_from number [] = []
 steps_from number (step ∷ steps) = step_line number step ++ steps_from (number + 1) steps
@@ -102,7 +102,7 @@ steps_from number (step ∷ steps) = step_line number step ++ steps_from (number
 abbrev pub history_text : Content → List ℕ
 history_text d = steps_from d.rolled d.history
 
--- link numbers, each behind a comma
+-- link numbers, each after a comma
 abbrev pub more_links : List ℕ → List ℕ
 more_links [] = []
 more_links (link ∷ links) = codes "," ++ decimal link ++ more_links links

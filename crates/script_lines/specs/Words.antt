@@ -1,4 +1,4 @@
--- Words of a script's line beside those that `asks` reads: bytes, names and paths.
+-- Words of a script's line that `asks` doesn't read: bytes, names and paths.
 use Rattle.std.specs.Prelude.{ℕ, ◌==◌, ◌&&◌, not, nat_le, Bool, List, filter, codes, Option, Some, None, option_map, is_some, if◌then◌else◌}
 use Rattle.std.specs.List.{list_all, filter_map, slice_split}
 use Rattle.std.specs.Result.{result_ok}
@@ -32,7 +32,7 @@ parts text = slice_split (λ byte. byte == 44) text
 abbrev pub is_link : List ℕ → Bool
 is_link word = is_some (long_number_in word)
 
--- link numbers joined by commas, of links that are there or not
+-- link numbers joined by commas; the links need not exist
 abbrev pub links_in : List ℕ → Option (List ℕ)
 links_in text = if list_all is_link (parts text) then Some (filter_map long_number_in (parts text)) else None
 

@@ -26,7 +26,7 @@ fn add_link(text: &mut String, link: LinkNumber, amounts: &[i64; 8]) -> Result<(
     text.push_str("\n")
 }
 
-/// A line for each link, with what is left of it at each priority.
+/// Writes a line for each link, with what is left of it at each priority.
 pub fn table_text(alloc: Global, table: &[[i64; 8]]) -> Result<String, AllocError>
     ensures { IfOk result (λ text. string_bytes text ≡ table_text 0 table.now) }
 {
@@ -37,7 +37,7 @@ pub fn table_text(alloc: Global, table: &[[i64; 8]]) -> Result<String, AllocErro
     Ok(text)
 }
 
-/// A line for each link of a database, with what is unreserved at each priority.
+/// Writes a line for each link of a database, with what is unreserved at each priority.
 pub fn book_text(alloc: Global, database: &Database) -> Result<String, AllocError>
     ensures { IfOk result (λ text. string_bytes text ≡ book_text database.now.state) }
 {

@@ -13,7 +13,7 @@ use engine_core::{Store, last_reply};
 use history_core::{Event, Reply};
 use std::alloc::Global;
 
-/// Adds the text of a reply, in room that is there.
+/// Adds the text of a reply, in room that was reserved.
 fn put_reply(text: &mut String, reply: &Reply)
     requires { string_len text.old + reply_room ≤ string_capacity text.old }
     ensures { string_bytes text.new ≡ string_bytes text.old ++ reply_text reply.now }
@@ -22,7 +22,7 @@ fn put_reply(text: &mut String, reply: &Reply)
     prove!(added.is_ok());
 }
 
-/// Adds how many steps were taken before the base, in room that is there.
+/// Adds how many steps were taken before the base, in room that was reserved.
 fn put_rolled(text: &mut String, steps: u64)
     requires { string_len text.old + reply_room ≤ string_capacity text.old }
     ensures { string_bytes text.new ≡ string_bytes text.old ++ rolled_text steps }
@@ -31,8 +31,8 @@ fn put_rolled(text: &mut String, steps: u64)
     prove!(added.is_ok());
 }
 
-/// Submits an event, and gives the text of its reply. After a fault of the store, want of memory among them, it is
-/// as before.
+/// Submits an event, and returns the text of its reply. After a fault of the store, also if memory runs out, the store
+/// is as before.
 pub fn answer_event<S: Store>(
     alloc: Global,
     event: Event,
@@ -46,7 +46,8 @@ pub fn answer_event<S: Store>(
     Ok(text)
 }
 
-/// Rolls the history, and gives how many steps were taken before its base. Where memory is refused it is as before.
+/// Rolls the history, and returns how many steps were taken before its base. If memory runs out, the store is as
+/// before.
 fn answer_roll<S: Store>(alloc: Global, store: &mut S) -> Result<String, CommandFault>
     ensures { AnswersRoll string_bytes S.moves S.rolls result store.old store.new }
 {
@@ -57,8 +58,8 @@ fn answer_roll<S: Store>(alloc: Global, store: &mut S) -> Result<String, Command
 }
 
 /// Does what an operator's line asks for (docs/FORMAT.md: `expire`, `initiate`, `update`, `return`, `delete`, `commit`
-/// with their words, and `roll`), and gives the text of its reply. A bad line leaves the store alone. After a fault of
-/// the store, want of memory among them, it is as before.
+/// with their words, and `roll`), and returns the text of its reply. A bad line leaves the store as it was. After a
+/// fault of the store, also if memory runs out, the store is as before.
 #[tactic(auto, unfolding(crate::specs::Commands::command_in))]
 pub fn command<S: Store>(alloc: Global, line: &str, store: &mut S) -> Result<String, CommandFault>
     ensures { Answers string_bytes S.moves S.rolls S.is_full (command_in line.now) result store.old store.new }

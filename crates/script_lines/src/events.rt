@@ -56,7 +56,7 @@ fn delete_event(line: &str) -> Option<Event>
     }
 }
 
-/// The number of a ticket, and what its search answered. Memory is asked for only for a line that names both.
+/// Reads the number of a ticket, and what its search answered. Only a line that names both takes memory.
 #[tactic(auto, unfolding(crate::specs::Commands::commit_event))]
 fn commit_event(alloc: Global, line: &str) -> Result<Option<Event>, AllocError>
     ensures event { IfOk result (λ event. event ≡ commit_event line.now) }
@@ -74,7 +74,8 @@ fn commit_event(alloc: Global, line: &str) -> Result<Option<Event>, AllocError>
     }
 }
 
-/// A path of least TE metric; links of all colours may be taken, and nothing else binds it.
+/// Makes the constraints of a path of least TE metric; links of all colours may be taken, and there are no other
+/// constraints.
 fn plain_constraints(
     source: Ipv4,
     destination: Ipv4,
@@ -104,7 +105,7 @@ fn plain_constraints(
     }
 }
 
-/// Reads what is asked of the path of an LSP that is to be initiated: two addresses, a bandwidth and two priorities.
+/// Reads what is asked of the path of an LSP to be initiated: two addresses, a bandwidth and two priorities.
 fn constraints_in(line: &str) -> Option<Constraints>
     ensures { result ≡ constraints_in line.now }
 {
@@ -121,7 +122,7 @@ fn constraints_in(line: &str) -> Option<Constraints>
     }
 }
 
-/// A peer, a name and what is asked of the path. Memory is asked for only for a line that names all of them.
+/// Reads a peer, a name and what is asked of the path. Only a line that names all of them takes memory.
 #[tactic(auto, unfolding(crate::specs::Commands::initiate_event))]
 fn initiate_event(alloc: Global, line: &str) -> Result<Option<Event>, AllocError>
     ensures event { IfOk result (λ event. event ≡ initiate_event line.now) }
@@ -148,7 +149,7 @@ fn initiate_event(alloc: Global, line: &str) -> Result<Option<Event>, AllocError
     }
 }
 
-/// Two metrics, a colour and a bandwidth, each in its range.
+/// Reads two metrics, a colour and a bandwidth, each in its range.
 #[tactic(auto, unfolding(crate::specs::Commands::link_values_in))]
 fn link_values_in(line: &str) -> Option<LinkValues>
     ensures { result ≡ link_values_in line.now }
@@ -163,7 +164,7 @@ fn link_values_in(line: &str) -> Option<LinkValues>
     LinkValues::new(igp, te, colour, reservable)
 }
 
-/// The number of a link, and its values.
+/// Reads the number of a link, and its values.
 #[tactic(auto, unfolding(crate::specs::Commands::link_reload_in))]
 fn link_reload_in(line: &str) -> Option<LinkReload>
     ensures { result ≡ link_reload_in line.now }
@@ -174,7 +175,7 @@ fn link_reload_in(line: &str) -> Option<LinkReload>
     Some(LinkReload { link, values })
 }
 
-/// One link that has other values. Memory is asked for only for a line that names it and them.
+/// Reads a reload of one link. Only a line that names it and its values takes memory.
 #[tactic(auto, unfolding(crate::specs::Commands::reload_event))]
 fn reload_event(alloc: Global, line: &str) -> Result<Option<Event>, AllocError>
     ensures event { IfOk result (λ event. event ≡ reload_event line.now) }
@@ -189,7 +190,7 @@ fn reload_event(alloc: Global, line: &str) -> Result<Option<Event>, AllocError>
     }))
 }
 
-/// A peer, and the SRP-ID of a request to it. The grant or the deletion that has it ends.
+/// Reads a peer, and the SRP-ID of a request to it. The grant or the deletion that has it ends.
 #[tactic(auto, unfolding(crate::specs::Commands::drop_event))]
 fn drop_event(line: &str) -> Option<Event>
     ensures { result ≡ drop_event line.now }
@@ -200,8 +201,8 @@ fn drop_event(line: &str) -> Option<Event>
     Some(Event::Refused { peer, srp })
 }
 
-/// The event that an operator of a script or of a server may ask for, by a line's first word and its rest. Memory is asked for only for a
-/// line that names one.
+/// Reads the event that an operator of a script or of a server may ask for, from a line's first word and its rest. Only
+/// a line that names one takes memory.
 #[tactic(auto, unfolding(crate::specs::Commands::operator_event_with))]
 fn operator_event_with(alloc: Global, word: &str, rest: &str) -> Result<Option<Event>, AllocError>
     ensures event { IfOk result (λ event. event ≡ operator_event_with word.now rest.now) }
@@ -216,8 +217,8 @@ fn operator_event_with(alloc: Global, word: &str, rest: &str) -> Result<Option<E
     }
 }
 
-/// The event that a server's operator may ask for, by a line's first word and its rest. Memory is asked for only for a
-/// line that names one.
+/// Reads the event that a server's operator may ask for, from a line's first word and its rest. Only a line that names
+/// one takes memory.
 #[tactic(auto, unfolding(crate::specs::Commands::server_event_with))]
 fn server_event_with(alloc: Global, word: &str, rest: &str) -> Result<Option<Event>, AllocError>
     ensures event { IfOk result (λ event. event ≡ server_event_with word.now rest.now) }
@@ -229,8 +230,8 @@ fn server_event_with(alloc: Global, word: &str, rest: &str) -> Result<Option<Eve
     }
 }
 
-/// The event that a script may submit, by a line's first word and its rest. Memory is asked for only for a line that
-/// names one.
+/// Reads the event that a script may submit, from a line's first word and its rest. Only a line that names one takes
+/// memory.
 #[tactic(auto, unfolding(crate::specs::Commands::event_with))]
 pub(crate) fn event_with(alloc: Global, word: &str, rest: &str) -> Result<Option<Event>, AllocError>
     ensures event { IfOk result (λ event. event ≡ event_with word.now rest.now) }
@@ -244,8 +245,8 @@ pub(crate) fn event_with(alloc: Global, word: &str, rest: &str) -> Result<Option
     }
 }
 
-/// The event that the line of a server's operator names, or None for a bad line. Memory is asked for only for a line
-/// that names one.
+/// Reads the event that the line of a server's operator names; `None` for a bad line. Only a line that names one takes
+/// memory.
 #[tactic(auto, unfolding(crate::specs::Commands::operator_event_in))]
 pub fn operator_event_in(alloc: Global, line: &str) -> Result<Option<Event>, AllocError>
     ensures event { IfOk result (λ event. event ≡ operator_event_in line.now) }
@@ -257,7 +258,7 @@ pub fn operator_event_in(alloc: Global, line: &str) -> Result<Option<Event>, All
     }
 }
 
-/// The event that a script's line names, or None for a bad line. Memory is asked for only for a line that names one.
+/// Reads the event that a script's line names; `None` for a bad line. Only a line that names one takes memory.
 #[tactic(auto, unfolding(crate::specs::Commands::event_in))]
 pub(crate) fn event_in(alloc: Global, line: &str) -> Result<Option<Event>, AllocError>
     ensures event { IfOk result (λ event. event ≡ event_in line.now) }

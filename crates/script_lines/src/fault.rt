@@ -19,7 +19,7 @@ pub enum CommandFault {
 }
 
 impl CommandFault {
-    /// 1 for a bad line, 2 for a fault of the store.
+    /// Returns 1 for a bad line, 2 for a fault of the store.
     pub fn number(self) -> u8
         ensures { result ≡ fault_number self }
     {

@@ -23,7 +23,7 @@ pub enum Order {
     History,
     /// A session of the peer begins.
     Open(u32),
-    /// One begins and comes up.
+    /// A session of the peer begins and comes up.
     Up(u32),
     /// Bytes of the peer, for its session.
     Bytes(u32, Sequence<u8>),
@@ -33,13 +33,13 @@ pub enum Order {
     Tick(u64),
     /// An event of an operator.
     Submit(Event),
-    /// A ticket is to be taken, and its path searched for.
+    /// A ticket should be taken, and its path searched for.
     Take,
-    /// The history is to be rolled.
+    /// The history should be rolled.
     Roll,
 }
 
-/// The reports of a message, where it is one of state reports.
+/// Returns the reports of a message, if it is one of state reports.
 #[tactic(auto, unfolding(crate::specs::Orders::reports_in))]
 fn reports_in(alloc: Global, bytes: &[u8]) -> Result<Option<Sequence<StateReport>>, AllocError>
     ensures { IfOk result (λ found. found ≡ reports_in bytes.now) }
@@ -198,7 +198,7 @@ fn order_in(alloc: Global, line: &str) -> Result<Option<Order>, AllocError>
     long_order(alloc, line)
 }
 
-/// What the line asks for, or None for a bad line.
+/// Returns what the line asks for; `None` for a bad line.
 #[tactic(auto, unfolding(crate::specs::Orders::order_of))]
 pub fn order_of(alloc: Global, line: &[u8]) -> Result<Option<Order>, AllocError>
     ensures { IfOk result (λ order. order ≡ order_of line.now) }

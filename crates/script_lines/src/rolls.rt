@@ -17,8 +17,7 @@ fn rolled_line(alloc: Global, steps: u64) -> Result<String, AllocError>
     Ok(text)
 }
 
-/// Rolls the history, and says how many steps were taken before its base. Where memory is refused nothing has
-/// changed.
+/// Rolls the history, and says how many steps were taken before its base. If memory runs out, nothing has changed.
 #[tactic(auto, unfolding(crate::specs::Rolls::roll_line))]
 pub fn roll_line(alloc: Global, database: &mut Database) -> Result<String, CommandFault>
     ensures { AnswersLine string_bytes result (roll_line database.old) database.new }

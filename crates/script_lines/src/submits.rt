@@ -32,7 +32,7 @@ fn come_up(database: &mut Database, peer: u32) -> Result<(), CommandFault>
     Ok(())
 }
 
-/// The peer is up from here on.
+/// Brings the peer up, if it isn't.
 #[tactic(auto, unfolding(crate::specs::Submits::up_at_least))]
 fn come_up_first(database: &mut Database, peer: u32) -> Result<(), CommandFault>
     ensures { Leaves result (up_at_least database.old peer) database.new }
@@ -75,7 +75,7 @@ fn report_each(
     Ok(())
 }
 
-/// Submits the reports of a peer, which comes up first where it isn't, and gives their replies.
+/// Submits the reports of a peer, which comes up first if it isn't up, and returns their replies.
 #[tactic(auto, unfolding(crate::specs::Submits::report_line), using(crate::proofs::LineAnswers::behind_nothing))]
 pub fn report_line(
     alloc: Global,
@@ -91,7 +91,7 @@ pub fn report_line(
     Ok(text)
 }
 
-/// Submits an event, and gives its reply on a line.
+/// Submits an event, and returns its reply on a line.
 #[tactic(auto, using(crate::proofs::LineAnswers::behind_nothing))]
 pub fn event_line(
     alloc: Global,

@@ -23,7 +23,7 @@ fn add_job(alloc: Global, text: &mut String, job: &Job) -> Result<(), AllocError
     }
 }
 
-/// Adds the reply to Take. Where it is a job, its path is searched for.
+/// Adds the reply to Take. If it is a job, its path is searched for.
 fn add_taken(alloc: Global, text: &mut String, reply: &Reply) -> Result<(), AllocError>
     ensures { OnOk result ((answer : Option (List ℕ)) × MayAnswerTo reply.now answer × (string_bytes text.new ≡ string_bytes text.old ++ taken_text answer reply.now)) }
 {
@@ -33,7 +33,7 @@ fn add_taken(alloc: Global, text: &mut String, reply: &Reply) -> Result<(), Allo
     }
 }
 
-/// Takes the ticket of the least number that waits, searches for its path, and gives the answer on a line.
+/// Takes the waiting ticket of the least number, searches for its path, and returns the answer on a line.
 #[tactic(auto, unfolding(crate::specs::Takes::take_line))]
 pub fn take_line(alloc: Global, database: &mut Database) -> Result<String, CommandFault>
     ensures { AnswersTaken string_bytes result database.old database.new }

@@ -15,7 +15,7 @@ fn booked_word(wants_path: bool) -> &'static str
     if wants_path { "booked wants" } else { "booked" }
 }
 
-/// A word of a reply, and a number.
+/// Adds a word of a reply, and a number.
 pub(crate) fn add_number(text: &mut String, word: &str, number: u64) -> Result<(), AllocError>
     requires { length word.now ≤ word_bound }
     ensures text { OnOk result (string_bytes text.new ≡ string_bytes text.old ++ (word.now ++ decimal number)) }
@@ -62,7 +62,7 @@ fn add_path(text: &mut String, links: &[LinkNumber]) -> Result<(), AllocError>
     }
 }
 
-/// What a search answered: `none`, or the numbers of a path's links, joined by commas.
+/// Adds what a search answered: `none`, or the numbers of a path's links, joined by commas.
 pub(crate) fn add_answer(text: &mut String, answer: Option<&[LinkNumber]>) -> Result<(), AllocError>
     ensures { OnOk result (string_bytes text.new ≡ string_bytes text.old ++ answer_text (option_map (λ links. links.now) answer.entry)) }
 {
@@ -72,10 +72,10 @@ pub(crate) fn add_answer(text: &mut String, answer: Option<&[LinkNumber]>) -> Re
     }
 }
 
-/// In so much room, in bytes, the text of a reply is added without asking for memory.
+/// How many bytes of a reply's text are added without asking for memory.
 pub const REPLY_ROOM: usize = 64;
 
-/// A reply, without a line break.
+/// Adds a reply, without a line break.
 pub fn add_reply(text: &mut String, reply: &Reply) -> Result<(), AllocError>
     ensures succeeds { string_len text.old + reply_room ≤ string_capacity text.old → IsOk result }
     ensures text { OnOk result (string_bytes text.new ≡ string_bytes text.old ++ reply_text reply.now) }
@@ -148,7 +148,7 @@ fn add_step(text: &mut String, place: u64, step: &Step) -> Result<(), AllocError
     text.push_str("\n")
 }
 
-/// A line for each step, the first of which has this place among all steps.
+/// Adds a line for each step; the first step has this place among all steps.
 fn add_steps(text: &mut String, first: u64, steps: &[Step]) -> Result<(), AllocError>
     requires { first + length steps.now < 2 ^ 63 }
     ensures { OnOk result (string_bytes text.new ≡ string_bytes text.old ++ steps_from first steps.now) }
@@ -159,7 +159,7 @@ fn add_steps(text: &mut String, first: u64, steps: &[Step]) -> Result<(), AllocE
     Ok(())
 }
 
-/// A line for each kept step, with its place among all steps.
+/// Writes a line for each kept step, with its place among all steps.
 pub fn history_text(alloc: Global, database: &Database) -> Result<String, AllocError>
     ensures { IfOk result (λ s. string_bytes s ≡ history_text database.now) }
 {

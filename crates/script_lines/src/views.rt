@@ -9,11 +9,11 @@ use asks::{Ask, ask_in, cut_at_space};
 pub struct ViewLine {
     /// What its first look asks for.
     pub ask: Ask,
-    /// As JSON (RFC 8259); else as a table for people.
+    /// Whether as JSON (RFC 8259), or else as a table for people.
     pub is_json: bool,
 }
 
-/// Gives what stands after the word `json`.
+/// Returns what stands after the word `json`.
 fn json_in(line: &str) -> Option<&str>
     ensures { option_map (λ rest. rest.now) result ≡ json_in line.now }
 {

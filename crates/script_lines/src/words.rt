@@ -1,4 +1,4 @@
-//! Words of a script's line beside those that `asks` reads: bytes, names and paths.
+//! Words of a script's line that `asks` doesn't read: bytes, names and paths.
 
 ghost use Rattle.std.specs.Prelude.{◌≡◌, option_map, is_some, Some, IfOk, IfErr, IsSome};
 ghost use Rattle.std.specs.List.{list_all, filter_map};
@@ -24,7 +24,7 @@ fn without_spaces(alloc: Global, text: &str) -> Result<Vec<u8>, AllocError>
         .collect(alloc)
 }
 
-/// Bytes in hexadecimal of either case.
+/// Reads bytes in hexadecimal of either case.
 fn decoded(alloc: Global, digits: &[u8]) -> Result<Option<Vec<u8>>, AllocError>
     ensures { IfOk result (λ found. option_map (λ bytes. bytes.items) found ≡ result_ok (decode_of digits.now)) }
 {
@@ -35,7 +35,8 @@ fn decoded(alloc: Global, digits: &[u8]) -> Result<Option<Vec<u8>>, AllocError>
     }
 }
 
-/// Bytes in hexadecimal of either case, with spaces anywhere. Memory is asked for digits only where there are spaces.
+/// Reads bytes in hexadecimal of either case, with spaces anywhere. If there are spaces, the digits without them take
+/// memory.
 pub(crate) fn octets_in(alloc: Global, text: &str) -> Result<Option<Vec<u8>>, AllocError>
     ensures { IfOk result (λ found. option_map (λ bytes. bytes.items) found ≡ octets text.now) }
 {
@@ -60,7 +61,7 @@ fn copied(alloc: Global, word: &str) -> Result<Sequence<u8>, AllocError>
     Ok(Sequence::from_vec(bytes))
 }
 
-/// A name of 1 to 64 printed characters of ASCII, none of them a space. Memory is asked for only for a name.
+/// Reads a name of 1 to 64 printed characters of ASCII, none of them a space. Only a name takes memory.
 pub(crate) fn name_in(alloc: Global, word: &str) -> Result<Option<LspName>, AllocError>
     ensures name { IfOk result (λ name. name ≡ name_in word.now) }
     ensures good { IfErr result (λ _. IsSome (name_in word.now)) }
@@ -72,7 +73,7 @@ pub(crate) fn name_in(alloc: Global, word: &str) -> Result<Option<LspName>, Allo
     Ok(LspName::new(bytes))
 }
 
-/// The number of a link, that is there or not: a decimal number below 2^64.
+/// Reads the number of a link, which need not exist: a decimal number below 2^64.
 pub(crate) fn link_in(word: &str) -> Option<LinkNumber>
     ensures { result ≡ long_number_in word.now }
 {
@@ -96,7 +97,7 @@ fn links_of(alloc: Global, text: &str) -> Result<Vec<LinkNumber>, AllocError>
         .collect(alloc)
 }
 
-/// Link numbers in decimal, joined by commas. Memory is asked for only for such.
+/// Reads link numbers in decimal, joined by commas. Only such a text takes memory.
 fn links_in(alloc: Global, text: &str) -> Result<Option<Sequence<LinkNumber>>, AllocError>
     ensures links { IfOk result (λ links. links ≡ links_in text.now) }
     ensures good { IfErr result (λ _. IsSome (links_in text.now)) }
@@ -108,7 +109,7 @@ fn links_in(alloc: Global, text: &str) -> Result<Option<Sequence<LinkNumber>>, A
     Ok(Some(Sequence::from_vec(links)))
 }
 
-/// What a search answered: `none`, or the numbers of a path's links. Memory is asked for only for such.
+/// Reads what a search answered: `none`, or the numbers of a path's links. Only such a text takes memory.
 pub(crate) fn offer_in(
     alloc: Global,
     word: &str,

@@ -1,4 +1,4 @@
--- A roll of a full history, as a store that a seat stands for makes room.
+-- A roll of a full history: how a store that a seat stands for makes room.
 use Rattle.std.proofs.Common.{◌≡◌, ℕ, true, List, [], Option, None, Some}
 use Rattle.std.proofs.lemmas.List.{append-nil}
 use mathlib.Core.List.{IsPrefix}
@@ -13,7 +13,7 @@ use Rattle.engine_core.specs.Deeds.{Deed}
 use Rattle.engine_core.specs.Stores.{MakesRoom}
 
 module _ {T : Type 0} (moves : T → List Deed → T → Type 0) (full : T → Type 0) (rolls : T → ℕ → T → Type 0) (text : Ted) (a b : T) (stands : SeatContent → T) (old new : SeatContent) where
-  -- the store with the seat that had seen the full history stands between
+  -- between the two stands the store with the seat that had seen the full history
   pub makes_room : (r : Option ℕ) → (SeesMore old new → moves a [] b) → ((past : List (Happening Event)) → IsPrefix old.seen past → moves a [] (stands (with_seen past old)))
       → ((s : SeatContent) → is_full (database_at text s.seen) ≡ true → full (stands s)) → ((s : SeatContent) (steps : ℕ) → RolledUp text s new steps → rolls (stands s) steps b)
       → RollsIf is_full text old new r → MakesRoom moves full rolls a b r

@@ -10,8 +10,8 @@ use Rattle.shared_pce.specs.Turns.{Received, SeesMore, RolledUp}
 use Rattle.engine_core.specs.Deeds.{Deed, Called, Shown, calls_of}
 use Rattle.engine_core.specs.declared.store.Call.{Call}
 
--- each call is a step under the lock, of which the seat has the receipt; then more may be seen; what is shown leaves the
--- seat as it is
+-- each call is a step under the lock, of which the seat gets the receipt; then the seat may see more; showing something
+-- leaves the seat as it is
 abbrev pub Receives : Ted → SeatContent → List Deed → SeatContent → Type 0
 Receives text s [] t = SeesMore s t
 Receives text s (Shown sight ∷ deeds) t = Receives text s deeds t
@@ -23,18 +23,18 @@ pub record SeatedMoves (text : Ted) (old : MutBor SeatContent) (listed : List Ca
   pub received : Receives text old.now made new.now
   pub added : list ≡ listed ++ calls_of made
 
--- The history was rolled, and `steps` steps were taken before its base. The seat has seen that, and else it and the list
--- stay as they were
+-- The history was rolled, and `steps` steps were taken before its base. The seat has seen that; otherwise it and the
+-- list stay as they were.
 pub record SeatedRolls (text : Ted) (old : MutBor SeatContent) (listed : List Call) (steps : ℕ) (new : MutBor SeatContent) (list : List Call) : Type 0 where
   pub same_loan : new.ghost_name ≡ old.ghost_name
   pub same_calls : list ≡ listed
   pub rolled : RolledUp text old.now new.now steps
 
--- a seat that keeps its receipts of rolled places no longer
+-- the seat after it may have dropped its receipts of rolled places
 abbrev pub IsFolded : Ted → SeatContent → SeatContent → Type 0
 IsFolded text old new = IsPrefix old.seen new.seen × (new ≡ with_seen new.seen (tidy (database_at text new.seen).rolled old))
 
--- the same loan of the same seat, which may keep its receipts of rolled places no longer
+-- the same loan of the same seat, which may have dropped its receipts of rolled places
 pub record SameSeat (text : Ted) (old new : MutBor SeatContent) : Type 0 where
   pub same_loan : new.ghost_name ≡ old.ghost_name
   pub same : (new.now ≡ old.now) ⊎ IsFolded text old.now new.now

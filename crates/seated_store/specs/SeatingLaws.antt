@@ -58,7 +58,7 @@ receives_on text a b c (Called call ∷ first) second h k = (h.0, h.1, receives_
 pub moves_nowhere : (text : Ted) (s : MutBor SeatContent) (calls : List Call) → SeatedMoves text s calls [] s calls
 moves_nowhere text s calls = record { same_loan = refl; received = sees_same s.now; added = sym (append-nil calls) }
 
--- what is shown leaves it as it is
+-- showing something leaves the seat as it is
 pub moves_shown : (text : Ted) (s : MutBor SeatContent) (calls : List Call) (sight : Sight) → SeatedMoves text s calls (Shown sight ∷ []) s calls
 moves_shown text s calls sight = record { same_loan = refl; received = sees_same s.now; added = sym (append-nil calls) }
 

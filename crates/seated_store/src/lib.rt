@@ -1,6 +1,6 @@
-//! A seat of a shared database as the store of a session. Each event that is submitted is one step under the lock, with
-//! its receipt to the seat, and the list of calls shares the event with the history and the receipt. Each call of the
-//! list is that of its receipt (`specs/Seating.antt`).
+//! A seat of a shared database as the store of a session. Each event that is submitted is one step under the lock, of
+//! which the seat gets the receipt. The list of calls shares the event with the history and the receipt. Each call of
+//! the list is that of its receipt (`specs/Seating.antt`).
 //!
 //! ```text
 //! fn answered<R: Wait, B: Brands>(rt: &R, alloc: Global, shared: &Shared<B>, seat: &mut Seat<B>, client: &mut Client, piece: &[u8]) -> Result<Vec<u8>, Fault>

@@ -21,11 +21,11 @@ pub struct Seated<'a, R: Wait, B: Brands> {
     shared: &'a Shared<B>,
     seat: &'a mut Seat<B>,
     calls: Vec<Call>,
-    /// How many bytes the steps take of which the seat has receipts.
+    /// How many bytes the steps take whose receipts the seat has.
     bytes: u64,
 }
 
-/// Makes the event one that is kept twice and is in memory once.
+/// Makes an event that is kept twice and is in memory once.
 fn shared_twice(alloc: Global, event: Event) -> Result<(SharedEvent, SharedEvent), AllocError>
     ensures { IfOk result (λ both. (both.0 ≡ event) × (both.1 ≡ event)) }
 {
@@ -39,7 +39,7 @@ fn shared_twice(alloc: Global, event: Event) -> Result<(SharedEvent, SharedEvent
     }
 }
 
-/// Adds the bytes of the newest step to those before it. A seat that has no other receipt has dropped those.
+/// Adds the bytes of the newest step to those before it. A seat that has no other receipt has dropped the earlier ones.
 fn with_newest(before: u64, receipts: &[Receipt]) -> u64 {
     let newest = receipts.len().saturating_sub(1);
     let before = if newest == 0 { 0 } else { before };
@@ -67,7 +67,7 @@ impl<'a, R: Wait, B: Brands> Seated<'a, R, B> {
         }
     }
 
-    /// Tests whether messages wait to be sent to the peer, in what the seat has then seen.
+    /// Tests whether messages wait to be sent to the peer, in what the seat has seen by then.
     pub fn queued(&mut self, peer: u32) -> bool
         ensures queued { result ≡ is_queued (database_at B.text self.new.seat.now.seen).state peer }
         ensures same { SeatedMoves B.text self.old.seat self.old.calls.items [] self.new.seat self.new.calls.items }
@@ -76,7 +76,7 @@ impl<'a, R: Wait, B: Brands> Seated<'a, R, B> {
     }
 
     /// Lists what is left of every link at each of the eight priorities, in bytes per second, by the number of the
-    /// link, in what the seat has then seen.
+    /// link, in what the seat has seen by then.
     pub fn left(&mut self) -> Result<Vec<[i64; 8]>, AllocError>
         ensures left { IfOk result (λ table. let d = database_at B.text self.new.seat.now.seen in table.items ≡ all_left d.state.te.links d.state.base.paths) }
         ensures same { SeatedMoves B.text self.old.seat self.old.calls.items [] self.new.seat self.new.calls.items }
@@ -84,7 +84,7 @@ impl<'a, R: Wait, B: Brands> Seated<'a, R, B> {
         self.shared.left_at(self.rt, self.seat)
     }
 
-    /// Runs a query on the database, and shows the seat what has happened until then. No call is made.
+    /// Runs a query on the database, and shows the seat what has happened until then. Makes no call.
     pub fn look<L: Look>(&mut self, look: &L) -> Result<L::Seen, AllocError>
         ensures sees { IfOk result (L.sees look.now (database_at B.text self.new.seat.now.seen)) }
         ensures same { SeatedMoves B.text self.old.seat self.old.calls.items [] self.new.seat self.new.calls.items }
@@ -139,7 +139,7 @@ impl<'a, R: Wait, B: Brands> Store for Seated<'a, R, B> {
     }
 
     /// Empties the list. If it is empty already, nothing was done since, and the seat drops its receipts of rolled
-    /// places. Once its steps take as much memory as those of one seat may, the history is rolled first.
+    /// places. If its steps take as much memory as those of one seat may, the history is rolled first.
     fn forget(&mut self) {
         if self.bytes >= self.shared.share_of_seat() {
             self.bytes = 0;

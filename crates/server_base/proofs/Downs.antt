@@ -1,4 +1,4 @@
--- Of the paths that are down those of one router go, or those of one LSP.
+-- The paths of one router, or of one LSP, are removed from those that are down.
 use Rattle.std.proofs.Common.{◌≡◌, ℕ, Bool, true, false, cond, not, filter, Option, None, nat_eq, refl, sym, ap, ◌∙◌}
 use Rattle.std.specs.Map.{lookup}
 use Rattle.std.proofs.lemmas.Bool.{and_parts, eqb-true}

@@ -1,4 +1,4 @@
--- Whether a session is up after one call more.
+-- The test whether a session is up, after one more call.
 use Rattle.std.proofs.Common.{◌≡◌, Bool, List, [], ◌∷◌, ◌++◌, refl}
 use Rattle.engine_core.specs.Joining.{joined_by, joined_after}
 use Rattle.engine_core.specs.declared.store.Call.{Call}

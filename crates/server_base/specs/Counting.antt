@@ -1,4 +1,4 @@
--- What is counted of steps, and of connections that end.
+-- What is counted for steps, and for connections that end.
 use Rattle.std.specs.Prelude.{ℕ, Bool, true, false, ◌==◌, List, [], ◌∷◌, Option, Some, None, if◌then◌else◌}
 use Rattle.lsp_base.specs.Whys.{number_of}
 use Rattle.step_core.specs.declared.event.Reply.{Reply}
@@ -39,7 +39,7 @@ reply_kind (reply.Removing srp) = kind.Removing
 reply_kind (reply.Out messages) = kind.Out
 reply_kind (reply.Refused why) = kind.Refused
 
--- a refusal is counted by its reason too
+-- a refusal is also counted by its reason
 abbrev pub refusal_counted : Reply → Counters → Counters
 refusal_counted (reply.Refused why) c = added (Refusal (number_of why)) c
 refusal_counted _ c = c
@@ -47,7 +47,7 @@ refusal_counted _ c = c
 abbrev pub step_counted : EventKind → Reply → Counters → Counters
 step_counted event r c = refusal_counted r (added (Step event (reply_kind r)) c)
 
--- each call in turn
+-- each call is counted in turn
 abbrev pub all_counted : List Call → Counters → Counters
 all_counted [] c = c
 all_counted (x ∷ xs) c = all_counted xs (step_counted (kind_of x.event) x.reply c)
@@ -61,13 +61,13 @@ abbrev pub turn_counted : Bool → Worked → Counters → Counters
 turn_counted had_job worked.Idle c = added (Step event.Take kind.Idle) c
 turn_counted had_job (worked.Done job r) c = step_counted event.Commit r (taken_counted had_job c)
 
--- why a session ended: it sent a Close of reason 2 for the DeadTimer, and one of reason 3 for a malformed message (RFC 5440
--- section 7.17)
+-- why a session ended: it sent a Close of reason 2 for the DeadTimer, and one of reason 3 for a malformed message (RFC
+-- 5440 section 7.17)
 abbrev pub closing_reason : Option ℕ → EndReason
 closing_reason None = end.SessionEnded
 closing_reason (Some number) = if number == 2 then end.DeadTimer else (if number == 3 then end.Malformed else end.Closed number)
 
--- why a connection ended: the refusal of number 2 is that the peer is up
+-- why a connection ended: the refusal with number 2 says that the peer is up
 abbrev pub end_reason : Reason → EndReason
 end_reason reason.PeerClosed = end.PeerClosed
 end_reason (reason.PeerClose number) = end.PeerClosed

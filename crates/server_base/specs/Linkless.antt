@@ -1,4 +1,4 @@
--- Reported paths that hold no link, and how their LSPs stand.
+-- Reported paths that hold no link, and the states of their LSPs.
 use Rattle.std.specs.Prelude.{ℕ, ◌+◌, ◌≡◌, Bool, true, false, not, ◌&&◌, ◌==◌, nat_lt, List, [], ◌∷◌, length, map, filter, take, drop, is_some, Option, Some, None, if◌then◌else◌}
 use Rattle.std.specs.List.{list_any}
 use Rattle.lsp_base.specs.Lsps.{is_path_of, lsp_at}
@@ -21,7 +21,7 @@ is_empty (x ∷ xs) = false
 abbrev pub holds_links : Path → Bool
 holds_links x = not (is_empty x.links)
 
--- its router reported it down, or it can't be placed
+-- its router reported it down, or its route isn't known
 abbrev pub is_linkless : Path → Bool
 is_linkless x = is_reported x.part && not (holds_links x)
 
@@ -41,7 +41,7 @@ abbrev pub is_removing : Option Lsp → Bool
 is_removing None = false
 is_removing (Some lsp) = is_some lsp.removing
 
--- the path, and how its LSP stands
+-- the path, and the state of its LSP
 abbrev pub seen_linkless : State → Path → SeenLinkless
 seen_linkless s x = record {
   peer = x.peer;
@@ -54,11 +54,11 @@ seen_linkless s x = record {
   is_removing = is_removing (lsp_at s.base.records x.peer x.plsp);
 }
 
--- the place behind 256 paths, if there is a path
+-- the place after 256 paths, if there is a path at it
 abbrev pub next_of : ℕ → ℕ → Option ℕ
 next_of from count = if nat_lt (from + 256) count then Some (from + 256) else None
 
--- those of 256 paths from a place on that hold no link
+-- of 256 paths from a place on, those that hold no link
 pub record SeesLinkless (from : ℕ) (d : Content) (seen : LinklessPage) : Type 0 where
   pub paths : seen.paths.items ≡ map (seen_linkless d.state) (filter is_linkless (take 256 (drop from d.state.base.paths)))
   pub next : seen.next ≡ next_of from (length d.state.base.paths)

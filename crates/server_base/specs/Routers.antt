@@ -1,4 +1,4 @@
--- Routers and grants as they are seen by the thread that keeps up.
+-- Routers and grants as the timer thread sees them.
 use Rattle.std.specs.Prelude.{ℕ, ◌≡◌, ◌⊎◌, not, ◌&&◌, ◌==◌, Bool, List, find, Option, Some, None, if◌then◌else◌}
 use Rattle.lsp_base.specs.Same.{is_reported}
 use Rattle.lsp_base.specs.declared.path.Path.{Path}
@@ -8,7 +8,7 @@ use Rattle.step_core.specs.declared.peer.Peer.{Peer}
 use Rattle.history_core.specs.Histories.{Content}
 use Rattle.server_base.specs.declared.routers.SeenRouter.{SeenRouter}
 
--- it has reported all of its LSPs in a session that is up, and takes updates in it
+-- a router that has reported all of its LSPs in a session that is up, and takes updates in it
 abbrev pub seen_router : Peer → SeenRouter
 seen_router p = record { peer = p.number; session = p.session; is_up = p.up; in_sync = p.up && not p.syncing; takes_updates = (p.capabilities).update }
 
@@ -28,7 +28,7 @@ srp_found (Some x) = srp_of x.part
 abbrev pub srp_in : List Path → ℕ → ℕ → Option ℕ
 srp_in paths peer plsp = srp_found (find (is_grant_of peer plsp) paths)
 
--- none, or that of the LSP's first grant
+-- None, or the SRP-ID of the LSP's first grant
 abbrev pub SeesGrantOf : ℕ → ℕ → Content → Option ℕ → Type 0
 SeesGrantOf peer plsp d seen = (seen ≡ None) ⊎ (seen ≡ srp_in d.state.base.paths peer plsp)
 

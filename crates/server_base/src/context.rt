@@ -27,7 +27,7 @@ use std::sync::{Mutex, Wait};
 use std::time::{Clock, Duration, Instant};
 use te_base::TeBase;
 
-/// The number, or the greatest of 64 bits if it is above that.
+/// Returns the number, or the greatest of 64 bits if it is above that.
 fn capped(number: u128) -> u64
     ensures { result ≡ min number (2 ^ 64 - 1) }
 {
@@ -37,20 +37,20 @@ fn capped(number: u128) -> u64
     }
 }
 
-/// The moments of a run, whether it or a connection is to end, and its wakers.
+/// The moments of a run, its wakers, and whether it or a connection should end.
 #[derive(Drop)]
 pub struct Moments<'a, R: Clock> {
     pub rt: &'a R,
-    /// When the run began. `None` where the system has no clock.
+    /// When the run began. `None` if the system has no clock.
     pub start: Option<Instant>,
     pub run: &'a Run,
     pub wakers: &'a Wakers,
-    /// The slot of the connection's seat, where it is for one.
+    /// The slot of the connection's seat, if it is for one.
     pub slot: Option<usize>,
 }
 
 impl<'a, R: Clock> Moments<'a, R> {
-    /// The time since the run began; zero if there is no clock, or it fails.
+    /// Returns the time since the run began; zero if there is no clock, or reading it fails.
     fn elapsed(&self) -> Duration
         ensures { HasRun self.now.start (as_nanos result) }
     {
@@ -63,7 +63,7 @@ impl<'a, R: Clock> Moments<'a, R> {
         }
     }
 
-    /// The moment, in microseconds since the run began.
+    /// Returns the moment, in microseconds since the run began.
     pub fn now_us(&self) -> u64 {
         capped(self.elapsed().as_micros())
     }
@@ -90,7 +90,7 @@ impl<'a, R: Wait + Clock> Watch for Moments<'a, R> {
     }
 }
 
-/// What happens in a run beside the steps of its database.
+/// What happens in a run, apart from the steps of its database.
 #[derive(Drop)]
 pub struct RunState {
     pub run: Run,
@@ -108,8 +108,9 @@ pub struct RunState {
 }
 
 impl RunState {
-    /// Nothing has happened. So many connections may have a place, and their seats and those of connections that gave theirs
-    /// up have so many slots. Paths are granted from this moment on, or while all routers that are named are in sync.
+    /// Makes the state of a run in which nothing has happened. `places` connections may have a place; there are `slots`
+    /// slots for their seats and for those of connections that gave up their place. Paths are granted from this moment
+    /// on, or while all routers that are named are in sync.
     pub fn new(
         alloc: Global,
         places: usize,
@@ -149,9 +150,9 @@ pub struct Context<'a, R: Clock, B: Brands> {
     pub run: &'a Run,
     pub wakers: &'a Wakers,
     pub log: &'a LogQueue,
-    /// Whether tickets may be taken yet.
+    /// Says whether tickets may be taken yet.
     pub grants: &'a GrantGate,
-    /// Only routers whose address a node of this network owns are heard; all, where there is none.
+    /// Only routers whose address a node of this network owns are served; if it is `None`, all are.
     pub known: &'a Option<TeBase>,
     /// What the server counts. Its lock is held for a few additions.
     pub counters: &'a Mutex<Counters>,
@@ -161,29 +162,29 @@ pub struct Context<'a, R: Clock, B: Brands> {
     pub presences: &'a Mutex<Presences>,
     /// How many steps there were at which moments.
     pub marks: &'a Mutex<Marks>,
-    /// What reports say of paths beside the state.
+    /// What reports say about paths that the state doesn't keep.
     pub words: &'a Mutex<PathWords>,
-    /// By which PCErr routers refused what was asked of an LSP.
+    /// The PCErr by which routers refused what was asked of an LSP.
     pub errors: &'a Mutex<PeerErrors>,
-    /// What is known of grants and deletions that stand, and of LSPs that are down.
+    /// What is known about grants and deletions that stand, and about LSPs that are down.
     pub upkeep: &'a Upkeep,
-    /// How long a router may leave one unanswered, in milliseconds; 0 is for ever.
+    /// How long a router may leave a request unanswered, in milliseconds; 0: for ever.
     pub answer_ms: u64,
-    /// After which time an LSP that is down is asked for again, in milliseconds; 0 is never.
+    /// The time after which an LSP that is down is asked for again, in milliseconds; 0: never.
     pub retry_ms: u64,
-    /// The number of connections of others that came.
+    /// How many connections of unknown routers came.
     pub strangers: &'a AtomicU64,
     /// The ends of each link.
     pub ends: &'a [LinkEnds],
     pub start: Option<Instant>,
     /// The time for which a peer that went down is kept, in milliseconds.
     pub keep_ms: u64,
-    /// The number of seats for connections that have a place, and for those that gave theirs up. Their slots come
+    /// How many seats there are for connections that have a place, and for those that gave up theirs. Their slots come
     /// first.
     pub seats: usize,
-    /// The slot of the seat with which a peer is forgotten that makes room for another.
+    /// The slot of the seat that forgets a peer to make room for another.
     pub usher: usize,
-    /// The slot of the seat with which a connection's thread drops a grant that a report covers.
+    /// The slot of the seat by which a connection's thread drops a grant that a report covers.
     pub closer: usize,
 }
 
@@ -198,7 +199,7 @@ impl<'a, R: Clock, B: Brands> Context<'a, R, B> {
         }
     }
 
-    /// What those who are shown the run see of it.
+    /// Returns what viewers and operators see of the run.
     pub fn outlook(&self) -> Outlook<'a, R, B> {
         Outlook {
             rt: self.rt,
@@ -214,7 +215,7 @@ impl<'a, R: Clock, B: Brands> Context<'a, R, B> {
         }
     }
 
-    /// Those of the connection whose seat has this slot.
+    /// Returns the moments of the connection whose seat has this slot.
     pub fn moments_at(&self, slot: usize) -> Moments<'a, R> {
         Moments {
             rt: self.rt,
@@ -225,7 +226,7 @@ impl<'a, R: Clock, B: Brands> Context<'a, R, B> {
         }
     }
 
-    /// Says a line of the log.
+    /// Writes a line to the log.
     pub fn say(&self, line: LogLine)
     where
         R: Wait,
@@ -233,7 +234,7 @@ impl<'a, R: Clock, B: Brands> Context<'a, R, B> {
         self.log.say(self.rt, line, self.moments().now_ms());
     }
 
-    /// Counts this once more.
+    /// Counts this one more time.
     pub fn count(&self, what: Counted)
     where
         R: Wait,
@@ -249,7 +250,7 @@ impl<'a, R: Clock, B: Brands> Context<'a, R, B> {
         count_step(&mut acquire(self.rt, self.counters), event, reply);
     }
 
-    /// Notes that a path was asked for at a moment, in microseconds, where that was the last of these calls.
+    /// Notes that a path was asked for at a moment, in microseconds, if that was the last of these calls.
     pub fn note_ask(&self, calls: &[Call], asked_us: u64)
     where
         R: Wait,
@@ -259,7 +260,7 @@ impl<'a, R: Clock, B: Brands> Context<'a, R, B> {
         }
     }
 
-    /// Notes that a path was asked for at a moment, in microseconds, where this is the reply.
+    /// Notes that a path was asked for at a moment, in microseconds, if this is the reply.
     pub(crate) fn note_asked(&self, reply: &Reply, asked_us: u64)
     where
         R: Wait,
@@ -272,7 +273,8 @@ impl<'a, R: Clock, B: Brands> Context<'a, R, B> {
         }
     }
 
-    /// Whether the peer has fewer tickets than are free, so that others find some. Where there is no memory for that, it is so.
+    /// Tests whether the peer has fewer tickets than are free, so that others find some. If memory runs out for that,
+    /// the answer is yes.
     pub fn has_share(&self, front: &mut Front<Event, B>, peer: u32) -> bool
     where
         R: Wait,
@@ -283,7 +285,7 @@ impl<'a, R: Clock, B: Brands> Context<'a, R, B> {
         }
     }
 
-    /// Notes that a ticket was settled, and gives how long it waited, in microseconds, where its ask was noted.
+    /// Notes that a ticket was settled, and returns how long it waited, in microseconds, if its request was noted.
     pub fn note_verdict(&self, ticket: u64, now_us: u64) -> Option<u64>
     where
         R: Wait,
@@ -302,8 +304,8 @@ impl<'a, R: Clock, B: Brands> Context<'a, R, B> {
         self.presences.lock(self.rt).ended(peer, slot, now_ms, end);
     }
 
-    /// Makes room for a session of the peer that comes up, if the peer isn't known and no other may be. Where there is no memory
-    /// for that, the session is refused as if no peer made room.
+    /// Makes room for a session of the peer that comes up, if the peer isn't known and there is no room for one more.
+    /// If memory runs out for that, the session is refused as if no peer could make room.
     pub fn make_room_for(&self, peer: u32)
     where
         R: Wait,
@@ -323,7 +325,7 @@ impl<'a, R: Clock, B: Brands> Context<'a, R, B> {
         }
     }
 
-    /// Says that a peer was forgotten, or couldn't be.
+    /// Logs that a peer was forgotten, or couldn't be.
     pub fn say_settled(&self, settled: Settled)
     where
         R: Wait,
@@ -339,7 +341,7 @@ impl<'a, R: Clock, B: Brands> Context<'a, R, B> {
         }
     }
 
-    /// The router was forgotten, with what it said of its LSPs. That takes no memory.
+    /// Forgets what a router said about its LSPs, when the router is forgotten. Takes no memory.
     fn forget_words(&self, peer: u32)
     where
         R: Wait,
@@ -350,7 +352,7 @@ impl<'a, R: Clock, B: Brands> Context<'a, R, B> {
         let _noted = acquire(self.rt, self.errors).note(gone);
     }
 
-    /// Whether a router of this address is heard. Another is counted.
+    /// Tests whether a router of this address is served. Counts it if it isn't.
     pub fn is_known(&self, address: u32) -> bool
     where
         R: Wait,
@@ -370,7 +372,7 @@ impl<'a, R: Clock, B: Brands> Context<'a, R, B> {
         is_known
     }
 
-    /// Asks for the end, and has each connection see to it at once.
+    /// Asks for the end of the run, and wakes each connection so that it sees that at once.
     pub fn close(&self)
     where
         R: Wait,
@@ -379,7 +381,7 @@ impl<'a, R: Clock, B: Brands> Context<'a, R, B> {
         self.wakers.ring_all(self.rt);
     }
 
-    /// Forces the end, likewise. The first fault stays.
+    /// Forces the end of the run in the same way. The first fault stays.
     pub fn cut(&self, fault: RunFault)
     where
         R: Wait,

@@ -1,4 +1,4 @@
-//! What is counted of steps, and of connections that end.
+//! What is counted for steps, and for connections that end.
 ghost use Rattle.std.specs.Prelude.{◌≡◌, []};
 ghost use Rattle.server_base.specs.Counting.{all_counted, closing_reason, end_reason, reply_kind, step_counted, turn_counted};
 
@@ -9,7 +9,7 @@ use server_counts::{Counted, Counters, EndReason, ReplyKind};
 use server_log::{LastWords, Reason};
 use shared_pce::Worked;
 
-/// What kind of reply this is.
+/// Returns the kind of a reply.
 fn reply_kind(reply: &Reply) -> ReplyKind
     ensures { result ≡ reply_kind reply.now }
 {
@@ -32,7 +32,7 @@ fn reply_kind(reply: &Reply) -> ReplyKind
     }
 }
 
-/// Counts a step, and where it was refused, why.
+/// Counts a step, and if it was refused, the reason too.
 pub(crate) fn count_step(counters: &mut Counters, event: EventKind, reply: &Reply)
     ensures { counters.new ≡ step_counted event reply.now counters.old }
 {
@@ -61,7 +61,7 @@ pub fn forget_counted<D: Store>(store: &mut D, counters: &mut Counters)
     store.forget();
 }
 
-/// Counts the steps of a worker's turn, which began with a job in its hand or without.
+/// Counts the steps of a worker's turn that began with or without a job in its hand.
 pub fn count_worked(counters: &mut Counters, worked: &Worked, had_job: bool)
     ensures { counters.new ≡ turn_counted had_job worked.now counters.old }
 {
@@ -76,7 +76,7 @@ pub fn count_worked(counters: &mut Counters, worked: &Worked, had_job: bool)
     }
 }
 
-/// Why a session ended that sent a Close with this reason, or none (RFC 5440 section 7.17).
+/// Returns why a session ended that sent a Close with this reason, or none (RFC 5440 section 7.17).
 fn closing_reason(close: Option<u8>) -> EndReason
     ensures { result ≡ closing_reason close }
 {
@@ -88,7 +88,7 @@ fn closing_reason(close: Option<u8>) -> EndReason
     }
 }
 
-/// Why a connection ended, as it is counted and shown.
+/// Returns why a connection ended, as it is counted and shown.
 pub(crate) fn end_reason(reason: Reason) -> EndReason
     ensures { result ≡ end_reason reason }
 {

@@ -7,7 +7,7 @@ ghost use Rattle.server_base.specs.declared.down_paths.ReportedPath.{ReportedPat
 use indexmap::IndexMap;
 use std::alloc::{AllocError, Global};
 
-/// The number of paths that are noted, at most: so many may stand.
+/// The most paths that are noted: as many as may stand.
 const MOST_PATHS: usize = 16_384;
 
 /// A path that a router reported: its LSP's PLSP-ID, and its LSP-ID (RFC 3209 section 4.6.2.1).
@@ -18,7 +18,7 @@ pub(crate) struct ReportedPath {
     pub lsp: u16,
 }
 
-/// Whether a path is of the LSP.
+/// Tests whether a path belongs to the LSP.
 fn is_of_lsp(path: ReportedPath, peer: u32, plsp: u32) -> bool
     ensures { result ≡ is_of_lsp peer plsp path }
 {
@@ -32,7 +32,7 @@ pub(crate) struct DownPaths {
 }
 
 impl DownPaths {
-    /// None was reported. Takes no memory.
+    /// Makes an empty table. Takes no memory.
     pub fn new(alloc: Global) -> DownPaths
         ensures { (q : ReportedPath) → get is_same_path result.paths q ≡ None }
     {
@@ -41,14 +41,14 @@ impl DownPaths {
         }
     }
 
-    /// Whether the path was last reported DOWN, and if so whether with the A flag.
+    /// Returns whether the path was last reported with the A flag, if it was last reported DOWN.
     pub fn of(&self, path: ReportedPath) -> Option<bool>
         ensures { result ≡ get is_same_path self.now.paths path }
     {
         self.paths.get(&path).copied()
     }
 
-    /// The path was reported DOWN. Refused if memory is, or if 16,384 others are noted.
+    /// Notes that the path was reported DOWN. Fails if memory runs out, or if 16,384 others are noted.
     pub fn down(&mut self, path: ReportedPath, is_switched_on: bool) -> Result<(), AllocError>
         ensures ok { OnOk result ((q : ReportedPath) → get is_same_path self.new.paths q ≡ (if is_same_path path q then Some is_switched_on else get is_same_path self.old.paths q)) }
         ensures err { OnErr result ((q : ReportedPath) → get is_same_path self.new.paths q ≡ get is_same_path self.old.paths q) }
@@ -60,14 +60,14 @@ impl DownPaths {
         Ok(())
     }
 
-    /// The path was reported in another state, or removed.
+    /// Notes that the path was reported in another state, or removed.
     pub fn gone(&mut self, path: ReportedPath)
         ensures { (q : ReportedPath) → get is_same_path self.new.paths q ≡ (if is_same_path path q then None else get is_same_path self.old.paths q) }
     {
         let _down = self.paths.swap_remove(&path);
     }
 
-    /// No path of the LSP that was reported still stands.
+    /// Notes that no reported path of the LSP stands any more.
     pub fn lsp_gone(&mut self, peer: u32, plsp: u32)
         ensures { (q : ReportedPath) → get is_same_path self.new.paths q ≡ (if is_of_lsp peer plsp q then None else get is_same_path self.old.paths q) }
     {
@@ -75,7 +75,7 @@ impl DownPaths {
             .retain(|path, _is_switched_on| !is_of_lsp(*path, peer, plsp));
     }
 
-    /// A session of the router came up, or it was forgotten.
+    /// Forgets the paths of a router: a session of it came up, or it was forgotten.
     pub fn forget(&mut self, peer: u32)
         ensures { (q : ReportedPath) → get is_same_path self.new.paths q ≡ (if is_of peer q then None else get is_same_path self.old.paths q) }
     {

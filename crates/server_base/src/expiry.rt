@@ -1,4 +1,4 @@
-//! When peers are forgotten: what happens to them is noted here, and what is due of them is submitted.
+//! When peers are forgotten: what happens to them is noted here, and what is due for them is submitted.
 ghost use Rattle.std.specs.Prelude.{◌≡◌, List, Some, IfSome, IsTrue};
 ghost use Rattle.server_rules.specs.Peers.{Adds, needs_no_room};
 ghost use Rattle.database_looks.specs.Steps.{kind_of};
@@ -20,16 +20,16 @@ use shared_pce::{Event, Fault, SPARE_AT, Seat, Shared};
 use std::alloc::{AllocError, Global};
 use std::sync::{Mutex, Wait};
 
-/// What came of what was due.
+/// The result of submitting what was due.
 #[derive(Clone, Copy, PartialEq, Eq, Debug)]
 pub enum Settled {
     /// Nothing was due.
     Nothing,
-    /// A Down of the peer that was owed was submitted.
+    /// An owed Down of the peer was submitted.
     WentDown(u32),
     /// The peer was forgotten.
     Forgotten(u32),
-    /// The peer couldn't be forgotten, by the refusal of this number: a session of it is up again, or it isn't known.
+    /// The peer couldn't be forgotten, with the number of the refusal: a session of it is up again, or it isn't known.
     Kept(u32, u8),
 }
 
@@ -46,33 +46,33 @@ impl Peers {
         }
     }
 
-    /// A connection of the peer was accepted. From then on its end takes no memory.
+    /// Notes that a connection of the peer was accepted. From then on its end takes no memory.
     pub fn connected<R: Wait>(&self, rt: &R, peer: u32) -> Result<(), AllocError> {
         self.expiry.lock(rt).connected(peer)
     }
 
-    /// Notes what a session's call says happened to its peer, by this moment: each call, once it is made. So a session that
-    /// comes up is noted before its Down is submitted.
+    /// Notes what a session's call says happened to its peer, by this moment. Each call is noted as soon as it is made,
+    /// so a session that comes up is noted before its Down is submitted.
     pub fn note_call<R: Wait>(&self, rt: &R, call: &Call, now_ms: u64) {
         if let Some(happened) = happened(call, now_ms) {
             note_happened(&mut self.expiry.lock(rt), happened);
         }
     }
 
-    /// A connection of the peer ended, whose session stands so.
+    /// Notes that a connection of the peer ended, whose session is up or not.
     pub fn ended<R: Wait>(&self, rt: &R, peer: u32, standing: Standing) {
         note_end(&mut self.expiry.lock(rt), peer, standing);
     }
 
-    /// Whether a peer's Down couldn't be submitted yet.
+    /// Tests whether a peer's Down couldn't be submitted yet.
     pub fn owes_a_down<R: Wait>(&self, rt: &R) -> bool {
         self.expiry.lock(rt).owes_a_down()
     }
 
-    /// Submits what is due of a peer, if anything is and peers are kept for this time, and says what came of it. Meanwhile
-    /// nothing else is noted: a session that comes up is noted before its Down is submitted, so no peer is forgotten for a
-    /// Down that is older than its last, and a peer that is up is kept by the state. After a fault it stays due, and what is
-    /// due of another peer comes first next time.
+    /// Submits what is due for a peer, if anything is and peers are kept for this time, and returns the result.
+    /// Meanwhile nothing else is noted. A session that comes up is noted before its Down is submitted, so no peer is
+    /// forgotten because of a Down that is older than its last, and the state keeps a peer that is up. After a fault it
+    /// stays due, and what is due for another peer comes first next time.
     pub fn settle<R: Wait, W: Watch, B: Brands>(
         &self,
         rt: &R,
@@ -93,9 +93,9 @@ impl Peers {
         settled
     }
 
-    /// Makes room for a session of the peer that comes up, if the peer isn't known and no other may be: of the peers that are
-    /// down and hold no LSP the one that has been down longest is forgotten, and what came of it is said. The seat for that rests
-    /// in this slot of the pool. Meanwhile nothing else is noted, as in `settle`.
+    /// Makes room for a session of the peer that comes up, if the peer isn't known and there is no room for one more.
+    /// Of the peers that are down and hold no LSP, the one that has been down longest is forgotten. Returns the result.
+    /// The seat for that rests in this slot of the pool. Meanwhile nothing else is noted, as in `settle`.
     pub fn make_room<R: Wait, W: Watch, B: Brands>(
         &self,
         rt: &R,
@@ -116,8 +116,8 @@ impl Peers {
     }
 }
 
-/// Sees who holds LSPs, if the peer isn't known and no other may be. If memory is refused, the history is rolled, and it is
-/// tried once more.
+/// Sees who holds LSPs, if the peer isn't known and there is no room for one more. If memory runs out, the history is
+/// rolled, and it is tried once more.
 fn holders_beside<R: Wait, B: Brands>(
     rt: &R,
     shared: &Shared<B>,
@@ -133,7 +133,7 @@ fn holders_beside<R: Wait, B: Brands>(
     seen
 }
 
-/// Forgets the peer that makes room for this one, if one has to.
+/// Forgets the peer that makes room for this one, if one must.
 fn forget_for<R: Wait, W: Watch, B: Brands>(
     rt: &R,
     watch: &W,
@@ -156,7 +156,7 @@ fn forget_for<R: Wait, W: Watch, B: Brands>(
     submit_due(rt, watch, shared, seat, counters, expiry, due)
 }
 
-/// Submits what is due of a peer, and says what came of it.
+/// Submits what is due for a peer, and returns the result.
 fn submit_due<R: Wait, W: Watch, B: Brands>(
     rt: &R,
     watch: &W,
@@ -171,7 +171,7 @@ fn submit_due<R: Wait, W: Watch, B: Brands>(
     Ok(note_settled(expiry, &mut counters.lock(rt), due, &reply, now_ms))
 }
 
-/// What a session's call says happened to its peer, by this moment.
+/// Returns what a session's call says happened to its peer, by this moment.
 fn happened(call: &Call, now_ms: u64) -> Option<(u32, Happening)>
     ensures happened { result ≡ happened call.now.event call.now.reply now_ms }
     ensures no_room { IfSome result (λ h. IsTrue (needs_no_room h.1)) }
@@ -192,7 +192,7 @@ fn note_happened(expiry: &mut Expiry, happened: (u32, Happening))
     expiry.note(happened.0, happened.1);
 }
 
-/// Notes that a Down is owed where the session is still up.
+/// Notes that a Down is owed if the session is still up.
 fn note_owed(expiry: &mut Expiry, peer: u32, is_joined: bool)
     ensures { NotesOwed is_joined peer expiry.old expiry.new }
 {
@@ -202,7 +202,7 @@ fn note_owed(expiry: &mut Expiry, peer: u32, is_joined: bool)
     expiry.owed(peer);
 }
 
-/// Notes that a connection of the peer ended, and that its Down is owed where its session is still up.
+/// Notes that a connection of the peer ended, and that its Down is owed if its session is still up.
 fn note_gone(expiry: &mut Expiry, peer: u32, is_joined: bool)
     ensures { NotesGone is_joined peer expiry.old expiry.new }
 {
@@ -210,14 +210,14 @@ fn note_gone(expiry: &mut Expiry, peer: u32, is_joined: bool)
     expiry.gone(peer);
 }
 
-/// The same of a connection whose session stands so.
+/// Notes the same for a connection with this standing.
 fn note_end(expiry: &mut Expiry, peer: u32, standing: Standing)
     ensures { (calls : List Call) → Stands standing calls → NotesEnd calls peer expiry.old expiry.new }
 {
     note_gone(expiry, peer, standing.is_joined());
 }
 
-/// Notes and counts that what was due was submitted and answered so, and gives what is to be said of it.
+/// Notes and counts that what was due was submitted and got this reply, and returns what to report.
 fn note_settled(
     expiry: &mut Expiry,
     counters: &mut Counters,
@@ -246,7 +246,7 @@ fn note_settled(
     }
 }
 
-/// What kind of event is submitted of a peer.
+/// Returns the kind of the event that is submitted for a peer.
 fn kind_of_due(due: Due) -> EventKind
     ensures { result ≡ kind_of (event_of due) }
 {
@@ -256,7 +256,7 @@ fn kind_of_due(due: Due) -> EventKind
     }
 }
 
-/// What is to be submitted of a peer.
+/// Returns the event that should be submitted for a peer.
 fn event_of(due: Due) -> Event
     ensures { result ≡ event_of due }
 {

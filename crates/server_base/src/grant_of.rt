@@ -38,7 +38,7 @@ fn is_grant_of(path: &Path, peer: u32, plsp: Plsp) -> bool
     path.peer == peer && path.plsp == plsp && matches!(path.part, Part::Granted(_))
 }
 
-/// The SRP-ID of a grant.
+/// Returns the SRP-ID of a grant.
 fn srp_of(part: Part) -> Option<u32>
     ensures { result ≡ srp_of part }
 {
@@ -48,7 +48,7 @@ fn srp_of(part: Part) -> Option<u32>
     }
 }
 
-/// The SRP-ID of the first grant that is bound to the LSP.
+/// Returns the SRP-ID of the first grant that is bound to the LSP.
 fn grant_of(paths: &[Path], peer: u32, plsp: Plsp) -> Option<u32>
     ensures { result ≡ srp_in paths.now peer plsp }
 {
@@ -80,7 +80,7 @@ impl database_looks::Look for GrantsOfPeerLook {
     }
 }
 
-/// The SRP-ID of a path that is a grant of the peer.
+/// Returns the SRP-ID of a path, if it is a grant of the peer.
 fn srp_of_peer(path: &Path, peer: u32) -> Option<u32>
     ensures { result ≡ srp_of_peer peer path.now }
 {

@@ -1,4 +1,4 @@
-//! Who holds LSPs, if one router is too many.
+//! Who holds LSPs, asked when one router is too many.
 ghost use Rattle.std.specs.Prelude.{◌≡◌, ◌++◌, map, IfOk, OnOk};
 ghost use Rattle.step_core.specs.States.{is_known};
 ghost use Rattle.server_base.specs.Holders.{is_known_or_fits, holders_in};
@@ -14,7 +14,7 @@ pub(crate) struct Holders {
     pub peers: Vec<u32>,
 }
 
-/// Sees who holds LSPs, if the peer isn't known and no other may be.
+/// Sees who holds LSPs, if the peer isn't known and there is no room for one more.
 #[derive(Clone, Copy)]
 pub(crate) struct HoldersLook {
     pub peer: u32,
@@ -38,7 +38,7 @@ impl database_looks::Look for HoldersLook {
     }
 }
 
-/// Whether the peer is known.
+/// Tests whether the peer is known.
 fn is_known(peers: &[Peer], peer: u32) -> bool
     ensures { result ≡ is_known peers.now peer }
 {
@@ -50,14 +50,14 @@ fn is_known(peers: &[Peer], peer: u32) -> bool
     false
 }
 
-/// Whether the peer is known, or one more may be.
+/// Tests whether the peer is known, or there is room for one more.
 fn is_known_or_fits(peers: &[Peer], peer: u32) -> bool
     ensures { result ≡ is_known_or_fits peers.now peer }
 {
     is_known(peers, peer) || peers.len() < PEER_LIMIT
 }
 
-/// Adds whose each record is.
+/// Adds the peer of each record.
 fn add_owners_of_records(holders: &mut Vec<u32>, records: &[Record]) -> Result<(), AllocError>
     ensures { OnOk result (holders.new.items ≡ holders.old.items ++ map (λ r. r.peer) records.now) }
 {
@@ -67,7 +67,7 @@ fn add_owners_of_records(holders: &mut Vec<u32>, records: &[Record]) -> Result<(
     Ok(())
 }
 
-/// Adds whose each path is.
+/// Adds the peer of each path.
 fn add_owners_of_paths(holders: &mut Vec<u32>, paths: &[Path]) -> Result<(), AllocError>
     ensures { OnOk result (holders.new.items ≡ holders.old.items ++ map (λ x. x.peer) paths.now) }
 {
@@ -77,7 +77,7 @@ fn add_owners_of_paths(holders: &mut Vec<u32>, paths: &[Path]) -> Result<(), All
     Ok(())
 }
 
-/// Whose each record and each path is.
+/// Returns the peer of each record and of each path.
 fn holders_in(alloc: Global, lsps: &LspBase) -> Result<Vec<u32>, AllocError>
     ensures { IfOk result (λ holders. holders.items ≡ holders_in lsps.now.content) }
 {

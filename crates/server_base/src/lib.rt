@@ -1,17 +1,17 @@
-//! What each thread of a run is lent: the shared database, the pool of seats, and what is noted and counted beside the
-//! steps. Connections, operators, viewers and workers stand on it, each in a crate of its own.
+//! What each thread of a run is lent: the shared database, the pool of seats, and what is noted and counted apart from
+//! the steps. Connections, operators, viewers and workers are built on it, each in its own crate.
 //!
 //! - `seat_pool`: where seats rest
 //! - `link_ends`: the ends of each link
-//! - `counting`: what is counted of steps and of connections that end (`specs/Counting`)
-//! - `standing`: whether the session of a connection is up
-//! - `holders`: who holds LSPs, if one router is too many (`specs/Holders`)
+//! - `counting`: what is counted for steps and for connections that end (`specs/Counting`)
+//! - `standing`: tells whether the session of a connection is up
+//! - `holders`: who holds LSPs, asked when one router is too many (`specs/Holders`)
 //! - `ticket_share`: how many tickets one router may have (`specs/Shares`)
 //! - `expiry`: what happens to peers, and when they are forgotten (`specs/Expiries`)
 //! - `routers`, `grant_of`, `upkeep`: grants and deletions that their routers don't settle (`specs/Routers`)
-//! - `replaced`: paths that go since another of their LSP was reported
+//! - `replaced`: forgets a path when another of its LSP replaces it
 //! - `linkless`, `down_paths`, `retries`, `retrying`: LSPs that are down, and are asked for again (`specs/Linkless`, `specs/DownPaths`)
-//! - `timed_look`, `outlook`: what those who are shown a run see of it
+//! - `timed_look`, `outlook`: what viewers and operators see of a run
 //! - `context`: what each thread is lent
 #![tactic(auto)]
 

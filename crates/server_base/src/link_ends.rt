@@ -2,14 +2,14 @@
 use std::alloc::{AllocError, Global};
 use te_base::TeBase;
 
-/// The addresses of a link's interfaces, at the node that it leaves and at the one that it reaches.
+/// The addresses of a link's interfaces, at the node that it leaves and at the node that it reaches.
 #[derive(Clone, Copy, PartialEq, Eq, Debug)]
 pub struct LinkEnds {
     pub local: u32,
     pub remote: u32,
 }
 
-/// The ends of each link.
+/// Returns the ends of each link.
 pub fn ends_of(alloc: Global, te: &TeBase) -> Result<Vec<LinkEnds>, AllocError> {
     let mut ends = Vec::with_capacity(alloc, te.link_count())?;
     for link in te.links() {

@@ -1,4 +1,4 @@
-//! Reported paths that hold no link: they are down, or can't be placed.
+//! Reported paths that hold no link: they are down, or their route isn't known.
 ghost use Rattle.std.specs.Prelude.{◌≡◌, ◌&&◌, filter, map, take, drop, length, IfOk, option_copied};
 ghost use Rattle.std.specs.List.{list_any};
 ghost use Rattle.lsp_base.specs.Lsps.{is_path_of};
@@ -12,7 +12,7 @@ use pce_seen::{PAGE_LIMIT, page_from};
 use std::alloc::{AllocError, Global};
 use step_core::State;
 
-/// A reported path that holds no link, and how its LSP stands.
+/// A reported path that holds no link, and the state of its LSP.
 #[derive(Clone, Copy)]
 pub(crate) struct SeenLinkless {
     pub peer: u32,
@@ -29,15 +29,15 @@ pub(crate) struct SeenLinkless {
     pub is_removing: bool,
 }
 
-/// The paths that hold no link, of 256 that stand one after the other.
+/// Of 256 consecutive paths, those that hold no link.
 #[derive(Drop)]
 pub(crate) struct LinklessPage {
     pub paths: Vec<SeenLinkless>,
-    /// The place at which the next page starts among the paths; `None` if there is no path there.
+    /// The place of the next page among the paths; `None` if there is no path there.
     pub next: Option<u64>,
 }
 
-/// Looks at a page of paths, from the one at a place on.
+/// Looks at a page of paths, starting with the one at this place.
 #[derive(Clone, Copy)]
 pub(crate) struct LinklessLook {
     pub from: u64,
@@ -96,7 +96,7 @@ fn is_removing(lsp: Option<&Lsp>) -> bool
     }
 }
 
-/// Whether a path of the LSP holds links.
+/// Tests whether a path of the LSP holds links.
 fn does_hold(lsps: &LspBase, peer: u32, plsp: Plsp) -> bool
     ensures { result ≡ list_any (λ x. holds_links x && is_path_of peer plsp x) lsps.now.content.paths }
 {
@@ -134,7 +134,7 @@ fn seen_of(alloc: Global, state: &State, paths: &[Path]) -> Result<Vec<SeenLinkl
     Ok(seen)
 }
 
-/// Finds where the next page starts.
+/// Returns where the next page starts.
 fn next_of(from: u64, count: usize) -> Option<u64>
     ensures { result ≡ next_of from count }
 {

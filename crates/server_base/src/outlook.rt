@@ -1,5 +1,5 @@
-//! What those who are shown a run see of it: looks at its database, and what is noted of its peers and steps. Every step and
-//! every roll wants to be shown a seat (`Held` of `history_seats`), and no seat is in reach from here.
+//! What viewers and operators see of a run: looks at its database, and what is noted about its peers and steps. Every
+//! step and every roll must be shown a seat (`Held` of `history_seats`), and from here no seat can be reached.
 ghost use Rattle.std.specs.Prelude.{◌≡◌, IfOk};
 ghost use mathlib.Core.List.{IsPrefix};
 ghost use Rattle.history_seats.specs.Past.{database_at};
@@ -18,10 +18,10 @@ use std::sync::{Mutex, Wait};
 use std::thread;
 use std::time::{Clock, Duration};
 
-/// How often it is looked whether the history was rolled for want of memory.
+/// How often to check whether the history was rolled because memory ran out.
 const MEMORY_LOOKS: u32 = 25;
 
-/// The pause between two of these looks, in milliseconds.
+/// The pause between two of these checks, in milliseconds.
 const MEMORY_PAUSE_MS: u64 = 10;
 
 /// What is seen of a run.
@@ -34,21 +34,21 @@ pub struct Outlook<'a, R: Clock, B: Brands> {
     pub counters: &'a Mutex<Counters>,
     pub presences: &'a Mutex<Presences>,
     pub marks: &'a Mutex<Marks>,
-    /// What reports say of paths beside the state.
+    /// What reports say about paths that the state doesn't keep.
     pub words: &'a Mutex<PathWords>,
-    /// By which PCErr routers refused what was asked of an LSP.
+    /// The PCErr by which routers refused what was asked of an LSP.
     pub errors: &'a Mutex<PeerErrors>,
     /// Since when grants and deletions that stand are unanswered.
     pub pending: &'a Mutex<PendingTable>,
 }
 
 impl<'a, R: Wait + Clock, B: Brands> Outlook<'a, R, B> {
-    /// A front that has seen all that has happened until now.
+    /// Makes a front that has seen all that has happened until now.
     pub fn front(&self) -> Front<Event, B> {
         self.shared.front(self.rt)
     }
 
-    /// Looks at the database, shows a front what has happened until then, and times for how long that held the lock.
+    /// Looks at the database, shows a front what has happened until then, and measures how long that held the lock.
     pub fn look<L: Look>(
         &self,
         front: &mut Front<Event, B>,
@@ -63,7 +63,7 @@ impl<'a, R: Wait + Clock, B: Brands> Outlook<'a, R, B> {
         seen
     }
 
-    /// The same look, which notes for how long it holds the lock.
+    /// Makes the same look, which also notes how long it holds the lock.
     pub fn timed<'l, L: Look>(&'l self, look: &'l L) -> TimedLook<'l, 'a, R, L>
         ensures { result.look.now ≡ look.now }
     {
@@ -74,14 +74,14 @@ impl<'a, R: Wait + Clock, B: Brands> Outlook<'a, R, B> {
         }
     }
 
-    /// Counts for how long a look held the lock.
+    /// Counts how long a look held the lock.
     pub fn count_look<L: Look>(&self, timed: &TimedLook<'_, '_, R, L>) {
         let held_us = timed.held_us.get();
         self.counters.lock(self.rt).observe(Timed::Look, held_us);
     }
 
-    /// Has the keeper of time roll the history for want of memory, and waits for it: for a quarter of a second at most. What is
-    /// shown makes no roll itself.
+    /// Asks the timer thread to roll the history because memory ran out, and waits for that for a quarter of a second
+    /// at most. Showing something makes no roll itself.
     pub fn await_memory(&self) {
         let run = self.moments.run;
         run.note_short_memory(self.rt);
@@ -93,17 +93,17 @@ impl<'a, R: Wait + Clock, B: Brands> Outlook<'a, R, B> {
         }
     }
 
-    /// The number of connections of routers that have a place.
+    /// Returns the number of connections of routers that have a place.
     pub fn connections(&self) -> usize {
         self.moments.wakers.count(self.rt)
     }
 
-    /// Since when each peer is up or down.
+    /// Returns since when each peer is up or down.
     pub fn all_presences(&self) -> Result<Vec<(u32, Presence)>, AllocError> {
         self.presences.lock(self.rt).copies(self.alloc)
     }
 
-    /// Notes how many steps there are at this moment. Where memory is refused nothing is noted.
+    /// Notes how many steps there are at this moment. If memory runs out, nothing is noted.
     pub fn mark_steps(&self, front: &mut Front<Event, B>) {
         let now_ms = self.moments.now_ms();
         if let Ok(counts) = self.shared.look(self.rt, front, &CountsLook) {
@@ -111,7 +111,7 @@ impl<'a, R: Wait + Clock, B: Brands> Outlook<'a, R, B> {
         }
     }
 
-    /// How many steps there were at which moments, this one too.
+    /// Returns how many steps there were at which moments, including the present one.
     pub fn all_marks(&self, front: &mut Front<Event, B>) -> Result<Vec<Mark>, AllocError> {
         self.mark_steps(front);
         self.marks.lock(self.rt).copies(self.alloc)

@@ -1,4 +1,4 @@
-//! A path that wasn't signalled goes once a path of its LSP is signalled: nothing is known of it any more.
+//! An unsignalled path is forgotten when a path of its LSP is signalled.
 use crate::context::Context;
 use crate::down_paths::ReportedPath;
 use crate::linkless::ReportedLook;
@@ -11,11 +11,11 @@ use short_lock::acquire;
 use std::sync::Wait;
 use std::time::Clock;
 
-/// The LSP-ID by which a path stands that isn't signalled.
+/// The LSP-ID of a path that isn't signalled.
 const UNSIGNALLED: u16 = 0;
 
 impl<'a, R: Wait + Clock, B: Brands> Context<'a, R, B> {
-    /// Whether anything is noted of a path.
+    /// Tests whether anything is noted about a path.
     fn is_noted(&self, of: PathKey, path: ReportedPath) -> bool {
         if acquire(self.rt, self.words).of(of).is_some() {
             return true;
@@ -25,7 +25,8 @@ impl<'a, R: Wait + Clock, B: Brands> Context<'a, R, B> {
             .is_some()
     }
 
-    /// A path of the LSP was reported. Forgets what is noted of the one that wasn't signalled, if it no longer stands.
+    /// Forgets what is noted about an LSP's unsignalled path, after a path of the LSP was reported, if the unsignalled
+    /// one no longer stands.
     pub fn end_unsignalled(&self, front: &mut Front<Event, B>, peer: u32, report: &StateReport) {
         if lsp_id_of(report) == UNSIGNALLED {
             return;

@@ -1,4 +1,4 @@
-//! What happens to LSPs that are down is noted here.
+//! Notes what happens to LSPs that are down.
 use crate::down_paths::{DownPaths, ReportedPath};
 use engine_core::{Call, Reply};
 use lsp_words::Plsp;
@@ -11,7 +11,7 @@ use std::alloc::{AllocError, Global};
 use std::sync::atomic::{AtomicU64, Ordering};
 use std::sync::{Mutex, Wait};
 
-/// The LSP-ID of the path that a report is of.
+/// Returns the LSP-ID of the path that a report describes.
 pub(crate) fn lsp_id_of(report: &StateReport) -> u16 {
     match &report.identifiers {
         Some(identifiers) => identifiers.lsp,
@@ -19,7 +19,8 @@ pub(crate) fn lsp_id_of(report: &StateReport) -> u16 {
     }
 }
 
-/// Whether a report is of an LSP that isn't signalled: its identifiers are all zero, or it has none (RFC 8231 section 7.3.1).
+/// Tests whether a report is about an unsignalled LSP: its identifiers are all zero, or it has none (RFC 8231 section
+/// 7.3.1).
 fn is_unsignalled(report: &StateReport) -> bool {
     match &report.identifiers {
         Some(i) => {
@@ -29,19 +30,19 @@ fn is_unsignalled(report: &StateReport) -> bool {
     }
 }
 
-/// What is known of LSPs without a path.
+/// What is known about LSPs without a path.
 #[derive(Drop)]
 pub(crate) struct Retries {
     table: Mutex<RetryTable>,
     down: Mutex<DownPaths>,
-    /// How often something happened after which an LSP may be without a path.
+    /// How often something happened that may leave an LSP without a path.
     stirs: AtomicU64,
-    /// How often it had when none was seen last.
+    /// How often it had happened when none was last seen.
     quiet_at: AtomicU64,
 }
 
 impl Retries {
-    /// Nothing has happened.
+    /// Makes an empty record, of a run in which nothing has happened.
     pub fn new(alloc: Global) -> Retries {
         Retries {
             table: Mutex::new(RetryTable::new(alloc)),
@@ -55,7 +56,7 @@ impl Retries {
         let _before = self.stirs.fetch_add(1, Ordering::SeqCst);
     }
 
-    /// Notes what a session's call says of its router's LSPs, at this moment.
+    /// Notes what a session's call says about its router's LSPs, at this moment.
     pub fn note_call<R: Wait>(&self, rt: &R, call: &Call, now_ms: u64) {
         match (call.event.event(), &call.reply) {
             (_, Reply::Refused(_)) => {}
@@ -71,8 +72,8 @@ impl Retries {
         }
     }
 
-    /// Notes how a path was reported. Where the LSP isn't signalled no other path of it stands. One for which memory is refused is
-    /// not asked for again.
+    /// Notes how a path was reported. If the LSP isn't signalled, no other path of it stands. If memory runs out for an
+    /// LSP, it is not asked for again.
     fn note_path<R: Wait>(&self, rt: &R, peer: u32, report: &StateReport) {
         let path = ReportedPath {
             peer,
@@ -107,7 +108,7 @@ impl Retries {
         }
     }
 
-    /// Notes that a router didn't answer what an LSP was granted.
+    /// Notes that a router didn't answer a grant for an LSP.
     pub fn note_no_answer<R: Wait>(&self, rt: &R, peer: u32, plsp: Plsp) -> Result<(), AllocError> {
         let plsp = plsp.number();
         let of = RouterLsp { peer, plsp };
@@ -119,23 +120,24 @@ impl Retries {
         acquire(rt, &self.table).note(what)
     }
 
-    /// The router was forgotten.
+    /// Notes that the router was forgotten.
     pub fn forget<R: Wait>(&self, rt: &R, peer: u32) -> Result<(), AllocError> {
         acquire(rt, &self.down).forget(peer);
         self.note(rt, RetryHappening::Expired { peer })
     }
 
-    /// A path no longer stands.
+    /// Notes that a path no longer stands.
     pub fn path_gone<R: Wait>(&self, rt: &R, path: ReportedPath) {
         acquire(rt, &self.down).gone(path);
     }
 
-    /// The paths that were last reported DOWN.
+    /// Lends the paths that were last reported DOWN.
     pub fn down(&self) -> &Mutex<DownPaths> {
         &self.down
     }
 
-    /// How often something happened after which an LSP may be without a path, unless none was seen since then.
+    /// Returns how often something happened that may leave an LSP without a path, or `None` if no such LSP was seen
+    /// since then.
     pub fn stirs(&self) -> Option<u64> {
         let stirs = self.stirs.load(Ordering::SeqCst);
         if self.quiet_at.load(Ordering::SeqCst) == stirs {
@@ -145,12 +147,12 @@ impl Retries {
         }
     }
 
-    /// No LSP without a path was seen, when so many of these things had happened.
+    /// Notes that no LSP without a path was seen when this many of these things had happened.
     pub fn rest_at(&self, stirs: u64) {
         self.quiet_at.store(stirs, Ordering::SeqCst);
     }
 
-    /// The LSPs that are due.
+    /// Returns the LSPs that are due.
     pub fn due<R: Wait>(
         &self,
         rt: &R,

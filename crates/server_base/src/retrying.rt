@@ -1,4 +1,4 @@
-//! What the thread that keeps up does for LSPs without a path: it looks which there are, and asks again for those that are due.
+//! What the timer thread does for LSPs without a path: it looks which there are, and asks again for those that are due.
 use crate::context::Context;
 use crate::down_paths::{DownPaths, ReportedPath};
 use crate::linkless::{LinklessLook, SeenLinkless, StandsLook};
@@ -18,7 +18,7 @@ use std::sync::Wait;
 use std::time::Clock;
 use step_core::Purpose;
 
-/// The number of pages of paths that are seen in a turn, at most: there are 16,384 paths at most, and 256 on a page.
+/// The most pages of paths that are seen in a turn: there are at most 16,384 paths, and 256 on a page.
 const PAGES: u32 = 65;
 
 /// An LSP that is delegated and has no path.
@@ -28,7 +28,7 @@ struct Pathless {
     sight: LspSight,
 }
 
-/// What the thread that keeps up remembers of LSPs without a path, from one look to the next.
+/// What the timer thread remembers about LSPs without a path, from one look to the next.
 #[derive(Drop)]
 pub(crate) struct SeenRetries {
     routers: Vec<SeenRouter>,
@@ -38,7 +38,7 @@ pub(crate) struct SeenRetries {
 }
 
 impl SeenRetries {
-    /// Nothing was seen.
+    /// Makes an empty memory, with which nothing was seen.
     pub fn new(alloc: Global) -> SeenRetries {
         SeenRetries {
             routers: Vec::new(alloc),
@@ -48,13 +48,14 @@ impl SeenRetries {
     }
 }
 
-/// Whether the router has come in sync since it was last seen so.
+/// Tests whether the router has come in sync since it was last seen.
 fn is_first(old: Option<SeenRouter>, new: SeenRouter) -> bool {
     let was_in_sync = old.is_some_and(|old| old.session == new.session && old.in_sync);
     new.in_sync && !was_in_sync
 }
 
-/// How an LSP without a path stands, by one of its paths: whether that was last reported DOWN, and with A set.
+/// Returns the state of an LSP without a path, given one of its paths: whether that was last reported DOWN, and with A
+/// set.
 fn sight_of(router: SeenRouter, path: &SeenLinkless, down: &DownPaths) -> LspSight {
     let reported = ReportedPath {
         peer: path.peer,
@@ -75,7 +76,7 @@ fn sight_of(router: SeenRouter, path: &SeenLinkless, down: &DownPaths) -> LspSig
     }
 }
 
-/// Both paths of an LSP are down, and both were reported with A set.
+/// Joins what two paths of an LSP say: it is down if both are, and switched on if both were reported with A set.
 fn joined(sight: LspSight, other: LspSight) -> LspSight {
     LspSight {
         is_down: sight.is_down && other.is_down,
@@ -84,7 +85,7 @@ fn joined(sight: LspSight, other: LspSight) -> LspSight {
     }
 }
 
-/// An LSP that has a path again.
+/// Returns the state of an LSP that has a path again.
 fn held(sight: LspSight) -> LspSight {
     LspSight {
         is_down: false,
@@ -94,7 +95,7 @@ fn held(sight: LspSight) -> LspSight {
     }
 }
 
-/// Adds an LSP that is delegated and has no path, by one of its paths.
+/// Adds an LSP that is delegated and has no path, given one of its paths.
 fn add_pathless(
     pathless: &mut IndexMap<RouterLsp, Pathless>,
     routers: &[SeenRouter],
@@ -121,7 +122,7 @@ fn add_pathless(
     Ok(())
 }
 
-/// Notes what happened to routers: an end of synchronization is seen by `is_first`.
+/// Notes what happened to routers. An end of synchronization is found by `is_first`.
 fn note_routers<R: Wait>(
     rt: &R,
     retries: &Retries,
@@ -145,13 +146,13 @@ fn note_routers<R: Wait>(
 }
 
 impl<'a, R: Wait + Clock, B: Brands> Context<'a, R, B> {
-    /// How many reloads were done.
+    /// Returns how many reloads were done.
     fn reloads(&self) -> u64 {
         let reload = Counted::Step(EventKind::Reload, ReplyKind::Done);
         acquire(self.rt, self.counters).count(reload)
     }
 
-    /// Sees which LSPs are delegated and have no path, a page of paths in each hold of the lock.
+    /// Sees which LSPs are delegated and have no path, a page of paths each time the lock is held.
     fn see_pathless(
         &self,
         seat: &mut Seat<B>,
@@ -199,7 +200,7 @@ impl<'a, R: Wait + Clock, B: Brands> Context<'a, R, B> {
         self.upkeep.retries().note(self.rt, what)
     }
 
-    /// Notes the LSPs that have no path, and those that no longer are among them.
+    /// Notes the LSPs that have no path, and those that no longer belong to them.
     fn note_pathless(
         &self,
         seat: &mut Seat<B>,
@@ -254,7 +255,8 @@ impl<'a, R: Wait + Clock, B: Brands> Context<'a, R, B> {
         Ok(())
     }
 
-    /// Asks for a path for an LSP again. If memory is refused, or the history is full, it is due at the next turn too.
+    /// Asks for a path for an LSP again. If memory runs out, or the history is full, the LSP stays due at the next
+    /// turn.
     fn retry_one(&self, seat: &mut Seat<B>, of: RouterLsp, plsp: Plsp) -> Result<(), Fault> {
         let event = Event::Ask {
             peer: of.peer,
@@ -270,8 +272,8 @@ impl<'a, R: Wait + Clock, B: Brands> Context<'a, R, B> {
         Ok(())
     }
 
-    /// Asks again for the LSPs that are due, once paths may be granted. Nothing is looked at while no LSP that is delegated is
-    /// down. Once the run ends, nothing more is submitted. After a fault the next turn goes on.
+    /// Asks again for the LSPs that are due, once paths may be granted. Looks at nothing while no delegated LSP is
+    /// down. When the run ends, nothing more is submitted. After a fault the next turn goes on.
     pub(crate) fn retry(&self, seat: &mut Seat<B>, seen: &mut SeenRetries) -> Result<(), Fault> {
         let retries = self.upkeep.retries();
         let Some(stirs) = retries.stirs() else {

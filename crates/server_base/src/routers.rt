@@ -1,4 +1,4 @@
-//! How the latest session of each router stands.
+//! The latest session of each router.
 ghost use Rattle.std.specs.Prelude.{◌≡◌, map, IfOk};
 ghost use Rattle.server_base.specs.Routers.{seen_router};
 
@@ -6,7 +6,7 @@ use history_core::Database;
 use std::alloc::{AllocError, Global};
 use step_core::Peer;
 
-/// How the latest session of a router stands.
+/// The latest session of a router.
 #[derive(Clone, Copy, PartialEq, Eq, Debug)]
 pub(crate) struct SeenRouter {
     pub peer: u32,

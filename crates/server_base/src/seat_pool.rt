@@ -13,14 +13,14 @@ struct Slots<B: Brands> {
     resting: Vec<Option<Seat<B>>>,
 }
 
-/// A slot for each seat. A thread puts its seat back into its own slot, so that no seat is lost for want of memory.
+/// A slot for each seat. A thread puts its seat back into its own slot, so that no seat is lost if memory runs out.
 #[derive(Drop)]
 pub struct SeatPool<B: Brands> {
     slots: Mutex<Slots<B>>,
     freed: Condvar,
 }
 
-/// Seats that all rest.
+/// Makes the list of seats that all rest.
 fn all_resting<B: Brands>(
     alloc: Global,
     seats: Vec<Seat<B>>,
@@ -42,7 +42,7 @@ impl<B: Brands> SeatPool<B> {
         })
     }
 
-    /// Promises a seat below `end` to a thread, and gives its slot. Waits for one until the time is up.
+    /// Promises a seat below `end` to a thread, and returns its slot. Waits for one until the time is up.
     pub fn promise<R: Wait + Clock>(&self, rt: &R, end: usize, most: Duration) -> Option<usize> {
         let (mut slots, _timeout) = self.freed.wait_timeout_while(
             rt,
@@ -53,7 +53,7 @@ impl<B: Brands> SeatPool<B> {
         slots.states.promise(end)
     }
 
-    /// The seat of the slot, which was promised to a thread, is free again for any.
+    /// Frees the seat of the slot, which was promised to a thread, for any thread.
     pub fn release<R: Wait>(&self, rt: &R, at: usize) {
         self.slots.lock(rt).states.release(at);
         self.freed.notify_all();
@@ -77,7 +77,7 @@ impl<B: Brands> SeatPool<B> {
         self.freed.notify_all();
     }
 
-    /// Has all seats that rest here drop their receipts of rolled steps.
+    /// Drops the receipts of rolled steps of all seats that rest here.
     pub fn fold<R: Wait>(&self, rt: &R, shared: &Shared<B>) {
         let mut slots = self.slots.lock(rt);
         for place in slots.resting.iter_mut() {
@@ -87,7 +87,7 @@ impl<B: Brands> SeatPool<B> {
         }
     }
 
-    /// All seats, where each thread has put its own back.
+    /// Returns all seats that are back in their slots.
     pub fn into_seats(self, alloc: Global) -> Result<Vec<Seat<B>>, Fault> {
         let SeatPool { slots, freed: _ } = self;
         let Slots { states: _, resting } = slots.into_inner();

@@ -1,4 +1,4 @@
-//! Whether the session of a connection is up, by the calls that it made.
+//! Tells whether the session of a connection is up, from the calls that it made.
 ghost use Rattle.std.specs.Prelude.{◌≡◌, [], ◌∷◌, ◌++◌, List};
 ghost use Rattle.engine_core.specs.Joining.{joined_by};
 ghost use Rattle.engine_core.specs.declared.store.Call.{Call};
@@ -6,13 +6,13 @@ ghost use Rattle.server_base.specs.Expiries.{Stands};
 
 use engine_core::{Call, Event, Reply};
 
-/// Whether the session of a connection is up: from its accepted Up until its Down is submitted.
+/// The standing of a connection: its session is up from its accepted Up until its Down is submitted.
 #[derive(Clone, Copy, PartialEq, Eq, Debug)]
 pub struct Standing {
     is_joined: bool,
 }
 
-/// Whether the session is up once it made this call, where it was up before or wasn't.
+/// Tests whether the session is up after this call, given whether it was up before.
 fn joined_by(is_joined: bool, call: &Call) -> bool
     ensures { result ≡ joined_by is_joined call.now.event call.now.reply }
 {
@@ -24,14 +24,14 @@ fn joined_by(is_joined: bool, call: &Call) -> bool
 }
 
 impl Standing {
-    /// The session has made no call.
+    /// Makes the standing of a session that has made no call.
     pub fn new() -> Standing
         ensures { Stands result [] }
     {
         Standing { is_joined: false }
     }
 
-    /// Once the session made one call more.
+    /// Returns the standing after one more call of the session.
     pub fn after(self, call: &Call) -> Standing
         ensures { (calls : List Call) → Stands self calls → Stands result (calls ++ call.now ∷ []) }
     {
@@ -40,7 +40,7 @@ impl Standing {
         }
     }
 
-    /// Whether the session is up.
+    /// Tests whether the session is up.
     pub(crate) fn is_joined(self) -> bool
         ensures { result ≡ self.is_joined }
     {

@@ -1,4 +1,4 @@
-//! Whether a router may ask for one more path, so that others find tickets.
+//! Tests whether a router may ask for one more path, so that others find tickets.
 ghost use Rattle.std.specs.Prelude.{◌≡◌};
 ghost use Rattle.server_base.specs.Shares.{own_tickets, has_share};
 
@@ -31,14 +31,14 @@ impl database_looks::Look for ShareLook {
     }
 }
 
-/// How many of the tickets are the peer's.
+/// Counts the peer's tickets.
 fn own_tickets(tickets: &[Ticket], peer: u32) -> usize
     ensures { result ≡ own_tickets tickets.now peer }
 {
     tickets.iter().filter(|ticket| ticket.peer == peer).count()
 }
 
-/// Whether the peer has fewer of the tickets than are free.
+/// Tests whether the peer has fewer tickets than are free.
 fn has_share(tickets: &[Ticket], peer: u32) -> bool
     ensures { result ≡ has_share tickets.now peer }
 {

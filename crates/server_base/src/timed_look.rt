@@ -1,4 +1,4 @@
-//! Looks that are timed.
+//! Looks whose time is measured.
 use crate::context::Moments;
 use history_core::Database;
 use shared_pce::Look;
@@ -6,7 +6,7 @@ use std::alloc::{AllocError, Global};
 use std::cell::Cell;
 use std::time::Clock;
 
-/// A look that notes for how long it holds the lock, in microseconds.
+/// A look that notes how long it holds the lock, in microseconds.
 #[derive(Drop)]
 pub struct TimedLook<'a, 'm, R: Clock, L: Look> {
     pub(crate) moments: &'a Moments<'m, R>,

@@ -1,5 +1,5 @@
-//! Grants, and deletions that are awaited, which their routers don't settle: what happens to them is noted here, and those that
-//! are to end are dropped.
+//! Grants, and awaited deletions, which their routers don't settle: what happens to them is noted here, and those that
+//! should end are dropped.
 use crate::context::Context;
 use crate::grant_of::{GrantOfLook, GrantsOfPeerLook};
 use crate::retries::Retries;
@@ -22,36 +22,36 @@ use std::sync::atomic::{AtomicU64, Ordering};
 use std::sync::{Mutex, Wait};
 use std::time::Clock;
 
-/// The number of pages that are seen in one look at all paths and records, at most: there are 16,384 of each at most, and 256 on
-/// a page.
+/// The most pages that are seen in one look at all paths and records: there are at most 16,384 of each, and 256 on a
+/// page.
 const PAGES: u32 = 65;
 
-/// The number of grants and deletions that one turn drops, at most.
+/// The most grants and deletions that one turn drops.
 const DROPPED_AT_ONCE: usize = 256;
 
 /// A grant or an awaited deletion as it was seen.
 #[derive(Clone, Copy)]
 struct Standing {
-    /// Its LSP; 0 of a grant that is not bound to one.
+    /// Its LSP; 0 for a grant that is not bound to one.
     plsp: Plsp,
     is_covered: bool,
     /// It was made, or bound to its LSP, in the latest session of its router.
     is_fresh: bool,
 }
 
-/// What upkeep knows of grants and deletions, by all that happened to them and to their routers.
+/// What upkeep knows about grants and deletions, from all that happened to them and to their routers.
 #[derive(Drop)]
 pub struct Upkeep {
     table: Mutex<PendingTable>,
-    /// Whose turn it is to drop a grant from a connection's thread.
+    /// Held by the connection's thread that drops a grant.
     ending: Mutex<()>,
-    /// How many grants and deletions had been made when none stood; the greatest number while one does.
+    /// How many grants and deletions had been made when none stood; the greatest number while one stands.
     idle_at: AtomicU64,
     retries: Retries,
 }
 
 impl Upkeep {
-    /// Nothing has happened.
+    /// Makes the upkeep of a run in which nothing has happened.
     pub fn new(alloc: Global) -> Upkeep {
         Upkeep {
             table: Mutex::new(PendingTable::new(alloc)),
@@ -61,18 +61,18 @@ impl Upkeep {
         }
     }
 
-    /// What is known of grants and deletions that stand.
+    /// Lends what is known about grants and deletions that stand.
     pub(crate) fn pending(&self) -> &Mutex<PendingTable> {
         &self.table
     }
 
-    /// What is known of LSPs without a path.
+    /// Lends what is known about LSPs without a path.
     pub(crate) fn retries(&self) -> &Retries {
         &self.retries
     }
 
-    /// Notes what a session's call says of a grant or deletion, at this moment: a report that names its SRP-ID puts its limit off.
-    /// And what it says of LSPs that may have to be asked for again.
+    /// Notes what a session's call says about a grant or deletion, at this moment: a report that names its SRP-ID puts
+    /// off its limit. Also notes what the call says about LSPs that may have to be asked for again.
     pub fn note_call<R: Wait>(&self, rt: &R, call: &Call, now_ms: u64) {
         if let Some(of) = named_by(call) {
             let named = PendingHappening::Named { of, now_ms };
@@ -96,7 +96,7 @@ impl Upkeep {
     }
 }
 
-/// The grant or deletion that a report names by its SRP-ID.
+/// Returns the grant or deletion that a report names by its SRP-ID.
 fn named_by(call: &Call) -> Option<Pending> {
     match (call.event.event(), &call.reply) {
         (_, Reply::Refused(_)) => None,
@@ -108,7 +108,7 @@ fn named_by(call: &Call) -> Option<Pending> {
     }
 }
 
-/// What the thread that keeps up remembers from one look to the next.
+/// What the timer thread remembers from one look to the next.
 #[derive(Drop)]
 pub struct Seen {
     routers: Vec<SeenRouter>,
@@ -117,7 +117,7 @@ pub struct Seen {
 }
 
 impl Seen {
-    /// Nothing was seen.
+    /// Makes an empty memory, with which nothing was seen.
     pub fn new(alloc: Global) -> Seen {
         Seen {
             routers: Vec::new(alloc),
@@ -167,7 +167,7 @@ fn add_deletions(
     Ok(())
 }
 
-/// Notes what happened to a router since it was last seen so, if it was.
+/// Notes what happened to a router since it was last seen, if it was.
 fn note_router<R: Wait>(
     rt: &R,
     upkeep: &Upkeep,
@@ -188,7 +188,7 @@ fn note_router<R: Wait>(
     Ok(())
 }
 
-/// Notes what happened to routers. One for which memory is refused is tried again at the next look.
+/// Notes what happened to routers. If memory runs out for one, it is tried again at the next look.
 fn note_routers<R: Wait>(
     rt: &R,
     upkeep: &Upkeep,
@@ -276,7 +276,7 @@ fn note_all<R: Wait>(
 }
 
 impl<'a, R: Wait + Clock, B: Brands> Context<'a, R, B> {
-    /// How many grants and deletions were ever made.
+    /// Returns how many grants and deletions were ever made.
     fn made(&self) -> u64 {
         let counters = acquire(self.rt, self.counters);
         let granted = counters.count(Counted::Step(EventKind::Commit, ReplyKind::Granted));
@@ -284,7 +284,7 @@ impl<'a, R: Wait + Clock, B: Brands> Context<'a, R, B> {
         granted.saturating_add(removing)
     }
 
-    /// Sees which grants and deletions stand, a page in each hold of the lock.
+    /// Sees which grants and deletions stand, a page each time the lock is held.
     fn see_standing(&self, seat: &mut Seat<B>) -> Result<IndexMap<Pending, Standing>, AllocError> {
         let mut standing = IndexMap::new(self.alloc);
         let mut from = 0;
@@ -300,7 +300,7 @@ impl<'a, R: Wait + Clock, B: Brands> Context<'a, R, B> {
         Ok(standing)
     }
 
-    /// Looks at what stands, and notes what happened since the last look. Nothing is looked at while nothing stands.
+    /// Looks at what stands, and notes what happened since the last look. Looks at nothing while nothing stands.
     fn look_after(
         &self,
         seat: &mut Seat<B>,
@@ -323,8 +323,8 @@ impl<'a, R: Wait + Clock, B: Brands> Context<'a, R, B> {
         noted
     }
 
-    /// Notes the grants of a router whose session has just come up: they were made in earlier ones. Its reports bind them to
-    /// LSPs of this session as if they weren't.
+    /// Notes the grants of a router whose session has just come up: they were made in earlier sessions. Its reports
+    /// will bind them to LSPs of this session as if they were new.
     pub fn note_earlier_grants(&self, front: &mut Front<Event, B>, peer: u32, now_ms: u64) {
         if self.is_idle() {
             return;
@@ -340,13 +340,13 @@ impl<'a, R: Wait + Clock, B: Brands> Context<'a, R, B> {
         }
     }
 
-    /// Whether no grant and no deletion stands.
+    /// Tests whether no grant and no deletion stands.
     fn is_idle(&self) -> bool {
         self.upkeep.idle_at.load(Ordering::SeqCst) == self.made()
     }
 
-    /// Drops the grant of an LSP that was just reported, if the report covers it. Whatever comes between is looked after by the
-    /// thread that keeps up. Nothing is dropped once the run ends.
+    /// Drops the grant of an LSP that was just reported, if the report covers it. The timer thread looks after whatever
+    /// happens in between. When the run ends, nothing is dropped.
     pub fn end_covered(&self, front: &mut Front<Event, B>, peer: u32, plsp: Plsp) {
         if self.is_idle() || self.run.is_closing() {
             return;
@@ -368,7 +368,8 @@ impl<'a, R: Wait + Clock, B: Brands> Context<'a, R, B> {
         drop(ending);
     }
 
-    /// Submits that a grant or deletion ends, if that is still so. `None` if a covered grant isn't any more.
+    /// Submits that a grant or deletion ends, if it should still end. Returns `None` if a covered grant isn't covered
+    /// any more.
     fn end(&self, seat: &mut Seat<B>, due: PendingDue, plsp: Plsp) -> Result<Option<Reply>, Fault> {
         let Pending { peer, srp } = due.pending;
         match due.end {
@@ -382,7 +383,7 @@ impl<'a, R: Wait + Clock, B: Brands> Context<'a, R, B> {
         }
     }
 
-    /// Counts that a grant or deletion was dropped, and says so if its router didn't answer.
+    /// Counts that a grant or deletion was dropped, and logs it if its router didn't answer.
     fn note_dropped(&self, due: PendingDue, plsp: Plsp, reply: &Reply) {
         let Pending { peer, srp } = due.pending;
         self.count_step(EventKind::Refused, reply);
@@ -396,7 +397,8 @@ impl<'a, R: Wait + Clock, B: Brands> Context<'a, R, B> {
         }
     }
 
-    /// Drops a grant or deletion that is to end. That its router doesn't answer is noted before: its LSP isn't asked for again.
+    /// Drops a grant or deletion that should end. That its router doesn't answer is noted first, so that its LSP isn't
+    /// asked for again.
     fn drop_due(&self, seat: &mut Seat<B>, due: PendingDue, plsp: Plsp) -> Result<(), Fault> {
         let of = due.pending;
         if due.end == PendingEnd::NoAnswer {
@@ -413,9 +415,10 @@ impl<'a, R: Wait + Clock, B: Brands> Context<'a, R, B> {
         Ok(())
     }
 
-    /// Looks after grants and awaited deletions, and drops those that are to end: as soon as a report covers them, at the end of
-    /// synchronization if they were made in an earlier session, and when their routers haven't answered in time. Then asks again
-    /// for LSPs that are down. Once the run ends, nothing more is submitted. After a fault the next turn goes on.
+    /// Looks after grants and awaited deletions, and drops those that should end: as soon as a report covers them, at
+    /// the end of synchronization if they were made in an earlier session, and when their routers haven't answered in
+    /// time. Then asks again for LSPs that are down. When the run ends, nothing more is submitted. After a fault the
+    /// next turn goes on.
     pub fn keep_up(&self, seat: &mut Seat<B>, seen: &mut Seen) -> Result<(), Fault> {
         let now_ms = self.moments().now_ms();
         self.look_after(seat, seen, now_ms)?;

@@ -20,7 +20,7 @@ abbrev pub awaited_name : Option AwaitedName → ShownName
 awaited_name None = begin_of []
 awaited_name (Some awaited) = begin_of awaited.name
 
--- the LSP of a grant; one that no report has bound has the PLSP-ID 0, and the name that was asked for
+-- the LSP of a grant; if no report has bound the grant, it has PLSP-ID 0 and the name that was asked for
 abbrev pub of_grant : State → ℕ → ℕ → Path → AskedLsp
 of_grant s peer srp x = record {
   plsp = x.plsp;
@@ -35,6 +35,6 @@ abbrev pub by_grant : State → ℕ → ℕ → Option Path → Option AskedLsp
 by_grant s peer srp (Some x) = Some (of_grant s peer srp x)
 by_grant s peer srp None = of_removal (find (is_removed_as peer srp) s.base.records)
 
--- that of the grant of an SRP-ID, or else of the deletion that is awaited by it
+-- the LSP of the grant of an SRP-ID, or else of the deletion that awaits it
 abbrev pub asked_lsp : State → ℕ → ℕ → Option AskedLsp
 asked_lsp s peer srp = by_grant s peer srp (find (is_grant_as peer srp) s.base.paths)

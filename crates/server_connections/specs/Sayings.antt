@@ -1,4 +1,4 @@
--- What a call that was accepted says of a session, and of its router's paths and LSPs.
+-- What an accepted call says about a session, and about its router's paths and LSPs.
 use Rattle.std.specs.Prelude.{ℕ, Bool, true, false, not, ◌||◌, List, Option, Some, None, option_map, if◌then◌else◌}
 use Rattle.delegate_rules.specs.Reports.{are_zero, identifiers_of}
 use Rattle.lsp_base.specs.Whys.{number_of}
@@ -23,7 +23,7 @@ use Rattle.step_core.specs.declared.event.Event.TheVariants as event
 use Rattle.step_core.specs.declared.event.Reply.{Reply}
 use Rattle.step_core.specs.declared.event.Reply.TheVariants as reply
 
--- ---- of the session
+-- ---- about the session
 
 abbrev pub session_happening : Event → Reply → ℕ → Option SessionHappening
 session_happening (event.Up peer capabilities) reply.Done now_ms = Some (CameUp now_ms)
@@ -32,7 +32,7 @@ session_happening (event.Down peer) (reply.Refused why) now_ms = None
 session_happening (event.Down peer) other now_ms = Some WentDown
 session_happening other reply now_ms = None
 
--- ---- of a path
+-- ---- about a path
 
 abbrev pub operational_of : Reported → Operational
 operational_of said.Down = operational.Down
@@ -53,7 +53,7 @@ key_of peer r = record { peer = peer; plsp = r.plsp; lsp = (identifiers_of r).ls
 abbrev pub lsp_of : ℕ → StateReport → RouterLsp
 lsp_of peer r = record { peer = peer; plsp = r.plsp }
 
--- a removal without identifiers is one of the whole LSP
+-- a removal without identifiers removes the whole LSP
 abbrev pub removal : ℕ → StateReport → PathHappening
 removal peer r = if are_zero (identifiers_of r) then path.LspRemoved (lsp_of peer r) else path.PathRemoved (key_of peer r)
 
@@ -66,12 +66,12 @@ path_event (event.Marker peer) = Some (path.Synchronized peer)
 path_event (event.Report peer report) = Some (reported peer report)
 path_event other = None
 
--- what was refused says nothing
+-- a call that was refused says nothing
 abbrev pub path_happening : Event → Reply → Option PathHappening
 path_happening event (reply.Refused why) = None
 path_happening event other = path_event event
 
--- a report of an LSP that isn't signalled leaves no other reported path of it
+-- a report of an unsignalled LSP leaves no other reported path of it
 abbrev pub replaced_by : ℕ → StateReport → Option RouterLsp
 replaced_by peer r = if r.remove || not (are_zero (identifiers_of r)) then None else Some (lsp_of peer r)
 
@@ -83,7 +83,7 @@ abbrev pub replaced_lsp : Event → Reply → Option RouterLsp
 replaced_lsp event (reply.Refused why) = None
 replaced_lsp event other = replaced_in event
 
--- ---- of what was tried
+-- ---- about what was tried
 
 abbrev pub trial_in : Operational → ℕ → ℕ → Option PauseHappening
 trial_in operational.Down plsp now_ms = Some (pause.Down plsp now_ms)

@@ -1,4 +1,4 @@
-//! The acceptor: who comes gets a thread, a seat and a connection. Who has gone again before that gets none.
+//! The acceptor. Each client that comes gets a thread, a seat and a connection, unless it has gone again before.
 ghost use Rattle.std.specs.Prelude.{◌≡◌};
 ghost use Rattle.server_rules.specs.Ranges.{one_fewer};
 
@@ -17,11 +17,11 @@ use std::thread::Threads;
 use std::time::{Clock, Duration};
 use std::{io, thread};
 
-/// The pause of the acceptor after an accept that failed for want of descriptors, memory or the network, in
+/// The pause of the acceptor after an accept that failed because descriptors, memory or the network were short, in
 /// milliseconds.
 const FAILURE_PAUSE_MS: u64 = 50;
 
-/// The wait of the acceptor for the seat of a connection that ends, in milliseconds.
+/// How long the acceptor waits for the seat of a connection that ends, in milliseconds.
 const SEAT_WAIT_MS: u64 = 1000;
 
 /// What an accept gave.
@@ -30,7 +30,7 @@ enum Knock {
     Failed(FailedAccept),
 }
 
-/// How many connections are still to be accepted once one came.
+/// Returns how many connections are still to be accepted after one came.
 fn one_fewer(left: Sessions) -> Sessions
     ensures { result ≡ one_fewer left }
 {
@@ -47,7 +47,7 @@ fn listen(listener: &TcpListener) -> Knock {
     }
 }
 
-/// The slot of the seat of a new connection of the address, if it may have a place.
+/// Returns the slot of the seat of a new connection of the address, if it may have a place.
 fn slot_for<R: Wait + Clock, B: Brands>(
     context: &Context<'_, R, B>,
     address: u32,
@@ -64,13 +64,14 @@ fn slot_for<R: Wait + Clock, B: Brands>(
     Some(slot)
 }
 
-/// Says that a connection of the peer ended for which no thread was started.
+/// Logs that a connection of the peer ended for which no thread was started.
 fn note_ended<R: Wait + Clock, B: Brands>(context: &Context<'_, R, B>, peer: u32, reason: Reason) {
     context.note_end(peer, usize::MAX, reason);
     context.say(LogLine::Ended { peer, reason });
 }
 
-/// What a look at what the peer has sent says of its end: that it has closed, or that the connection is broken.
+/// Says whether and how the connection has ended, given a look at what the peer has sent: the peer has closed it, or it
+/// is broken.
 fn end_by(peeked: io::Result<usize>) -> Option<Reason> {
     match peeked {
         Ok(0) => Some(Reason::PeerClosed),
@@ -82,7 +83,7 @@ fn end_by(peeked: io::Result<usize>) -> Option<Reason> {
     }
 }
 
-/// Why the connection has ended, if its peer has gone already. It takes a few system calls, and waits for nothing.
+/// Returns why the connection has ended, if its peer has gone already. Makes a few system calls, and doesn't wait.
 fn ended_already(stream: &TcpStream) -> io::Result<Option<Reason>> {
     stream.set_nonblocking(true)?;
     let peeked = stream.peek(&mut [0u8; 1]);
@@ -90,8 +91,8 @@ fn ended_already(stream: &TcpStream) -> io::Result<Option<Reason>> {
     Ok(end_by(peeked))
 }
 
-/// The slot for a connection of the peer that came, with one fewer still to be accepted. None where the peer isn't heard, has
-/// gone already, or may have no place.
+/// Returns the slot for a connection of a peer that came, and counts it among those to be accepted. Returns `None` if
+/// the peer isn't known, has gone already, or may have no place.
 fn slot_of_comer<R: Wait + Clock, B: Brands>(
     context: &Context<'_, R, B>,
     stream: &TcpStream,
@@ -114,9 +115,9 @@ fn slot_of_comer<R: Wait + Clock, B: Brands>(
     slot
 }
 
-/// Accepts connections, each into a thread of its own, until as many came as were ordered or the run is to end;
-/// then waits for their ends. Where a thread can't be started, that connection alone ends at once. A broken listener
-/// ends the run; what is short may come back.
+/// Accepts connections, each in a thread of its own, until as many came as were ordered or the run should end; then
+/// waits for their ends. If a thread can't be started, only that connection ends at once. A broken listener ends the
+/// run; other resources that are short may come back.
 pub fn accept_all<
     R: Wait + Clock + Net<Listener = TcpListener, Stream = TcpStream> + Threads + Sync,
     B: Brands + Send + Sync,

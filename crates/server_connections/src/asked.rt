@@ -13,15 +13,15 @@ use server_log::ShownName;
 use std::alloc::{AllocError, Global};
 use step_core::{AwaitedName, State};
 
-/// An LSP of which something was asked.
+/// An LSP for which something was asked.
 #[derive(Clone, Copy)]
 pub(crate) struct AskedLsp {
-    /// 0 of a grant that no report has bound to an LSP.
+    /// 0 for a grant that no report has bound to an LSP.
     pub plsp: Plsp,
     pub name: ShownName,
 }
 
-/// Sees which LSP the grant or the awaited deletion of an SRP-ID is of.
+/// Sees to which LSP the grant or the awaited deletion of an SRP-ID belongs.
 #[derive(Clone, Copy)]
 pub(crate) struct AskedLook {
     pub peer: u32,
@@ -59,7 +59,7 @@ fn awaited_name(awaited: Option<&AwaitedName>) -> ShownName
     }
 }
 
-/// The LSP that a grant of an SRP-ID is of.
+/// Returns the LSP to which a grant of an SRP-ID belongs.
 fn of_grant(state: &State, peer: u32, srp: u32, path: &Path) -> AskedLsp
     ensures { result ≡ of_grant state.now peer srp path.now }
 {

@@ -16,13 +16,13 @@ use std::net::{Net, TcpListener, TcpStream};
 use std::sync::Wait;
 use std::time::Clock;
 
-/// The timers of a peer whose Open hasn't come.
+/// The timers of a peer whose Open hasn't come yet.
 const NO_TIMERS: PeerTimers = PeerTimers {
     keepalive: 0,
     dead: 0,
 };
 
-/// How a connection was left: how it ended, how its session stands, and why it ended.
+/// How a connection was left: how it ended, whether its session is up, and why it ended.
 #[derive(Clone, Copy)]
 struct Left {
     ended: Ended,
@@ -30,7 +30,7 @@ struct Left {
     reason: Reason,
 }
 
-/// Why the connection of this slot ended, whose session was refused by this number or wasn't.
+/// Returns why the connection of this slot ended, given the number by which its session was refused, if it was.
 fn reason_of<R: Wait + Clock, B: Brands>(
     context: &Context<'_, R, B>,
     slot: usize,
@@ -100,7 +100,7 @@ fn receive<R: Wait + Clock, B: Brands>(
     }
 }
 
-/// The prepared socket, whose waits others may end.
+/// Makes the prepared socket, whose waits others may end.
 fn connected<'a, R: Wait + Clock + Net<Listener = TcpListener, Stream = TcpStream>, B: Brands>(
     context: &Context<'_, R, B>,
     stream: &'a TcpStream,
@@ -112,7 +112,7 @@ fn connected<'a, R: Wait + Clock + Net<Listener = TcpListener, Stream = TcpStrea
     Ok(socket)
 }
 
-/// Whether the end of the session is to reach the peer: then it is waited for the peer to close.
+/// Asks whether the end of the session should reach the peer, which means waiting for the peer to close.
 fn may_part<R: Wait + Clock, B: Brands>(
     context: &Context<'_, R, B>,
     ended: Ended,
@@ -122,7 +122,7 @@ fn may_part<R: Wait + Clock, B: Brands>(
         && (context.run.is_closing() || context.wakers.may_part(context.rt, slot))
 }
 
-/// Notes that a connection is closed unheard.
+/// Notes that a connection is closed without being served.
 fn release<R: Wait + Clock, B: Brands>(
     context: &Context<'_, R, B>,
     peer: u32,
@@ -132,8 +132,8 @@ fn release<R: Wait + Clock, B: Brands>(
     Reason::Unheard
 }
 
-/// Serves a peer by its prepared socket, sees to its being forgotten, and parts from it; says why its connection ended. Where
-/// there is no room for the entry of its end, nothing is said to it.
+/// Serves a peer through its prepared socket, notes when the peer is to be forgotten, and ends the connection. Returns
+/// why the connection ended. If there is no memory to note its end, nothing is sent to the peer.
 fn serve<R: Wait + Clock, B: Brands>(
     context: &Context<'_, R, B>,
     socket: PolledSocket<'_>,
@@ -156,7 +156,8 @@ fn serve<R: Wait + Clock, B: Brands>(
     left.reason
 }
 
-/// Serves a peer. Where its socket can't be prepared, or there is no memory for what is noted of it, nothing is said to it.
+/// Serves a peer. If its socket can't be prepared, or there is no memory for what is noted about it, nothing is sent to
+/// it.
 fn host<R: Wait + Clock + Net<Listener = TcpListener, Stream = TcpStream>, B: Brands>(
     context: &Context<'_, R, B>,
     stream: &TcpStream,
@@ -175,7 +176,7 @@ fn host<R: Wait + Clock + Net<Listener = TcpListener, Stream = TcpStream>, B: Br
     serve(context, socket, stream, peer, slot, seat, &mut trials)
 }
 
-/// The thread of one connection, for which the seat of a slot is promised. Its place and its seat are free again once
+/// Runs the thread of one connection, for which the seat of a slot is promised. Frees its place and its seat when
 /// nothing else is left to do.
 pub(crate) fn attend<R: Wait + Clock + Net<Listener = TcpListener, Stream = TcpStream>, B: Brands>(
     context: &Context<'_, R, B>,

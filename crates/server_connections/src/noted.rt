@@ -12,9 +12,9 @@ use std::alloc::AllocError;
 use std::sync::Wait;
 use std::time::Clock;
 
-/// The store of one session. Each call is noted as soon as it is made. So that the session came up or went down is noted
-/// wherever that was submitted and accepted, and what was reported before the end of synchronization is told from what
-/// came after it. So is what the session shows, before its events are submitted.
+/// The store of one session. Each call is noted as soon as it is made. So that the session came up or went down is
+/// noted wherever that was submitted and accepted, and what was reported before the end of synchronization is
+/// distinguished from what came after it. What the session shows is noted too, before its events are submitted.
 #[derive(Drop)]
 pub(crate) struct Noted<'a, 'c, 't, R: Clock, B: Brands, D: Desk + Drop> {
     pub notes: Notes<'a, 'c, 't, R, B>,

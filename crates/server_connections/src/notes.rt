@@ -1,4 +1,4 @@
-//! What a connection's thread notes of its session, and says of it.
+//! What a connection's thread notes and logs about its session.
 use crate::asked::{AskedLook, AskedLsp};
 use crate::reading::Reading;
 use crate::sayings::{lsp_of, path_happening, replaced_lsp, session_happening, trial_happening};
@@ -21,28 +21,29 @@ use std::sync::Wait;
 use std::thread;
 use std::time::{Clock, Duration};
 
-/// The pause of a session whose router has as many tickets as are free, in milliseconds. It waits meanwhile: its Keepalives too.
+/// The pause of a session whose router has as many tickets as are free, in milliseconds. The session waits meanwhile,
+/// and so do its Keepalives.
 const SHARE_PAUSE_MS: u64 = 5;
 
-/// The number of these pauses in one turn, at most.
+/// The most of these pauses in one turn.
 const SHARE_PAUSES: u32 = 100;
 
 /// A second, in milliseconds.
 const SECOND_MS: u64 = 1000;
 
-/// What a connection's thread notes of its session.
+/// What a connection's thread notes about its session.
 #[derive(Drop)]
 pub(crate) struct Notes<'a, 'c, 't, R: Clock, B: Brands> {
     pub context: &'a Context<'c, R, B>,
     /// The slot of the connection's seat.
     pub slot: usize,
     pub peer: u32,
-    /// Those of the peer's Open.
+    /// The timers of the peer's Open.
     pub timers: PeerTimers,
     pub session: ConnectionNotes,
-    /// Whether the session is up.
+    /// Says whether the session is up.
     pub standing: Standing,
-    /// The LSPs that were granted paths and went down of late.
+    /// The LSPs that recently were granted paths or went down.
     pub trials: &'t mut ReadPause,
     pub reading: &'t Reading,
     /// What the connection's thread has seen of the history.
@@ -54,8 +55,9 @@ impl<'a, 'c, 't, R: Wait + Clock, B: Brands> Notes<'a, 'c, 't, R, B> {
         self.context.moments().now_ms()
     }
 
-    /// Marks the session of the peer as one that comes up, so that its connection isn't ended for another, and has one that is
-    /// down make room for it if that has to be. If its connection was ended already, the session is closed at its next turn.
+    /// Marks the session of the peer as one that comes up, so that its connection doesn't end for another, and lets a
+    /// peer that is down make room for it if one must. If its connection has already ended for another, the session is
+    /// closed at its next turn.
     pub fn come_up(&self, peer: u32) {
         let context = self.context;
         let _has_place = context.wakers.mark(context.rt, self.slot, true);
@@ -77,7 +79,7 @@ impl<'a, 'c, 't, R: Wait + Clock, B: Brands> Notes<'a, 'c, 't, R, B> {
         }
     }
 
-    /// The session hasn't come up.
+    /// Notes that the session hasn't come up.
     fn stay_down(&mut self) {
         let context = self.context;
         let _has_place = context.wakers.mark(context.rt, self.slot, false);
@@ -101,7 +103,8 @@ impl<'a, 'c, 't, R: Wait + Clock, B: Brands> Notes<'a, 'c, 't, R, B> {
         });
     }
 
-    /// The peer has reported all of its LSPs. What it reports later in the same bytes isn't among those that are counted.
+    /// Notes that the peer has reported all of its LSPs. What it reports later in the same bytes isn't counted among
+    /// them.
     fn sync(&mut self) {
         let context = self.context;
         let lsps = context
@@ -115,20 +118,20 @@ impl<'a, 'c, 't, R: Wait + Clock, B: Brands> Notes<'a, 'c, 't, R, B> {
         });
     }
 
-    /// What the peer holds isn't known any more.
+    /// Notes that what the peer holds isn't known any more.
     pub fn lose_sync(&self) {
         self.context.grants.note(self.context.rt, self.peer, false);
     }
 
-    /// Notes that the history was to be rolled. If it wasn't full, memory was refused to the session, and the keeper of time
-    /// rolls it for that: the session has ended, but its router finds memory when it connects again.
+    /// Notes that the history was to be rolled. If it wasn't full, memory ran out for the session, and the timer thread
+    /// rolls the history for that. The session has ended, but its router finds memory when it connects again.
     pub fn note_rolled(&self, rolled: &Result<Option<u64>, AllocError>) {
         if !matches!(rolled, Ok(Some(_))) {
             self.context.run.note_short_memory(self.context.rt);
         }
     }
 
-    /// The state refused an event of the session.
+    /// Notes and logs that the state refused an event of the session.
     fn refuse(&mut self, event: &Event, number: u8) {
         if matches!(event, Event::Up { .. }) {
             self.stay_down();
@@ -152,7 +155,7 @@ impl<'a, 'c, 't, R: Wait + Clock, B: Brands> Notes<'a, 'c, 't, R, B> {
         }
     }
 
-    /// A report was accepted.
+    /// Acts on an accepted report.
     fn note_report(&mut self, report: &StateReport) {
         let context = self.context;
         if report.remove {
@@ -163,7 +166,7 @@ impl<'a, 'c, 't, R: Wait + Clock, B: Brands> Notes<'a, 'c, 't, R, B> {
         }
     }
 
-    /// Notes the last of these calls, which was just made: first whether the peer's session is up.
+    /// Notes the last of these calls, which was just made. Whether the peer's session is up is noted first.
     pub fn note_last(&mut self, calls: &[Call]) {
         let Some(call) = calls.last() else {
             return;
@@ -182,7 +185,7 @@ impl<'a, 'c, 't, R: Wait + Clock, B: Brands> Notes<'a, 'c, 't, R, B> {
         self.note(call);
     }
 
-    /// Notes what a call says of the router's paths beyond what the state keeps.
+    /// Notes what a call says about the router's paths that the state doesn't keep.
     fn note_words(&self, call: &Call) {
         let Some(what) = path_happening(call) else {
             return;
@@ -212,7 +215,7 @@ impl<'a, 'c, 't, R: Wait + Clock, B: Brands> Notes<'a, 'c, 't, R, B> {
         }
     }
 
-    /// A removal was accepted: if no path of its LSP is left, no refusal is known of it.
+    /// Acts on an accepted removal: if no path of its LSP is left, the refusal that is known for it is forgotten.
     fn note_removal(&mut self, report: &StateReport) {
         let context = self.context;
         let of = lsp_of(self.peer, report);
@@ -229,7 +232,7 @@ impl<'a, 'c, 't, R: Wait + Clock, B: Brands> Notes<'a, 'c, 't, R, B> {
         }
     }
 
-    /// Messages are on their way to the router: each PCUpd grants its LSP a path.
+    /// Notes that messages are on their way to the router: each PCUpd grants its LSP a path.
     fn note_sent(&mut self, messages: &[Message]) {
         let now_ms = self.now_ms();
         for message in messages {
@@ -240,7 +243,7 @@ impl<'a, 'c, 't, R: Wait + Clock, B: Brands> Notes<'a, 'c, 't, R, B> {
         }
     }
 
-    /// When the peer's DeadTimer is due, if it has one (RFC 5440 section 7.3).
+    /// Returns when the peer's DeadTimer is due, if it has one (RFC 5440 section 7.3).
     fn dead_ms(&self) -> Option<u64> {
         match self.timers.dead {
             0 => None,
@@ -252,7 +255,7 @@ impl<'a, 'c, 't, R: Wait + Clock, B: Brands> Notes<'a, 'c, 't, R, B> {
         }
     }
 
-    /// Notes what happened to an LSP that was granted a path, and until when no more is read for that.
+    /// Notes what happened to an LSP that was granted a path, and until when reading pauses because of it.
     fn note_trial(&mut self, what: PauseHappening, now_ms: u64) {
         let dead_ms = self.dead_ms();
         let is_line_due = self.trials.note(what);
@@ -266,7 +269,7 @@ impl<'a, 'c, 't, R: Wait + Clock, B: Brands> Notes<'a, 'c, 't, R, B> {
         }
     }
 
-    /// The peer's Open, as the session comes up.
+    /// Notes the timers of the peer's Open, as the session comes up.
     pub fn hear_open(&mut self, peer_open: Open) {
         self.timers = PeerTimers {
             keepalive: peer_open.keepalive,
@@ -274,14 +277,14 @@ impl<'a, 'c, 't, R: Wait + Clock, B: Brands> Notes<'a, 'c, 't, R, B> {
         };
     }
 
-    /// A message of the peer, before its events are submitted.
+    /// Takes in a message of the peer, before its events are submitted.
     pub fn hear(&mut self, message: &Message) {
         if let Message::Error(errors) = message {
             self.hear_errors(errors);
         }
     }
 
-    /// The router sent a PCErr, by whose first error it refuses what these SRP-IDs asked for.
+    /// Counts the errors of a PCErr of the router. By the first one it refuses what these SRP-IDs asked for.
     fn hear_errors(&mut self, errors: &Errors) {
         for error in errors.errors.as_slice() {
             self.context
@@ -311,7 +314,7 @@ impl<'a, 'c, 't, R: Wait + Clock, B: Brands> Notes<'a, 'c, 't, R, B> {
         });
     }
 
-    /// The router refused what an SRP-ID asked for.
+    /// Notes and logs that the router refused what an SRP-ID asked for.
     fn hear_refusal(&mut self, srp: u32, error: PcErr) {
         let context = self.context;
         let peer = self.peer;

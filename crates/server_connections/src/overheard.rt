@@ -29,12 +29,12 @@ impl<'a, R: Wait> MessageCount<'a, R> {
     }
 }
 
-/// What a peer says.
+/// What a peer sends.
 #[derive(Drop)]
 pub(crate) struct Heard<'a, R, W> {
     messages: MessageCount<'a, R>,
     socket: PolledSocket<'a>,
-    /// These end a wait of the socket, whose connection has this slot there.
+    /// Ends a wait of the socket; the connection has this slot there.
     wakers: &'a Wakers,
     slot: usize,
     watch: &'a W,
@@ -66,8 +66,8 @@ impl<'a, R: Wait, W: Watch> Heard<'a, R, W> {
         }
     }
 
-    /// Waits so long or until a ring, and reads nothing: says so, or why it couldn't wait. What is to be written then isn't late
-    /// for that.
+    /// Waits for this time or until a ring, and reads nothing. Returns `WouldBlock`, or why it couldn't wait. What
+    /// should be written meanwhile isn't delayed by that.
     fn pause(&mut self, most_ms: u64) -> io::Error {
         let waited = self.socket.await_ring(most_ms);
         self.wakers.rearm(self.messages.rt, self.slot);
@@ -104,7 +104,7 @@ impl<'a, R: Wait, W: Watch> Patient for Heard<'a, R, W> {
     }
 }
 
-/// What is said to a peer.
+/// What is sent to a peer.
 #[derive(Drop)]
 pub(crate) struct Said<'a, R> {
     messages: MessageCount<'a, R>,

@@ -1,4 +1,4 @@
-//! When a connection was heard last, and until when no more of it is read.
+//! When bytes of a connection came last, and until when reading pauses.
 use std::cell::Cell;
 
 /// The moments of a connection's reading, in milliseconds.
@@ -9,7 +9,7 @@ pub(crate) struct Reading {
 }
 
 impl Reading {
-    /// A connection that begins at this moment.
+    /// Makes the moments of a connection that begins now.
     pub fn new(now_ms: u64) -> Reading {
         Reading {
             heard_ms: Cell::new(now_ms),
@@ -17,22 +17,22 @@ impl Reading {
         }
     }
 
-    /// Bytes came at this moment.
+    /// Notes that bytes came at this moment.
     pub fn hear(&self, now_ms: u64) {
         self.heard_ms.set(now_ms);
     }
 
-    /// When bytes came last.
+    /// Returns when bytes came last.
     pub fn heard_ms(&self) -> u64 {
         self.heard_ms.get()
     }
 
-    /// No more is read until this moment.
+    /// Pauses reading until this moment.
     pub fn pause_until(&self, until_ms: u64) {
         self.until_ms.set(until_ms);
     }
 
-    /// How long no more is read, at this moment.
+    /// Returns how long reading still pauses at this moment.
     pub fn pause_ms(&self, now_ms: u64) -> u64 {
         self.until_ms.get().saturating_sub(now_ms)
     }

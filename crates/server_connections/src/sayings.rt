@@ -1,4 +1,4 @@
-//! What a call that was accepted says of a session, and of its router's paths and LSPs.
+//! What an accepted call says about a session, and about its router's paths and LSPs.
 ghost use Rattle.std.specs.Prelude.{◌≡◌};
 ghost use Rattle.delegate_rules.specs.Reports.{are_zero, identifiers_of};
 ghost use Rattle.server_connections.specs.Sayings.{key_of, lsp_of, operational_of, path_event, path_happening, removal, replaced_by, replaced_in, replaced_lsp, reported, reported_trial, rsvp_error_of, session_happening, trial_event, trial_happening, trial_in, word_of};
@@ -12,7 +12,7 @@ use server_rules::{
     SessionHappening,
 };
 
-/// What a call says happened to its session, at this moment in milliseconds.
+/// Returns what a call says happened to its session, at this moment in milliseconds.
 pub(crate) fn session_happening(call: &Call, now_ms: u64) -> Option<SessionHappening>
     ensures { result ≡ session_happening call.now.event call.now.reply now_ms }
 {
@@ -60,7 +60,7 @@ fn word_of(report: &StateReport) -> PathWord
     }
 }
 
-/// The identifiers of a report; all zero if it has none.
+/// Returns the identifiers of a report; all zero if it has none.
 fn identifiers_of(report: &StateReport) -> Identifiers
     ensures { result ≡ identifiers_of report.now }
 {
@@ -76,7 +76,7 @@ fn identifiers_of(report: &StateReport) -> Identifiers
     }
 }
 
-/// Whether the identifiers are of no path: the LSP isn't signalled, or is removed as a whole.
+/// Tests whether the identifiers name no path: the LSP isn't signalled, or is removed as a whole.
 fn are_zero(i: Identifiers) -> bool
     ensures { result ≡ are_zero i }
 {
@@ -93,7 +93,7 @@ fn key_of(peer: u32, report: &StateReport) -> PathKey
     }
 }
 
-/// The LSP that a report is about.
+/// Returns the LSP that a report is about.
 pub(crate) fn lsp_of(peer: u32, report: &StateReport) -> RouterLsp
     ensures { result ≡ lsp_of peer report.now }
 {
@@ -103,7 +103,7 @@ pub(crate) fn lsp_of(peer: u32, report: &StateReport) -> RouterLsp
     }
 }
 
-/// What a report with flag R says: the path of its LSP-ID no longer stands, or no path of its LSP.
+/// Returns what a report with flag R says: the path of its LSP-ID no longer stands, or no path of its LSP.
 fn removal(peer: u32, report: &StateReport) -> PathHappening
     ensures { result ≡ removal peer report.now }
 {
@@ -140,7 +140,7 @@ fn path_event(event: &Event) -> Option<PathHappening>
     }
 }
 
-/// What a call says of paths.
+/// Returns what a call says about paths.
 pub(crate) fn path_happening(call: &Call) -> Option<PathHappening>
     ensures { result ≡ path_happening call.now.event call.now.reply }
 {
@@ -169,7 +169,8 @@ fn replaced_in(event: &Event) -> Option<RouterLsp>
     }
 }
 
-/// The LSP of which no other reported path stands after a call: it was reported without being signalled.
+/// Returns the LSP of which no other reported path stands after a call, because it was reported without being
+/// signalled.
 pub(crate) fn replaced_lsp(call: &Call) -> Option<RouterLsp>
     ensures { result ≡ replaced_lsp call.now.event call.now.reply }
 {
@@ -208,7 +209,7 @@ fn trial_event(event: &Event, now_ms: u64) -> Option<PauseHappening>
     }
 }
 
-/// What a call says of an LSP that was granted a path, at this moment in milliseconds.
+/// Returns what a call says about an LSP that was granted a path, at this moment in milliseconds.
 pub(crate) fn trial_happening(call: &Call, now_ms: u64) -> Option<PauseHappening>
     ensures { result ≡ trial_happening call.now.event call.now.reply now_ms }
 {

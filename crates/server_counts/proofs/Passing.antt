@@ -1,4 +1,4 @@
--- Bytes within a body change nothing but how many are to come.
+-- Bytes inside a body only change how many are to come.
 use Rattle.std.proofs.Common.{◌≡◌, ◌≢◌, ◌<◌, ◌≤◌, ◌+◌, ◌-◌, ℕ, List, [], ◌∷◌, length, take, drop, false, nat_eq, length-drop, refl, ap, sym, ◌∙◌, arith}
 use Rattle.std.specs.Prelude.{nat_le}
 use Rattle.std.specs.List.{fold}
@@ -23,7 +23,7 @@ passes kind left last way c (b ∷ bs) other less =
     ∙ passes kind (left - 1) last way c bs other (omega (arith, less))
     ∙ ap (λ n. (Body kind n last, c)) (omega arith)
 
--- what is left behind bytes that were passed over makes what they and it make
+-- after bytes that were passed over, the rest gives what all of them give
 pub goes_on : (way : Way) (s s' : MessageStream) (c : Counters) (ds : List ℕ) (at r : ℕ) → at + r ≤ length ds
     → ((bs : List ℕ) → length bs ≡ r → fold (heard way) (s, c) bs ≡ (s', c))
     → fold (heard way) (s', c) (drop (at + r) ds) ≡ fold (heard way) (s, c) (drop at ds)

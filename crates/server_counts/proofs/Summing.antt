@@ -1,4 +1,4 @@
--- The numbers of steps sum to the steps that there were.
+-- The counts of steps add up to the number of steps.
 use Rattle.std.proofs.Common.{◌≡◌, ◌<◌, ◌≤◌, ◌+◌, ◌-◌, ◌*◌, ◌^◌, ℕ, List, [], ◌∷◌, length, take, set, get_or, replicate, min, cond, refl, ap, sym, ◌∙◌, arith}
 use Rattle.std.specs.List.{sum, sum_by, count_by}
 use Rattle.std.proofs.Math.Seq.{take-set-lt}
@@ -49,7 +49,7 @@ reply_low reply.Refused = omega arith
 step_low : (e : EventKind) (r : ReplyKind) → place (of.Step e r) < 195
 step_low e r = omega (arith, event_low e, reply_low r)
 
--- a number among the first is replaced
+-- one of the first numbers is replaced
 replaced : (few i y : ℕ) (xs : List ℕ) → i < few → few ≤ length xs → sum (take few (set xs i y)) + get_or xs i 0 ≡ sum (take few xs) + y
 replaced few i y xs low long =
     let front : length (take few xs) ≡ few = length-take-le few xs long in
@@ -58,7 +58,7 @@ replaced few i y xs low long =
     ∙ ap (λ ys. sum ys + get_or (take few xs) i 0) (take-set-lt few xs i y low)
     ∙ sum_by-set (λ x. x) (take few xs) i y 0 (omega (arith, front, low))
 
--- a number among the first is within their sum
+-- one of the first numbers is at most their sum
 within : (few i : ℕ) (xs : List ℕ) → i < few → few ≤ length xs → get_or xs i 0 ≤ sum (take few xs)
 within few i xs low long =
     let front : length (take few xs) ≡ few = length-take-le few xs long in
@@ -76,7 +76,7 @@ pub record Counts (happened : List Counted) : Type 0 where
 numbered : (what : Counted) (before : List Counted) → length ((all_added before).numbers) ≡ 2306 → length ((all_added (what ∷ before)).numbers) ≡ 2306
 numbered what before long = length-set ((all_added before).numbers) (place what) _ ∙ long
 
--- what is no step changes none of the first numbers
+-- counting something that is no step changes none of the first numbers
 passed : (what : Counted) (before : List Counted) → 195 ≤ place what → steps_of (all_added (what ∷ before)) ≡ steps_of (all_added before)
 passed what before high = ap sum (take-set-le 195 ((all_added before).numbers) (place what) _ high)
 

@@ -16,7 +16,7 @@ count_of c what = get_or c.numbers (place what) 0
 abbrev pub nothing_counted : Counters
 nothing_counted = record { numbers = replicate 2306 0; searches = no_times; waits = no_times; looks = no_times }
 
--- this number rises by one, and stays at the greatest of 64 bits; each other is as it was
+-- this number rises by one and stays at the greatest of 64 bits; all others stay as they were
 abbrev pub added : Counted → Counters → Counters
 added what c = record c { numbers = set c.numbers (place what) (min (count_of c what + 1) (2 ^ 64 - 1)) }
 
@@ -25,7 +25,7 @@ times_of Search c = c.searches
 times_of Wait c = c.waits
 times_of Look c = c.looks
 
--- one time more of this kind; all else is as it was
+-- one more time of this kind is counted; all else stays as it was
 abbrev pub timed : Timed → ℕ → Counters → Counters
 timed Search us c = record c { searches = observed us c.searches }
 timed Wait us c = record c { waits = observed us c.waits }

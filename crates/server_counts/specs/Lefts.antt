@@ -1,4 +1,4 @@
--- Which rows are of a step.
+-- Which rows belong to a step.
 use Rattle.std.specs.Prelude.{ℕ, ◌==◌, List, filter}
 use Rattle.server_counts.specs.declared.lefts.LeftRow.{LeftRow}
 

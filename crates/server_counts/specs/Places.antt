@@ -1,4 +1,4 @@
--- Where in the table each number stands.
+-- The place of each number in the table.
 use Rattle.std.specs.Prelude.{ℕ, ◌+◌, ◌*◌, min}
 use Rattle.pce_seen.specs.declared.steps.EventKind.{EventKind}
 use Rattle.pce_seen.specs.declared.steps.EventKind.TheVariants as event
@@ -71,7 +71,7 @@ end_number end.SecondSession = 10
 end_number (end.Refused number) = 11
 end_number end.Unheard = 12
 
--- the place of a type and value of PCErr among all of them; those from 31 on share theirs
+-- the place of a type and value of PCErr among all of them; the values from 31 on share one place
 abbrev pub error_place : ℕ → ℕ → ℕ
 error_place kind value = 32 * min kind 31 + min value 31
 

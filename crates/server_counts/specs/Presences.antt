@@ -5,11 +5,11 @@ use Rattle.server_counts.specs.declared.kinds.EndReason.{EndReason}
 use Rattle.server_counts.specs.declared.presences.Presence.{Presence}
 use Rattle.server_counts.specs.declared.presences.Presences.{Presences}
 
--- of a peer that is not known
+-- the presence of a peer that isn't known
 abbrev pub no_presence : Presence
 no_presence = record { up_at = None; since_ms = 0; last_end = None }
 
--- what the table has of a peer
+-- what the table has for a peer
 abbrev pub presence_of : Presences → ℕ → Option Presence
 presence_of v peer = get nat_eq v.table peer
 
@@ -21,8 +21,8 @@ abbrev pub is_at : ℕ → Option ℕ → Bool
 is_at slot None = false
 is_at slot (Some other) = nat_eq other slot
 
--- The connection of this slot ended. Where its session was up, the peer is down since then; one that ends while the
--- session of another is up takes nothing down.
+-- The connection of this slot ended. If its session was up, the peer is down from now on; if the session of another
+-- connection is up, the peer stays up.
 abbrev pub ended : ℕ → ℕ → EndReason → Presence → Presence
 ended slot now_ms reason v = record {
   up_at = if is_at slot v.up_at then None else v.up_at;
@@ -30,11 +30,12 @@ ended slot now_ms reason v = record {
   last_end = Some (record { at_ms = now_ms; reason = reason });
 }
 
--- a peer that is down goes out of the table
+-- a peer that is down is removed from the table
 abbrev pub forgotten : Option Presence → Option Presence
 forgotten None = None
 forgotten (Some v) = if is_some v.up_at then Some v else None
 
--- the table has of this peer what is made of what it had, or of a peer that is not known; of each other what it had
+-- the table has for this peer what `make` gives for what it had, or for a peer that isn't known; for each other peer it
+-- has what it had
 abbrev pub SetsPresence : Presences → Presences → ℕ → (Presence → Presence) → Type 0
 SetsPresence old new peer make = (other : ℕ) → presence_of new other ≡ (if nat_eq peer other then Some (make (unwrap_or (presence_of old other) no_presence)) else presence_of old other)

@@ -7,7 +7,7 @@ abbrev pub bounds : List ℕ
 bounds =
     10 ∷ 20 ∷ 50 ∷ 100 ∷ 200 ∷ 500 ∷ 1000 ∷ 2000 ∷ 5000 ∷ 10000 ∷ 20000 ∷ 50000 ∷ 100000 ∷ 200000 ∷ 500000 ∷ 1000000 ∷ 2000000 ∷ 5000000 ∷ 10000000 ∷ []
 
--- the place of the first bound that isn't below a time, or behind the last
+-- the place of the first bound that isn't below a time; past the last if there is none
 abbrev pub first_not_below : List ℕ → ℕ → ℕ
 first_not_below [] us = 0
 first_not_below (b ∷ bs) us = if nat_le us b then 0 else first_not_below bs us + 1
@@ -18,7 +18,7 @@ bucket_of us = first_not_below bounds us
 abbrev pub no_times : Histogram
 no_times = record { buckets = replicate 20 0; sum_us = 0 }
 
--- one time more in its bucket, and so much longer all together; numbers stay at the greatest of 64 bits
+-- one more time in its bucket, and added to the sum; both numbers stop at the greatest of 64 bits
 abbrev pub observed : ℕ → Histogram → Histogram
 observed us h = record {
   buckets = set h.buckets (bucket_of us) (min (get_or h.buckets (bucket_of us) 0 + 1) (2 ^ 64 - 1));

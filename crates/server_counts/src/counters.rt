@@ -8,19 +8,19 @@ use crate::kinds::{Counted, place};
 /// How many numbers there are.
 const NUMBERS: usize = 2306;
 
-/// How often each thing happened, and how long what took.
+/// How often each thing happened, and how long things took.
 #[derive(Clone, Copy)]
 pub struct Counters {
     numbers: [u64; NUMBERS],
     /// From the beginning of a search to the verdict on what it found.
     searches: Histogram,
-    /// From an ask to the last verdict.
+    /// From a request to the last verdict.
     waits: Histogram,
-    /// The time for which a look held the lock.
+    /// How long a look held the lock.
     looks: Histogram,
 }
 
-/// What is timed.
+/// What is measured in time.
 #[derive(Clone, Copy, PartialEq, Eq, Debug)]
 pub enum Timed {
     Search,
@@ -29,7 +29,7 @@ pub enum Timed {
 }
 
 impl Counters {
-    /// Nothing has happened.
+    /// Makes counters for a run in which nothing has happened.
     pub fn new() -> Counters
         ensures { result ≡ nothing_counted }
     {
@@ -41,7 +41,7 @@ impl Counters {
         }
     }
 
-    /// This happened once more.
+    /// Counts that this happened once more.
     pub fn add(&mut self, what: Counted)
         ensures { self.new ≡ added what self.old }
     {
@@ -49,7 +49,7 @@ impl Counters {
         self.numbers[at] = self.numbers[at].saturating_add(1);
     }
 
-    /// How often this happened.
+    /// Returns how often this happened.
     pub fn count(&self, what: Counted) -> u64
         ensures { result ≡ count_of self.now what }
     {
@@ -67,7 +67,7 @@ impl Counters {
         }
     }
 
-    /// How long this took.
+    /// Returns how long this took.
     pub fn times(&self, what: Timed) -> Histogram
         ensures { result ≡ times_of what self.now }
     {

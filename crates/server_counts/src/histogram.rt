@@ -11,12 +11,12 @@ pub const BOUNDS_US: [u64; 19] = [
 /// How many times were in each bucket, and how long all were together.
 #[derive(Clone, Copy)]
 pub struct Histogram {
-    /// A time is in the first bucket whose bound it doesn't pass, and in the last where it passes all.
+    /// A time is in the first bucket whose bound it doesn't exceed, and in the last if it exceeds all.
     pub buckets: [u64; 20],
     pub sum_us: u64,
 }
 
-/// The place of the first bound that a time doesn't pass, or behind the last.
+/// Returns the place of the first bound that a time doesn't exceed; past the last if there is none.
 fn first_not_below(bounds: &[u64], us: u64) -> usize
     ensures place { result ≡ first_not_below bounds.now us }
     ensures few { result ≤ length bounds.now }
@@ -29,7 +29,7 @@ fn first_not_below(bounds: &[u64], us: u64) -> usize
     bounds.len()
 }
 
-/// The place of the bucket of a time.
+/// Returns the place of the bucket of a time.
 fn bucket_of(us: u64) -> usize
     ensures bucket { result ≡ bucket_of us }
     ensures few { result < 20 }

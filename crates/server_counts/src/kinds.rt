@@ -4,7 +4,7 @@ ghost use Rattle.server_counts.specs.Places.{end_number, error_place, event_numb
 
 use pce_seen::EventKind;
 
-/// What kind of reply a step gave.
+/// The kind of reply that a step gave.
 #[derive(Clone, Copy, PartialEq, Eq, Debug)]
 pub enum ReplyKind {
     Done,
@@ -65,9 +65,9 @@ pub enum EndReason {
     RunEnds,
     /// The peer's session was up on another connection.
     SecondSession,
-    /// The session was refused, by this number.
+    /// The session was refused, with this number.
     Refused(u8),
-    /// It was closed unheard.
+    /// It was closed without being served.
     Unheard,
 }
 
@@ -78,7 +78,7 @@ pub enum Counted {
     Step(EventKind, ReplyKind),
     /// A refusal, by its number.
     Refusal(u8),
-    /// A connection came, and its address may be heard.
+    /// A connection came, and its address may be served.
     Accepted,
     /// A connection came from an address that no node owns.
     Stranger,
@@ -180,7 +180,7 @@ fn end_number(reason: EndReason) -> usize
     }
 }
 
-/// The place of the number of steps of this kind.
+/// Returns the place of the number of steps of this kind.
 fn step_place(event: EventKind, reply: ReplyKind) -> usize
     ensures number { result ≡ event_number event * 15 + reply_number reply }
     ensures few { result < 195 }
@@ -188,7 +188,7 @@ fn step_place(event: EventKind, reply: ReplyKind) -> usize
     event_number(event) * 15 + reply_number(reply)
 }
 
-/// The place of a type and value of PCErr among all of them; those from 31 on share theirs.
+/// Returns the place of a type and value of PCErr among all of them; the values from 31 on share one place.
 fn error_place(kind: u8, value: u8) -> usize
     ensures number { result ≡ error_place kind value }
     ensures few { result < 1024 }
@@ -198,7 +198,7 @@ fn error_place(kind: u8, value: u8) -> usize
     32 * kind + value
 }
 
-/// The place of a number among all that are counted.
+/// Returns the place of a number among all that are counted.
 pub(crate) fn place(what: Counted) -> usize
     ensures place { result ≡ place what }
     ensures few { result < 2306 }

@@ -1,10 +1,11 @@
-//! What counters say of what happened.
+//! What counters say about what happened.
 ghost use Rattle.std.specs.Prelude.{◌≡◌, ◌<◌, ◌^◌, List, length};
 ghost use Rattle.std.specs.List.{count_by};
 ghost use Rattle.server_counts.specs.Counts.{all_added, is_step, steps_of};
 ghost use Rattle.server_counts.specs.declared.kinds.Counted.{Counted};
 
-/// As many steps are counted as there were, whatever else was counted in between. Fewer than 2^64 things happen.
+/// States that as many steps are counted as there were, whatever else was counted in between, if fewer than 2^64 things
+/// happen.
 pub fn steps_are_counted()
     ensures { (happened : List Counted) → length happened < 2 ^ 64 → steps_of (all_added happened) ≡ count_by is_step happened }
 {}

@@ -1,5 +1,6 @@
-//! What the server counts beside its database: steps by their event and reply, refusals, connections, messages. Nothing
-//! here waits or reads a clock: threads say what happened, and each number that is read is the number of those calls.
+//! What the server counts apart from its database: steps by their event and reply, refusals, connections, messages.
+//! Nothing here waits or reads a clock: threads report what happened, and each number that is read is the number of
+//! those calls.
 //!
 //! - `kinds`: what there is to count
 //! - `counters`: the table

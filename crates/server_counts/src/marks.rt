@@ -4,7 +4,7 @@ ghost use Rattle.server_counts.specs.Marks.{behind, before, every_other, last_of
 
 use std::alloc::{AllocError, Global};
 
-/// From the one moment to the other, in milliseconds, there were as many steps.
+/// From the one moment to the other, in milliseconds, there were this many steps.
 #[derive(Clone, Copy)]
 pub struct Mark {
     pub steps: u64,
@@ -15,7 +15,7 @@ pub struct Mark {
 /// The number of marks at which every other one is dropped.
 const MARK_LIMIT: usize = 4096;
 
-/// Marks, the newest last. The older ones are, the further they are apart.
+/// The marks, the newest last. The older they are, the further they are apart.
 #[derive(Drop)]
 pub struct Marks {
     marks: Vec<Mark>,
@@ -48,7 +48,7 @@ fn every_other(alloc: Global, marks: &[Mark]) -> Result<Vec<Mark>, AllocError>
     Ok(kept)
 }
 
-/// Adds a mark. Where there are 4,096, every other one is dropped.
+/// Adds a mark. If there are 4,096, every other one is dropped first.
 fn add(marks: &mut Vec<Mark>, mark: Mark) -> Result<(), AllocError>
     ensures added { OnOk result (marks.new.items ≡ with_new mark marks.old.items) }
     ensures unchanged { OnErr result (marks.new.items ≡ marks.old.items) }
@@ -73,7 +73,7 @@ impl Marks {
         }
     }
 
-    /// At this moment there were as many steps. Where memory is refused nothing is noted.
+    /// Notes that there were this many steps at this moment. If memory runs out, nothing is noted.
     pub fn note(&mut self, steps: u64, now_ms: u64) -> Result<(), AllocError>
         ensures noted { OnOk result (self.new.marks.items ≡ noted steps now_ms self.old.marks.items) }
         ensures unchanged { OnErr result (self.new.marks.items ≡ self.old.marks.items) }
@@ -95,7 +95,7 @@ impl Marks {
         }
     }
 
-    /// Copies all out.
+    /// Copies all marks out.
     pub fn copies(&self, alloc: Global) -> Result<Vec<Mark>, AllocError>
         ensures { IfOk result (λ copies. copies.items ≡ self.now.marks.items) }
     {
@@ -103,7 +103,7 @@ impl Marks {
     }
 }
 
-/// Finds the first mark that counts the step of this place: by its first moment the step was taken.
+/// Finds the first mark that counts the step at this place: the step was taken by the mark's first moment.
 pub fn mark_behind(marks: &[Mark], step: u64) -> Option<Mark>
     ensures { result ≡ behind step marks.now }
 {
@@ -115,7 +115,7 @@ pub fn mark_behind(marks: &[Mark], step: u64) -> Option<Mark>
     None
 }
 
-/// Finds the last mark that doesn't count it: at its last moment the step wasn't taken yet.
+/// Finds the last mark that doesn't count it: the step wasn't taken yet at the mark's last moment.
 pub fn mark_before(marks: &[Mark], step: u64) -> Option<Mark>
     ensures { result ≡ before step marks.now }
 {

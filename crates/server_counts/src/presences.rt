@@ -14,19 +14,19 @@ pub struct LastEnd {
     pub reason: EndReason,
 }
 
-/// A peer of which a session came up.
+/// A peer whose session came up at least once.
 #[derive(Clone, Copy)]
 pub struct Presence {
     /// The connection whose session is up, by the slot of its seat.
     pub up_at: Option<usize>,
     /// When its session came up or went down, in milliseconds.
     pub since_ms: u64,
-    /// How a connection of it ended last, up or not.
+    /// How a connection of it ended last, whether its session was up or not.
     pub last_end: Option<LastEnd>,
 }
 
 impl Presence {
-    /// Of a peer that is not known.
+    /// The presence of a peer that isn't known.
     const NOTHING: Presence = Presence {
         up_at: None,
         since_ms: 0,
@@ -34,13 +34,13 @@ impl Presence {
     };
 }
 
-/// One entry for each peer of which a session came up, until it is forgotten.
+/// The presences, with one entry for each peer whose session came up, until it is forgotten.
 #[derive(Drop)]
 pub struct Presences {
     table: IndexMap<u32, Presence>,
 }
 
-/// A session of the peer came up on the connection of this slot.
+/// Returns the presence after a session of the peer came up on the connection of this slot.
 fn risen(slot: usize, now_ms: u64, presence: Presence) -> Presence
     ensures { result ≡ risen slot now_ms presence }
 {
@@ -51,7 +51,7 @@ fn risen(slot: usize, now_ms: u64, presence: Presence) -> Presence
     }
 }
 
-/// The connection of this slot ended. Where its session was up, the peer is down since now.
+/// Returns the presence after the connection of this slot ended. If its session was up, the peer is down from now on.
 fn ended(slot: usize, now_ms: u64, reason: EndReason, presence: Presence) -> Presence
     ensures { result ≡ ended slot now_ms reason presence }
 {
@@ -82,7 +82,7 @@ impl Presences {
         }
     }
 
-    /// A session of the peer came up on the connection of this slot. Where memory is refused nothing is noted.
+    /// Notes that a session of the peer came up on the connection of this slot. If memory runs out, nothing is noted.
     pub fn came_up(&mut self, peer: u32, slot: usize, now_ms: u64) -> Result<(), AllocError>
         ensures ok { OnOk result (SetsPresence self.old self.new peer (risen slot now_ms)) }
         ensures err { OnErr result ((other : ℕ) → presence_of self.new other ≡ presence_of self.old other) }
@@ -92,7 +92,7 @@ impl Presences {
         Ok(())
     }
 
-    /// The connection of this slot ended. Nothing is noted of a peer of which no session came up.
+    /// Notes that the connection of this slot ended. Nothing is noted about a peer whose session never came up.
     pub fn ended(&mut self, peer: u32, slot: usize, now_ms: u64, reason: EndReason)
         ensures { (other : ℕ) → presence_of self.new other ≡ (if nat_eq peer other then option_map (ended slot now_ms reason) (presence_of self.old other) else presence_of self.old other) }
     {
@@ -104,7 +104,7 @@ impl Presences {
         }
     }
 
-    /// The peer was forgotten, unless a session of it has come up since.
+    /// Removes the peer, which was forgotten, unless a session of it has come up since.
     pub fn forgotten(&mut self, peer: u32)
         ensures { (other : ℕ) → presence_of self.new other ≡ (if nat_eq peer other then forgotten (presence_of self.old other) else presence_of self.old other) }
     {
@@ -116,7 +116,7 @@ impl Presences {
         }
     }
 
-    /// Copies all out, each with its peer.
+    /// Copies all presences out, each with its peer.
     #[tactic(auto, using(crate::proofs::Taking::take_next))]
     pub fn copies(&self, alloc: Global) -> Result<Vec<(u32, Presence)>, AllocError>
         ensures { IfOk result (λ copies. copies.items ≡ self.now.table.entries) }
@@ -132,7 +132,7 @@ impl Presences {
     }
 }
 
-/// Finds what is noted of a peer.
+/// Finds what is noted about a peer.
 pub fn presence_in(presences: &[(u32, Presence)], peer: u32) -> Option<Presence>
     ensures { result ≡ lookup (nat_eq peer) presences.now }
 {

@@ -12,7 +12,7 @@ use crate::kinds::{Counted, MessageKind};
 /// The type of a PCErr (RFC 5440 section 6.7).
 const ERROR: u8 = 6;
 
-/// Which way messages go.
+/// The direction of messages.
 #[derive(Clone, Copy, PartialEq, Eq, Debug)]
 pub enum Way {
     In,
@@ -30,11 +30,11 @@ pub enum MessageStream {
     High { kind: u8 },
     /// The second byte of its length is next.
     Low { kind: u8, high: u8 },
-    /// How many bytes of its body are to come. Of a PCErr, the last that came.
+    /// How many bytes of its body are to come. For a PCErr, also the last byte that came.
     Body { kind: u8, left: usize, last: u8 },
 }
 
-/// Names a type of messages.
+/// Returns the kind of a type of messages.
 fn kind_of_type(number: u8) -> MessageKind
     ensures { result ≡ kind_of_type number }
 {
@@ -68,7 +68,7 @@ fn count_whole(way: Way, kind: u8, before: u8, last: u8, counters: &mut Counters
     }
 }
 
-/// The body of a message of this length begins, unless it has none.
+/// Begins the body of a message of this length, unless it has none.
 fn begin(way: Way, kind: u8, length: usize, byte: u8, counters: &mut Counters) -> MessageStream
     ensures { (result, counters.new) ≡ begun way kind length byte counters.old }
 {
@@ -83,7 +83,7 @@ fn begin(way: Way, kind: u8, length: usize, byte: u8, counters: &mut Counters) -
     }
 }
 
-/// One more byte of a body.
+/// Takes one more byte of a body.
 fn go_on(
     way: Way,
     kind: u8,
@@ -105,7 +105,7 @@ fn go_on(
     }
 }
 
-/// One more byte.
+/// Takes one more byte.
 fn heard(stream: MessageStream, way: Way, byte: u8, counters: &mut Counters) -> MessageStream
     ensures { (result, counters.new) ≡ heard way (stream, counters.old) byte }
 {
@@ -121,7 +121,7 @@ fn heard(stream: MessageStream, way: Way, byte: u8, counters: &mut Counters) -> 
     }
 }
 
-/// How many bytes of these can be passed over: they are of one body, and not its last.
+/// Returns how many of these bytes can be passed over: they belong to one body, and its last byte isn't among them.
 fn passable(stream: MessageStream, most: usize) -> usize
     ensures few { result ≤ most }
     ensures same { (bs : List ℕ) (way : Way) (c : Counters) → length bs ≡ result → fold (heard way) (stream, c) bs ≡ (behind stream result, c) }
@@ -134,7 +134,7 @@ fn passable(stream: MessageStream, most: usize) -> usize
     }
 }
 
-/// Where a stream is behind bytes that were passed over.
+/// Returns the stream after bytes that were passed over.
 fn behind(stream: MessageStream, count: usize) -> MessageStream
     ensures { result ≡ behind stream count }
 {
@@ -155,7 +155,7 @@ impl MessageStream {
         MessageStream::Start
     }
 
-    /// Counts the messages that end within these bytes, which came behind those before.
+    /// Counts the messages that end within these bytes, which follow those that came before.
     pub fn hear(&mut self, way: Way, bytes: &[u8], counters: &mut Counters)
         ensures { (self.new, counters.new) ≡ fold (heard way) (self.old, counters.old) bytes.now }
     {

@@ -2,27 +2,27 @@
 ghost use Rattle.std.specs.Prelude.{◌≡◌};
 ghost use Rattle.server_counts.specs.Waits.{asked, moment_of, nothing_asked, settled, wait_before, wait_behind};
 
-/// The number of tickets that are counted apart at once.
+/// How many tickets are counted separately at once.
 const SLOTS: usize = 1024;
 
-/// What is known of a ticket, with a moment in microseconds.
+/// What is known about a ticket, with a moment in microseconds.
 #[derive(Clone, Copy)]
 pub enum Moment {
     Nothing,
     /// It was asked for.
     Asked { ticket: u64, at_us: u64 },
-    /// It was settled, and its ask isn't noted yet: another thread notes it.
+    /// It was settled before its request was noted, which another thread does.
     Settled { ticket: u64, at_us: u64 },
 }
 
-/// The last moment of each ticket. One of 1,024 tickets later takes its place, so a ticket that waits for so long isn't
-/// timed.
+/// The last moment of each ticket. The ticket that comes 1,024 tickets later takes its place, so a ticket that waits
+/// that long isn't timed.
 #[derive(Clone, Copy)]
 pub struct Waits {
     moments: [Moment; SLOTS],
 }
 
-/// How long a ticket waited that is asked for now, where it was settled already.
+/// Returns how long a ticket waited that is asked for now, if it was settled already.
 fn wait_before(moment: Moment, number: u64, now_us: u64) -> Option<u64>
     ensures { result ≡ wait_before moment number now_us }
 {
@@ -34,7 +34,7 @@ fn wait_before(moment: Moment, number: u64, now_us: u64) -> Option<u64>
     }
 }
 
-/// How long a ticket waited that is settled now, where its ask was noted.
+/// Returns how long a ticket waited that is settled now, if its request was noted.
 fn wait_behind(moment: Moment, number: u64, now_us: u64) -> Option<u64>
     ensures { result ≡ wait_behind moment number now_us }
 {
@@ -55,7 +55,7 @@ impl Waits {
         }
     }
 
-    /// A ticket was asked for. Gives how long it waited, where it was settled already.
+    /// Notes that a ticket was asked for. Returns how long it waited, if it was settled already.
     pub fn asked(&mut self, ticket: u64, now_us: u64) -> Option<u64>
         ensures wait { result ≡ wait_before (moment_of self.old ticket) ticket now_us }
         ensures noted { self.new ≡ asked ticket now_us self.old }
@@ -72,7 +72,7 @@ impl Waits {
         wait
     }
 
-    /// A ticket was settled. Gives how long it waited, where its ask was noted.
+    /// Notes that a ticket was settled. Returns how long it waited, if its request was noted.
     pub fn settled(&mut self, ticket: u64, now_us: u64) -> Option<u64>
         ensures wait { result ≡ wait_behind (moment_of self.old ticket) ticket now_us }
         ensures noted { self.new ≡ settled ticket now_us self.old }

@@ -1,4 +1,4 @@
--- One text, and then another.
+-- One text followed by another.
 use Rattle.std.specs.Prelude.{ℕ, ◌++◌, List}
 
 infixr 5 ◌+>◌

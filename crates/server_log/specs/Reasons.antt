@@ -1,4 +1,4 @@
--- Why connections end, and its words.
+-- Why connections end, and the words for it.
 use Rattle.std.specs.Prelude.{ℕ, ◌==◌, ◌&&◌, Bool, true, false, List, codes, Option, Some, None, option_map, if◌then◌else◌}
 use Rattle.std.specs.Fmt.{decimal}
 use Rattle.server_log.specs.Joining.{◌+>◌}
@@ -22,7 +22,7 @@ use Rattle.server_log.specs.declared.reason.Reason.TheVariants as reason
 abbrev pub code_of : PcError → PcErr
 code_of error = record { kind = error.kind; value = error.value }
 
--- ---- what a session said as it ended
+-- ---- what a session said when it ended
 
 abbrev pub silence : LastWords
 silence = record { error = None; close = None }
@@ -39,8 +39,8 @@ said_in (Two first second) = adding second (adding first silence)
 
 -- ---- why the connection ended
 
--- This side ends a session that the state refused, to give its place to another connection, because the run ends, or for want
--- of memory.
+-- The server ends a session that the state refused, to give its place to another connection, because the run ends, or
+-- because memory ran out.
 abbrev pub unrefused : ConnectionEnd → LastWords → Reason
 unrefused e said = if e.gives_place then reason.PlaceTaken else (if e.run_ends then reason.RunEnds else reason.Session said)
 
@@ -57,7 +57,7 @@ of_session e (Some (end.Said notices)) = reason.Session (said_in notices)
 of_session e (Some (end.Caller error close)) = by_this_side e (record { error = option_map code_of error; close = close })
 of_session e None = by_this_side e silence
 
--- the end of the transport, or of the session
+-- the reason from how the transport, or the session, ended
 abbrev pub by_transport : ConnectionEnd → Ended → Reason
 by_transport e ended.PeerClosed = reason.PeerClosed
 by_transport e ended.SessionEnded = of_session e e.session
@@ -73,12 +73,12 @@ reason_of e = by_transport e e.ended
 abbrev pub code_text : PcErr → List ℕ
 code_text error = codes "PCErr " +> decimal error.kind +> codes "/" +> decimal error.value
 
--- what the server's own error means: an LSP of IPv6 lacks the identifiers of IPv4, and the server reads no others
+-- what the server's own error means: an IPv6 LSP lacks the IPv4 identifiers, and the server reads no others
 abbrev pub own_words : PcErr → List ℕ
 own_words error =
     if error.kind == 6 && error.value == 11 then codes "LSP-IDENTIFIERS TLV missing or of IPv6" else error_words error.kind error.value
 
--- by the reason of the Close that the session sent (RFC 5440 section 7.17)
+-- the text for the reason of the Close that the session sent (RFC 5440 section 7.17)
 abbrev pub ending_text : Option ℕ → List ℕ
 ending_text None = codes "session ended"
 ending_text (Some number) =
@@ -93,7 +93,7 @@ error_text (Some error) = codes ": " +> code_text error +> codes ", " +> own_wor
 abbrev pub last_text : LastWords → List ℕ
 last_text said = ending_text said.close +> error_text said.error
 
--- no explanation is none
+-- the words for a Close of the peer; the reason "no explanation" isn't printed
 abbrev pub peer_close_text : ℕ → List ℕ
 peer_close_text number =
     if number == 1 then codes "closed by the peer" else codes "closed by the peer: Close " +> decimal number +> codes ", " +> close_words number

@@ -20,7 +20,7 @@ opening_text keepalive dead capabilities =
 abbrev pub refusal_text : PcErr → List ℕ
 refusal_text error = code_text error +> codes " " +> error_words error.kind error.value
 
--- why a connection ended stands behind its line (`Reasons`)
+-- the text of a line; why a connection ended follows it (`Reasons`)
 abbrev pub line_text : LogLine → List ℕ
 line_text (line.Listening address port nodes links) =
     codes "listening " +> text_of address +> codes ":" +> decimal port +> codes " nodes=" +> decimal nodes +> codes " links=" +> decimal links

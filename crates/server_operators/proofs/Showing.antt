@@ -12,7 +12,7 @@ use Rattle.server_operators.specs.Shows.{line_end, AddsPage, IsShown}
 use Rattle.server_operators.specs.Shows.IsShown.{Ends, Goes_on}
 
 module _ (text : Ted) (form : Form) (around : Surroundings) (begun : List (Happening Event)) (first : Ask) where
-  -- after this past and these pages comes what is shown to an ask
+  -- after this past and these pages comes what this ask is shown
   abbrev pub Awaits : List (Happening Event) → Ask → List ℕ → Type 0
   Awaits past a pages = (rest : List ℕ) (last : List (Happening Event)) → IsShown text form around past a rest last → IsShown text form around begun first (pages ++ rest) last
 
@@ -29,13 +29,13 @@ module _ (text : Ted) (form : Form) (around : Surroundings) (begun : List (Happe
       (subst (λ (pages : List ℕ). IsShown text form around begun first pages last) (sym (append_assoc old (h.0 ++ line_end form) rest))
       (on ((h.0 ++ line_end form) ++ rest) last (Goes_on past then last a next h.0 rest h.1 h.2 k)))
 
--- what is shown after more was seen is shown after less, too
+-- what is shown after more was seen is also what is shown after less
 pub shown_behind : (text : Ted) (form : Form) (around : Surroundings) (begun later : List (Happening Event)) (first : Ask) (pages : List ℕ) (last : List (Happening Event)) → IsPrefix begun later
     → IsShown text form around later first pages last → IsShown text form around begun first pages last
 shown_behind text form around begun later first pages last h (Ends _ _ a page k is) = Ends begun last a page (prefix_trans begun later last h k) is
 shown_behind text form around begun later first pages last h (Goes_on _ past _ a next page rest k is on) = Goes_on begun past last a next page rest (prefix_trans begun later past h k) is on
 
--- the same form and the same question, written otherwise
+-- the same form and question, given by an equation
 pub shown_alike : (text : Ted) (form other : Form) (around : Surroundings) (begun : List (Happening Event)) (first ask : Ask) (pages : List ℕ) (last : List (Happening Event)) → other ≡ form → ask ≡ first
     → IsShown text other around begun ask pages last → IsShown text form around begun first pages last
 shown_alike text form other around begun first ask pages last f a h =

@@ -22,11 +22,11 @@ in_order values = Ok (numbered 0 values)
 abbrev pub links_of : Ted → List ℕ → Result (List LinkReload) TeFault
 links_of te text = reloaded te text >>= in_order
 
--- the values that these bytes give all links of the network, or the first fault of the text that they are
+-- the values that these bytes give all links of the network, or the first fault of their text
 abbrev pub links_in : Ted → List ℕ → Result (List LinkReload) TeFault
 links_in te bytes = if is_utf8 bytes then links_of te bytes else Err NotToml
 
--- A reading of the file: it can't be read, or memory is refused, or it holds these bytes.
+-- A reading of the file: it can't be read, memory ran out, or it holds these bytes.
 abbrev pub ReadsFile : Ted → Result (List LinkReload) PlanFault → Type 0
 ReadsFile te (Err Device) = ⊤
 ReadsFile te (Err (Te fault)) = (fault ≡ OutOfMemory) ⊎ ((bytes : List ℕ) × (links_in te bytes ≡ Err fault))

@@ -16,23 +16,23 @@ abbrev pub form_of : Bool → Form
 form_of true = Json
 form_of false = Table
 
--- the last 4,096 steps at most
+-- the ask, limited to the last 4,096 steps
 abbrev pub bounded : Ask → Ask
 bounded (ask.History last) = ask.History (min last 4096)
 bounded a = a
 
--- a document of JSON has a line of its own; a table ends with its last line
+-- a document of JSON gets a line of its own; a table ends with its last line
 abbrev pub line_end : Form → List ℕ
 line_end Json = codes "\n"
 line_end Table = []
 
--- A page more. Its look saw this past, of which the one before had seen a beginning.
+-- One more page. Its look saw this past, of which the look before had seen a beginning.
 abbrev pub AddsPage : Ted → Form → Surroundings → Ask → Option Ask → List (Happening Event) → List ℕ → List (Happening Event) → List ℕ → Type 0
 AddsPage text form around a next begun old past new = (page : List ℕ) × IsPrefix begun past × IsPageOf form around (database_at text past) a next page × (new ≡ old ++ (page ++ line_end form))
 
--- What is shown to an ask: a page, and what is shown to the ask for the next one, up to the last. The pages come in the order of
--- the one history: each look saw all that the looks before it had seen, and that which the first began with. The last saw
--- `last`.
+-- What an ask is shown: a page, and then what the ask for the next page is shown, up to the last. The pages come in the
+-- order of the one history: each look saw all that the looks before it had seen, and what the first began with. The
+-- last saw `last`.
 pub data IsShown (text : Ted) (form : Form) (around : Surroundings) : List (Happening Event) → Ask → List ℕ → List (Happening Event) → Type 0 where
   Ends : (begun last : List (Happening Event)) (a : Ask) (page : List ℕ) → IsPrefix begun last → IsPageOf form around (database_at text last) a None page
       → IsShown text form around begun a (page ++ line_end form) last

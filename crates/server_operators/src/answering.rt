@@ -12,7 +12,7 @@ use std::io::{ErrorKind, Write};
 use std::sync::Wait;
 use std::time::Clock;
 
-/// A writer that fails where it takes nothing and the run is to end.
+/// A writer that fails if it takes nothing and the run should end.
 #[derive(Drop)]
 struct OperatorOutput<'a, O: Write> {
     writer: &'a mut O,
@@ -33,9 +33,9 @@ impl<'a, O: Write> Write for OperatorOutput<'a, O> {
     }
 }
 
-/// Answers an operator's lines from this seat, and gives why no more are heard. What is shown to a line is shown to the seat
-/// too, and what a seat has seen only grows. So answers come in the order of the history. Links that a reload leaves below zero
-/// are logged.
+/// Answers an operator's lines from this seat, and returns why no more are heard. What a line is shown is shown to the
+/// seat too, and what a seat has seen only grows, so answers come in the order of the history. Links that a reload
+/// leaves below zero are logged.
 pub(crate) fn answer_operator<R: Wait + Clock, B: Brands, I: Patient, O: Write, P: Plan>(
     context: &Context<'_, R, B>,
     plan: &P,

@@ -1,4 +1,5 @@
-//! The control socket: who connects is an operator with a seat of its own, beside the one of standard input.
+//! The control socket: each client that connects is an operator with a seat of its own, in addition to the one of
+//! standard input.
 ghost use Rattle.std.specs.Prelude.{◌≤◌};
 
 use crate::answering::answer_operator;
@@ -16,7 +17,7 @@ use std::sync::Wait;
 use std::thread::Threads;
 use std::time::Clock;
 
-/// The number of seats for operators who connect.
+/// Returns the number of seats for operators who connect.
 pub fn control_seats(control: Option<&UnixListener>) -> u64
     ensures { result ≤ 4 }
 {
@@ -26,7 +27,7 @@ pub fn control_seats(control: Option<&UnixListener>) -> u64
     }
 }
 
-/// Whether the run is to end.
+/// Tells whether the run should end.
 #[derive(Drop)]
 struct Ending<'a> {
     run: &'a Run,
@@ -62,7 +63,7 @@ pub struct Operators<'a, 'c, 'p, R: Clock, B: Brands, P: Plan> {
     pub first: usize,
 }
 
-/// A seat of these operators that nobody has, and its slot.
+/// Takes a seat of these operators that nobody has, with its slot.
 fn free_seat<R: Wait + Clock, B: Brands>(
     context: &Context<'_, R, B>,
     first: usize,
@@ -75,7 +76,7 @@ fn free_seat<R: Wait + Clock, B: Brands>(
     None
 }
 
-/// Answers the lines of one operator. A line `end` ends the run; whatever else happens ends this operator alone.
+/// Answers the lines of one operator. A line `end` ends the run; anything else ends only this operator.
 fn answer<R: Wait + Clock, B: Brands, I: Read, O: Write, P: Plan>(
     context: &Context<'_, R, B>,
     plan: &P,
@@ -102,8 +103,8 @@ impl<'a, 'c, 'p, R: Wait + Clock, B: Brands, P: Plan> Operator for Operators<'a,
     }
 }
 
-/// The thread that hears the control socket, until the run is to end and each of its operators has gone. Where it
-/// can't hear, that is logged, and the run goes on.
+/// Runs the thread that serves the control socket, until the run should end and each of its operators has gone. If it
+/// can't serve the socket, that is logged, and the run goes on.
 pub fn hear_controls<R: Wait + Clock + Threads + Sync, B: Brands + Send + Sync, P: Plan + Sync>(
     operators: &Operators<'_, '_, '_, R, B, P>,
     listener: &UnixListener,

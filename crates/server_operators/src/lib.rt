@@ -1,7 +1,7 @@
-//! The operators of a run: the one at standard input, and those who connect to the control socket. What their lines mean
-//! and what is answered is proved in `server_talk`; what they are shown stands in `specs/Shows`.
+//! The operators of a run: the one at standard input, and those who connect to the control socket. `server_talk` proves
+//! what their lines mean and how they are answered; `specs/Shows` says what they are shown.
 //!
-//! - `plan`: the file that the link text stands in
+//! - `plan`: the file of the link text
 //! - `reload_notes`: a store that notes which links a reload leaves below zero
 //! - `links_look`: a look at all links
 //! - `shown`: what an operator is shown, from its own seat

@@ -1,4 +1,4 @@
-//! The operator at standard input, and whether a run ends with its part.
+//! The operator at standard input, and the test whether a run ends with its part.
 ghost use Rattle.std.specs.Prelude.{◌≡◌};
 ghost use Rattle.server_operators.specs.Faults.{closes_run, cuts_run, is_fault};
 
@@ -13,8 +13,8 @@ use std::io::Write;
 use std::sync::Wait;
 use std::time::Clock;
 
-/// Whether the run is to end with its operator's part: a line asked for it, or the lines of an endless run have ended and no
-/// other operator can reach it. A writer that fails ends the operator's part only.
+/// Tests whether the run should end with its operator's part: a line asked for it, or the lines of an endless run have
+/// ended and no other operator can reach it. A writer that fails ends only the operator's part.
 fn closes_run(end: OperatorEnd, sessions: Sessions, has_control: bool) -> bool
     ensures { result ≡ closes_run end sessions has_control }
 {
@@ -28,14 +28,14 @@ fn closes_run(end: OperatorEnd, sessions: Sessions, has_control: bool) -> bool
     }
 }
 
-/// Whether the run is to end by a fault: standard input failed, and no other operator can reach the run.
+/// Tests whether the run should end with a fault: standard input failed, and no other operator can reach the run.
 fn cuts_run(end: OperatorEnd, has_control: bool) -> bool
     ensures { result ≡ cuts_run end has_control }
 {
     end == OperatorEnd::ReadFault && !has_control
 }
 
-/// Whether the operator's part ended by a fault.
+/// Tests whether the operator's part ended with a fault.
 fn is_fault(end: OperatorEnd) -> bool
     ensures { result ≡ is_fault end }
 {
@@ -45,7 +45,7 @@ fn is_fault(end: OperatorEnd) -> bool
     )
 }
 
-/// Ends the run if it is to end with its operator's part, and logs that an operator is gone by a fault.
+/// Ends the run if it should end with its operator's part, and logs if an operator is gone because of a fault.
 pub fn end_with<B: Brands, R: Wait + Clock>(
     context: &Context<'_, R, B>,
     end: OperatorEnd,
@@ -62,7 +62,7 @@ pub fn end_with<B: Brands, R: Wait + Clock>(
     }
 }
 
-/// Answers the operator's lines from the seat of this slot, and gives why no more are heard.
+/// Answers the operator's lines from the seat of this slot, and returns why no more are heard.
 pub fn hear_operator<B: Brands, R: Wait + Clock, I: Patient, O: Write, P: Plan>(
     context: &Context<'_, R, B>,
     at: usize,

@@ -1,4 +1,4 @@
-//! The file that a network's link text stands in.
+//! The file of a network's link text.
 ghost use Rattle.std.specs.Prelude.{◌≡◌, IfOk, Err};
 ghost use Rattle.te_base.specs.Ted.{Ted};
 ghost use Rattle.te_base.specs.Faults.{Gives};
@@ -12,7 +12,7 @@ use step_core::LinkReload;
 use te_base::{LinkValues, TeBase, TeFault};
 use text_files::{FileFault, read_file};
 
-/// The file of a network's link text, read anew against that network.
+/// The file of a network's link text, which is read again for that network.
 #[derive(Drop)]
 pub struct FilePlan<'a, R> {
     pub rt: &'a R,
@@ -20,7 +20,7 @@ pub struct FilePlan<'a, R> {
     pub te: &'a TeBase,
 }
 
-/// Each link with its values, by their order.
+/// Lists each link with its values, in order.
 fn numbered(alloc: Global, all: &[LinkValues]) -> Result<Sequence<LinkReload>, AllocError>
     ensures { IfOk result (λ links. links ≡ numbered 0 all.now) }
 {
@@ -34,7 +34,7 @@ fn numbered(alloc: Global, all: &[LinkValues]) -> Result<Sequence<LinkReload>, A
     Ok(Sequence::from_vec(links))
 }
 
-/// The same, where want of memory is a fault of the text.
+/// Lists the same; if memory runs out, that is a fault of the text.
 fn in_order(alloc: Global, all: &[LinkValues]) -> Result<Sequence<LinkReload>, TeFault>
     ensures { Gives (λ l. l) result (in_order all.now) }
 {
@@ -44,7 +44,7 @@ fn in_order(alloc: Global, all: &[LinkValues]) -> Result<Sequence<LinkReload>, T
     }
 }
 
-/// The values that a text gives the links of a network.
+/// Returns the values that a text gives the links of a network.
 fn links_of(alloc: Global, te: &TeBase, text: &str) -> Result<Sequence<LinkReload>, TeFault>
     ensures { Gives (λ l. l) result (links_of te.now text.now) }
 {
@@ -52,7 +52,7 @@ fn links_of(alloc: Global, te: &TeBase, text: &str) -> Result<Sequence<LinkReloa
     in_order(alloc, &values)
 }
 
-/// The values that bytes give the links of a network.
+/// Returns the values that bytes give the links of a network.
 fn links_in(alloc: Global, te: &TeBase, bytes: &[u8]) -> Result<Sequence<LinkReload>, TeFault>
     ensures { Gives (λ l. l) result (links_in te.now bytes.now) }
 {
@@ -62,7 +62,7 @@ fn links_in(alloc: Global, te: &TeBase, bytes: &[u8]) -> Result<Sequence<LinkRel
     }
 }
 
-/// Why the file can't be read.
+/// Returns why the file can't be read.
 fn fault_of(fault: &FileFault) -> PlanFault
     ensures { (te : Ted) → ReadsFile te (Err result) }
 {

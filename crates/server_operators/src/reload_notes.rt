@@ -13,7 +13,7 @@ use std::time::Clock;
 use step_core::LinkReload;
 use te_base::LinkValues;
 
-/// The least of what would be left of a link at a priority.
+/// Returns the least that would be left of a link at a priority.
 fn worst_after(old: LinkValues, new: LinkValues, left: &[i64; 8]) -> i64 {
     let least = left.iter().copied().min().unwrap_or(0);
     least
@@ -21,7 +21,7 @@ fn worst_after(old: LinkValues, new: LinkValues, left: &[i64; 8]) -> i64 {
         .saturating_add(new.reservable() as i64)
 }
 
-/// The line of a link that a reload leaves with less than before, and below zero.
+/// Returns the line of a link that a reload leaves with less than before and below zero.
 fn line_of(
     entry: LinkReload,
     ends: &[LinkEnds],
@@ -45,7 +45,7 @@ fn line_of(
     })
 }
 
-/// A line for each link that a reload leaves with less than before, and below zero.
+/// Returns a line for each link that a reload leaves with less than before and below zero.
 fn lines_of(
     alloc: Global,
     entries: &[LinkReload],
@@ -71,7 +71,7 @@ pub(crate) struct ReloadNoted<'a, 'c, R: Clock, B: Brands, D: Desk + Drop> {
     pub store: D,
 }
 
-/// What is to be said of these entries once they are submitted.
+/// Returns the lines to log about these entries after they are submitted.
 fn lines_at<R: Wait + Clock, B: Brands>(
     context: &Context<'_, R, B>,
     front: &mut Front<Event, B>,
@@ -81,7 +81,7 @@ fn lines_at<R: Wait + Clock, B: Brands>(
     lines_of(context.alloc, entries, context.ends, &values, &left)
 }
 
-/// What is to be said of an event once it is submitted.
+/// Returns the lines to log about an event after it is submitted.
 fn lines_for<R: Wait + Clock, B: Brands>(
     context: &Context<'_, R, B>,
     front: &mut Front<Event, B>,
@@ -94,7 +94,7 @@ fn lines_for<R: Wait + Clock, B: Brands>(
 }
 
 impl<'a, 'c, R: Wait + Clock, B: Brands, D: Desk + Drop> ReloadNoted<'a, 'c, R, B, D> {
-    /// Says these lines, unless the last event was refused.
+    /// Logs these lines, unless the last event was refused.
     fn say_all(&self, lines: &[LogLine]) {
         let Some(call) = self.store.calls().last() else {
             return;
@@ -125,7 +125,7 @@ impl<'a, 'c, R: Wait + Clock, B: Brands, D: Desk + Drop> Store for ReloadNoted<'
 
     ghost moves_add = { λ a b made h. D.moves_add a.store b.store made h };
 
-    /// Where there is no memory for the lines of a reload, nothing is done.
+    /// Submits an event. If there is no memory for the lines of a reload, nothing is done.
     fn submit(&mut self, event: Event) -> Result<(), Fault> {
         let lines = match lines_for(self.context, &mut self.front, &event) {
             Ok(lines) => lines,

@@ -1,5 +1,5 @@
-//! What operators are shown: one look after another at the database, each as a table or as JSON. The operator's own seat is shown
-//! each look, so later looks have seen all that earlier ones had, and all that the operator's lines did.
+//! What operators are shown: one look after another at the database, each as a table or as JSON. Each look is shown to
+//! the operator's own seat, so later looks have seen all that earlier ones had, and all that the operator's lines did.
 ghost use Rattle.std.specs.Prelude.{◌≡◌, ◌++◌, [], All, IfOk, OnOk};
 ghost use Rattle.seated_store.specs.Seating.{SeatedMoves};
 ghost use Rattle.shared_pce.specs.Lefts.{WasLeft};
@@ -23,7 +23,7 @@ use std::sync::Wait;
 use std::time::Clock;
 use te_base::LinkValues;
 
-/// The form that a line asks for.
+/// Returns the form that a line asks for.
 fn form_of(is_json: bool) -> Form
     ensures { result ≡ form_of is_json }
 {
@@ -33,7 +33,7 @@ fn form_of(is_json: bool) -> Form
 /// The most steps that a line shows.
 const MOST_STEPS: u64 = 4096;
 
-/// The same question, of the last 4,096 steps at most.
+/// Returns the same question, limited to the last 4,096 steps.
 fn bounded(ask: Ask) -> Ask
     ensures { result ≡ bounded ask }
 {
@@ -61,7 +61,7 @@ fn add_text(form: Form, page: Vec<u8>, text: &mut Vec<u8>) -> Result<(), AllocEr
     end_line(form, text)
 }
 
-/// Adds what one look shows, and gives what the next one asks for.
+/// Adds what one look shows, and returns what the next one asks for.
 fn add_page<R: Wait + Clock, B: Brands>(
     outlook: &Outlook<'_, R, B>,
     store: &mut Seated<'_, R, B>,
@@ -79,7 +79,8 @@ fn add_page<R: Wait + Clock, B: Brands>(
     Ok(next)
 }
 
-/// What is shown from this ask on, up to the last page. Each page is of a look that saw no less than the one before.
+/// Shows an ask and its further pages, up to the last. Each page comes from a look that saw no less than the one
+/// before.
 fn show_pages<R: Wait + Clock, B: Brands>(
     outlook: &Outlook<'_, R, B>,
     store: &mut Seated<'_, R, B>,
@@ -101,7 +102,7 @@ fn show_pages<R: Wait + Clock, B: Brands>(
     Err(AllocError)
 }
 
-/// What is shown to a line. If memory is refused, it is tried once more after the history was rolled for that.
+/// Shows what a line asks to see. If memory runs out, the history is rolled for that, and it is tried once more.
 fn sure_pages<R: Wait + Clock, B: Brands>(
     outlook: &Outlook<'_, R, B>,
     store: &mut Seated<'_, R, B>,
@@ -133,7 +134,7 @@ fn sure_pages<R: Wait + Clock, B: Brands>(
     }
 }
 
-/// How many steps there were at which moments, for a question that wants to know.
+/// Returns how many steps there were at which moments, if the question needs that.
 fn marks_for<R: Wait + Clock, B: Brands>(
     outlook: &Outlook<'_, R, B>,
     front: &mut Front<Event, B>,
@@ -145,7 +146,7 @@ fn marks_for<R: Wait + Clock, B: Brands>(
     }
 }
 
-/// What the last steps that brought paths left of their links, for a question that wants to know.
+/// Returns what the last steps that added paths left of their links, if the question needs that.
 fn lefts_for<R: Wait + Clock, B: Brands>(
     outlook: &Outlook<'_, R, B>,
     ask: &Ask,
@@ -158,7 +159,7 @@ fn lefts_for<R: Wait + Clock, B: Brands>(
     }
 }
 
-/// What the server noted beside the steps.
+/// What the server noted apart from the steps.
 #[derive(Drop)]
 struct ServerNotes {
     presences: Vec<(u32, Presence)>,
@@ -166,7 +167,7 @@ struct ServerNotes {
     lefts: Vec<LeftRow>,
 }
 
-/// What the server noted that a question wants to know.
+/// Returns what the server noted that a question needs.
 fn notes_for<R: Wait + Clock, B: Brands>(
     outlook: &Outlook<'_, R, B>,
     front: &mut Front<Event, B>,

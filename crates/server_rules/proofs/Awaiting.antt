@@ -4,7 +4,7 @@ use Rattle.std.specs.List.{list_all}
 use Rattle.server_rules.specs.declared.settling.Awaited.{Awaited}
 use Rattle.server_rules.specs.Settled.{awaited_after, is_in_sync, noted}
 
--- one happening more
+-- one more happening
 pub noted_more : (named : List ℕ) (past : List (ℕ × Bool)) (address : ℕ) (came : Bool) → map (noted address came) (map (awaited_after past) named) ≡ map (awaited_after ((address, came) ∷ past)) named
 noted_more [] past address came = refl
 noted_more (router ∷ named) past address came = ap (λ (rest : List Awaited). awaited_after ((address, came) ∷ past) router ∷ rest) (noted_more named past address came)

@@ -19,7 +19,7 @@ IsFirstOf expiry holders n None = (k : ℕ) (e : ℕ × Known) → k < n → sli
 same_peer : (peer key : ℕ) → nat_eq peer key ≡ true → peer ≡ key
 same_peer peer key is = grind (arith, nat_tests)
 
--- what holds of nothing, and of each entry, holds of each peer
+-- if P holds of an unknown peer and of each entry, it holds of each peer
 of_each_peer : (P : ℕ → Known → Type 0) → ((peer : ℕ) → P peer nothing) → (es : List (ℕ × Known)) → ((k : ℕ) (e : ℕ × Known) → slice_get es k ≡ Some e → P e.0 e.1)
     → (peer : ℕ) (found : Option Known) → lookup (nat_eq peer) es ≡ found → P peer (unwrap_or found nothing)
 of_each_peer P blank es each peer None is = blank peer

@@ -1,4 +1,4 @@
--- What one happening makes of a table of errors.
+-- What one happening does to a table of errors.
 use Rattle.std.proofs.Common.{◌≡◌, ◌≤◌, ℕ, Bool, true, false, cond, not, nat_eq, is_some, unwrap_or, true≢false, length, Option, Some, None, sym, ap, ◌∙◌}
 use Rattle.std.specs.Cmp.{nat_eq_equiv}
 use Rattle.indexmap.specs.IndexMap.{IsUnique}
@@ -30,7 +30,7 @@ gone other peer is q o = all (nat_eq q.peer peer) (nat_eq other q.peer) o (nat_e
     all false b None same = ap (λ (c : Bool). cond c None None) same
     all false b (Some e) same = ap (λ (c : Bool). cond c None (Some e)) same
 
--- the errors of a router's LSPs go
+-- the errors of a router's LSPs are removed
 pub forgotten : (h : PcErrHappening) (peer : ℕ) → forgets h ≡ Some peer → (q : RouterLsp) (o : Option PcErr)
     → passed (λ k. not (nat_eq q.peer peer)) (λ k. k) o ≡ after concerns changed None h q o
 forgotten (Sent of error) peer is q o = absurd (true≢false (sym (ap is_some is)))

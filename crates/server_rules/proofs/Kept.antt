@@ -1,4 +1,5 @@
--- What `retain` leaves of a map, where its closure keeps no state, and keeps each entry or not, with another value, by its key and value.
+-- What `retain` leaves of a map if its closure keeps no state, and decides by the key and value of each entry whether
+-- it stays and with which value.
 use Rattle.std.proofs.Common.{◌≡◌, Bool, true, false, cond, List, [], ◌∷◌, Option, None, Some, refl, sym, ap, subst, ◌∙◌}
 use Rattle.std.specs.Cmp.{IsEquivalence}
 use Rattle.std.specs.List.{IsDistinct}
@@ -8,7 +9,7 @@ use Rattle.std.proofs.lemmas.Map.{lookup-none}
 use Rattle.std.proofs.lemmas.Map.Entries.{none_past_head}
 use Rattle.std.proofs.lemmas.Map.Keys.{IsDistinct-tail}
 
--- what becomes of a value that may be there
+-- what a value that may be missing becomes
 abbrev pub passed : {X : Type 0} → (X → Bool) → (X → X) → Option X → Option X
 passed keep put None = None
 passed keep put (Some v) = cond (keep v) (Some (put v)) None

@@ -1,4 +1,4 @@
--- What a list gives under a function that answers for some of its elements.
+-- What a function that answers for some elements gives for a list.
 use Rattle.std.proofs.Common.{◌≡◌, ℕ, zero, suc, ◌+◌, add-one, List, [], ◌∷◌, ◌++◌, take, Option, None, Some, is_some, unwrap_or, slice_get, true≢false, refl, sym, ap, ◌∙◌}
 use Rattle.std.specs.List.{filter_map, cons_option}
 
@@ -27,7 +27,7 @@ module _ {X Y : Type 0} (f : X → Option Y) where
       by None r = r
       by (Some z) r = (suc r.0, r.1)
 
-  -- one element more
+  -- one more element
   pub listed_more : (xs : List X) (at : ℕ) (x : X) → slice_get xs at ≡ Some x → filter_map f (take (suc at) xs) ≡ filter_map f (take at xs) ++ cons_option (f x) []
   listed_more [] at x is = absurd (true≢false (sym (ap is_some is)))
   listed_more (a ∷ xs) zero x is = ap (λ (y : X). cons_option (f y) []) (ap (λ (o : Option X). unwrap_or o a) is)
@@ -37,7 +37,7 @@ module _ {X Y : Type 0} (f : X → Option Y) where
       by None A B C r = r
       by (Some z) A B C r = ap (λ (ys : List Y). z ∷ ys) r
 
-  -- what is listed so far, with what the next element gives
+  -- what is listed so far, followed by what the next element gives
   pub listed_step : (xs : List X) (at : ℕ) (x : X) (ys zs : List Y) → slice_get xs at ≡ Some x → ys ≡ filter_map f (take at xs) → zs ≡ ys ++ cons_option (f x) []
       → zs ≡ filter_map f (take (at + 1) xs)
   listed_step xs at x ys zs is so_far next =

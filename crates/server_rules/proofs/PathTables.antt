@@ -1,4 +1,4 @@
--- What one happening makes of a table of paths.
+-- What one happening does to a table of paths.
 use Rattle.std.proofs.Common.{◌≡◌, ◌≤◌, ◌&&◌, true, None, length, ap, ◌∙◌}
 use Rattle.std.specs.Cmp.{IsEquivalence, nat_eq_equiv}
 use Rattle.std.proofs.lemmas.Bool.{and_parts, eqb-true}

@@ -1,4 +1,4 @@
--- What is due of the entries of a table of grants and deletions.
+-- What is due for the entries of a table of grants and deletions.
 use Rattle.std.proofs.Common.{◌≡◌, ℕ, ◌&&◌, List, Option, None, Some, is_some, unwrap_or, slice_get, true≢false, refl, sym, ap, subst, ◌∙◌}
 use Rattle.std.specs.Cmp.{IsEquivalence, nat_eq_equiv}
 use Rattle.std.proofs.lemmas.Map.Entries.{place_from_lookup, hash_map_get_place}
@@ -20,7 +20,7 @@ same_laws = record {
   congr = λ a b c is. ap (λ (x : Pending). is_same x c) (same-eq a b is);
 }
 
--- what is listed names the grant or deletion that it is owed of, and why
+-- an item of the list names its grant or deletion, and why it is due
 parts : (p : Pending) (o : Option PendingEnd) (d : PendingDue) → due_if p o ≡ Some d → (p ≡ d.pending) × (o ≡ Some d.end)
 parts p None d is = absurd (true≢false (sym (ap is_some is)))
 parts p (Some why) d is = (ap (λ (x : Option PendingDue). (unwrap_or x d).pending) is, ap (λ (x : Option PendingDue). Some (unwrap_or x d).end) is)

@@ -1,4 +1,4 @@
--- What one happening makes of a table of grants and deletions.
+-- What one happening does to a table of grants and deletions.
 use Rattle.std.proofs.Common.{◌≡◌, ℕ, ◌≤◌, ◌+◌, ◌&&◌, ◌||◌, filter, is_some, length, true≢false, Bool, true, false, cond, not, Option, None, Some, unwrap_or, nat_eq, IfSome, refl, sym, ap, subst, ◌∙◌, arith}
 use Rattle.std.specs.Cmp.{nat_eq_equiv}
 use Rattle.std.specs.Map.{lookup}
@@ -14,7 +14,7 @@ use Rattle.server_rules.specs.declared.pending.PendingHappening.TheVariants.{Mad
 use Rattle.server_rules.specs.declared.pending_table.PendingTable.{PendingTable}
 use Rattle.server_rules.specs.Pendings.{Adds, IsSame, AreCounted, AreFew, after, after_own, concerns, is_same, known_in, nobody, known_of, router_in}
 
--- grants that pass the test are equal
+-- pending items that pass the test are equal
 pub same-eq : (a b : Pending) → is_same a b ≡ true → a ≡ b
 same-eq a b h =
     let p = and_parts _ _ h in
@@ -27,7 +27,7 @@ abbrev Fits : PendingTable → ℕ → Option PendingState → Type 0
 Fits table peer s = IfSome s (λ t. t.session ≤ (router_in table peer).sessions)
 
 module _ (old new : PendingTable) (few : AreFew old → AreFew new) where
-  -- a table with the same at each
+  -- a table that has the same for each
   pub same : ((peer : ℕ) → router_in new peer ≡ router_in old peer) → ((q : Pending) → get is_same new.pending q ≡ get is_same old.pending q) → IsSame old new
   same routers gets = λ past knows. record {
     few = few knows.few;
@@ -37,7 +37,7 @@ module _ (old new : PendingTable) (few : AreFew old → AreFew new) where
   }
 
   module _ (h : PendingHappening) where
-    -- what happens to one of them
+    -- it concerns one of them
     module _ (of : Pending) (w : Option PendingState) (routers : (peer : ℕ) → router_in new peer ≡ router_in old peer) (concern : (p : Pending) → concerns h p ≡ is_same of p)
         (gets : (q : Pending) → get is_same new.pending q ≡ cond (is_same of q) w (get is_same old.pending q))
         (at : known_of (router_in old of.peer) w ≡ after_own h (known_of (router_in old of.peer) (get is_same old.pending of)))
@@ -69,7 +69,7 @@ module _ (old new : PendingTable) (few : AreFew old → AreFew new) where
         known = λ p. known p (is_same of p) refl ∙ ap (after h p) (knows.known p);
       }
 
-    -- what happens to a router, and to all that it was granted
+    -- it concerns a router, and all that it was granted
     module _ (peer : ℕ) (r : RouterKnown) (concern : (p : Pending) → concerns h p ≡ nat_eq peer p.peer)
         (routers : (q : ℕ) → router_in new q ≡ cond (nat_eq peer q) r (router_in old q))
         (gets : (p : Pending) → get is_same new.pending p ≡ get is_same old.pending p)
@@ -110,7 +110,7 @@ module _ (old new : PendingTable) (few : AreFew old → AreFew new) where
         known = λ p. router_known knows.counted p (nat_eq peer p.peer) refl ∙ ap (after h p) (knows.known p);
       }
 
-  -- what happens to one of them, and changes nothing
+  -- it concerns one of them, and changes nothing
   pub stays : (h : PendingHappening) (of : Pending) → ((p : Pending) → concerns h p ≡ is_same of p) → ((peer : ℕ) → router_in new peer ≡ router_in old peer)
       → ((q : Pending) → get is_same new.pending q ≡ get is_same old.pending q)
       → known_of (router_in old of.peer) (get is_same old.pending of) ≡ after_own h (known_of (router_in old of.peer) (get is_same old.pending of)) → Adds old new h
@@ -120,7 +120,7 @@ module _ (old new : PendingTable) (few : AreFew old → AreFew new) where
       by q true is = ap (get is_same old.pending) (sym (same-eq of q is)) ∙ sym (ap (λ b. cond b (get is_same old.pending of) (get is_same old.pending q)) is)
       by q false is = sym (ap (λ b. cond b (get is_same old.pending of) (get is_same old.pending q)) is)
 
-  -- what is known of one that stands is set
+  -- it changes what is known of one that stands
   pub edits : (h : PendingHappening) (of : Pending) (s t : PendingState) → ((p : Pending) → concerns h p ≡ is_same of p) → new.routers ≡ old.routers
       → ((q : Pending) → get is_same new.pending q ≡ cond (is_same of q) (Some t) (get is_same old.pending q)) → get is_same old.pending of ≡ Some s
       → known_of (router_in old of.peer) (Some t) ≡ after_own h (known_of (router_in old of.peer) (Some s)) → t.session ≡ s.session → Adds old new h
@@ -128,7 +128,7 @@ module _ (old new : PendingTable) (few : AreFew old → AreFew new) where
       (at ∙ ap (λ (o : Option PendingState). after_own h (known_of (router_in old of.peer) o)) (sym there))
       (λ all. subst (λ (n : ℕ). n ≤ (router_in old of.peer).sessions) (sym session) (subst (λ (o : Option PendingState). Fits old of.peer o) there (all of)))
 
--- as many are noted
+-- the numbers of entries stay within the limits
 pub few_states : (old new : PendingTable) → AreFew old → length new.pending.entries ≡ length old.pending.entries → new.routers ≡ old.routers → AreFew new
 few_states old new few as_many routers =
     (omega (arith, as_many, few.0), omega (arith, ap (λ m. length m.entries) routers, few.1))
@@ -149,7 +149,7 @@ fresh now_ms of r None is =
     ap (λ (b : Bool). record { is_up = r.is_up; in_sync = r.in_sync; stands = Some (record { since_ms = now_ms; is_covered = false; is_earlier = not b }) }) (nat_eq_equiv.refl r.sessions)
 fresh now_ms of r (Some s) is = absurd (true≢false is)
 
--- ---- what comes of a session
+-- ---- sessions
 
 later_session : (m n : ℕ) → m ≤ n → not (nat_eq m (n + 1)) ≡ true
 later_session m n le = grind (arith, nat_tests)
@@ -168,7 +168,7 @@ pub comes_in_sync : (peer : ℕ) (r : RouterKnown) (s : Option PendingState) →
 comes_in_sync peer r None = refl
 comes_in_sync peer r (Some t) = refl
 
--- the routers once one is set
+-- the routers after one is set
 pub set_router : (old new : PendingTable) (peer : ℕ) (r : RouterKnown) → ((q : ℕ) → get nat_eq new.routers q ≡ cond (nat_eq peer q) (Some r) (get nat_eq old.routers q))
     → (q : ℕ) → router_in new q ≡ cond (nat_eq peer q) r (router_in old q)
 set_router old new peer r gets q = ap (λ (o : Option RouterKnown). unwrap_or o nobody) (gets q) ∙ by (nat_eq peer q)
@@ -193,7 +193,7 @@ unknown_router table h peer concern none at =
     of_router table table (λ few. few) h peer nobody concern (unknown_routers table peer none) (λ p. refl)
     (λ s fits. at s ∙ ap (λ (r : RouterKnown). after_own h (known_of r s)) (sym is)) (omega (arith, none_yet))
 
--- a router that came, of which something else is known
+-- what is known of a router that came before changes
 pub known_router : (old new : PendingTable) (few : AreFew old → AreFew new) (h : PendingHappening) (peer : ℕ) (change : RouterKnown → RouterKnown) (was is : RouterKnown)
     → ((p : Pending) → concerns h p ≡ nat_eq peer p.peer) → ((r : RouterKnown) → (change r).sessions ≡ r.sessions)
     → ((r : RouterKnown) (s : Option PendingState) → known_of (change r) s ≡ after_own h (known_of r s)) → get nat_eq old.routers peer ≡ Some was → is ≡ change was

@@ -1,4 +1,4 @@
--- Which LSPs are due, of the entries of a table.
+-- Which LSPs are due among the entries of a table.
 use Rattle.std.proofs.Common.{◌≡◌, ℕ, zero, suc, Bool, true, false, cond, List, [], ◌∷◌, take, Option, None, Some, is_some, unwrap_or, slice_get, true≢false, refl, sym, ap, subst, ◌∙◌, arith}
 use Rattle.std.proofs.lemmas.List.{length-take, take_all}
 use Rattle.std.proofs.lemmas.Map.Entries.{place_from_lookup, hash_map_get_place}
@@ -11,7 +11,7 @@ use Rattle.server_rules.specs.Retries.{AreDue, Knows, due_of, dues_in, is_due, i
 use Rattle.server_rules.proofs.Listed.{listed_from, listed_to}
 use Rattle.server_rules.proofs.RetryTables.{lsp-eq, lsp_laws}
 
--- what is among the first of a list is in the list
+-- an item of the first part of a list is in the list
 from_take : {X : Type 0} (n : ℕ) (xs : List X) (k : ℕ) (x : X) → slice_get (take n xs) k ≡ Some x → slice_get xs k ≡ Some x
 from_take zero [] k x is = is
 from_take zero (y ∷ ys) k x is = absurd (true≢false (sym (ap is_some is)))
@@ -19,7 +19,7 @@ from_take (suc n) [] k x is = is
 from_take (suc n) (y ∷ ys) zero x is = is
 from_take (suc n) (y ∷ ys) (suc k) x is = from_take n ys k x is
 
--- what is listed is the LSP of an entry that is due
+-- a listed LSP is that of an entry that is due
 named : (lsp found : RouterLsp) (b : Bool) → cond b (Some lsp) None ≡ Some found → (lsp ≡ found) × (b ≡ true)
 named lsp found true is = (ap (λ (o : Option RouterLsp). unwrap_or o found) is, refl)
 named lsp found false is = absurd (true≢false (sym (ap is_some is)))

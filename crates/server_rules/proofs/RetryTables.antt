@@ -1,4 +1,4 @@
--- What one happening makes of a table of LSPs that may have to be asked for again.
+-- What one happening does to a table of LSPs that may have to be asked for again.
 use Rattle.std.proofs.Common.{◌≡◌, ℕ, ◌≤◌, ◌&&◌, Bool, true, false, cond, length, Option, None, Some, unwrap_or, nat_eq, not, refl, sym, ap, ◌∙◌, arith}
 use Rattle.std.specs.Cmp.{IsEquivalence, nat_eq_equiv}
 use Rattle.std.proofs.lemmas.Bool.{and_parts, eqb-true}
@@ -27,7 +27,7 @@ lsp_laws = record {
   congr = λ a b c is. ap (λ (x : RouterLsp). is_same_lsp x c) (lsp-eq a b is);
 }
 
--- what forgets all of a router
+-- a happening of a router forgets all of its LSPs
 forgets : (h : RetryHappening) (peer : ℕ) → whom h ≡ Router peer → (k : RetryState) → changed h k ≡ nothing
 forgets (Seen of sight is_first now_ms) peer is k = cc
 forgets (Tried of now_ms) peer is k = cc
@@ -39,7 +39,7 @@ forgets Reloaded peer is k = cc
 forgets (Up other) peer is k = refl
 forgets (Expired other) peer is k = refl
 
--- what concerns all
+-- a happening of all lets all begin again
 begins : (h : RetryHappening) → whom h ≡ All → (k : RetryState) → changed h k ≡ begun_anew k
 begins (Seen of sight is_first now_ms) is k = cc
 begins (Tried of now_ms) is k = cc
@@ -60,7 +60,7 @@ module _ (old new : RetryTable) (h : RetryHappening) (fewer : length old.lsps.en
     known = λ lsp. at lsp ∙ ap (after concerns changed nothing h lsp) (knows.known lsp);
   }
 
-  -- what happens to one of them
+  -- it concerns one of them
   pub own : (of : RouterLsp) (w : Option RetryState) → whom h ≡ Lsp of
       → ((q : RouterLsp) → get is_same_lsp new.lsps q ≡ cond (is_same_lsp of q) w (get is_same_lsp old.lsps q))
       → unwrap_or w nothing ≡ changed h (retry_in old of) → Adds old new h
@@ -75,7 +75,7 @@ module _ (old new : RetryTable) (h : RetryHappening) (fewer : length old.lsps.en
           ap (λ (o : Option RetryState). unwrap_or o nothing) (gets q ∙ ap (λ b. cond b w (get is_same_lsp old.lsps q)) is)
           ∙ sym (ap (λ b. cond b (changed h (retry_in old q)) (retry_in old q)) (ap (λ (c : Concerned). is_of c q) concern ∙ is))
 
-  -- what happens to several of them
+  -- it concerns several of them
   pub of_all : (keep : RouterLsp → RetryState → Bool) (put : RouterLsp → RetryState → RetryState)
       → (IsUnique is_same_lsp old.lsps → (q : RouterLsp) → get is_same_lsp new.lsps q ≡ passed (keep q) (put q) (get is_same_lsp old.lsps q))
       → ((q : RouterLsp) (o : Option RetryState) → unwrap_or (passed (keep q) (put q) o) nothing ≡ after concerns changed nothing h q (unwrap_or o nothing)) → Adds old new h
@@ -95,7 +95,7 @@ forgotten h peer is q o =
     by false None = refl
     by false (Some k) = refl
 
--- all LSPs begin from the start
+-- all LSPs begin again from the start
 pub anew : (h : RetryHappening) → whom h ≡ All → (q : RouterLsp) (o : Option RetryState)
     → unwrap_or (passed (λ k. true) begun_anew o) nothing ≡ after concerns changed nothing h q (unwrap_or o nothing)
 anew h is q o = by o ∙ sym (ap (λ b. cond b (changed h (unwrap_or o nothing)) (unwrap_or o nothing)) (ap (λ (c : Concerned). is_of c q) is))
@@ -104,6 +104,6 @@ anew h is q o = by o ∙ sym (ap (λ b. cond b (changed h (unwrap_or o nothing))
     by None = sym (begins h is nothing)
     by (Some k) = sym (begins h is k)
 
--- of which nothing is known
+-- a state that says nothing is that of an unknown LSP
 pub nothing_is : (k : RetryState) → is_nothing k ≡ true → nothing ≡ k
 nothing_is k is = grind (arith, nat_tests)

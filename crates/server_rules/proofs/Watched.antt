@@ -1,4 +1,4 @@
--- Which LSPs are watched once another one is noted.
+-- Which LSPs are watched after another one is noted.
 use Rattle.std.proofs.Common.{◌≡◌, ℕ, ◌<◌, ◌≤◌, ◌++◌, [], ◌∷◌, Bool, true, false, cond, List, length, nat_lt, sym, ap, ◌∙◌, arith}
 use Rattle.std.proofs.lemmas.Bool.Decides.{nat_tests}
 use Rattle.server_rules.specs.declared.pausing.Trial.{Trial}

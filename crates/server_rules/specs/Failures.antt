@@ -6,8 +6,8 @@ use Rattle.std.specs.declared.io.ErrorKind.TheVariants as error
 use Rattle.server_rules.specs.declared.failures.FailedAccept.{FailedAccept}
 use Rattle.server_rules.specs.declared.failures.FailedAccept.TheVariants.{Nobody, Wait, Broken}
 
--- by the kind alone: a broken listener; an accept that waited for nothing, was interrupted, or lost who came; all else
--- may pass
+-- judged by the kind only: a broken listener; an accept that waited in vain, was interrupted, or lost its client; any
+-- other fault may pass
 abbrev pub accept_by_kind : ErrorKind → FailedAccept
 accept_by_kind error.InvalidInput = Broken
 accept_by_kind error.Unsupported = Broken

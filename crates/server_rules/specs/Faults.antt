@@ -1,4 +1,4 @@
--- How a worker goes on after faults, one after another.
+-- How a worker goes on after several faults in a row.
 use Rattle.std.specs.Prelude.{◌≡◌, ℕ, ◌+◌, min, nat_le, List, [], ◌∷◌, if◌then◌else◌}
 use Rattle.server_rules.specs.declared.faults.Turn.{Turn}
 use Rattle.server_rules.specs.declared.faults.Turn.TheVariants.{Went, Failed}
@@ -16,6 +16,6 @@ in_a_row (Went ∷ past) = 0
 abbrev pub after_fault : ℕ → AfterFault
 after_fault count = if nat_le 4 count then GiveUp else Pause 50
 
--- four are as many as any greater number
+-- the count is exact up to three; four stands for any greater number
 abbrev pub Knows : FaultsInARow → List Turn → Type 0
 Knows faults past = faults.count ≡ min (in_a_row past) 4

@@ -1,4 +1,4 @@
--- What a connection notes of its session.
+-- What a connection notes about its session.
 use Rattle.std.specs.Prelude.{◌+◌, min, true, false, List, [], ◌∷◌, Some, None}
 use Rattle.server_rules.specs.declared.connection_notes.ConnectionNotes.{ConnectionNotes}
 use Rattle.server_rules.specs.declared.connection_notes.SessionHappening.{SessionHappening}
@@ -7,7 +7,7 @@ use Rattle.server_rules.specs.declared.connection_notes.SessionHappening.TheVari
 abbrev pub blank : ConnectionNotes
 blank = record { up_ms = 0; refused = None; pauses = 0; is_up = false }
 
--- a session is up from its accepted Up until its Down, and pauses are counted, up to 100, in each turn anew
+-- A session is up from its accepted Up until its Down. Pauses are counted up to 100, starting again in each turn.
 abbrev pub after : SessionHappening → ConnectionNotes → ConnectionNotes
 after (CameUp now_ms) n = record n { up_ms = now_ms; is_up = true }
 after (Refused number) n = record n { refused = Some number }
@@ -15,7 +15,7 @@ after WentDown n = record n { is_up = false }
 after Paused n = record n { pauses = min (n.pauses + 1) 100 }
 after TurnEnded n = record n { pauses = 0 }
 
--- what is noted of a session from all that happened, the latest first
+-- what is noted about a session, given all that happened, the latest first
 abbrev pub notes_from : List SessionHappening → ConnectionNotes
 notes_from [] = blank
 notes_from (h ∷ past) = after h (notes_from past)

@@ -1,4 +1,4 @@
--- What routers' latest reports say of paths beyond what the state has.
+-- What routers' latest reports say about paths that the state doesn't keep.
 use Rattle.std.specs.Prelude.{◌≡◌, ◌==◌, ◌≤◌, ℕ, Bool, true, false, not, nat_le, ◌&&◌, List, ◌∷◌, length, Option, Some, None, is_some, option_map, if◌then◌else◌}
 use Rattle.indexmap.specs.IndexMap.{get, IsUnique}
 use Rattle.server_rules.specs.Keyed.{known_from}
@@ -11,7 +11,7 @@ use Rattle.server_rules.specs.declared.path_word.PathHappening.{PathHappening}
 use Rattle.server_rules.specs.declared.path_word.PathHappening.TheVariants.{Reported, PathRemoved, LspRemoved, Up, Synchronized, Expired}
 use Rattle.server_rules.specs.declared.path_words.PathWords.{PathWords}
 
--- the best is 4
+-- a state's rank; the best is 4
 abbrev pub rank : Operational → ℕ
 rank state.Active = 4
 rank state.Up = 3
@@ -38,8 +38,8 @@ abbrev pub current : Option PathNoted → Option PathNoted
 current None = None
 current (Some n) = if n.is_current then Some n else None
 
--- What a happening makes of what is noted of a path that it concerns. What wasn't reported since the router came up goes at its
--- end of synchronization.
+-- What is noted about a path after a happening that concerns it. What wasn't reported since the router came up is
+-- removed at its end of synchronization.
 abbrev pub changed : PathHappening → Option PathNoted → Option PathNoted
 changed (Reported _ word) n = Some (record { word = word; is_current = true })
 changed (PathRemoved _) n = None
@@ -48,11 +48,11 @@ changed (Up _) n = option_map {T = PathNoted} {U = PathNoted} (λ noted. record 
 changed (Synchronized _) n = current n
 changed (Expired _) n = None
 
--- what is noted of a path from all that happened, the latest first
+-- what is noted about a path, given all that happened, the latest first
 abbrev pub noted_from : List PathHappening → PathKey → Option PathNoted
 noted_from past path = known_from concerns changed None past path
 
--- what a router's latest report says of a path, while it stands
+-- what a router's latest report says about a path, while the path stands
 abbrev pub word_of : Option PathNoted → Option PathWord
 word_of n = option_map (λ (noted : PathNoted). noted.word) n
 
@@ -61,7 +61,7 @@ word_of n = option_map (λ (noted : PathNoted). noted.word) n
 abbrev pub noted_in : PathWords → PathKey → Option PathNoted
 noted_in table path = get is_same_path table.paths path
 
--- the table has of each path, in one entry, what is known from all that happened, and has 16,384 entries at most
+-- the table has, in one entry for each path, what is known from all that happened, and has at most 16,384 entries
 pub record Knows (table : PathWords) (past : List PathHappening) : Type 0 where
   pub few : length table.paths.entries ≤ 16384
   pub unique : IsUnique is_same_path table.paths
@@ -70,11 +70,11 @@ pub record Knows (table : PathWords) (past : List PathHappening) : Type 0 where
 abbrev pub IsSame : PathWords → PathWords → Type 0
 IsSame old new = (past : List PathHappening) → Knows old past → Knows new past
 
--- the table knew all that happened, and knows this besides
+-- the table knew all that happened, and now also knows this
 abbrev pub Adds : PathWords → PathWords → PathHappening → Type 0
 Adds old new what = (past : List PathHappening) → Knows old past → Knows new (what ∷ past)
 
--- what takes memory: the first report of a path
+-- the happening takes memory: it is the first report of a path
 abbrev pub needs_room : PathWords → PathHappening → Bool
 needs_room table (Reported of _) = not (is_some (noted_in table of))
 needs_room table _ = false

@@ -15,18 +15,18 @@ concerns (LspRemoved of) lsp = is_same_lsp of lsp
 concerns (Up peer) lsp = peer == lsp.peer
 concerns (Expired peer) lsp = peer == lsp.peer
 
--- what a happening makes of the last error of an LSP that it concerns
+-- the last error of an LSP after a happening that concerns it
 abbrev pub changed : PcErrHappening → Option PcErr → Option PcErr
 changed (Sent _ error) last = Some error
 changed (LspRemoved _) last = None
 changed (Up _) last = None
 changed (Expired _) last = None
 
--- the last error of an LSP from all that happened, the latest first
+-- the last error of an LSP, given all that happened, the latest first
 abbrev pub error_from : List PcErrHappening → RouterLsp → Option PcErr
 error_from past lsp = known_from concerns changed None past lsp
 
--- the router whose LSPs' errors go
+-- the router whose LSPs' errors are removed
 abbrev pub forgets : PcErrHappening → Option ℕ
 forgets (Sent _ _) = None
 forgets (LspRemoved _) = None
@@ -38,7 +38,7 @@ forgets (Expired peer) = Some peer
 abbrev pub error_in : PeerErrors → RouterLsp → Option PcErr
 error_in table lsp = get is_same_lsp table.errors lsp
 
--- the table has of each LSP, in one entry, what is known from all that happened, and has 16,384 entries at most
+-- the table has, in one entry for each LSP, what is known from all that happened, and has at most 16,384 entries
 pub record Knows (table : PeerErrors) (past : List PcErrHappening) : Type 0 where
   pub few : length table.errors.entries ≤ 16384
   pub unique : IsUnique is_same_lsp table.errors
@@ -47,11 +47,11 @@ pub record Knows (table : PeerErrors) (past : List PcErrHappening) : Type 0 wher
 abbrev pub IsSame : PeerErrors → PeerErrors → Type 0
 IsSame old new = (past : List PcErrHappening) → Knows old past → Knows new past
 
--- the table knew all that happened, and knows this besides
+-- the table knew all that happened, and now also knows this
 abbrev pub Adds : PeerErrors → PeerErrors → PcErrHappening → Type 0
 Adds old new what = (past : List PcErrHappening) → Knows old past → Knows new (what ∷ past)
 
--- what takes memory: the first error of an LSP
+-- the happening takes memory: it is the first error of an LSP
 abbrev pub needs_room : PeerErrors → PcErrHappening → Bool
 needs_room table (Sent of _) = not (is_some (error_in table of))
 needs_room table _ = false

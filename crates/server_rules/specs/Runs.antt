@@ -1,4 +1,4 @@
--- Whether a run is to end and why, and whether memory is short.
+-- Tests whether and why a run should end, and whether memory is short.
 use Rattle.std.specs.Prelude.{true, false, List, [], ◌∷◌, Option, Some, None}
 use Rattle.server_rules.specs.declared.run_state.RunState.{RunState}
 use Rattle.server_rules.specs.declared.run_state.RunHappening.{RunHappening}
@@ -16,7 +16,7 @@ module _ {F : Type 0} where
   after MemoryShort k = record k { is_memory_short = true }
   after MemorySpared k = record k { is_memory_short = false }
 
-  -- how a run stands from all that happened, the latest first
+  -- the state of a run, given all that happened, the latest first
   abbrev pub run_from : List (RunHappening F) → RunState F
   run_from [] = record { is_closing = false; fault = None; is_memory_short = false }
   run_from (h ∷ past) = after h (run_from past)

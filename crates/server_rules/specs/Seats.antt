@@ -3,7 +3,7 @@ use Rattle.std.specs.Prelude.{ℕ, Bool, true, false, List, take, set, position,
 use Rattle.server_rules.specs.declared.seats.SeatState.{SeatState}
 use Rattle.server_rules.specs.declared.seats.SeatState.TheVariants.{Free, Promised}
 
--- whether any thread may be promised the seat
+-- the seat may be promised to any thread
 abbrev pub is_free : SeatState → Bool
 is_free Free = true
 is_free _ = false
@@ -17,7 +17,7 @@ abbrev pub promised : Option ℕ → List SeatState → List SeatState
 promised None seats = seats
 promised (Some at) seats = set seats at Promised
 
--- a thread that was promised the seat isn't there; a seat that a thread has stays with it
+-- the thread that was promised the seat didn't come; a seat that a thread has stays with it
 abbrev pub given_up : Option SeatState → ℕ → List SeatState → List SeatState
 given_up (Some Promised) at seats = set seats at Free
 given_up _ at seats = seats

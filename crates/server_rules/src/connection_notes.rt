@@ -1,9 +1,9 @@
-//! What a connection notes of its session.
+//! What a connection notes about its session.
 ghost use Rattle.std.specs.Prelude.{◌≡◌, ◌∷◌, [], List, nat_lt};
 ghost use Rattle.server_rules.specs.Notes.{after, blank, notes_from};
 ghost use Rattle.server_rules.specs.declared.connection_notes.SessionHappening.{SessionHappening};
 
-/// The number of pauses in one turn in which others find tickets, at most.
+/// The most pauses in one turn in which others find tickets.
 const MOST_PAUSES: u32 = 100;
 
 /// What happens to the session of a connection.
@@ -11,17 +11,17 @@ const MOST_PAUSES: u32 = 100;
 pub enum SessionHappening {
     /// Its Up was accepted at this moment, in milliseconds.
     CameUp { now_ms: u64 },
-    /// Its Up was refused, by this number.
+    /// Its Up was refused, with this number.
     Refused { number: u8 },
     /// Its Down was submitted.
     WentDown,
-    /// It paused, for others to find tickets.
+    /// It paused so that others find tickets.
     Paused,
     /// Its turn ended.
     TurnEnded,
 }
 
-/// What a connection notes of its session.
+/// What a connection notes about its session.
 #[derive(Clone, Copy, PartialEq, Eq, Debug)]
 pub struct ConnectionNotes {
     up_ms: u64,
@@ -31,7 +31,7 @@ pub struct ConnectionNotes {
 }
 
 impl ConnectionNotes {
-    /// Nothing happened.
+    /// Makes the notes of a session to which nothing has happened.
     pub fn new() -> ConnectionNotes
         ensures { result ≡ notes_from [] }
     {
@@ -43,35 +43,35 @@ impl ConnectionNotes {
         }
     }
 
-    /// When the session came up, in milliseconds; 0 if it hasn't.
+    /// Returns when the session came up, in milliseconds; 0 if it hasn't.
     pub fn up_ms(self) -> u64
         ensures { result ≡ self.up_ms }
     {
         self.up_ms
     }
 
-    /// The number by which the session was refused.
+    /// Returns the number by which the session was refused, if it was.
     pub fn refused(self) -> Option<u8>
         ensures { result ≡ self.refused }
     {
         self.refused
     }
 
-    /// Whether the session is up: from its accepted Up until its Down is submitted.
+    /// Tests whether the session is up: from its accepted Up until its Down is submitted.
     pub fn is_up(self) -> bool
         ensures { result ≡ self.is_up }
     {
         self.is_up
     }
 
-    /// Whether the session may pause once more in this turn, for others to find tickets.
+    /// Tests whether the session may pause once more in this turn, so that others find tickets.
     pub fn may_pause(self) -> bool
         ensures { result ≡ nat_lt self.pauses 100 }
     {
         self.pauses < MOST_PAUSES
     }
 
-    /// Once this happened.
+    /// Returns the notes after this happened.
     fn after(self, what: SessionHappening) -> ConnectionNotes
         ensures { result ≡ after what self }
     {

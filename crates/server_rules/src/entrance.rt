@@ -14,18 +14,18 @@ pub struct Taken {
     pub is_up: bool,
 }
 
-/// What becomes of a new connection.
+/// What happens to a new connection.
 #[derive(Clone, Copy, PartialEq, Eq, Debug)]
 pub enum Entrance {
     /// It takes a free place.
     Free,
-    /// It takes the place of this connection, which is ended for it.
+    /// It takes the place of this connection, which ends for it.
     InsteadOf(usize),
-    /// It is closed unheard.
+    /// It is closed without being served.
     Refused,
 }
 
-/// How many connections of the address aren't up yet.
+/// Counts the connections of the address that aren't up yet.
 fn waiting_of(taken: &[Taken], address: u32) -> usize
     ensures { result ≡ waiting_of taken.now address }
 {
@@ -35,7 +35,7 @@ fn waiting_of(taken: &[Taken], address: u32) -> usize
         .count()
 }
 
-/// How many connections the address has.
+/// Counts the connections of the address.
 fn of_address(taken: &[Taken], address: u32) -> usize
     ensures { result ≡ of_address taken.now address }
 {
@@ -45,7 +45,7 @@ fn of_address(taken: &[Taken], address: u32) -> usize
         .count()
 }
 
-/// Whether a session of the address is up.
+/// Tests whether a session of the address is up.
 fn is_up(taken: &[Taken], address: u32) -> bool
     ensures { result ≡ up_of taken.now address }
 {
@@ -54,7 +54,7 @@ fn is_up(taken: &[Taken], address: u32) -> bool
         .any(|other| other.is_up && other.address == address)
 }
 
-/// What the connection weighs.
+/// Returns the weight of the connection.
 fn weight_of(taken: &[Taken], connection: Taken) -> usize
     requires { length taken.now < 2 ^ 32 }
     ensures { result ≡ weight_of taken.now connection }
@@ -66,7 +66,7 @@ fn weight_of(taken: &[Taken], connection: Taken) -> usize
     }
 }
 
-/// The oldest of the connections that weigh most.
+/// Returns the place of the oldest of the connections that weigh most.
 fn first_to_end(taken: &[Taken]) -> usize
     requires some { 0 < length taken.now }
     requires few { length taken.now < 2 ^ 32 }
@@ -81,7 +81,8 @@ fn first_to_end(taken: &[Taken]) -> usize
     first
 }
 
-/// What becomes of a new connection of the address, where these have places, the oldest first, of this number in all.
+/// Decides what happens to a new connection of the address, given the connections that have places, the oldest first,
+/// and the number of places in all.
 pub fn admit(taken: &[Taken], address: u32, places: usize) -> Entrance
     requires some { 0 < places }
     requires few { length taken.now < 2 ^ 32 }

@@ -8,7 +8,7 @@ use crate::known::{Happening, Known, Owing, after, due_of, one_more, spare_since
 use indexmap::IndexMap;
 use std::alloc::{AllocError, Global};
 
-/// What is due of a peer.
+/// What is due for a peer.
 #[derive(Clone, Copy, PartialEq, Eq, Debug)]
 pub struct Due {
     pub peer: u32,
@@ -22,7 +22,7 @@ struct Spare {
     since_ms: u64,
 }
 
-/// The one that has been down longer.
+/// Returns the one that has been down longer.
 fn longer_down(first: Option<Spare>, other: Spare) -> Option<Spare>
     ensures { result ≡ longer_down first other }
 {
@@ -32,7 +32,8 @@ fn longer_down(first: Option<Spare>, other: Spare) -> Option<Spare>
     }
 }
 
-/// One entry for each peer of which a connection lives, a Down is owed, or that is still to be forgotten.
+/// The peers, with one entry for each peer that has a live connection or an owed Down, or that is still to be
+/// forgotten.
 #[derive(Drop)]
 pub struct Expiry {
     peers: IndexMap<u32, Known>,
@@ -47,7 +48,7 @@ impl Expiry {
         }
     }
 
-    /// A connection of the peer was accepted. From then on its end takes no memory.
+    /// Notes that a connection of the peer was accepted. From then on its end takes no memory.
     pub fn connected(&mut self, peer: u32) -> Result<(), AllocError>
         ensures ok { OnOk result (Adds self.old self.new peer Connected) }
         ensures err { OnErr result (IsSame self.old self.new) }
@@ -58,56 +59,56 @@ impl Expiry {
         Ok(())
     }
 
-    /// A session of the peer came up.
+    /// Notes that a session of the peer came up.
     pub fn up(&mut self, peer: u32)
         ensures { Adds self.old self.new peer Up }
     {
         self.note(peer, Happening::Up);
     }
 
-    /// The session that was up ended, and its Down was submitted by this moment.
+    /// Notes that the session that was up ended, and its Down was submitted by this moment.
     pub fn down(&mut self, peer: u32, at_ms: u64)
         ensures { Adds self.old self.new peer (Down at_ms) }
     {
         self.note(peer, Happening::Down(at_ms));
     }
 
-    /// The session that was up ended, and its Down found no memory.
+    /// Notes that the session that was up ended, and there was no memory for its Down.
     pub fn owed(&mut self, peer: u32)
         ensures { Adds self.old self.new peer Owed }
     {
         self.note(peer, Happening::Owed);
     }
 
-    /// The Down that was owed was submitted by this moment.
+    /// Notes that the owed Down was submitted by this moment.
     pub fn submitted(&mut self, peer: u32, at_ms: u64)
         ensures { Adds self.old self.new peer (Submitted at_ms) }
     {
         self.note(peer, Happening::Submitted(at_ms));
     }
 
-    /// A connection of the peer ended.
+    /// Notes that a connection of the peer ended.
     pub fn gone(&mut self, peer: u32)
         ensures { Adds self.old self.new peer Gone }
     {
         self.note(peer, Happening::Gone);
     }
 
-    /// The peer was forgotten.
+    /// Notes that the peer was forgotten.
     pub fn forgotten(&mut self, peer: u32)
         ensures { Adds self.old self.new peer Forgotten }
     {
         self.note(peer, Happening::Forgotten);
     }
 
-    /// The peer was due to be forgotten, and that was refused: it is up again, or isn't known.
+    /// Notes that the peer should have been forgotten, which was refused: it is up again, or isn't known.
     pub fn kept(&mut self, peer: u32)
         ensures { Adds self.old self.new peer Kept }
     {
         self.note(peer, Happening::Kept);
     }
 
-    /// Notes what happened to a peer, but for a connection that comes.
+    /// Notes what happened to a peer, except for a new connection.
     pub fn note(&mut self, peer: u32, what: Happening)
         requires { IsTrue (needs_no_room what) }
         ensures notes { Notes self.old self.new peer what }
@@ -124,7 +125,7 @@ impl Expiry {
         }
     }
 
-    /// What is due of a peer at this moment, where peers are kept for this time after their last Down.
+    /// Returns what is due for a peer at this moment, if peers are kept for this time after their last Down.
     pub fn due(&self, now_ms: u64, keep_ms: u64) -> Option<Due>
         ensures due { (past : List (ℕ × Happening)) → Knows self.now past → IsDue past now_ms keep_ms result }
         ensures first { result ≡ first_due now_ms keep_ms self.now.peers.entries }
@@ -139,7 +140,7 @@ impl Expiry {
         None
     }
 
-    /// What is due of the peer couldn't be done: what is due of others comes first next time.
+    /// Notes that what is due for the peer couldn't be done, so that what is due for others comes first next time.
     pub fn put_off(&mut self, peer: u32)
         ensures same { IsSame self.old self.new }
         ensures last { self.new.peers.entries ≡ put_last self.old peer }
@@ -150,7 +151,7 @@ impl Expiry {
         }
     }
 
-    /// Whether a peer's Down couldn't be submitted yet.
+    /// Tests whether a peer's Down couldn't be submitted yet.
     pub fn owes_a_down(&self) -> bool
         ensures { (past : List (ℕ × Happening)) → Knows self.now past → IsOwed past result }
     {
@@ -164,15 +165,15 @@ impl Expiry {
         false
     }
 
-    /// The peer that makes room for one that isn't known, where no more may be: of those that are down and hold no LSP, the
-    /// one that has been down longest. The holders are the peers that hold one.
+    /// Returns the peer that makes room for one that isn't known, when there is no room for one more: of those that are
+    /// down and hold no LSP, the one that has been down longest. The holders are the peers that hold one.
     pub fn longest_down(&self, holders: &[u32]) -> Option<u32>
         ensures { (past : List (ℕ × Happening)) → Knows self.now past → IsLongestDown past holders.now result }
     {
         Some(self.first_down(holders)?.peer)
     }
 
-    /// The same, with the moment since when it has been down.
+    /// Returns the same peer, with the moment since when it has been down.
     fn first_down(&self, holders: &[u32]) -> Option<Spare>
         ensures { IsFirstDown self.now holders.now result }
     {

@@ -7,7 +7,7 @@ use std::io::ErrorKind;
 /// What a failed accept means.
 #[derive(Clone, Copy, PartialEq, Eq, Debug)]
 pub enum FailedAccept {
-    /// Nobody came, or whoever did has gone again: the next accept may follow at once.
+    /// Nobody came, or the client has gone again: the next accept may follow at once.
     Nobody,
     /// Descriptors, memory or the network are short: the next accept follows after a pause.
     Wait,
@@ -15,10 +15,10 @@ pub enum FailedAccept {
     Broken,
 }
 
-/// The system's number of a descriptor that isn't open (EBADF).
+/// The system's error number for a descriptor that isn't open (EBADF).
 const NOT_OPEN: i32 = 9;
 
-/// What an accept that failed by this kind, and by this number of the system, means.
+/// Says what a failed accept means, given its kind and the system's error number.
 pub fn failed_accept(kind: ErrorKind, code: Option<i32>) -> FailedAccept
     ensures { result ≡ failed_accept kind code }
 {

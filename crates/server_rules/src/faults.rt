@@ -1,4 +1,4 @@
-//! How a worker goes on after faults, one after another.
+//! How a worker goes on after several faults in a row.
 ghost use Rattle.std.specs.Prelude.{◌≡◌, ◌+◌, min, [], ◌∷◌, List};
 ghost use Rattle.server_rules.specs.Faults.{Knows, after_fault, in_a_row};
 ghost use Rattle.server_rules.specs.declared.faults.Turn.{Turn};
@@ -10,7 +10,7 @@ const MOST: u32 = 4;
 /// The pause after a fault, for memory to come back, in milliseconds.
 const PAUSE_MS: u64 = 50;
 
-/// What came of a worker's turn.
+/// The result of a worker's turn.
 #[derive(Clone, Copy, PartialEq, Eq, Debug)]
 pub enum Turn {
     /// It went well.
@@ -28,28 +28,28 @@ pub enum AfterFault {
     GiveUp,
 }
 
-/// How many turns of a worker failed one after another.
+/// How many turns of a worker failed in a row.
 #[derive(Clone, Copy, Debug)]
 pub struct FaultsInARow {
     count: u32,
 }
 
 impl FaultsInARow {
-    /// No turn was made.
+    /// Makes the count of a worker that made no turn.
     pub fn none() -> FaultsInARow
         ensures { Knows result [] }
     {
         FaultsInARow { count: 0 }
     }
 
-    /// A turn went well.
+    /// Notes that a turn went well.
     pub fn went(&mut self)
         ensures { (past : List Turn) → Knows self.old past → Knows self.new (Went ∷ past) }
     {
         self.count = 0;
     }
 
-    /// A fault ended a turn. Says what the worker does now.
+    /// Notes that a fault ended a turn, and returns what the worker does now.
     pub fn failed(&mut self) -> AfterFault
         ensures adds { (past : List Turn) → Knows self.old past → Knows self.new (Failed ∷ past) }
         ensures answer { (past : List Turn) → Knows self.old past → result ≡ after_fault (in_a_row (Failed ∷ past)) }

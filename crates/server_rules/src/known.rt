@@ -1,4 +1,4 @@
-//! What is known of one peer, and what each happening makes of it.
+//! What is known about one peer, and how each happening changes it.
 ghost use Rattle.std.specs.Prelude.{◌≡◌, ◌+◌, ◌<◌, ◌^◌, IsTrue, IsNone, IfSome};
 ghost use Rattle.server_rules.specs.Peers.{needs_no_room, after, later, owing, is_among, spare_since};
 ghost use Rattle.server_rules.specs.declared.known.Happening.TheVariants.{Connected, Up, Down, Owed, Submitted};
@@ -12,24 +12,24 @@ pub enum Happening {
     Up,
     /// The session that was up ended, and its Down was submitted by this moment, in milliseconds.
     Down(u64),
-    /// The session that was up ended, and its Down found no memory.
+    /// The session that was up ended, and there was no memory for its Down.
     Owed,
-    /// The Down that was owed was submitted by this moment, in milliseconds.
+    /// The owed Down was submitted by this moment, in milliseconds.
     Submitted(u64),
     /// A connection of it ended.
     Gone,
     /// It was forgotten.
     Forgotten,
-    /// It was due to be forgotten, and that was refused: it is up again, or isn't known.
+    /// It should have been forgotten, which was refused: it is up again, or isn't known.
     Kept,
 }
 
-/// What is known of a peer.
+/// What is known about a peer.
 #[derive(Clone, Copy, PartialEq, Eq, Debug)]
 pub struct Known {
-    /// How many connections of it live.
+    /// The number of its live connections.
     pub live: u64,
-    /// How many of them have a session that is up.
+    /// The number of them whose session is up.
     pub up: u64,
     /// Its Down is still to be submitted.
     pub owes_a_down: bool,
@@ -38,7 +38,7 @@ pub struct Known {
 }
 
 impl Known {
-    /// Of a peer that never came.
+    /// What is known about a peer that never came.
     pub const NOTHING: Known = Known {
         live: 0,
         up: 0,
@@ -47,14 +47,14 @@ impl Known {
     };
 }
 
-/// What is to be submitted of a peer.
+/// What should be submitted for a peer.
 #[derive(Clone, Copy, PartialEq, Eq, Debug)]
 pub enum Owing {
     Down,
     Expire,
 }
 
-/// One connection more, where it can be counted.
+/// Returns what is known after one more connection, if it can be counted.
 pub(crate) fn one_more(known: Known) -> Option<Known>
     ensures { IfSome result (λ more. more ≡ after Connected known) }
 {
@@ -66,7 +66,7 @@ pub(crate) fn one_more(known: Known) -> Option<Known>
     })
 }
 
-/// The later of two moments.
+/// Returns the later of two moments.
 fn later(at_ms: u64, other: Option<u64>) -> u64
     ensures { result ≡ later at_ms other }
 {
@@ -76,7 +76,7 @@ fn later(at_ms: u64, other: Option<u64>) -> u64
     }
 }
 
-/// A session of it ended by this moment, and its Down was submitted.
+/// Returns what is known after a session of it ended by this moment, and its Down was submitted.
 fn downed(at_ms: u64, known: Known) -> Known
     ensures { result ≡ after (Down at_ms) known }
 {
@@ -91,7 +91,7 @@ fn downed(at_ms: u64, known: Known) -> Known
     }
 }
 
-/// A session of it ended, and its Down is owed.
+/// Returns what is known after a session of it ended, and its Down is owed.
 fn owed(known: Known) -> Known
     ensures { result ≡ after Owed known }
 {
@@ -106,7 +106,7 @@ fn owed(known: Known) -> Known
     }
 }
 
-/// The Down that was owed was submitted by this moment.
+/// Returns what is known after the owed Down was submitted by this moment.
 fn submitted(at_ms: u64, known: Known) -> Known
     ensures { result ≡ after (Submitted at_ms) known }
 {
@@ -121,7 +121,7 @@ fn submitted(at_ms: u64, known: Known) -> Known
     }
 }
 
-/// A session of it came up.
+/// Returns what is known after a session of it came up.
 fn risen(known: Known) -> Known
     ensures { result ≡ after Up known }
 {
@@ -136,7 +136,7 @@ fn risen(known: Known) -> Known
     }
 }
 
-/// What a happening makes of what was known of the peer.
+/// Returns what is known about the peer after a happening.
 pub(crate) fn after(what: Happening, known: Known) -> Known
     requires { IsTrue (needs_no_room what) }
     ensures { result ≡ after what known }
@@ -162,7 +162,7 @@ pub(crate) fn after(what: Happening, known: Known) -> Known
     }
 }
 
-/// What is due of a peer of which this is known.
+/// Returns what is due for a peer about which this is known.
 pub(crate) fn due_of(known: Known, now_ms: u64, keep_ms: u64) -> Option<Owing>
     ensures { result ≡ owing now_ms keep_ms known }
 {
@@ -178,14 +178,15 @@ pub(crate) fn due_of(known: Known, now_ms: u64, keep_ms: u64) -> Option<Owing>
     }
 }
 
-/// Whether the peer is one of these.
+/// Tests whether the peer is one of these.
 fn is_among(holders: &[u32], peer: u32) -> bool
     ensures { result ≡ is_among holders.now peer }
 {
     holders.iter().any(|holder| *holder == peer)
 }
 
-/// Since when the peer has been down, if it could make room for another one. The holders are those that hold an LSP.
+/// Returns since when the peer has been down, if it could make room for another one. The holders are the peers that
+/// hold an LSP.
 pub(crate) fn spare_since(known: Known, peer: u32, holders: &[u32]) -> Option<u64>
     ensures { result ≡ spare_since holders.now peer known }
 {

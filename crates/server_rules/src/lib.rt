@@ -1,21 +1,21 @@
 //! The rules by which the server stays up: when a router is forgotten, who has a place, which lines are logged, when
 //! paths may be granted after a start, and which failures of an accept end a run. Nothing here waits, reads a clock or
-//! opens a socket: the server's threads hand in what happens with its moment, and act on the answer.
+//! opens a socket: the server's threads report what happens, and when, and act on the answer.
 //!
-//! `Expiry` says which routers are due to be forgotten (the State Timeout of RFC 8231 section 5.6), and which Down is
-//! still to be submitted, from all that happened before (`specs/Peers`). `admit` says what becomes of a new
-//! connection (`specs/Places`), `PlaceTable` keeps who has a place (`specs/Placings`), and `who_goes` says which idle
-//! client makes room for another (`specs/Idles`). `LineRate` bounds the lines of one kind (`specs/Lines`). `Settling` says whether a
+//! `Expiry` says which routers should be forgotten (the State Timeout of RFC 8231 section 5.6), and which Down is still
+//! to be submitted, given all that happened before (`specs/Peers`). `admit` says what happens to a new connection
+//! (`specs/Places`), `PlaceTable` keeps who has a place (`specs/Placings`), and `who_goes` says which idle client makes
+//! room for another (`specs/Idles`). `LineRate` limits the lines of one kind (`specs/Lines`). `Settling` says whether a
 //! server that has just started may grant paths (`specs/Settled`). `failed_accept` is a table (`specs/Failures`).
-//! `PendingTable` says which grants, and which deletions that are awaited, are to end though their routers don't settle
-//! them, and since when each is unanswered (`specs/Pendings`). `RetryTable` says which LSPs without a path are to be asked for again (`specs/Retries`), and
-//! `ReadPause` how long reading pauses for a router that reports LSPs as DOWN again and again (`specs/Pauses`). `PathWords` keeps
-//! what routers say of paths beyond what the state has (`specs/PathWords`), and `PeerErrors` the last error that a router sent for
-//! each LSP (`specs/PcErrs`).
-//! `Unrung` keeps whose connections a worker has yet to wake, and `SeatStates` which seats are free (`specs/Seats`).
-//! `WakerSlots` says which connections can be woken and were (`specs/Wakings`), `ConnectionNotes` is what a connection notes of its
-//! session (`specs/Notes`), `FaultsInARow` says when a worker gives up (`specs/Faults`), and `RunState` whether a run is to end and
-//! why (`specs/Runs`). `Orders` is what a run is given (`specs/Ranges`).
+//! `PendingTable` says which grants and awaited deletions should end although their routers don't settle them, and
+//! since when each is unanswered (`specs/Pendings`). `RetryTable` says which LSPs without a path should be asked for
+//! again (`specs/Retries`), and `ReadPause` how long reading pauses for a router that reports LSPs as DOWN again and
+//! again (`specs/Pauses`). `PathWords` keeps what routers say about paths that the state doesn't keep
+//! (`specs/PathWords`), and `PeerErrors` the last error that a router sent for each LSP (`specs/PcErrs`). `Unrung`
+//! keeps whose connections a worker has yet to wake, and `SeatStates` which seats are free (`specs/Seats`).
+//! `WakerSlots` says which connections can be woken and which were (`specs/Wakings`), `ConnectionNotes` is what a
+//! connection notes about its session (`specs/Notes`), `FaultsInARow` says when a worker gives up (`specs/Faults`), and
+//! `RunState` whether and why a run should end (`specs/Runs`). `Orders` is what a run is given (`specs/Ranges`).
 //!
 //! ```
 //! let mut expiry = Expiry::new(alloc);

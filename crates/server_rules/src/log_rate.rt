@@ -1,8 +1,8 @@
-//! At most ten lines of one kind in a second, and the rest counted.
+//! At most ten lines of one kind are written in a second; the others are counted.
 ghost use Rattle.std.specs.Prelude.{◌≡◌, ◌<◌, true, false, Some, None};
 ghost use Rattle.server_rules.specs.Lines.{blank, may_say, said, one_withheld};
 
-/// The number of lines of one kind that are written, at most ..
+/// The most lines of one kind that are written ..
 pub const LINES: usize = 10;
 
 /// .. within this time, in milliseconds.
@@ -12,13 +12,13 @@ pub const WITHIN_MS: u64 = 1000;
 #[derive(Drop, Debug)]
 pub struct LineRate {
     last: [Option<u64>; LINES],
-    /// Where the tenth before the next line stands.
+    /// The place of the tenth line before the next one.
     tenth: usize,
     withheld: u64,
 }
 
 impl LineRate {
-    /// No line was written yet.
+    /// Makes the rate of a kind of which no line was written yet.
     pub fn new() -> LineRate
         ensures { result ≡ blank }
     {
@@ -29,7 +29,7 @@ impl LineRate {
         }
     }
 
-    /// Whether a line may be written at this moment: the tenth before it was written a second or more before.
+    /// Tests whether a line may be written at this moment: the tenth before it was written a second or more before.
     fn may_say(&self, now_ms: u64) -> bool
         ensures { result ≡ may_say self.now now_ms }
     {
@@ -39,7 +39,7 @@ impl LineRate {
         }
     }
 
-    /// A line is written at this moment, and says how many were withheld.
+    /// Notes that a line is written at this moment, and returns how many were withheld before it.
     fn say(&mut self, now_ms: u64) -> u64
         ensures said { self.new ≡ said self.old now_ms }
         ensures withheld { result ≡ self.old.withheld }
@@ -52,7 +52,7 @@ impl LineRate {
         withheld
     }
 
-    /// Asks for a line at this moment: it is to be written, and says how many were withheld before it; or it is
+    /// Asks for a line at this moment. If it may be written, returns how many were withheld before it; otherwise it is
     /// withheld itself (`None`).
     pub fn offer(&mut self, now_ms: u64) -> Option<u64>
         ensures said { may_say self.old now_ms ≡ true → (result ≡ Some self.old.withheld) × (self.new ≡ said self.old now_ms) }
@@ -65,7 +65,7 @@ impl LineRate {
         None
     }
 
-    /// How many were withheld, where that is to be said now though no line comes.
+    /// Returns how many were withheld, if that should be reported now although no line comes.
     pub fn rest(&mut self, now_ms: u64) -> Option<u64>
         ensures said { 0 < self.old.withheld → may_say self.old now_ms ≡ true → (result ≡ Some self.old.withheld) × (self.new ≡ said self.old now_ms) }
         ensures none { self.old.withheld ≡ 0 → (result ≡ None) × (self.new ≡ self.old) }

@@ -1,4 +1,4 @@
-//! What a router's latest report says of a path beyond what the state has.
+//! What a router's latest report says about a path and the state doesn't keep.
 ghost use Rattle.std.specs.Prelude.{◌≡◌, ◌||◌, not, false, is_some, Some, unwrap_or, if◌then◌else◌};
 ghost use Rattle.server_rules.specs.PathWords.{better_of, changed, concerns, rank};
 
@@ -24,7 +24,7 @@ pub struct RsvpError {
     pub value: u16,
 }
 
-/// What a report says of a path.
+/// What a report says about a path.
 #[derive(Clone, Copy, PartialEq, Eq, Debug)]
 pub struct PathWord {
     pub operational: Operational,
@@ -59,7 +59,7 @@ pub enum PathHappening {
     Expired { peer: u32 },
 }
 
-/// What is noted of a path.
+/// What is noted about a path.
 #[derive(Clone, Copy, PartialEq, Eq, Debug)]
 pub(crate) struct PathNoted {
     pub word: PathWord,
@@ -67,7 +67,7 @@ pub(crate) struct PathNoted {
     pub is_current: bool,
 }
 
-/// How good a state is: the best is 4.
+/// Returns the rank of a state; the best is 4.
 fn rank(operational: Operational) -> u8
     ensures { result ≡ rank operational }
 {
@@ -80,14 +80,14 @@ fn rank(operational: Operational) -> u8
     }
 }
 
-/// The better of two states: active, up, going up, going down, down.
+/// Returns the better of two states, in the order active, up, going up, going down, down.
 pub fn better_of(a: Operational, b: Operational) -> Operational
     ensures { result ≡ better_of a b }
 {
     if rank(a) >= rank(b) { a } else { b }
 }
 
-/// Whether a happening concerns the path.
+/// Tests whether a happening concerns the path.
 pub(crate) fn concerns(what: PathHappening, path: PathKey) -> bool
     ensures { result ≡ concerns what path }
 {
@@ -101,7 +101,7 @@ pub(crate) fn concerns(what: PathHappening, path: PathKey) -> bool
     }
 }
 
-/// It was reported before its router's latest session came up.
+/// Returns the note of a path that was reported before its router's latest session came up.
 fn aged(noted: PathNoted) -> PathNoted
     ensures { result ≡ record noted { is_current = false } }
 {
@@ -111,7 +111,7 @@ fn aged(noted: PathNoted) -> PathNoted
     }
 }
 
-/// What a happening makes of what is noted of a path that it concerns.
+/// Returns what is noted about a path after a happening that concerns it.
 pub(crate) fn changed(what: PathHappening, noted: Option<PathNoted>) -> Option<PathNoted>
     ensures { result ≡ changed what noted }
 {
@@ -131,14 +131,14 @@ pub(crate) fn changed(what: PathHappening, noted: Option<PathNoted>) -> Option<P
     }
 }
 
-/// Whether what is noted of a path stays once this happened.
+/// Tests whether the note of a path stays after this happened.
 pub(crate) fn stays(what: PathHappening, path: PathKey, noted: PathNoted) -> bool
     ensures { result ≡ (not (concerns what path) || is_some (changed what (Some noted))) }
 {
     !concerns(what, path) || changed(what, Some(noted)).is_some()
 }
 
-/// What is noted of a path, if it stays, once this happened.
+/// Returns the note of a path after this happened, if it stays.
 pub(crate) fn turned(what: PathHappening, path: PathKey, noted: PathNoted) -> PathNoted
     ensures { result ≡ (if concerns what path then unwrap_or (changed what (Some noted)) noted else noted) }
 {

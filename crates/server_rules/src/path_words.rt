@@ -1,4 +1,4 @@
-//! What routers' latest reports say of paths beyond what the state has.
+//! What routers' latest reports say about paths and the state doesn't keep.
 ghost use Rattle.std.specs.Prelude.{◌≡◌, ◌≤◌, ◌<◌, [], ◌∷◌, true, false, List, None, OnOk, OnErr, IsOk, IsErr, is_some, not, length};
 ghost use Rattle.server_rules.specs.PathWords.{Adds, IsSame, Knows, changed, needs_room, noted_from, noted_in, word_of};
 ghost use Rattle.server_rules.specs.declared.path_word.PathHappening.{PathHappening};
@@ -8,18 +8,18 @@ use crate::path_word::{PathHappening, PathKey, PathNoted, PathWord, stays, turne
 use indexmap::IndexMap;
 use std::alloc::{AllocError, Global};
 
-/// The number of paths of which anything is noted, at most: so many may stand. Each takes some 48 bytes, so all take some 2 MB with
-/// what the map has to spare.
+/// The most paths that have a note: as many as may stand. Each takes some 48 bytes, so all take some 2 MB with the
+/// spare room of the map.
 const MOST_PATHS: usize = 16384;
 
-/// What is noted of each path.
+/// What is noted about each path.
 #[derive(Drop)]
 pub struct PathWords {
     paths: IndexMap<PathKey, PathNoted>,
 }
 
 impl PathWords {
-    /// Nothing happened. Takes no memory.
+    /// Makes an empty table. Takes no memory.
     pub fn new(alloc: Global) -> PathWords
         ensures { Knows result [] }
     {
@@ -28,7 +28,7 @@ impl PathWords {
         }
     }
 
-    /// What its router's latest report says of a path, while it stands.
+    /// Returns what its router's latest report says about a path, while the path stands.
     pub fn of(&self, path: PathKey) -> Option<PathWord>
         ensures table { result ≡ word_of (noted_in self.now path) }
         ensures past { (past : List PathHappening) → Knows self.now past → result ≡ word_of (noted_from past path) }
@@ -36,7 +36,7 @@ impl PathWords {
         Some(self.paths.get(&path)?.word)
     }
 
-    /// Whether there is no room for a path.
+    /// Tests whether there is no room for a path.
     fn is_full_for(&self, path: PathKey) -> bool
         ensures full { result ≡ true → (noted_in self.now path ≡ None) × (16384 ≤ length self.now.paths.entries) }
         ensures room { result ≡ false → noted_in self.now path ≡ None → length self.now.paths.entries < 16384 }
@@ -44,7 +44,7 @@ impl PathWords {
         self.paths.len() >= MOST_PATHS && !self.paths.contains_key(&path)
     }
 
-    /// The router reported a path.
+    /// Notes that the router reported a path.
     fn report(&mut self, of: PathKey, word: PathWord) -> Result<(), AllocError>
         ensures ok { OnOk result (Adds self.old self.new (Reported of word)) }
         ensures err { OnErr result (IsSame self.old self.new) }
@@ -62,14 +62,14 @@ impl PathWords {
         Ok(())
     }
 
-    /// A path no longer stands.
+    /// Notes that a path no longer stands.
     fn remove(&mut self, of: PathKey)
         ensures { Adds self.old self.new (PathRemoved of) }
     {
         let _noted = self.paths.swap_remove(&of);
     }
 
-    /// Something happened to several paths.
+    /// Notes what happened to several paths.
     fn sweep(&mut self, what: PathHappening)
         requires { changed what None ≡ None }
         ensures { Adds self.old self.new what }
@@ -81,8 +81,9 @@ impl PathWords {
         });
     }
 
-    /// Notes what happened. Where memory is refused nothing is noted, and where 16,384 paths are noted, nothing of another one:
-    /// so many may stand, and what is noted goes with its path, so that one which is left out has no place in the state either.
+    /// Notes what happened. If memory runs out, nothing is noted. If 16,384 paths have a note, another path gets none:
+    /// as many may stand, and a note is removed with its path, so a path that is left out has no place in the state
+    /// either.
     pub fn note(&mut self, what: PathHappening) -> Result<(), AllocError>
         ensures ok { OnOk result (Adds self.old self.new what) }
         ensures err { OnErr result (IsSame self.old self.new) }

@@ -1,11 +1,11 @@
-//! How long the reading of a connection pauses, and what was noted of an LSP that may cause that.
+//! How long reading from a connection pauses, and what was noted about an LSP that may cause that.
 ghost use Rattle.std.specs.Prelude.{◌≡◌, ◌≤◌, ◌-◌, not};
 ghost use Rattle.server_rules.specs.Pendings.{has_passed};
 ghost use Rattle.server_rules.specs.Pauses.{is_recent, granted, failed, fails_again, is_line_due, paused, ended, wait_ms};
 
 use crate::pending::has_passed;
 
-/// The time within which an LSP has to fail twice, in milliseconds.
+/// The time within which an LSP must fail twice, in milliseconds.
 const WITHIN_MS: u64 = 10_000;
 
 /// The first pause, in milliseconds.
@@ -14,7 +14,7 @@ const FIRST_MS: u64 = 100;
 /// The longest pause, in milliseconds.
 const LONGEST_MS: u64 = 5_000;
 
-/// The time after which pauses begin anew, and that from one line to the next, in milliseconds.
+/// The time after which pauses start again from the first, and the time between two lines, in milliseconds.
 const CALM_MS: u64 = 60_000;
 
 /// What happens to the LSPs of a connection's router. Moments are in milliseconds.
@@ -28,7 +28,7 @@ pub enum PauseHappening {
     CameUp,
 }
 
-/// What was noted of an LSP.
+/// What was noted about an LSP.
 #[derive(Clone, Copy, PartialEq, Eq, Debug)]
 pub(crate) struct Trial {
     pub plsp: u32,
@@ -52,7 +52,7 @@ pub(crate) struct Pausing {
 }
 
 impl Pausing {
-    /// Reading has never paused.
+    /// The pauses of a connection whose reading has never paused.
     pub const NEVER: Pausing = Pausing {
         pause_ms: 0,
         since_ms: 0,
@@ -60,21 +60,21 @@ impl Pausing {
     };
 }
 
-/// Whether less than ten seconds have passed since then.
+/// Tests whether less than ten seconds have passed since then.
 fn is_within(since_ms: u64, now_ms: u64) -> bool
     ensures { result ≡ not (has_passed since_ms now_ms 10000) }
 {
     !has_passed(since_ms, now_ms, WITHIN_MS)
 }
 
-/// Whether what was noted of an LSP still counts.
+/// Tests whether what was noted about an LSP still counts.
 pub(crate) fn is_recent(trial: Trial, now_ms: u64) -> bool
     ensures { result ≡ is_recent now_ms trial }
 {
     is_within(trial.at_ms, now_ms)
 }
 
-/// The LSP was granted a path.
+/// Returns the note of an LSP that was granted a path.
 pub(crate) fn granted(plsp: u32, now_ms: u64, trial: Option<Trial>) -> Trial
     ensures { result ≡ granted plsp now_ms trial }
 {
@@ -89,7 +89,7 @@ pub(crate) fn granted(plsp: u32, now_ms: u64, trial: Option<Trial>) -> Trial
     }
 }
 
-/// The LSP that was granted a path was reported DOWN.
+/// Returns the note of an LSP that was granted a path and then reported DOWN.
 pub(crate) fn failed(plsp: u32, now_ms: u64) -> Trial
     ensures { result ≡ failed plsp now_ms }
 {
@@ -101,7 +101,7 @@ pub(crate) fn failed(plsp: u32, now_ms: u64) -> Trial
     }
 }
 
-/// Whether the LSP failed within the ten seconds before this moment.
+/// Tests whether the LSP failed within the ten seconds before this moment.
 pub(crate) fn fails_again(trial: Trial, now_ms: u64) -> bool
     ensures { result ≡ fails_again now_ms trial }
 {
@@ -111,7 +111,7 @@ pub(crate) fn fails_again(trial: Trial, now_ms: u64) -> bool
     }
 }
 
-/// Whether a line may say now that reading pauses.
+/// Tests whether a line may say now that reading pauses.
 pub(crate) fn is_line_due(pausing: Pausing, now_ms: u64) -> bool
     ensures { result ≡ is_line_due now_ms pausing }
 {
@@ -121,7 +121,7 @@ pub(crate) fn is_line_due(pausing: Pausing, now_ms: u64) -> bool
     }
 }
 
-/// A pause begins.
+/// Begins a pause.
 pub(crate) fn paused(pausing: Pausing, now_ms: u64) -> Pausing
     ensures { result ≡ paused now_ms pausing }
 {
@@ -141,7 +141,7 @@ pub(crate) fn paused(pausing: Pausing, now_ms: u64) -> Pausing
     }
 }
 
-/// Reading pauses no more.
+/// Ends the pauses.
 pub(crate) fn ended(pausing: Pausing) -> Pausing
     ensures { result ≡ ended pausing }
 {
@@ -152,7 +152,8 @@ pub(crate) fn ended(pausing: Pausing) -> Pausing
     }
 }
 
-/// How long reading is still to wait at this moment, in milliseconds, if the peer's DeadTimer is due at that one.
+/// Returns how long reading must still wait at this moment, in milliseconds, given the moment at which the peer's
+/// DeadTimer is due.
 pub(crate) fn wait_ms(pausing: Pausing, now_ms: u64, dead_ms: Option<u64>) -> u64
     ensures { result ≡ wait_ms now_ms dead_ms pausing }
 {

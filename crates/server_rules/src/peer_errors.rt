@@ -8,8 +8,8 @@ use crate::retry::RouterLsp;
 use indexmap::IndexMap;
 use std::alloc::{AllocError, Global};
 
-/// The number of LSPs of which an error is noted, at most: so many paths may stand. Each takes some 20 bytes, so all take some 1 MB
-/// with what the map has to spare.
+/// The most LSPs that have an error noted: as many paths may stand. Each takes some 20 bytes, so all take some 1 MB
+/// with the spare room of the map.
 const MOST_LSPS: usize = 16384;
 
 /// A PCErr: its Error-Type and its Error-value (RFC 5440 section 7.15).
@@ -26,7 +26,7 @@ pub enum PcErrHappening {
     Sent { of: RouterLsp, error: PcErr },
     /// The LSP no longer stands.
     LspRemoved { of: RouterLsp },
-    /// A session of the router came up: PLSP-IDs are of one session.
+    /// A session of the router came up; PLSP-IDs belong to one session.
     Up { peer: u32 },
     /// The router was forgotten.
     Expired { peer: u32 },
@@ -39,7 +39,7 @@ pub struct PeerErrors {
 }
 
 impl PeerErrors {
-    /// Nothing happened. Takes no memory.
+    /// Makes an empty table. Takes no memory.
     pub fn new(alloc: Global) -> PeerErrors
         ensures { Knows result [] }
     {
@@ -48,7 +48,7 @@ impl PeerErrors {
         }
     }
 
-    /// The last error that its router sent for an LSP, while it stands.
+    /// Returns the last error that its router sent for an LSP, while the LSP stands.
     pub fn of(&self, lsp: RouterLsp) -> Option<PcErr>
         ensures table { result ≡ error_in self.now lsp }
         ensures past { (past : List PcErrHappening) → Knows self.now past → result ≡ error_from past lsp }
@@ -56,7 +56,7 @@ impl PeerErrors {
         self.errors.get(&lsp).copied()
     }
 
-    /// Whether there is no room for an LSP.
+    /// Tests whether there is no room for an LSP.
     fn is_full_for(&self, lsp: RouterLsp) -> bool
         ensures full { result ≡ true → (error_in self.now lsp ≡ None) × (16384 ≤ length self.now.errors.entries) }
         ensures room { result ≡ false → error_in self.now lsp ≡ None → length self.now.errors.entries < 16384 }
@@ -64,7 +64,7 @@ impl PeerErrors {
         self.errors.len() >= MOST_LSPS && !self.errors.contains_key(&lsp)
     }
 
-    /// The router sent an error for an LSP.
+    /// Notes that the router sent an error for an LSP.
     fn sent(&mut self, of: RouterLsp, error: PcErr) -> Result<(), AllocError>
         ensures ok { OnOk result (Adds self.old self.new (Sent of error)) }
         ensures err { OnErr result (IsSame self.old self.new) }
@@ -78,22 +78,22 @@ impl PeerErrors {
         Ok(())
     }
 
-    /// An LSP no longer stands.
+    /// Removes the error of an LSP that no longer stands.
     fn remove(&mut self, of: RouterLsp)
         ensures { Adds self.old self.new (LspRemoved of) }
     {
         let _error = self.errors.swap_remove(&of);
     }
 
-    /// The errors of a router's LSPs go.
+    /// Removes the errors of a router's LSPs.
     fn forget(&mut self, peer: u32)
         ensures { (what : PcErrHappening) → forgets what ≡ Some peer → Adds self.old self.new what }
     {
         self.errors.retain(|of, _error| of.peer != peer);
     }
 
-    /// Notes what happened. Where memory is refused nothing is noted, and where errors of 16,384 LSPs are noted, nothing of another
-    /// one.
+    /// Notes what happened. If memory runs out, nothing is noted. If errors of 16,384 LSPs are noted, no error of
+    /// another one is.
     pub fn note(&mut self, what: PcErrHappening) -> Result<(), AllocError>
         ensures ok { OnOk result (Adds self.old self.new what) }
         ensures err { OnErr result (IsSame self.old self.new) }

@@ -1,20 +1,20 @@
-//! What is known of a grant, or of a deletion that is awaited, until its router settles it.
+//! What is known about a grant, or an awaited deletion, until its router settles it.
 ghost use Rattle.std.specs.Prelude.{◌≡◌, ◌+◌, ◌||◌, Some, true, false, IfSome};
 ghost use Rattle.server_rules.specs.Pendings.{has_passed, known_of, owing};
 
-/// A grant, or a deletion that is awaited: its router, and the SRP-ID of its PCUpd or PCInitiate (RFC 8231 section 7.2).
+/// A grant, or an awaited deletion: its router, and the SRP-ID of its PCUpd or PCInitiate (RFC 8231 section 7.2).
 #[derive(Clone, Copy, PartialEq, Eq, Hash, Debug)]
 pub struct Pending {
     pub peer: u32,
     pub srp: u32,
 }
 
-/// What happens to grants, to deletions that are awaited, and to their routers. Moments are in milliseconds.
+/// What happens to grants, to awaited deletions, and to their routers. Moments are in milliseconds.
 #[derive(Clone, Copy, PartialEq, Eq, Debug)]
 pub enum PendingHappening {
     /// It was made, in the latest session of its router.
     Made { of: Pending, now_ms: u64 },
-    /// A report named its SRP-ID, and it stands on.
+    /// A report named its SRP-ID, and it still stands.
     Named { of: Pending, now_ms: u64 },
     /// A path that its router reported covers it.
     Covered { of: Pending },
@@ -32,7 +32,7 @@ pub enum PendingHappening {
     Expired { peer: u32 },
 }
 
-/// Why a grant, or a deletion that is awaited, is to end.
+/// Why a grant, or an awaited deletion, should end.
 #[derive(Clone, Copy, PartialEq, Eq, Debug)]
 pub enum PendingEnd {
     /// A reported path covers it.
@@ -43,10 +43,10 @@ pub enum PendingEnd {
     NoAnswer,
 }
 
-/// What is known of a router.
+/// What is known about a router.
 #[derive(Clone, Copy, PartialEq, Eq, Debug)]
 pub(crate) struct RouterKnown {
-    /// The number of its sessions that came up.
+    /// How many of its sessions came up.
     pub sessions: u64,
     /// The latest of them is up.
     pub is_up: bool,
@@ -55,7 +55,7 @@ pub(crate) struct RouterKnown {
 }
 
 impl RouterKnown {
-    /// Of a router that never came.
+    /// What is known about a router that never came.
     pub const NOTHING: RouterKnown = RouterKnown {
         sessions: 0,
         is_up: false,
@@ -63,18 +63,18 @@ impl RouterKnown {
     };
 }
 
-/// What is known of what is pending.
+/// What is known about what is pending.
 #[derive(Clone, Copy, PartialEq, Eq, Debug)]
 pub(crate) struct PendingState {
     /// When it was made or last named, in milliseconds.
     pub since_ms: u64,
-    /// The number of its router's sessions that had come up when it was made.
+    /// How many of its router's sessions had come up when it was made.
     pub session: u64,
     /// A reported path covers it.
     pub is_covered: bool,
 }
 
-/// A session of the router came up, if it can be counted.
+/// Returns what is known after a session of the router came up, if it can be counted.
 pub(crate) fn risen(router: RouterKnown) -> Option<RouterKnown>
     ensures { IfSome result (λ new. new ≡ record { sessions = router.sessions + 1; is_up = true; in_sync = false }) }
 {
@@ -85,7 +85,7 @@ pub(crate) fn risen(router: RouterKnown) -> Option<RouterKnown>
     })
 }
 
-/// What is made in the latest session of this router.
+/// Returns what is known about what is made in the latest session of this router.
 pub(crate) fn made_at(now_ms: u64, router: RouterKnown) -> PendingState
     ensures { result ≡ record { since_ms = now_ms; session = router.sessions; is_covered = false } }
 {
@@ -96,7 +96,7 @@ pub(crate) fn made_at(now_ms: u64, router: RouterKnown) -> PendingState
     }
 }
 
-/// The router's session went down.
+/// Returns what is known after the router's session went down.
 pub(crate) fn downed(router: RouterKnown) -> RouterKnown
     ensures { result ≡ record router { is_up = false } }
 {
@@ -107,7 +107,7 @@ pub(crate) fn downed(router: RouterKnown) -> RouterKnown
     }
 }
 
-/// The router has reported all of its LSPs, if its session is up.
+/// Returns what is known after the router has reported all of its LSPs, if its session is up.
 pub(crate) fn synchronized(router: RouterKnown) -> RouterKnown
     ensures { result ≡ record router { in_sync = router.is_up || router.in_sync } }
 {
@@ -118,7 +118,7 @@ pub(crate) fn synchronized(router: RouterKnown) -> RouterKnown
     }
 }
 
-/// A report named its SRP-ID.
+/// Returns what is known after a report named its SRP-ID.
 pub(crate) fn named(now_ms: u64, state: PendingState) -> PendingState
     ensures { result ≡ record state { since_ms = now_ms } }
 {
@@ -129,7 +129,7 @@ pub(crate) fn named(now_ms: u64, state: PendingState) -> PendingState
     }
 }
 
-/// Whether a reported path covers it.
+/// Returns what is known after a reported path covers it, or no longer covers it.
 pub(crate) fn covered(is_covered: bool, state: PendingState) -> PendingState
     ensures { result ≡ record state { is_covered = is_covered } }
 {
@@ -140,15 +140,15 @@ pub(crate) fn covered(is_covered: bool, state: PendingState) -> PendingState
     }
 }
 
-/// Whether this time has passed since then.
+/// Tests whether this time has passed since then.
 pub(crate) fn has_passed(since_ms: u64, now_ms: u64, time_ms: u64) -> bool
     ensures { result ≡ has_passed since_ms now_ms time_ms }
 {
     since_ms <= now_ms && now_ms - since_ms >= time_ms
 }
 
-/// Why what is pending is to end at this moment, where a router has this time to answer in, in milliseconds, and 0 is
-/// for ever.
+/// Returns why what is pending should end at this moment, if it should. A router has this time to answer, in
+/// milliseconds; 0: for ever.
 pub(crate) fn end_of(
     router: RouterKnown,
     state: PendingState,

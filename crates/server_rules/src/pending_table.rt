@@ -1,4 +1,4 @@
-//! When a grant, or a deletion that is awaited, is to end though its router doesn't settle it.
+//! When a grant, or an awaited deletion, should end although its router doesn't settle it.
 ghost use Rattle.std.specs.Prelude.{◌≡◌, ◌<◌, ◌&&◌, None, not, nat_le, is_some, [], ◌∷◌, true, false, ℕ, List, OnOk, OnErr, IfOk, IsOk, IsErr, IsSome, length, nat_eq, if◌then◌else◌};
 ghost use Rattle.server_rules.specs.Pendings.{Adds, AreDue, IsSame, Knows, dues_in, is_full_for, is_same, known_from, needs_room, router_in, since_in, since_of};
 ghost use Rattle.indexmap.specs.IndexMap.{get};
@@ -13,14 +13,14 @@ use crate::pending::{
 use indexmap::IndexMap;
 use std::alloc::{AllocError, Global};
 
-/// The number of grants and deletions that are noted, at most: 16,384 of each may stand. Each takes some 40 bytes, so all take some
-/// 3 MB with what the map has to spare.
+/// The most grants and deletions that are noted: 16,384 of each may stand. Each takes some 40 bytes, so all take some 3
+/// MB with the spare room of the map.
 const MOST_PENDING: usize = 32768;
 
-/// The number of routers that are noted, at most: so many are known.
+/// The most routers that are noted: as many are known.
 const MOST_ROUTERS: usize = 64;
 
-/// A grant, or a deletion that is awaited, which is to end, and why.
+/// A grant, or an awaited deletion, that should end, and why.
 #[derive(Clone, Copy, PartialEq, Eq, Debug)]
 pub struct PendingDue {
     pub pending: Pending,
@@ -35,7 +35,7 @@ pub struct PendingTable {
 }
 
 impl PendingTable {
-    /// Nothing happened. Takes no memory.
+    /// Makes an empty table. Takes no memory.
     pub fn new(alloc: Global) -> PendingTable
         ensures { Knows result [] }
     {
@@ -45,7 +45,7 @@ impl PendingTable {
         }
     }
 
-    /// What is known of a router.
+    /// Returns what is known about a router.
     fn router(&self, peer: u32) -> RouterKnown
         ensures { result ≡ router_in self.now peer }
     {
@@ -55,14 +55,14 @@ impl PendingTable {
             .unwrap_or(RouterKnown::NOTHING)
     }
 
-    /// What is known of a grant or deletion.
+    /// Returns what is known about a grant or deletion.
     fn state(&self, of: Pending) -> Option<PendingState>
         ensures { result ≡ get is_same self.now.pending of }
     {
         self.pending.get(&of).copied()
     }
 
-    /// When a grant or deletion was made or last named by a report, in milliseconds, while it stands.
+    /// Returns when a grant or deletion was made or last named by a report, in milliseconds, while it stands.
     pub fn since_ms(&self, of: Pending) -> Option<u64>
         ensures table { result ≡ since_in self.now of }
         ensures past { (past : List PendingHappening) → Knows self.now past → result ≡ since_of (known_from past of) }
@@ -70,7 +70,7 @@ impl PendingTable {
         Some(self.state(of)?.since_ms)
     }
 
-    /// Sets what is known of a grant or deletion that stands.
+    /// Sets what is known about a grant or deletion that stands.
     fn write(&mut self, of: Pending, state: PendingState)
         requires { IsSome (get is_same self.old.pending of) }
         ensures routers { self.new.routers ≡ self.old.routers }
@@ -82,7 +82,7 @@ impl PendingTable {
         }
     }
 
-    /// Sets what is known of a router that came.
+    /// Sets what is known about a router that came.
     fn write_router(&mut self, peer: u32, router: RouterKnown)
         requires { IsSome (get nat_eq self.old.routers peer) }
         ensures pending { self.new.pending ≡ self.old.pending }
@@ -94,7 +94,7 @@ impl PendingTable {
         }
     }
 
-    /// It was made, in the latest session of its router.
+    /// Notes that it was made, in the latest session of its router.
     fn made(&mut self, of: Pending, now_ms: u64) -> Result<(), AllocError>
         ensures ok { OnOk result (Adds self.old self.new (Made of now_ms)) }
         ensures err { OnErr result (IsSame self.old self.new) }
@@ -111,7 +111,7 @@ impl PendingTable {
         Ok(())
     }
 
-    /// A report named its SRP-ID.
+    /// Notes that a report named its SRP-ID.
     fn named(&mut self, of: Pending, now_ms: u64)
         ensures { Adds self.old self.new (Named of now_ms) }
     {
@@ -120,7 +120,7 @@ impl PendingTable {
         }
     }
 
-    /// Whether a path that its router reported covers it.
+    /// Notes whether a path that its router reported covers it.
     fn cover(&mut self, of: Pending, is_covered: bool)
         ensures covered { is_covered ≡ true → Adds self.old self.new (Covered of) }
         ensures uncovered { is_covered ≡ false → Adds self.old self.new (Uncovered of) }
@@ -130,14 +130,14 @@ impl PendingTable {
         }
     }
 
-    /// It no longer stands.
+    /// Notes that it no longer stands.
     fn gone(&mut self, of: Pending)
         ensures { Adds self.old self.new (Gone of) }
     {
         let _state = self.pending.swap_remove(&of);
     }
 
-    /// Whether there is no room for a router.
+    /// Tests whether there is no room for a router.
     fn is_full_for(&self, peer: u32) -> bool
         ensures full { result ≡ (not (is_some (get nat_eq self.now.routers peer)) && nat_le 64 (length self.now.routers.entries)) }
         ensures room { result ≡ false → get nat_eq self.now.routers peer ≡ None → length self.now.routers.entries < 64 }
@@ -145,7 +145,7 @@ impl PendingTable {
         self.routers.len() >= MOST_ROUTERS && !self.routers.contains_key(&peer)
     }
 
-    /// A session of the router came up.
+    /// Notes that a session of the router came up.
     fn up(&mut self, peer: u32) -> Result<(), AllocError>
         ensures ok { OnOk result (Adds self.old self.new (Up peer)) }
         ensures err { OnErr result (IsSame self.old self.new) }
@@ -161,7 +161,7 @@ impl PendingTable {
         Ok(())
     }
 
-    /// The router's session went down.
+    /// Notes that the router's session went down.
     fn down(&mut self, peer: u32)
         ensures { Adds self.old self.new (Down peer) }
     {
@@ -170,7 +170,7 @@ impl PendingTable {
         }
     }
 
-    /// The router has reported all of its LSPs in this session.
+    /// Notes that the router has reported all of its LSPs in this session.
     fn sync_ended(&mut self, peer: u32)
         ensures { Adds self.old self.new (SyncEnded peer) }
     {
@@ -179,7 +179,7 @@ impl PendingTable {
         }
     }
 
-    /// The router was forgotten.
+    /// Notes that the router was forgotten.
     fn expired(&mut self, peer: u32)
         ensures { Adds self.old self.new (Expired peer) }
     {
@@ -187,7 +187,7 @@ impl PendingTable {
         self.pending.retain(|of, _state| of.peer != peer);
     }
 
-    /// Notes what takes no memory.
+    /// Notes a happening that takes no memory.
     fn note_at_once(&mut self, what: PendingHappening)
         requires { needs_room what ≡ false }
         ensures { Adds self.old self.new what }
@@ -204,8 +204,8 @@ impl PendingTable {
         }
     }
 
-    /// Notes what happened. Where memory is refused nothing is noted, and where 32,768 grants and deletions or 64 routers are noted,
-    /// nothing of another one.
+    /// Notes what happened. If memory runs out, nothing is noted. If 32,768 grants and deletions or 64 routers are
+    /// noted, another one isn't.
     pub fn note(&mut self, what: PendingHappening) -> Result<(), AllocError>
         ensures ok { OnOk result (Adds self.old self.new what) }
         ensures err { OnErr result (IsSame self.old self.new) }
@@ -222,8 +222,8 @@ impl PendingTable {
         }
     }
 
-    /// What is to end at this moment, where routers have this time to answer in, in milliseconds, and 0 is for ever: each
-    /// once, in the order of the table.
+    /// Returns what should end at this moment, each once, in the order of the table. Routers have this time to answer,
+    /// in milliseconds; 0: for ever.
     pub fn due(
         &self,
         alloc: Global,

@@ -1,4 +1,4 @@
-//! Who has a place, and who gave it up and isn't gone yet.
+//! Who has a place, and who gave up its place and isn't gone yet.
 ghost use Rattle.std.specs.Prelude.{◌≡◌, ◌==◌, ◌<◌, ◌≤◌, true, false, not, [], length, map, filter, IfOk, OnErr};
 ghost use Rattle.server_rules.specs.Places.{IsEntrance};
 ghost use Rattle.server_rules.specs.Placings.{has_place, entered, marked, all_marked, without, Admits, GivesUpAt, Parts};
@@ -12,13 +12,14 @@ use std::marker::Model;
 pub enum Admission {
     /// A place is free.
     Free,
-    /// The connection of this slot gave its place up for it, and is to end.
+    /// The connection of this slot gave up its place for it, and should end.
     InsteadOf(usize),
     /// It may have no place.
     Refused,
 }
 
-/// The connections that have a place, the oldest first, and the slots of those that gave theirs up, until they are gone.
+/// The connections that have a place, the oldest first, and the slots of those that gave up theirs, until they are
+/// gone.
 #[derive(Drop)]
 pub struct PlaceTable {
     places: usize,
@@ -37,7 +38,7 @@ impl Model for PlaceTable {
     ghost invariant = { λ t. (0 < t.places) × (t.places ≤ 1024) × (length t.taken.items ≤ t.places) };
 }
 
-/// Notes of the connection of this slot whether its session comes up.
+/// Returns the connection, with its session marked as up or not if it has this slot.
 fn marked(slot: usize, is_up: bool, connection: Taken) -> Taken
     ensures { result ≡ marked slot is_up connection }
 {
@@ -76,7 +77,7 @@ fn drop_leaving(leaving: &mut Vec<usize>, slot: usize)
 }
 
 impl PlaceTable {
-    /// This number of places, from 1 to 1,024, of which none is taken.
+    /// Makes a table of this number of places, from 1 to 1,024, of which none is taken.
     pub fn new(alloc: Global, places: usize) -> Result<PlaceTable, AllocError>
         requires { (0 < places) × (places ≤ 1024) }
         ensures { IfOk result (λ table. (table.places ≡ places) × (table.taken ≡ []) × (table.leaving ≡ [])) }
@@ -88,21 +89,21 @@ impl PlaceTable {
         })
     }
 
-    /// The connections that have a place, the oldest first.
+    /// Lends the connections that have a place, the oldest first.
     pub fn taken(&self) -> &[Taken]
         ensures { result.now ≡ self.now.taken }
     {
         &self.taken
     }
 
-    /// Whether the connection of this slot has a place.
+    /// Tests whether the connection of this slot has a place.
     pub fn has_place(&self, slot: usize) -> bool
         ensures { result ≡ has_place self.now slot }
     {
         self.taken.iter().any(|connection| connection.slot == slot)
     }
 
-    /// The connection at this position gives its place up. Gives its slot.
+    /// Has the connection at this position give up its place, and returns its slot.
     fn give_up(&mut self, at: usize) -> Result<usize, AllocError>
         requires { at < length self.old.taken }
         ensures given_up { IfOk result (λ slot. GivesUpAt at slot self.old self.new) }
@@ -114,14 +115,15 @@ impl PlaceTable {
         Ok(slot)
     }
 
-    /// What becomes of a new connection of the address.
+    /// Decides what happens to a new connection of the address.
     fn entrance(&self, address: u32) -> Entrance
         ensures { IsEntrance self.now.taken address self.now.places result }
     {
         admit(&self.taken, address, self.places)
     }
 
-    /// Whether a new connection of the address may have a place. If another is to end for it, that gives its place up.
+    /// Decides whether a new connection of the address may have a place. If another should end for it, that one gives
+    /// up its place.
     pub fn admit(&mut self, address: u32) -> Result<Admission, AllocError>
         ensures admitted { IfOk result (λ admission. Admits self.old address admission self.new) }
         ensures unchanged { OnErr result (self.new ≡ self.old) }
@@ -133,7 +135,8 @@ impl PlaceTable {
         }
     }
 
-    /// The connection of the address that has this slot takes a place. False if none is free, or memory is refused.
+    /// Gives a place to the connection of the address that has this slot. Returns false if no place is free, or memory
+    /// runs out.
     pub fn enter(&mut self, slot: usize, address: u32) -> bool
         ensures entered { result ≡ true → self.new ≡ entered slot address self.old }
         ensures unchanged { result ≡ false → self.new ≡ self.old }
@@ -149,7 +152,7 @@ impl PlaceTable {
         self.taken.push(connection).is_ok()
     }
 
-    /// The connection of this slot is gone.
+    /// Removes the connection of this slot, which is gone.
     pub fn leave(&mut self, slot: usize)
         ensures { self.new ≡ without slot self.old }
     {
@@ -157,8 +160,8 @@ impl PlaceTable {
         drop_leaving(&mut self.leaving, slot);
     }
 
-    /// Notes whether the session of the connection of this slot comes up, and says whether it has a place: one that is up
-    /// isn't ended for another.
+    /// Marks the session of the connection of this slot as up, or as not up, and returns whether the connection has a
+    /// place. One that is up doesn't end for another.
     pub fn mark(&mut self, slot: usize, is_up: bool) -> bool
         ensures marked { self.new ≡ all_marked slot is_up self.old }
         ensures placed { result ≡ has_place self.old slot }
@@ -168,8 +171,8 @@ impl PlaceTable {
         has_place
     }
 
-    /// The connection of this slot gives its place up, to wait for its peer to close. False if it has none, if more than half
-    /// as many as there are places wait so, or if memory is refused.
+    /// Has the connection of this slot give up its place, to wait for its peer to close. Returns false if it has none,
+    /// if more than half as many as there are places already wait like this, or if memory runs out.
     pub fn part(&mut self, slot: usize) -> bool
         ensures parts { result ≡ true → Parts slot self.old self.new }
         ensures unchanged { result ≡ false → self.new ≡ self.old }

@@ -1,4 +1,4 @@
-//! How long the reading of a connection pauses whose router reports LSPs as DOWN again and again.
+//! How long reading from a connection pauses if its router reports LSPs as DOWN again and again.
 ghost use Rattle.std.specs.Prelude.{◌≡◌, ◌+◌, ◌≤◌, ◌∷◌, [], List, IfOk, IfSome};
 ghost use Rattle.server_rules.specs.Pauses.{after_down, counts_of, is_other, pause_from, says, says_after_down, trial_of, wait_ms, with_trial};
 ghost use Rattle.server_rules.specs.declared.pausing.PauseHappening.{PauseHappening};
@@ -10,10 +10,10 @@ use crate::pausing::{
 use std::alloc::{AllocError, Global};
 use std::marker::Model;
 
-/// The number of LSPs that are watched, at most.
+/// The most LSPs that are watched.
 const WATCHED: usize = 64;
 
-/// The LSPs of a connection that were granted a path or failed of late, and the pauses of its reading.
+/// The LSPs of a connection that were recently granted a path or failed, and the pauses of its reading.
 #[derive(Drop)]
 pub struct ReadPause {
     trials: Vec<Trial>,
@@ -31,14 +31,14 @@ impl Model for ReadPause {
     ghost invariant = { λ p. (64 ≤ vec_capacity p.trials) × (length p.trials.items ≤ 64) };
 }
 
-/// Whether this was noted of the LSP and still counts.
+/// Tests whether this was noted about the LSP and still counts.
 fn counts_of(trial: Trial, plsp: u32, now_ms: u64) -> bool
     ensures { result ≡ counts_of plsp now_ms trial }
 {
     trial.plsp == plsp && is_recent(trial, now_ms)
 }
 
-/// Whether this was noted of another LSP and still counts.
+/// Tests whether this was noted about another LSP and still counts.
 fn is_other(other: Trial, trial: Trial) -> bool
     ensures { result ≡ is_other trial other }
 {
@@ -46,7 +46,7 @@ fn is_other(other: Trial, trial: Trial) -> bool
 }
 
 impl ReadPause {
-    /// Nothing happened. Takes all the memory that it will need.
+    /// Makes the record of a connection to which nothing has happened. Takes all the memory that it will need.
     pub fn new(alloc: Global) -> Result<ReadPause, AllocError>
         ensures { IfOk result (λ p. p ≡ pause_from []) }
     {
@@ -56,7 +56,7 @@ impl ReadPause {
         })
     }
 
-    /// What counts of an LSP.
+    /// Returns what counts for an LSP.
     fn trial(&self, plsp: u32, now_ms: u64) -> Option<Trial>
         ensures { result ≡ trial_of plsp now_ms self.now.trials }
     {
@@ -76,7 +76,7 @@ impl ReadPause {
         }
     }
 
-    /// The LSP was reported DOWN.
+    /// Notes that the LSP was reported DOWN. Returns true if a line should say that a pause begins.
     fn down(&mut self, plsp: u32, now_ms: u64) -> bool
         ensures after { self.new ≡ after_down plsp now_ms (trial_of plsp now_ms self.old.trials) self.old }
         ensures line { result ≡ says_after_down now_ms (trial_of plsp now_ms self.old.trials) self.old.pausing }
@@ -96,7 +96,7 @@ impl ReadPause {
         is_line_due
     }
 
-    /// Notes what happened. True if a line is to say that a pause begins.
+    /// Notes what happened. Returns true if a line should say that a pause begins.
     pub fn note(&mut self, what: PauseHappening) -> bool
         ensures adds { (past : List PauseHappening) → self.old ≡ pause_from past → self.new ≡ pause_from (what ∷ past) }
         ensures line { result ≡ says what self.old }
@@ -116,8 +116,8 @@ impl ReadPause {
         }
     }
 
-    /// How long reading is to wait from this moment on, in milliseconds: 5,000 at most, and never past the moment at which the
-    /// peer's DeadTimer is due, if it has one.
+    /// Returns how long reading should wait from this moment on, in milliseconds: at most 5,000, and never past the
+    /// moment at which the peer's DeadTimer is due, if it has one.
     pub fn wait_ms(&self, now_ms: u64, dead_ms: Option<u64>) -> u64
         ensures wait { result ≡ wait_ms now_ms dead_ms self.now.pausing }
         ensures alive { IfSome dead_ms (λ dead_ms. now_ms ≤ dead_ms → now_ms + result ≤ dead_ms) }

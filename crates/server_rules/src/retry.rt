@@ -1,4 +1,4 @@
-//! What is known of an LSP that may have to be asked for again.
+//! What is known about an LSP that may have to be asked for again.
 ghost use Rattle.std.specs.Prelude.{◌≡◌, ◌*◌};
 ghost use Rattle.server_rules.specs.Pendings.{has_passed};
 ghost use Rattle.server_rules.specs.Retries.{is_candidate, seen, tried, unanswered, reported, came_up, begun_anew, changed, is_due, whom};
@@ -10,7 +10,7 @@ pub struct RouterLsp {
     pub plsp: u32,
 }
 
-/// What a look sees of an LSP and of its router.
+/// What a look sees of an LSP and its router.
 #[derive(Clone, Copy, PartialEq, Eq, Debug)]
 pub struct LspSight {
     /// A session of its router is up.
@@ -36,7 +36,7 @@ pub struct LspSight {
 /// What happens to LSPs and to their routers. Moments are in milliseconds.
 #[derive(Clone, Copy, PartialEq, Eq, Debug)]
 pub enum RetryHappening {
-    /// A look saw it so. It may be the first look at it since its router came in sync.
+    /// A look saw it like this. It may be the first look at it since its router came in sync.
     Seen {
         of: RouterLsp,
         sight: LspSight,
@@ -65,9 +65,9 @@ pub enum RetryHappening {
     Gone {
         of: RouterLsp,
     },
-    /// The links were loaded anew.
+    /// The links were loaded again.
     Reloaded,
-    /// A session of the router came up: PLSP-IDs are of one session.
+    /// A session of the router came up; PLSP-IDs belong to one session.
     Up {
         peer: u32,
     },
@@ -85,25 +85,25 @@ pub(crate) enum Concerned {
     All,
 }
 
-/// What is known of an LSP.
+/// What is known about an LSP.
 #[derive(Clone, Copy, PartialEq, Eq, Debug)]
 pub(crate) struct RetryState {
     /// Since when it has been a candidate, in milliseconds, while it is one.
     pub since_ms: Option<u64>,
-    /// When it was last tried, in milliseconds, unless it began anew since.
+    /// When it was last tried, in milliseconds, unless it has begun again since.
     pub tried_ms: Option<u64>,
-    /// How many times the time of the first try it waits for its next one: 1 to 64.
+    /// How many times the time of the first try it waits for its next try: 1 to 64.
     pub factor: u64,
     /// Its next try comes at once.
     pub is_at_once: bool,
-    /// It was tried, and no look has seen since that nothing came of it or that its router has answered.
+    /// It was tried, and no look has seen since that the try failed or that its router has answered.
     pub is_awaited: bool,
     /// Its router didn't answer, and hasn't reported it since.
     pub is_unanswered: bool,
 }
 
 impl RetryState {
-    /// Of an LSP that isn't known.
+    /// What is known about an LSP that isn't known.
     pub const NOTHING: RetryState = RetryState {
         since_ms: None,
         tried_ms: None,
@@ -114,7 +114,7 @@ impl RetryState {
     };
 }
 
-/// Whether an LSP that is seen so is to be asked for again.
+/// Tests whether an LSP that is seen like this should be asked for again.
 fn is_candidate(sight: LspSight) -> bool
     ensures { result ≡ is_candidate sight }
 {
@@ -129,7 +129,7 @@ fn is_candidate(sight: LspSight) -> bool
         && !sight.is_removing
 }
 
-/// A look saw it so.
+/// Returns what is known after a look saw the LSP like this.
 fn seen(sight: LspSight, is_first: bool, now_ms: u64, state: RetryState) -> RetryState
     ensures { result ≡ seen sight is_first now_ms state }
 {
@@ -148,7 +148,7 @@ fn seen(sight: LspSight, is_first: bool, now_ms: u64, state: RetryState) -> Retr
     }
 }
 
-/// It was asked for again.
+/// Returns what is known after the LSP was asked for again.
 fn tried(now_ms: u64, state: RetryState) -> RetryState
     ensures { result ≡ tried now_ms state }
 {
@@ -162,7 +162,7 @@ fn tried(now_ms: u64, state: RetryState) -> RetryState
     }
 }
 
-/// Its router didn't answer in time.
+/// Returns what is known after its router didn't answer in time.
 fn unanswered(state: RetryState) -> RetryState
     ensures { result ≡ unanswered state }
 {
@@ -176,7 +176,7 @@ fn unanswered(state: RetryState) -> RetryState
     }
 }
 
-/// Its router reported it.
+/// Returns what is known after its router reported it.
 fn reported(state: RetryState) -> RetryState
     ensures { result ≡ reported state }
 {
@@ -190,7 +190,7 @@ fn reported(state: RetryState) -> RetryState
     }
 }
 
-/// A path of it came up.
+/// Returns what is known after a path of it came up.
 fn came_up(now_ms: u64, state: RetryState) -> RetryState
     ensures { result ≡ came_up now_ms state }
 {
@@ -204,7 +204,7 @@ fn came_up(now_ms: u64, state: RetryState) -> RetryState
     }
 }
 
-/// It begins from the start, and at once.
+/// Returns what is known after it begins again from the start, and is due at once.
 pub(crate) fn begun_anew(state: RetryState) -> RetryState
     ensures { result ≡ begun_anew state }
 {
@@ -218,7 +218,7 @@ pub(crate) fn begun_anew(state: RetryState) -> RetryState
     }
 }
 
-/// What a happening makes of what is known of an LSP that it concerns.
+/// Returns what is known about an LSP after a happening that concerns it.
 pub(crate) fn changed(what: RetryHappening, state: RetryState) -> RetryState
     ensures { result ≡ changed what state }
 {
@@ -239,7 +239,7 @@ pub(crate) fn changed(what: RetryHappening, state: RetryState) -> RetryState
     }
 }
 
-/// What a happening concerns.
+/// Returns what a happening concerns.
 pub(crate) fn whom(what: RetryHappening) -> Concerned
     ensures { result ≡ whom what }
 {
@@ -256,7 +256,7 @@ pub(crate) fn whom(what: RetryHappening) -> Concerned
     }
 }
 
-/// Whether this many times this time has passed since then.
+/// Tests whether this many times this time has passed since then.
 fn has_passed(since_ms: u64, now_ms: u64, time_ms: u64, times: u64) -> bool
     ensures { result ≡ has_passed since_ms now_ms (time_ms * times) }
 {
@@ -266,8 +266,8 @@ fn has_passed(since_ms: u64, now_ms: u64, time_ms: u64, times: u64) -> bool
     }
 }
 
-/// Whether an LSP of which this is known is to be asked for at this moment, if the first try comes after this time, in
-/// milliseconds, and 0 is never.
+/// Tests whether an LSP about which this is known should be asked for at this moment. The first try comes after this
+/// time, in milliseconds; 0: never.
 pub(crate) fn is_due(state: RetryState, now_ms: u64, retry_ms: u64) -> bool
     ensures { result ≡ is_due now_ms retry_ms state }
 {

@@ -12,11 +12,11 @@ use crate::retry::{
 use indexmap::IndexMap;
 use std::alloc::{AllocError, Global};
 
-/// The number of LSPs of which anything is known, at most: so many paths may stand. Each takes some 64 bytes, so all take some 2 MB
-/// with what the map has to spare.
+/// The most LSPs about which something is known: as many paths may stand. Each takes some 64 bytes, so all take some 2
+/// MB with the spare room of the map.
 const MOST_LSPS: usize = 16384;
 
-/// The number of retries that wait for an answer at a time, at most.
+/// The most retries that wait for an answer at a time.
 pub const RETRIES_AT_ONCE: usize = 256;
 
 /// The LSPs that may have to be asked for again.
@@ -25,7 +25,7 @@ pub struct RetryTable {
     lsps: IndexMap<RouterLsp, RetryState>,
 }
 
-/// Whether nothing is known of the LSP.
+/// Tests whether nothing is known about the LSP.
 fn is_nothing(state: RetryState) -> bool
     ensures { result ≡ is_nothing state }
 {
@@ -38,7 +38,7 @@ fn is_nothing(state: RetryState) -> bool
 }
 
 impl RetryTable {
-    /// Nothing happened. Takes no memory.
+    /// Makes an empty table. Takes no memory.
     pub fn new(alloc: Global) -> RetryTable
         ensures { Knows result [] }
     {
@@ -47,14 +47,14 @@ impl RetryTable {
         }
     }
 
-    /// What is known of an LSP.
+    /// Returns what is known about an LSP.
     fn known(&self, lsp: RouterLsp) -> RetryState
         ensures { result ≡ retry_in self.now lsp }
     {
         self.lsps.get(&lsp).copied().unwrap_or(RetryState::NOTHING)
     }
 
-    /// Whether there is no room for an LSP.
+    /// Tests whether there is no room for an LSP.
     fn is_full_for(&self, lsp: RouterLsp) -> bool
         ensures full { result ≡ true → (get is_same_lsp self.now.lsps lsp ≡ None) × (16384 ≤ length self.now.lsps.entries) }
         ensures room { result ≡ false → get is_same_lsp self.now.lsps lsp ≡ None → length self.now.lsps.entries < 16384 }
@@ -89,7 +89,7 @@ impl RetryTable {
         self.lsps.retain(|of, _state| of.peer != peer);
     }
 
-    /// All LSPs begin from the start.
+    /// Lets all LSPs begin again from the start.
     fn begin_anew(&mut self)
         ensures { (what : RetryHappening) → whom what ≡ All → Adds self.old self.new what }
     {
@@ -99,7 +99,8 @@ impl RetryTable {
         });
     }
 
-    /// Notes what happened. Where memory is refused nothing is noted, and where 16,384 LSPs are known, nothing of another one.
+    /// Notes what happened. If memory runs out, nothing is noted. If 16,384 LSPs are known, nothing is noted about
+    /// another one.
     pub fn note(&mut self, what: RetryHappening) -> Result<(), AllocError>
         ensures ok { OnOk result (Adds self.old self.new what) }
         ensures err { OnErr result (IsSame self.old self.new) }
@@ -119,7 +120,7 @@ impl RetryTable {
         }
     }
 
-    /// How many more LSPs may be tried, so that at most 256 tries wait for an answer.
+    /// Returns how many more LSPs may be tried, so that at most 256 tries wait for an answer.
     pub fn room(&self) -> usize
         ensures { result ≡ 256 - awaited self.now }
     {
@@ -127,7 +128,7 @@ impl RetryTable {
         RETRIES_AT_ONCE.saturating_sub(awaited)
     }
 
-    /// The LSPs that are due.
+    /// Returns the LSPs that are due.
     fn all_due(
         &self,
         alloc: Global,
@@ -147,8 +148,8 @@ impl RetryTable {
         Ok(due)
     }
 
-    /// The LSPs that are to be asked for at this moment, this number at most, in the order of the table. The first try of one
-    /// comes after this time, in milliseconds, and 0 is never.
+    /// Returns the LSPs that should be asked for at this moment, at most this number, in the order of the table. The
+    /// first try of each comes after this time, in milliseconds; 0: never.
     pub fn due(
         &self,
         alloc: Global,

@@ -1,22 +1,22 @@
-//! Whether a run is to end and why, and whether memory is short.
+//! Tells whether and why a run should end, and whether memory is short.
 ghost use Rattle.std.specs.Prelude.{◌≡◌, ◌∷◌, [], List};
 ghost use Rattle.server_rules.specs.Runs.{after, run_from};
 ghost use Rattle.server_rules.specs.declared.run_state.RunHappening.{RunHappening};
 
-/// What happens to a run, whose faults are of this type.
+/// What happens to a run whose faults have this type.
 #[derive(Clone, Copy, PartialEq, Eq, Debug)]
 pub enum RunHappening<F: Copy> {
     /// Its end was asked for.
     Closed,
     /// A fault forces its end.
     Failed(F),
-    /// Memory was refused to a thread that can't roll the history itself.
+    /// Memory ran out for a thread that can't roll the history itself.
     MemoryShort,
-    /// The history was rolled for want of memory.
+    /// The history was rolled because memory ran out.
     MemorySpared,
 }
 
-/// How a run stands.
+/// The state of a run.
 #[derive(Clone, Copy, Debug)]
 pub struct RunState<F: Copy> {
     /// Its end was asked for or forced.
@@ -27,7 +27,7 @@ pub struct RunState<F: Copy> {
 }
 
 impl<F: Copy> RunState<F> {
-    /// Nothing happened.
+    /// Makes the state of a run to which nothing has happened.
     pub fn new() -> RunState<F>
         ensures { result ≡ run_from [] }
     {
@@ -38,28 +38,28 @@ impl<F: Copy> RunState<F> {
         }
     }
 
-    /// Whether the end was asked for or forced.
+    /// Tests whether the end was asked for or forced.
     pub fn is_closing(self) -> bool
         ensures { result ≡ self.is_closing }
     {
         self.is_closing
     }
 
-    /// The first fault that forced the end, if one did.
+    /// Returns the first fault that forced the end, if one did.
     pub fn fault(self) -> Option<F>
         ensures { result ≡ self.fault }
     {
         self.fault
     }
 
-    /// Whether memory is short.
+    /// Tests whether memory is short.
     pub fn is_memory_short(self) -> bool
         ensures { result ≡ self.is_memory_short }
     {
         self.is_memory_short
     }
 
-    /// Once this happened.
+    /// Returns the state after this happened.
     fn after(self, what: RunHappening<F>) -> RunState<F>
         ensures { result ≡ after what self }
     {

@@ -17,7 +17,7 @@ pub enum SeatState {
     Taken,
 }
 
-/// Where each seat is, by its slot. A contract sees the list of them.
+/// The state of each seat, by its slot. A contract sees the list of them.
 #[derive(Drop)]
 pub struct SeatStates {
     seats: Vec<SeatState>,
@@ -39,7 +39,7 @@ fn is_free(seat: SeatState) -> bool
 }
 
 impl SeatStates {
-    /// This number of seats, all free.
+    /// Makes this number of seats, all free.
     pub fn new(alloc: Global, count: usize) -> Result<SeatStates, AllocError>
         ensures { IfOk result (λ seats. seats ≡ replicate count Free) }
     {
@@ -48,7 +48,7 @@ impl SeatStates {
         Ok(SeatStates { seats })
     }
 
-    /// The first free seat of those below `end`.
+    /// Returns the first free seat of those below `end`.
     pub fn first_free(&self, end: usize) -> Option<usize>
         ensures { result ≡ first_free end self.now }
     {
@@ -63,7 +63,7 @@ impl SeatStates {
         }
     }
 
-    /// Promises the first free seat of those below `end` to a thread, and gives its slot.
+    /// Promises the first free seat of those below `end` to a thread, and returns its slot.
     pub fn promise(&mut self, end: usize) -> Option<usize>
         ensures first { result ≡ first_free end self.old }
         ensures promised { self.new ≡ promised result self.old }
@@ -73,8 +73,7 @@ impl SeatStates {
         Some(at)
     }
 
-    /// The thread to which the seat of this slot was promised isn't there: the seat is free again. One that a thread has stays
-    /// with it.
+    /// Frees the seat of this slot, whose thread didn't come. A seat that a thread has stays with it.
     pub fn release(&mut self, at: usize)
         ensures { self.new ≡ released at self.old }
     {
@@ -83,14 +82,14 @@ impl SeatStates {
         }
     }
 
-    /// A thread takes the seat of this slot.
+    /// Notes that a thread takes the seat of this slot.
     pub fn take(&mut self, at: usize)
         ensures { self.new ≡ set self.old at Taken }
     {
         self.set(at, SeatState::Taken);
     }
 
-    /// A thread puts the seat of this slot back.
+    /// Notes that a thread puts the seat of this slot back.
     pub fn put(&mut self, at: usize)
         ensures { self.new ≡ set self.old at Free }
     {

@@ -19,7 +19,7 @@ pub struct Settling {
     routers: Vec<Awaited>,
 }
 
-/// The routers of these addresses, of which none is in sync yet.
+/// Makes the list of the routers of these addresses, of which none is in sync yet.
 fn all_awaited(alloc: Global, named: &[u32]) -> Result<Vec<Awaited>, AllocError>
     ensures { IfOk result (λ routers. routers.items ≡ map (awaited_after []) named.now) }
 {
@@ -33,7 +33,7 @@ fn all_awaited(alloc: Global, named: &[u32]) -> Result<Vec<Awaited>, AllocError>
     Ok(routers)
 }
 
-/// What is noted of a router where one came in sync, or went down.
+/// Returns the note of a router after the one of this address came in sync, or went down.
 fn noted(address: u32, is_in_sync: bool, router: Awaited) -> Awaited
     ensures { result ≡ noted address is_in_sync router }
 {
@@ -47,7 +47,7 @@ fn noted(address: u32, is_in_sync: bool, router: Awaited) -> Awaited
     }
 }
 
-/// Notes of each router that it came in sync, or went down, where it has this address.
+/// Notes that the router of this address came in sync, or went down.
 fn note_all(routers: &mut Vec<Awaited>, address: u32, is_in_sync: bool)
     ensures { routers.new.items ≡ map (noted address is_in_sync) routers.old.items }
 {
@@ -63,7 +63,7 @@ fn are_in_sync(routers: &[Awaited]) -> bool
 }
 
 impl Settling {
-    /// The server waits until this moment, in milliseconds, or for these routers, where any are named.
+    /// Makes the server wait until this moment, in milliseconds, or for these routers, if any are named.
     pub fn new(alloc: Global, named: &[u32], until_ms: u64) -> Result<Settling, AllocError>
         ensures { IfOk result (λ settling. Awaits settling named.now until_ms []) }
     {
@@ -73,7 +73,7 @@ impl Settling {
         })
     }
 
-    /// The router has reported all of its LSPs, or it has gone down.
+    /// Notes that the router has reported all of its LSPs, or has gone down.
     pub fn note(&mut self, address: u32, is_in_sync: bool)
         ensures { (named : List ℕ) (until_ms : ℕ) (past : List (ℕ × Bool))
             → Awaits self.old named until_ms past → Awaits self.new named until_ms ((address, is_in_sync) ∷ past) }
@@ -81,7 +81,7 @@ impl Settling {
         note_all(&mut self.routers, address, is_in_sync);
     }
 
-    /// Whether all routers that were named are in sync.
+    /// Tests whether all routers that were named are in sync.
     fn are_in_sync(&self) -> bool
         ensures { (named : List ℕ) (until_ms : ℕ) (past : List (ℕ × Bool))
             → Awaits self.now named until_ms past → result ≡ list_all (is_in_sync past) named }
@@ -89,7 +89,7 @@ impl Settling {
         are_in_sync(&self.routers)
     }
 
-    /// Whether routers were named.
+    /// Tests whether routers were named.
     fn has_named(&self) -> bool
         ensures { (named : List ℕ) (until_ms : ℕ) (past : List (ℕ × Bool))
             → Awaits self.now named until_ms past → result ≡ not (length named == 0) }
@@ -97,7 +97,7 @@ impl Settling {
         !self.routers.is_empty()
     }
 
-    /// Whether paths may be granted at this moment.
+    /// Tests whether paths may be granted at this moment.
     pub fn has_settled(&self, now_ms: u64) -> bool
         ensures { (named : List ℕ) (until_ms : ℕ) (past : List (ℕ × Bool))
             → Awaits self.now named until_ms past → result ≡ has_settled named until_ms past now_ms }

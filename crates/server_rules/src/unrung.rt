@@ -3,11 +3,11 @@ ghost use Rattle.std.specs.Prelude.{◌≡◌, ◌<◌, ◌++◌, ◌∷◌, [],
 
 use std::marker::Model;
 
-/// The number of routers that are noted, at most.
+/// The most routers that are noted.
 const MOST: usize = 16;
 
-/// The routers for which a worker sought paths and whose connections it has not woken since, in the order of its turns. A
-/// contract sees the list of them.
+/// The routers for which a worker searched for paths and whose connections it has not woken since, in the order of its
+/// turns. A contract sees the list of them.
 #[derive(Drop)]
 pub struct Unrung {
     peers: [u32; MOST],
@@ -34,7 +34,7 @@ impl Unrung {
         }
     }
 
-    /// Notes a router behind the others, unless 16 are noted.
+    /// Notes a router after the others, unless 16 are noted.
     pub fn note(&mut self, peer: u32)
         ensures { length self.old < 16 → self.new ≡ self.old ++ peer ∷ [] }
     {
@@ -44,14 +44,14 @@ impl Unrung {
         }
     }
 
-    /// Whether no further one is noted.
+    /// Tests whether no more can be noted.
     pub fn is_full(&self) -> bool
         ensures { result ≡ not (nat_lt (length self.now) 16) }
     {
         self.count >= MOST
     }
 
-    /// The noted routers.
+    /// Lends the noted routers.
     pub fn peers(&self) -> &[u32]
         ensures { result.now ≡ self.now }
     {

@@ -21,7 +21,7 @@ pub enum SlotHappening {
     Left { slot: usize },
 }
 
-/// How the connection that has a slot stands.
+/// The state of the connection that has a slot.
 #[derive(Clone, Copy, PartialEq, Eq, Debug)]
 pub enum SlotState {
     /// It can't be woken.
@@ -32,7 +32,7 @@ pub enum SlotState {
     Rung,
 }
 
-/// How each connection stands, by its slot. A contract sees the list of them.
+/// The state of each connection, by its slot. A contract sees the list of them.
 #[derive(Drop)]
 pub struct WakerSlots {
     slots: Vec<SlotState>,
@@ -48,7 +48,7 @@ impl Model for WakerSlots {
 }
 
 impl WakerSlots {
-    /// This number of slots, which no connection has.
+    /// Makes this number of slots, which no connection has.
     pub fn new(alloc: Global, count: usize) -> Result<WakerSlots, AllocError>
         ensures { IfOk result (λ slots. slots ≡ slots_from count []) }
     {
@@ -65,14 +65,15 @@ impl WakerSlots {
         }
     }
 
-    /// The socket of the connection that has this slot is prepared.
+    /// Notes that the socket of the connection that has this slot is prepared.
     pub fn prepare(&mut self, slot: usize)
         ensures { self.new ≡ after (Prepared slot) self.old }
     {
         self.set(slot, SlotState::Ready);
     }
 
-    /// Whether the connection that has this slot is to be woken now: not if it can't be, or was and hasn't looked since.
+    /// Wakes the connection that has this slot, if it can be woken and has looked since it last was. Returns whether it
+    /// is woken now.
     pub fn wake(&mut self, slot: usize) -> bool
         ensures woken { self.new ≡ after (Woken slot) self.old }
         ensures rung { result ≡ is_rung slot self.old }
@@ -84,7 +85,7 @@ impl WakerSlots {
         is_ready
     }
 
-    /// The connection that has this slot looks at what waits for its peer.
+    /// Notes that the connection that has this slot looks at what waits for its peer.
     pub fn look(&mut self, slot: usize)
         ensures { self.new ≡ after (Looked slot) self.old }
     {
@@ -93,7 +94,7 @@ impl WakerSlots {
         }
     }
 
-    /// The connection that has this slot is gone.
+    /// Notes that the connection that has this slot is gone.
     pub fn leave(&mut self, slot: usize)
         ensures { self.new ≡ after (Left slot) self.old }
     {

@@ -1,4 +1,4 @@
--- What is said of the fault that a run ended by.
+-- What is printed about the fault that ended a run.
 use Rattle.std.specs.Prelude.{ℕ, List, codes}
 use Rattle.history_core.specs.Faults.{fault_text}
 use Rattle.history_seats.specs.Faults.{audit_fault_text}

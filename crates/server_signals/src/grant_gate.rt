@@ -1,4 +1,4 @@
-//! Whether paths may be granted yet.
+//! Tells whether paths may be granted yet.
 use server_rules::Settling;
 use short_lock::acquire;
 use std::sync::atomic::{AtomicBool, Ordering};
@@ -8,12 +8,12 @@ use std::sync::{Mutex, Wait};
 #[derive(Clone, Copy, PartialEq, Eq, Debug)]
 pub enum GrantGateLook {
     Closed,
-    /// It was closed at the last look.
+    /// It is open now, and was closed at the last look.
     Opened,
     Open,
 }
 
-/// It opens once, and stays open.
+/// A gate that opens once and then stays open.
 #[derive(Drop)]
 pub struct GrantGate {
     settling: Mutex<Settling>,
@@ -21,7 +21,7 @@ pub struct GrantGate {
 }
 
 impl GrantGate {
-    /// It is open from the start where nothing is waited for.
+    /// Makes a gate. It is open from the start if nothing is waited for.
     pub fn new(settling: Settling) -> GrantGate {
         let is_open = settling.has_settled(0);
         GrantGate {
@@ -30,12 +30,12 @@ impl GrantGate {
         }
     }
 
-    /// The router has reported all of its LSPs, or its session has ended.
+    /// Notes that the router has reported all of its LSPs, or that its session has ended.
     pub fn note<R: Wait>(&self, rt: &R, address: u32, is_in_sync: bool) {
         acquire(rt, &self.settling).note(address, is_in_sync);
     }
 
-    /// Whether a look has found it open.
+    /// Tests whether a look has found the gate open.
     pub fn is_open(&self) -> bool {
         self.is_open.load(Ordering::SeqCst)
     }

@@ -1,8 +1,8 @@
 //! What the threads of a run tell each other.
 //!
-//! - `run`: whether the run is to end, and why (`specs/Texts` has its texts)
+//! - `run`: tells whether and why the run should end (`specs/Texts` has its texts)
 //! - `wakers`: what wakes a connection, and how many an address has
-//! - `grant_gate`: whether paths may be granted yet
+//! - `grant_gate`: tells whether paths may be granted yet
 #![tactic(auto)]
 
 mod grant_gate;

@@ -1,4 +1,4 @@
-//! Whether a run is to end, and why.
+//! Tells whether and why a run should end.
 ghost use Rattle.std.specs.Prelude.{◌≡◌, Some};
 ghost use Rattle.history_core.specs.declared.fault.Fault.TheVariants.{OutOfMemory};
 ghost use Rattle.server_signals.specs.Texts.{run_text};
@@ -18,8 +18,7 @@ use std::{error, fmt};
 pub enum RunFault {
     /// The listener, the operator's reader or its writer failed, or no thread could be started.
     Device,
-    /// A worker's turn failed four times in a row, or memory was refused before the first connection or after the
-    /// last.
+    /// A worker's turn failed four times in a row, or memory ran out before the first connection or after the last.
     Store(Fault),
     /// The audit at the end failed.
     Audit(AuditFault),
@@ -39,11 +38,11 @@ impl fmt::Display for RunFault {
 
 impl error::Error for RunFault {}
 
-/// The end of a run: asked for, or forced by a fault. And whether memory is short, which the keeper of time sees to.
+/// The end of a run, asked for or forced by a fault; and whether memory is short, which the timer thread looks after.
 #[derive(Drop)]
 pub struct Run {
     state: Mutex<RunState<RunFault>>,
-    /// What the state says, to be read without its lock. They are set while it is held.
+    /// What the state says, to be read without its lock. These are set while the lock is held.
     is_closing: AtomicBool,
     is_memory_short: AtomicBool,
 }
@@ -65,12 +64,12 @@ impl Run {
             .store(state.is_memory_short(), Ordering::SeqCst);
     }
 
-    /// Memory was refused to a thread that can't roll the history itself.
+    /// Notes that memory ran out for a thread that can't roll the history itself.
     pub fn note_short_memory<R: Wait>(&self, rt: &R) {
         self.note(rt, RunHappening::MemoryShort);
     }
 
-    /// The history was rolled for want of memory, where there was anything to roll.
+    /// Notes that the history was rolled because memory ran out, if there was anything to roll.
     pub fn spared_memory<R: Wait>(&self, rt: &R) {
         self.note(rt, RunHappening::MemorySpared);
     }
@@ -84,7 +83,7 @@ impl Run {
         self.note(rt, RunHappening::Closed);
     }
 
-    /// Whether the end was asked for or forced.
+    /// Tests whether the end was asked for or forced.
     pub fn is_closing(&self) -> bool {
         self.is_closing.load(Ordering::SeqCst)
     }
@@ -94,7 +93,7 @@ impl Run {
         self.note(rt, RunHappening::Failed(fault));
     }
 
-    /// The fault that forced the end, if one did.
+    /// Returns the fault that forced the end, if one did.
     pub fn fault<R: Wait>(&self, rt: &R) -> Option<RunFault> {
         acquire(rt, &self.state).fault()
     }

@@ -1,4 +1,4 @@
-//! Who has a place, and what wakes the connection that has it when there is something to say to its peer.
+//! Who has a place, and how its connection is woken when something should be sent to its peer.
 ghost use Rattle.std.specs.Prelude.{◌≡◌, ◌≤◌, set, Some, None};
 ghost use Rattle.server_rules.specs.Placings.{without};
 ghost use Rattle.server_rules.specs.Wakings.{after};
@@ -11,8 +11,8 @@ use short_lock::acquire;
 use std::alloc::{AllocError, Global};
 use std::sync::{Mutex, Wait};
 
-/// Wakes the connection that has a slot, unless it can't be woken, or was and hasn't looked since. A waker fails only where its
-/// connection is about to end.
+/// Wakes the connection that has a slot, unless it can't be woken, or was woken and hasn't looked since. A waker fails
+/// only if its connection is about to end.
 fn wake(slots: &mut WakerSlots, wakers: &[Option<Waker>], slot: usize)
     ensures { slots.new ≡ after (Woken slot) slots.old }
 {
@@ -23,7 +23,7 @@ fn wake(slots: &mut WakerSlots, wakers: &[Option<Waker>], slot: usize)
     }
 }
 
-/// Whether a connection is among those that are to be woken: those of a peer, or all.
+/// Tests whether a connection is one of those to wake: those of a peer, or all.
 fn is_wanted(peer: Option<u32>, connection: &Taken) -> bool
     ensures { result ≡ is_wanted peer connection.now }
 {
@@ -44,18 +44,18 @@ fn ring(slots: &mut WakerSlots, wakers: &[Option<Waker>], taken: &[Taken], peer:
     }
 }
 
-/// Who has a place, and what wakes each connection.
+/// Who has a place, and the waker of each connection.
 #[derive(Drop)]
 struct Table {
     places: PlaceTable,
     /// Which connections can be woken, and which were and haven't looked since.
     slots: WakerSlots,
-    /// By the slots, from the moment that the connection's socket is prepared until it is gone.
+    /// The wakers by slot, from when the connection's socket is prepared until the connection is gone.
     wakers: Vec<Option<Waker>>,
 }
 
 impl Table {
-    /// The connection that has this slot can be woken from now on.
+    /// Sets the waker of the connection that has this slot, which can be woken from now on.
     fn set(&mut self, slot: usize, waker: Waker)
         ensures ready { self.new.slots ≡ after (Prepared slot) self.old.slots }
         ensures waker { self.new.wakers.items ≡ set self.old.wakers.items slot (Some waker) }
@@ -67,7 +67,7 @@ impl Table {
         }
     }
 
-    /// The connection that has this slot is gone.
+    /// Removes the connection that has this slot, which is gone.
     fn leave(&mut self, slot: usize)
         ensures deaf { self.new.slots ≡ after (Left slot) self.old.slots }
         ensures no_waker { self.new.wakers.items ≡ set self.old.wakers.items slot None }
@@ -93,13 +93,13 @@ impl Table {
     }
 }
 
-/// All connections that live.
+/// All connections that are open.
 #[derive(Drop)]
 pub struct Wakers {
     table: Mutex<Table>,
 }
 
-/// Room for a waker for each of this number of slots.
+/// Makes room for a waker for each of this number of slots.
 fn no_wakers(alloc: Global, slots: usize) -> Result<Vec<Option<Waker>>, AllocError> {
     let mut wakers = Vec::with_capacity(alloc, slots)?;
     for _slot in 0..slots {
@@ -109,8 +109,8 @@ fn no_wakers(alloc: Global, slots: usize) -> Result<Vec<Option<Waker>>, AllocErr
 }
 
 impl Wakers {
-    /// This number of places, from 1 to 1,024, and as many slots: those of connections that have a place, and of those that
-    /// gave theirs up.
+    /// Makes this number of places, from 1 to 1,024, and of slots: the slots of connections that have a place, and of
+    /// those that gave up theirs.
     pub fn new(alloc: Global, places: usize, slots: usize) -> Result<Wakers, AllocError>
         requires { (1 ≤ places) × (places ≤ 1024) }
     {
@@ -124,8 +124,8 @@ impl Wakers {
         })
     }
 
-    /// Whether a new connection of the address may have a place. Another is ended for it where that is needed. False too
-    /// where memory is refused.
+    /// Tests whether a new connection of the address may have a place. Another connection ends for it if that is
+    /// needed. Returns false also if memory runs out.
     pub fn admit<R: Wait>(&self, rt: &R, address: u32) -> bool {
         let mut table = acquire(rt, &self.table);
         match table.places.admit(address) {
@@ -138,45 +138,45 @@ impl Wakers {
         }
     }
 
-    /// The connection of the address that has this slot takes a place. False if none is free.
+    /// Gives a place to the connection of the address that has this slot. Returns false if no place is free.
     pub fn enter<R: Wait>(&self, rt: &R, slot: usize, address: u32) -> bool {
         acquire(rt, &self.table).places.enter(slot, address)
     }
 
-    /// The connection that has this slot is gone.
+    /// Removes the connection that has this slot, which is gone.
     pub fn leave<R: Wait>(&self, rt: &R, slot: usize) {
         acquire(rt, &self.table).leave(slot);
     }
 
-    /// Sets what wakes the connection that has this slot.
+    /// Sets the waker of the connection that has this slot.
     pub fn set<R: Wait>(&self, rt: &R, slot: usize, waker: Waker) {
         acquire(rt, &self.table).set(slot, waker);
     }
 
-    /// From now on the connection that has this slot is woken again. It asks for that as soon as its wait has ended, and looks
-    /// at what waits for its peer only then, so that no wake-up is lost.
+    /// Lets the connection that has this slot be woken again. It asks for that as soon as its wait has ended, and looks
+    /// at what waits for its peer only after that, so that no wake-up is lost.
     pub fn rearm<R: Wait>(&self, rt: &R, slot: usize) {
         acquire(rt, &self.table).slots.look(slot);
     }
 
-    /// Says whether the session of the connection that has this slot is up: then the connection isn't ended for
-    /// another. False where it was ended.
+    /// Notes whether the session of the connection that has this slot is up; a connection whose session is up doesn't
+    /// end for another. Returns false if it has already ended for another.
     pub fn mark<R: Wait>(&self, rt: &R, slot: usize, is_up: bool) -> bool {
         acquire(rt, &self.table).places.mark(slot, is_up)
     }
 
-    /// Whether the connection that has this slot was ended for another.
+    /// Tests whether the connection that has this slot ended for another.
     pub fn is_ended<R: Wait>(&self, rt: &R, slot: usize) -> bool {
         !acquire(rt, &self.table).places.has_place(slot)
     }
 
-    /// Whether the connection that has this slot may wait for its peer to close. It gives its place up for that, and
-    /// half as many as there are places may do so at once.
+    /// Asks whether the connection that has this slot may wait for its peer to close. If so, it gives up its place for
+    /// that. Half as many as there are places may do so at once.
     pub fn may_part<R: Wait>(&self, rt: &R, slot: usize) -> bool {
         acquire(rt, &self.table).places.part(slot)
     }
 
-    /// The number of connections that have a place.
+    /// Returns the number of connections that have a place.
     pub fn count<R: Wait>(&self, rt: &R) -> usize {
         acquire(rt, &self.table).places.taken().len()
     }

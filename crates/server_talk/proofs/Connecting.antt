@@ -29,11 +29,11 @@ use Rattle.server_talk.proofs.Going.{goes_nowhere}
 use Rattle.server_talk.proofs.Flowing.{appends_none, goes_out_behind, out_at_fault}
 use Rattle.server_talk.proofs.Leaving.{joined_on, is_down}
 
--- a store that goes on by any calls up to one goes on by them up to the other
+-- whatever calls lead the store from `start` to `a` also lead it to `b`
 abbrev pub LeadsOn : {S : Type 0} → Ways S → S → S → S → Type 0
 LeadsOn w start a b = (deeds : List Deed) → Goes w start deeds a → Goes w start deeds b
 
--- it begins
+-- the connection begins
 pub begun : {S : Type 0} (w : Ways S) (watch : WatchNow) (peer : ℕ) (store : S) (unread blank : Option (List ℕ)) (now_ms : ℕ) (c : Client)
     → c ≡ new_client now_ms → watch.may_show now_ms → SoFar w watch peer store unread blank None store unread blank now_ms c
 begun w watch peer store unread blank now_ms c is shown =
@@ -50,7 +50,7 @@ begun w watch peer store unread blank now_ms c is shown =
       ends_so = tt;
     })
 
--- a moment that is the last one, or that the watch shows
+-- this moment is the last one, or the watch shows it
 shown_then : (watch : WatchNow) (at_ms now_ms : ℕ) → (now_ms ≡ at_ms) ⊎ watch.may_show now_ms → watch.may_show at_ms → watch.may_show now_ms
 shown_then watch at_ms now_ms (inl is) shown = subst (λ (n : ℕ). watch.may_show n) (sym is) shown
 shown_then watch at_ms now_ms (inr shown) before = shown
@@ -103,7 +103,7 @@ looked w watch peer start a b unread blank left written at_ms c h s = record {
   ends_so = tt;
 }
 
--- a read by a reader that was asked to wait
+-- a read by a reader that was told first how long to wait
 pub hears_kept : (h : Heard) (a b c : Option (List ℕ)) (buffer : List ℕ) → Keeps a b → Hears h b c buffer → Hears h a c buffer
 hears_kept (hearing.Bytes count) a b c buffer k h = Consumes-trans a b c [] (take count buffer) (Consumes-kept a a b [] (Consumes-nil a) k) h
 hears_kept hearing.Nothing a b c buffer k h = Keeps-trans a b c k h
@@ -145,7 +145,7 @@ rested w watch peer start a b unread blank left read written at_ms c h k s = rec
   ends_so = tt;
 }
 
--- what there was to say was said
+-- all that waited to be sent was sent
 pub said : {S : Type 0} (w : Ways S) (watch : WatchNow) (peer : ℕ) (start now : S) (unread blank left written after : Option (List ℕ)) (end : Option Ended) (at_ms then_ms : ℕ) (c d : Client)
     → then_ms ≡ at_ms → d ≡ spoken c → GoesOut end written after c.session.output → MayEndSo end left d
     → SoFar w watch peer start unread blank None now left written at_ms c → SoFar w watch peer start unread blank end now left after then_ms d
@@ -162,7 +162,7 @@ said w watch peer start now unread blank left written after end at_ms then_ms c 
   ends_so = ends_so;
 })
 
--- the session was closed from this side
+-- the server closed the session
 pub closed : {S : Type 0} (w : Ways S) (watch : WatchNow) (peer : ℕ) (start now : S) (unread blank left written : Option (List ℕ)) (at_ms then_ms : ℕ) (c d : Client)
     → then_ms ≡ at_ms → watch.may_close → (reason : Option ℕ) × IsUnexplained reason × (d ≡ ending None reason c)
     → SoFar w watch peer start unread blank None now left written at_ms c → SoFar w watch peer start unread blank None now left written then_ms d
@@ -179,14 +179,14 @@ closed w watch peer start now unread blank left written at_ms then_ms c d same m
   ends_so = tt;
 })
 
--- a session that could be ended is the one that has ended
+-- if the session could be ended, it has ended
 pub ended_ok : {X : Type 0} (r : Result X SessionFault) (old new : Contents) (step : Result Contents SessionFault) → is_err r ≡ false → Does r old new step → new ≡ or_same old step
 ended_ok (Ok x) old new step h k = rw k refl
 ended_ok (Err fault) old new step h k = cc
 
 -- ---- the end
 
--- what the last calls are where the Down was submitted
+-- the last calls, if the Down was submitted
 lasts_at : {S : Type 0} (w : Ways S) (ended : Ended) (peer : ℕ) (joined : Bool) (new : S) (last : List Deed) → owes_down ended ≡ false → IsDown peer joined last → w.calls new ≡ calls_of last → Lasts ended w peer joined new last
 lasts_at w PeerClosed peer joined new last here h k = (h, k)
 lasts_at w SessionEnded peer joined new last here h k = (h, k)
@@ -194,7 +194,7 @@ lasts_at w ReadFault peer joined new last here h k = (h, k)
 lasts_at w WriteFault peer joined new last here h k = (h, k)
 lasts_at w (StoreFault fault) peer joined new last here h k = cc
 
--- a connection is over, and its Down was submitted where its peer was joined
+-- a connection is over, and if its peer was joined its Down was submitted
 pub over : {S : Type 0} (w : Ways S) (watch : WatchNow) (peer : ℕ) (start mid new : S) (unread blank left written : Option (List ℕ)) (ended : Ended) (reason : Option EndReason) (at_ms : ℕ) (c : Client)
     → (s : SoFar w watch peer start unread blank (Some ended) mid left written at_ms c) → c.session.output ≡ [] → reason ≡ c.session.end
     → (last : List Deed) × IsDown peer c.joined last × Goes w start (s.deeds ++ last) new × (w.calls new ≡ calls_of last)
@@ -219,7 +219,7 @@ over w watch peer start mid new unread blank left written ended reason at_ms c s
       ends_so = s.ends_so.0;
     }
 
--- a connection is over, and its peer is left joined
+-- a connection is over, but its peer stays joined
 pub left_joined : {S : Type 0} (w : Ways S) (watch : WatchNow) (peer : ℕ) (start mid new : S) (unread blank left written : Option (List ℕ)) (ended : Ended) (reason : Option EndReason) (fault : Fault) (at_ms : ℕ) (c : Client)
     → (s : SoFar w watch peer start unread blank (Some ended) mid left written at_ms c) → c.session.output ≡ [] → reason ≡ c.session.end
     → (c.joined ≡ true) × Goes w start s.deeds new

@@ -26,12 +26,12 @@ appends_kept (Some xs) None c x h k = absurd h
 appends_kept (Some xs) (Some ys) None x h k = absurd k
 appends_kept (Some xs) (Some ys) (Some zs) x h k = k ∙ h
 
--- some of the bytes behind others
+-- some of the bytes after others
 pub some_behind : (a b c : Option (List ℕ)) (x y : List ℕ) → Appends a b x → TakesSome b c y → TakesSome a c (x ++ y)
 some_behind a b c x y h k =
     (length x + k.0, subst (λ (bytes : List ℕ). Appends a c bytes) (sym (take-append-add x y k.0)) (appends_on a b c x (take k.0 y) h k.1))
 
--- a part of the bytes behind others
+-- a part of the bytes after others
 pub part_behind : (a b c : Option (List ℕ)) (x y : List ℕ) → Appends a b x → TakesPart b c y → TakesPart a c (x ++ y)
 part_behind a b c x y h k =
     let few : k.0 < length y = k.1 in (
@@ -52,7 +52,7 @@ goes_out_behind (Some (StoreFault fault)) a b c x y h k = some_behind a b c x y 
 pub all_are_some : (a b : Option (List ℕ)) (x : List ℕ) → Appends a b x → TakesSome a b x
 all_are_some a b x h = (length x, subst (λ (bytes : List ℕ). Appends a b bytes) (sym (take-length x)) h)
 
--- whatever the end, a fault of the store may be given in its place
+-- whatever the end is, a fault of the store may be given instead
 pub out_at_fault : (end : Option Ended) (a b : Option (List ℕ)) (x : List ℕ) (fault : Fault) → GoesOut end a b x → GoesOut (Some (StoreFault fault)) a b x
 out_at_fault None a b x fault h = all_are_some a b x h
 out_at_fault (Some PeerClosed) a b x fault h = all_are_some a b x h
@@ -75,23 +75,23 @@ few_so_far bytes rest n is some =
     let left : length rest ≡ length bytes - n = ap length is ∙ length-drop n bytes in
     omega (arith, left, some)
 
--- a write that failed leaves what was taken, which isn't all
+-- if a write failed, what was taken before stays, and isn't all
 pub kept_part : (a b c : Option (List ℕ)) (bytes rest : List ℕ) (n : ℕ) → rest ≡ drop n bytes → Appends a b (take n bytes) → 0 < length rest → Keeps b c → TakesPart a c bytes
 kept_part a b c bytes rest n is h some kept = (n, few_so_far bytes rest n is some, appends_kept a b c (take n bytes) h kept)
 
--- the rest of the bytes behind these
+-- the rest of the bytes, after these
 pub rest_on : (bytes rest : List ℕ) (n k : ℕ) → rest ≡ drop n bytes → take (length rest - k) (drop k rest) ≡ drop (n + k) bytes
 rest_on bytes rest n k h =
     ap (λ (m : ℕ). take m (drop k rest)) (sym (length-drop k rest)) ∙ take-length (drop k rest) ∙ ap (λ (l : List ℕ). drop k l) h ∙ drop-drop k n bytes
 
 -- ---- bytes that are written part by part
 
--- a part after one that was taken whole
+-- a part after one that was taken completely
 pub takes_behind : (r : Bool) (a b c : Option (List ℕ)) (x y : List ℕ) → Appends a b x → TakesAll r b c y → TakesAll r a c (x ++ y)
 takes_behind true a b c x y h k = appends_on a b c x y h k
 takes_behind false a b c x y h k = part_behind a b c x y h k
 
--- a part of the first, and nothing of the other
+-- if only a part of the first was taken, only a part of both was
 pub part_of_both : (a b : Option (List ℕ)) (x y : List ℕ) → TakesPart a b x → TakesPart a b (x ++ y)
 part_of_both a b x y h =
     let few : h.0 < length x = h.1 in
@@ -101,7 +101,7 @@ part_of_both a b x y h =
       subst (λ (bytes : List ℕ). Appends a b bytes) (sym front) h.2,
     )
 
--- the first of two parts was not taken whole, or was
+-- the first of two parts was taken completely, or it wasn't
 pub first_fails : (r : Bool) (a b : Option (List ℕ)) (x y : List ℕ) → r ≡ false → TakesAll r a b x → TakesPart a b (x ++ y)
 first_fails false a b x y is h = part_of_both a b x y h
 first_fails true a b x y is h = cc

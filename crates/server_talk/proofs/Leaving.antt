@@ -14,12 +14,12 @@ joined_on joined [] second = refl
 joined_on joined (Called call ∷ first) second = joined_on (joined_by joined call.event call.reply) first second
 joined_on joined (Shown sight ∷ first) second = joined_on joined first second
 
--- the plan of a hanging up, by whether its peer is joined
+-- the plan of hanging up, depending on whether the peer is joined
 abbrev pub at_end : Bool → ℕ → Client → Plan Client
 at_end joined peer c =
     if joined then submitting c (Down peer) (λ reply. Returns (ending None None (record c { joined = false }))) else Returns (ending None None c)
 
--- a hanging up that went well submitted one Down of a peer that is joined, else nothing
+-- hanging up submitted one Down if the peer was joined, else nothing
 down_at : (joined : Bool) (peer : ℕ) (c after : Client) (deeds : List Deed) → LeadsTo (at_end joined peer c) deeds (Returns after) → IsDown peer joined deeds
 down_at true peer c after [] (inl bad) = cc
 down_at true peer c after [] (inr bad) = cc
@@ -33,7 +33,7 @@ pub went_down : (peer : ℕ) (c after : Client) (deeds : List Deed) → LeadsTo 
 unfolding hung_up
 went_down peer c after deeds h = down_at c.joined peer c after deeds h
 
--- it fails only where there is a Down to submit
+-- hanging up fails only if there is a Down to submit
 joined_at : (joined : Bool) (peer : ℕ) (c after : Client) (rest : Plan Client) (deeds : List Deed) → LeadsTo (at_end joined peer c) deeds (Reaches after rest) → joined ≡ true
 joined_at true peer c after rest deeds h = refl
 joined_at false peer c after rest [] h = cc
@@ -43,12 +43,12 @@ pub was_joined : (peer : ℕ) (c after : Client) (rest : Plan Client) (deeds : L
 unfolding hung_up
 was_joined peer c after rest deeds h = joined_at c.joined peer c after rest deeds h
 
--- by these deeds a peer is down
+-- after these deeds the peer is down
 pub is_down : (peer : ℕ) (joined : Bool) (deeds : List Deed) → IsDown peer joined deeds → joined_after joined (calls_of deeds) ≡ false
 is_down peer true deeds h = ap (λ (all : List Deed). joined_after true (calls_of all)) h.1
 is_down peer false deeds h = ap (λ (all : List Deed). joined_after false (calls_of all)) h
 
--- the same of a client that is this one
+-- the same for an equal client
 pub left_down : (peer of : ℕ) (c d after : Client) (deeds : List Deed) → of ≡ peer → d ≡ c → LeadsTo (hung_up of d) deeds (Returns after) → IsDown peer c.joined deeds
 left_down peer of c d after deeds p q h =
     subst (λ (w : Client). IsDown peer w.joined deeds) q (subst (λ (n : ℕ). IsDown n d.joined deeds) p (went_down of d after deeds h))

@@ -43,7 +43,7 @@ use Rattle.server_talk.specs.Connections.{TakesAll}
 use Rattle.server_talk.proofs.Flowing.{appends_none, takes_behind}
 use Rattle.server_talk.proofs.Requesting.{operators_alone}
 
--- what is after the last line break has none
+-- the bytes after the last line break contain no line break
 abbrev HasNoBreak : List ℕ → Type 0
 HasNoBreak rest = cut rest ≡ ([], rest)
 
@@ -64,12 +64,12 @@ rest_has_no_line bytes = ap (λ (c : Cut). c.0) (rests bytes [] refl)
 next_number : (number : ℕ) (lines : List (List ℕ)) (line : List ℕ) → number ≡ number_behind lines → min (number + 1) (2 ^ 64 - 1) ≡ number_behind (lines ++ line ∷ [])
 next_number number lines line is = let more = length_push lines line in omega arith
 
--- what asks for an event asks for something
+-- a request for an event is a request
 step_is_asked : (asked : Option Request) → asks_step asked ≡ true → IsSome asked
 step_is_asked (Some request) is = refl
 step_is_asked None is = cc
 
--- the bytes of a piece up to one, that one, and those behind it
+-- the bytes of a piece before one byte, that byte, and the bytes after it
 pub whole_piece : (heard piece : List ℕ) (i : ℕ) → i < length piece → ((heard ++ take i piece) ++ get_or piece i 0 ∷ []) ++ drop (i + 1) piece ≡ heard ++ piece
 whole_piece heard piece i h =
     let byte = get_or piece i 0 in
@@ -77,7 +77,7 @@ whole_piece heard piece i h =
     append_assoc (heard ++ take i piece) (byte ∷ []) (drop (i + 1) piece) ∙ append_assoc heard (take i piece) (byte ∷ drop (i + 1) piece)
     ∙ ap (λ (all : List ℕ). heard ++ all) (sym rest ∙ take-append-drop i piece)
 
--- and the bytes up to one, with that one
+-- the bytes before one byte, with that byte
 pub longer_front : (heard piece : List ℕ) (i : ℕ) → i < length piece → (heard ++ take i piece) ++ get_or piece i 0 ∷ [] ≡ heard ++ take (i + 1) piece
 longer_front heard piece i h = append_assoc heard (take i piece) (get_or piece i 0 ∷ []) ∙ ap (λ (front : List ℕ). heard ++ front) (sym (take_more piece i 0 h))
 
@@ -141,7 +141,7 @@ module _ {S : Type 0} (server : Server S) where
 
   -- ---- the calls of all lines
 
-  -- a store that went on from where another way had come to
+  -- a store that went on to a state, and went on from there
   goes_behind : (start a b : S) (first more : List Deed) → Goings start first a → Goings a more b → Goings start (first ++ more) b
   goes_behind start a b first more went Stays = subst (λ (all : List Deed). Goings start all a) (sym (append-nil first)) went
   goes_behind start a b first more went (Moves before made c d way h) =
@@ -149,11 +149,11 @@ module _ {S : Type 0} (server : Server S) where
   goes_behind start a b first more went (Empties before c d way h) = Empties (first ++ before) c d (goes_behind start a c first before went way) h
   goes_behind start a b first more went (Rolls before steps c d way full h) = Rolls (first ++ before) steps c d (goes_behind start a c first before went way) full h
 
-  -- a full history took nothing and was rolled
+  -- a full history took nothing, and was rolled
   rolled : (steps : ℕ) (a b c : S) → server.ways.moves a [] b → server.ways.is_full b → server.ways.rolls b steps c → Goings a [] c
   rolled steps a b c h full k = Rolls [] steps b c (Moves [] [] a b Stays h) full k
 
-  -- by a line's call the store goes on
+  -- the call of a line lets the store go on
   answer_goes : (number : ℕ) (line : List ℕ) (a b : S) (made : List Deed) (text : List ℕ) → IsDone number line a made text b → Goings a made b
   answer_goes number line a b made text (Obeyed of reply new asks h) = Moves [] (called of reply ∷ []) a new Stays h
   answer_goes number line a b made text (Shown table new asks h left) = Moves [] [] a new Stays h
@@ -176,7 +176,7 @@ module _ {S : Type 0} (server : Server S) where
   answer_operators number line a b made text (Starved new asks h) = All-nil IsOperators
   answer_operators number line a b made text (StillFull steps c d new asks h full k m again) = All-nil IsOperators
 
-  -- by the calls of all lines the store goes on
+  -- the calls of all lines let the store go on
   pub listens_goes : (start now : S) (lines : List (List ℕ)) (calls : List Deed) (said : List ℕ) → Heard start lines calls said now → Goings start calls now
   listens_goes start now lines calls said Begins = Stays
   listens_goes start now lines calls said (Hears before first made answers text line a b h answer) =
@@ -184,14 +184,14 @@ module _ {S : Type 0} (server : Server S) where
   listens_goes start now lines calls said (Waits before first answers a b h way) =
       subst (λ (all : List Deed). Goings start all b) (append-nil first) (goes_behind start a b first [] (listens_goes start a before first answers h) way)
 
-  -- and each is an operator's event
+  -- each of these calls submits an operator's event
   pub listens_operators : (start now : S) (lines : List (List ℕ)) (calls : List Deed) (said : List ℕ) → Heard start lines calls said now → AreOperators calls
   listens_operators start now lines calls said Begins = All-nil IsOperators
   listens_operators start now lines calls said (Hears before first made answers text line a b h answer) =
       All-append IsOperators first made (listens_operators start a before first answers h) (answer_operators (number_behind before) line a b made text answer)
   listens_operators start now lines calls said (Waits before first answers a b h way) = listens_operators start a before first answers h
 
-  -- ---- what a line comes to
+  -- ---- the result of a line
 
   pub came_reply : (number : ℕ) (line : List ℕ) (a b : S) (of : Event) (text : List ℕ) → request_of line ≡ Some (Submit of) → Replied server.ways.moves of text a b → (calls : List Deed) × IsDone number line a calls (text ++ codes "\n") b
   came_reply number line a b of text asks h = (
@@ -236,11 +236,11 @@ module _ {S : Type 0} (server : Server S) where
   pub waited : (start a b : S) (lines : List (List ℕ)) (said : List ℕ) → Goings a [] b → Stands start lines said a → Stands start lines said b
   waited start a b lines said went s = record { calls = s.calls; listens = Waits lines s.calls said a b s.listens went }
 
-  -- one line more
+  -- one more line
   heard_line : (start a b : S) (lines : List (List ℕ)) (said text line : List ℕ) (made : List Deed) → IsDone (number_behind lines) line a made text b → Stands start lines said a → Stands start (lines ++ line ∷ []) (said ++ text) b
   heard_line start a b lines said text line made done s = record { calls = s.calls ++ made; listens = Hears lines s.calls made said text line a b s.listens done }
 
-  -- it came to its answer at once
+  -- the line had its answer at once
   pub answered_at_once : (r : Result Answer CommandFault) (start a b : S) (lines : List (List ℕ)) (said line : List ℕ) → r ≢ Err (Store HistoryFull) → Came r (number_behind lines) line a b → Stands start lines said a → Answering r start lines said line b
   answered_at_once (Ok (answers.Reply text)) start a b lines said line other h s = heard_line start a b lines said (string_bytes text ++ codes "\n") line h.0 h.1 s
   answered_at_once (Ok (answers.Table text)) start a b lines said line other h s = heard_line start a b lines said (string_bytes text) line h.0 h.1 s
@@ -266,14 +266,14 @@ module _ {S : Type 0} (server : Server S) where
   answered_after_roll (Err (Store HistoryFull)) steps start a b c d lines said line full k h s =
       heard_line start a d lines said (fault_text HistoryFull ++ codes "\n") line [] (StillFull steps b c d full.0 full.1 full.2 k h.1 h.2) s
 
-  -- and memory was refused to that
+  -- the history was full, was rolled, and memory ran out
   pub answered_starved : (start a b c : S) (lines : List (List ℕ)) (said line : List ℕ) → Full (number_behind lines) line a b → server.ways.moves b [] c → Stands start lines said a → Answering (Err (Store OutOfMemory)) start lines said line c
   answered_starved start a b c lines said line full k s =
       heard_line start b c lines said (fault_text OutOfMemory ++ codes "\n") line [] (Starved c (step_is_asked (request_of line) full.0) k) (waited start a b lines said (Moves [] [] a b Stays full.1) s)
 
   -- ---- what is written
 
-  -- the line was answered, and that was written
+  -- the line was answered, and the answer was written
   pub said_of_line : (r : Result Answer CommandFault) (goes_out : Bool) (start now : S) (lines : List (List ℕ)) (blank old new : Option (List ℕ)) (said line : List ℕ) → r ≢ Ok answers.End → Answering r start lines said line now → TakesAll true blank old said
       → TakesAll goes_out old new (said_of (number_behind lines) r) → AnswersThem start (lines ++ line ∷ []) blank goes_out now new
   said_of_line (Ok (answers.Reply text)) goes_out start now lines blank old new said line other a was out = record { said = said ++ said_of (number_behind lines) (Ok (answers.Reply text)); answered = a; out = takes_behind goes_out blank old new said (said_of (number_behind lines) (Ok (answers.Reply text))) was out }
@@ -304,14 +304,14 @@ module _ {S : Type 0} (server : Server S) where
   answer_emptied (Err BadLine) start a b lines said line h s = waited start a b (lines ++ line ∷ []) (said ++ said_of (number_behind lines) (Err BadLine)) (Empties [] a b Stays h) s
   answer_emptied (Err (Store fault)) start a b lines said line h s = waited start a b (lines ++ line ∷ []) (said ++ said_of (number_behind lines) (Err (Store fault))) (Empties [] a b Stays h) s
 
-  -- both of a line that was answered, and of one that asks for the end
+  -- the same for a line that was answered and for one that asks for the end
   pub line_taken : (r : Result Answer CommandFault) (goes_out : Bool) (number : ℕ) (start now a b : S) (lines : List (List ℕ)) (blank old new : Option (List ℕ)) (line : List ℕ) → r ≢ Ok answers.End → number ≡ number_behind lines
       → ((said : List ℕ) → Stands start lines said now → Answering r start lines said line a) → server.ways.same_but_calls a b → TakesAll goes_out old new (said_of number r) → AnswersThem start lines blank true now old → AnswersThem start (lines ++ line ∷ []) blank goes_out b new
   line_taken r goes_out number start now a b lines blank old new line other counted answer same out t =
       said_of_line r goes_out start b lines blank old new t.said line other (answer_emptied r start a b lines t.said line same (answer t.said t.answered)) t.out
       (subst (λ (n : ℕ). TakesAll goes_out old new (said_of n r)) counted out)
 
-  -- whatever becomes of what is said
+  -- the same whether the writer takes the answer or not
   pub line_said : (r : Result Answer CommandFault) (end : Option OperatorEnd) (number : ℕ) (start now a b : S) (lines : List (List ℕ)) (blank old new : Option (List ℕ)) (line : List ℕ) → r ≢ Ok answers.End → number ≡ number_behind lines
       → ((said : List ℕ) → Stands start lines said now → Answering r start lines said line a) → server.ways.same_but_calls a b → HandsOn end old new (said_of number r) → AnswersThem start lines blank true now old → Line end start lines blank line b new
   line_said r None number start now a b lines blank old new line other counted answer same out t = line_taken r true number start now a b lines blank old new line other counted answer same out t
@@ -329,7 +329,7 @@ module _ {S : Type 0} (server : Server S) where
 
   -- ---- byte by byte
 
-  -- nothing was heard yet
+  -- nothing has been heard yet
   pub begun : (start : S) (blank : Option (List ℕ)) (pending : OpenLine) → IsKept pending [] → pending.number ≡ 1 → Keeps start blank [] pending start blank
   begun start blank pending kept first = record {
     answers = record { said = []; answered = record { calls = []; listens = Begins }; out = appends_none blank };
@@ -367,7 +367,7 @@ module _ {S : Type 0} (server : Server S) where
         number = subst (λ (c : Cut). next.number ≡ number_behind c.0) (sym more) (counted ∙ next_number pending.number (cut heard).0 (cut heard).1 number);
       }
 
-  -- the line before it is the last that is heard
+  -- the line before a line break is the last that is heard
   pub break_stops : (end : OperatorEnd) (start now : S) (blank written : Option (List ℕ)) (heard : List ℕ) (byte : ℕ) → byte ≡ 10 → Line (Some end) start (cut heard).0 blank (cut heard).1 now written → Stops end start blank (heard ++ byte ∷ []) now written
   break_stops EndAsked start now blank written heard byte ends t =
       let f = front_of heard in
@@ -403,7 +403,7 @@ module _ {S : Type 0} (server : Server S) where
   break_stops RunEnding start now blank written heard byte ends t = absurd t
   break_stops ReadFault start now blank written heard byte ends t = absurd t
 
-  -- more bytes were read, which are not looked at
+  -- more bytes were read, but not looked at
   pub stopped_before : (end : OperatorEnd) (start now : S) (blank written : Option (List ℕ)) (heard more : List ℕ) → Stops end start blank heard now written → Stops end start blank (heard ++ more) now written
   stopped_before end start now blank written heard more s = record {
     front = s.front;
@@ -430,7 +430,7 @@ module _ {S : Type 0} (server : Server S) where
     over = cause_over end may_close left s.rest s.cause;
   }
 
-  -- what is after the last line break is left, and more that was read
+  -- what comes after the last line break is left, and so is more that was read
   pub left_there : (end : OperatorEnd) (start now : S) (unread blank left written : Option (List ℕ)) (may_close : Type 0) (heard more : List ℕ) (pending : OpenLine) → is_out end ≡ true → Consumes unread left (heard ++ more) → IsOver end may_close left ((cut heard).1 ++ more)
       → Keeps start blank heard pending now written → Ends start unread blank end may_close now left written
   left_there end start now unread blank left written may_close heard more pending out read over s =
@@ -468,7 +468,7 @@ module _ {S : Type 0} (server : Server S) where
   failed (Some WriteFault) kind start now unread blank left written may_close heard pending why read s = absurd why
   failed (Some FlushFault) kind start now unread blank left written may_close heard pending why read s = absurd why
 
-  -- bytes were taken up to the end, or all of them
+  -- bytes were taken up to the end, or all of them were
   pub taken : (r : Option OperatorEnd) (start now : S) (unread blank left written : Option (List ℕ)) (may_close : Type 0) (heard : List ℕ) (pending : OpenLine) → Consumes unread left heard → Hearing r start blank heard pending now written
       → Turns server r start unread blank may_close pending now left written
   taken None start now unread blank left written may_close heard pending read s = (heard, read, s)

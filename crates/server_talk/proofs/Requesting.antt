@@ -17,7 +17,7 @@ use Rattle.server_talk.specs.declared.requests.Request.TheVariants.{Submit}
 use Rattle.server_talk.specs.Listening.{AreKept, Asks as AnswersLines}
 use Rattle.server_talk.specs.Requests.{is_operators, line_limit, request_in, request_of, view_or_event}
 
--- an event that is found is an operator's
+-- an event that is found is one of an operator
 abbrev Fits : Option Event → Type 0
 Fits found = (event : Event) → found ≡ Some event → is_operators event ≡ true
 
@@ -71,7 +71,7 @@ fits_line : (line : List ℕ) → Fits (operator_event_in line)
 unfolding operator_event_in
 fits_line line = fits_then (cut_at_space line) _ (λ words. fits_server words.0 words.1)
 
--- the same of what a line asks for
+-- the same for what a line asks for
 abbrev Asks : Option Request → Type 0
 Asks found = (event : Event) → found ≡ Some (Submit event) → is_operators event ≡ true
 
@@ -102,7 +102,7 @@ asks_line line = asks_either (nat_le (length line) line_limit && is_utf8 line) _
 pub operators_alone : (line : List ℕ) (event : Event) → request_of line ≡ Some (Submit event) → is_operators event ≡ true
 operators_alone line event is = asks_line line event is
 
--- what is kept of a line that is too long, or isn't
+-- the kept bytes of a line, depending on whether it is too long
 pub too_long : (is_long : Bool) (bytes line : List ℕ) → is_long ≡ true → AreKept is_long bytes line → line_limit < length line
 too_long true bytes line long h = h
 too_long false bytes line long h = cc
@@ -116,7 +116,7 @@ pub long_is_bad : (line : List ℕ) → line_limit < length line → None ≡ re
 unfolding request_of
 long_is_bad line long = let no : nat_le (length line) 4096 ≡ false = grind (arith, nat_tests) in rw no refl
 
--- what is asked for is given, or memory was refused to something
+-- what is asked for is returned, or memory ran out for something
 pub given_what_is_asked : {E : Type 0} (r : Result (Option Request) E) (asked : Option Request) → IfOk r (λ request. request ≡ asked) → IfErr r (λ _. IsSome asked) → AnswersLines r asked
 given_what_is_asked (Ok request) asked is some = is
 given_what_is_asked (Err fault) (Some request) is some = tt

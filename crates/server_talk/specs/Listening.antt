@@ -26,18 +26,18 @@ abbrev pub AreKept : Bool → List ℕ → List ℕ → Type 0
 AreKept false bytes line = (bytes ≡ line) × (length line ≤ line_limit)
 AreKept true bytes line = line_limit < length line
 
--- and there is room for as many as a line may have
+-- the line is kept, and there is room for as many bytes as a line may have
 pub record IsKept (pending : OpenLine) (line : List ℕ) : Type 0 where
   pub room : line_limit ≤ vec_capacity pending.bytes
   pub kept : AreKept pending.is_long pending.bytes.items line
 
--- what the line asks for; memory is refused only to one that asks for something
+-- what the line asks for; only a line that asks for something can run out of memory
 abbrev pub Asks : {E : Type 0} → Result (Option Request) E → Option Request → Type 0
 Asks (Ok request) asked = request ≡ asked
 Asks (Err fault) None = ⊥
 Asks (Err fault) (Some request) = ⊤
 
--- what is said of an answer to the line with this number
+-- what is written as the answer to the line with this number
 abbrev pub said_of : ℕ → Result Answer CommandFault → List ℕ
 said_of number (Ok (answers.Reply text)) = string_bytes text ++ codes "\n"
 said_of number (Ok (answers.Table text)) = string_bytes text
@@ -54,7 +54,8 @@ StopsAt WriteFault rest = ⊤
 StopsAt FlushFault rest = ⊤
 StopsAt end rest = ⊥
 
--- What a writer took that was to take these bytes and hand them on: all of them; a part; or all, and it failed to hand them on.
+-- What a writer took that should take these bytes and hand them on: all of them; a part; or all, but it failed to hand
+-- them on.
 abbrev pub HandsOn : Option OperatorEnd → Option (List ℕ) → Option (List ℕ) → List ℕ → Type 0
 HandsOn None old new bytes = Appends old new bytes
 HandsOn (Some WriteFault) old new bytes = TakesPart old new bytes
@@ -62,29 +63,29 @@ HandsOn (Some FlushFault) old new bytes = Appends old new bytes
 HandsOn (Some end) old new bytes = ⊥
 
 module _ {S : Type 0} (server : Server S) where
-  -- What a line comes to at once: it is answered, it asks for the end, or a full history takes nothing.
+  -- What a line leads to at once: it is answered, it asks for the end, or a full history takes nothing.
   abbrev pub Comes : Result Answer CommandFault → ℕ → List ℕ → S → S → Type 0
   Comes (Ok answers.End) number line old new = (request_of line ≡ Some End) × (new ≡ old)
   Comes (Err (Store HistoryFull)) number line old new = (asks_step (request_of line) ≡ true) × server.ways.moves old [] new × server.ways.is_full new
   Comes answer number line old new = (calls : List Deed) × IsAnswered server number line old calls (said_of number answer) new
 
-  -- these lines were answered so far, and this is said to them
+  -- these lines were answered so far, and this is what was said
   pub record Answered (start : S) (lines : List (List ℕ)) (said : List ℕ) (now : S) : Type 0 where
     pub calls : List Deed
     pub listens : Listens server start lines calls said now
 
-  -- and it went out, or some of it did
+  -- what was said went out, or some of it did
   pub record AnswersLines (start : S) (lines : List (List ℕ)) (blank : Option (List ℕ)) (goes_out : Bool) (now : S) (written : Option (List ℕ)) : Type 0 where
     pub said : List ℕ
     pub answered : Answered start lines said now
     pub out : TakesAll goes_out blank written said
 
-  -- one line more is answered, or it asks for the end
+  -- one more line is answered, or it asks for the end
   abbrev pub Answers : Result Answer CommandFault → S → List (List ℕ) → List ℕ → List ℕ → S → Type 0
   Answers (Ok answers.End) start lines said line now = (request_of line ≡ Some End) × Answered start lines said now
   Answers answer start lines said line now = Answered start (lines ++ line ∷ []) (said ++ said_of (number_behind lines) answer) now
 
-  -- and more may be heard, or not
+  -- the line was taken, and more may be heard, or not
   abbrev pub TakesLine : Option OperatorEnd → S → List (List ℕ) → Option (List ℕ) → List ℕ → S → Option (List ℕ) → Type 0
   TakesLine None start lines blank line now written = AnswersLines start (lines ++ line ∷ []) blank true now written
   TakesLine (Some EndAsked) start lines blank line now written = (request_of line ≡ Some End) × AnswersLines start lines blank true now written
@@ -94,13 +95,13 @@ module _ {S : Type 0} (server : Server S) where
 
   -- ---- bytes
 
-  -- All lines of the bytes that were heard are answered; what is behind the last line break is kept.
+  -- All whole lines of the bytes that were heard are answered; what comes after the last line break is kept.
   pub record SoFar (start : S) (blank : Option (List ℕ)) (heard : List ℕ) (pending : OpenLine) (now : S) (written : Option (List ℕ)) : Type 0 where
     pub answers : AnswersLines start (cut heard).0 blank true now written
     pub kept : IsKept pending (cut heard).1
     pub number : pending.number ≡ number_behind (cut heard).0
 
-  -- the lines of a front are answered, and the rest is not looked at
+  -- the lines of a front are answered, and the rest isn't looked at
   pub record Stopped (end : OperatorEnd) (start : S) (blank : Option (List ℕ)) (heard : List ℕ) (now : S) (written : Option (List ℕ)) : Type 0 where
     pub front : List ℕ
     pub rest : List ℕ
@@ -109,12 +110,12 @@ module _ {S : Type 0} (server : Server S) where
     pub answers : AnswersLines start (cut front).0 blank (is_out end) now written
     pub cause : StopsAt end rest
 
-  -- the one or the other
+  -- more may be heard, or listening has stopped
   abbrev pub HearsOn : Option OperatorEnd → S → Option (List ℕ) → List ℕ → OpenLine → S → Option (List ℕ) → Type 0
   HearsOn None start blank heard pending now written = SoFar start blank heard pending now written
   HearsOn (Some end) start blank heard pending now written = Stopped end start blank heard now written
 
-  -- What a turn leaves that began with all lines answered which had been heard.
+  -- What a turn leaves that began when all lines heard so far were answered.
   abbrev pub Turns : Option OperatorEnd → S → Option (List ℕ) → Option (List ℕ) → Type 0 → OpenLine → S → Option (List ℕ) → Option (List ℕ) → Type 0
   Turns None start unread blank may_close pending now left written = (heard : List ℕ) × Consumes unread left heard × SoFar start blank heard pending now written
   Turns (Some end) start unread blank may_close pending now left written = Operated server start unread blank end may_close now left written

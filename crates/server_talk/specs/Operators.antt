@@ -1,4 +1,4 @@
--- An operator's lines to a running server: what each leads to, and what all lead to together.
+-- An operator's lines to a running server: what each line leads to, and what all lead to together.
 use Rattle.std.specs.Prelude.{◌≡◌, ◌⊎◌, ℕ, ◌+◌, ◌-◌, ◌^◌, min, ℤ, Bool, true, false, List, [], ◌∷◌, ◌++◌, length, codes, All, ⊤, Option, Some, None, IsSome, Result, Ok, Err}
 use Rattle.std.specs.Fmt.{decimal}
 use Rattle.std.specs.Io.KnownBytes.{Consumes, IsAtEnd}
@@ -32,7 +32,7 @@ use Rattle.server_talk.specs.ReloadChecks.{check_text}
 use Rattle.server_talk.specs.Requests.{asks_reading, asks_step, is_operators, request_of}
 use Rattle.server_talk.specs.Connections.{TakesAll}
 
--- what is said to a bad line, by its number
+-- the answer to a bad line, by its number
 abbrev pub bad_line : ℕ → List ℕ
 bad_line number = codes "bad line " ++ (decimal number ++ codes "\n")
 
@@ -46,7 +46,7 @@ abbrev pub unread_line : PlanFault → List ℕ
 unread_line Device = codes "device fault\n"
 unread_line (Te fault) = te_line fault
 
--- the number of the line behind these, from 1 on; it stops at the greatest of 64 bits
+-- the number of the line after these, from 1 on; it stops at the greatest of 64 bits
 abbrev pub number_behind : List (List ℕ) → ℕ
 number_behind lines = min (length lines + 1) (2 ^ 64 - 1)
 
@@ -60,52 +60,52 @@ AreOperators made = All IsOperators made
 
 -- ---- what a line leads to
 
--- The line with this number leads from `old` to these deeds, to these bytes that are said, and to a store.
+-- The line with this number leads from `old` to these deeds, to these bytes as its answer, and to a store.
 pub data IsAnswered {S : Type 0} (server : Server S) (number : ℕ) (line : List ℕ) (old : S) : List Deed → List ℕ → S → Type 0 where
-  -- the event that it asks for is submitted, once, and the text of its reply is said
+  -- it asks for an event: the event is submitted once, and the answer is the text of its reply
   Obeyed : (of : Event) (reply : Reply) (new : S) → request_of line ≡ Some (Submit of) → server.ways.moves old (called of reply ∷ []) new
       → IsAnswered server number line old (called of reply ∷ []) (reply_text reply ++ codes "\n") new
-  -- it asks for the book: what is left of each link is said
+  -- it asks for the book: the answer is what is left of each link
   Shown : (table : List (List ℤ)) (new : S) → request_of line ≡ Some Book → server.ways.moves old [] new → server.is_left new table → IsAnswered server number line old [] (table_text 0 table) new
-  -- it asks for a reload: the values that the link text gives are submitted, once, or it is said why there are none
+  -- it asks for a reload: the values that the link text gives are submitted once, or the answer is why there are none
   Reloaded : (links : List LinkReload) (reply : Reply) (new : S) → request_of line ≡ Some Reload → server.reads (Ok links) → server.ways.moves old (called (event.Reload links) reply ∷ []) new
       → IsAnswered server number line old (called (event.Reload links) reply ∷ []) (reply_text reply ++ codes "\n") new
   Unread : (fault : PlanFault) → asks_reading (request_of line) ≡ true → server.reads (Err fault) → IsAnswered server number line old [] (unread_line fault) old
-  -- it asks what a reload would change: that is said of the values that the link text gives, and nothing is done
+  -- it asks what a reload would change: the answer is that for the values that the link text gives, and nothing is done
   Checked : (links : List LinkReload) (values : List Values) (left : List (List ℤ)) (new : S) → request_of line ≡ Some Check → server.reads (Ok links) → server.ways.moves old [] new → server.has_links new values left
       → IsAnswered server number line old [] (check_text values left links) new
-  -- it asks to see something: that is said, and nothing is done
+  -- it asks to see something: that is the answer, and nothing is done
   Viewed : (view : ViewLine) (text : List ℕ) (new : S) → request_of line ≡ Some (View view) → server.ways.moves old [] new → server.shows old view text new → IsAnswered server number line old [] text new
   -- it asks for nothing: nothing is done
   Refused : request_of line ≡ None → IsAnswered server number line old [] (bad_line number) old
-  -- it asks for something, and memory is refused to that
+  -- it asks for something, and memory runs out
   Starved : (new : S) → IsSome (request_of line) → server.ways.moves old [] new → IsAnswered server number line old [] (fault_text OutOfMemory ++ codes "\n") new
-  -- it asks for an event, and the history is full, also after it was rolled
+  -- it asks for an event, and the history is full even after it was rolled
   StillFull : (steps : ℕ) (a b new : S) → asks_step (request_of line) ≡ true → server.ways.moves old [] a → server.ways.is_full a → server.ways.rolls a steps b → server.ways.moves b [] new → server.ways.is_full new
       → IsAnswered server number line old [] (fault_text HistoryFull ++ codes "\n") new
 
--- From `start` on an operator's lines were heard so far. Here are the lines, the deeds that they led to, the bytes that
--- were said, each in their order, and the store as it stands.
+-- An operator's lines from `start` on, heard so far: the lines, the deeds that they led to and the bytes that were
+-- said, each in order, and the store as it is now.
 pub data Listens {S : Type 0} (server : Server S) (start : S) : List (List ℕ) → List Deed → List ℕ → S → Type 0 where
   Begins : Listens server start [] [] [] start
-  -- one line more
+  -- one more line
   Hears : (lines : List (List ℕ)) (calls made : List Deed) (said text line : List ℕ) (a b : S)
       → Listens server start lines calls said a → IsAnswered server (number_behind lines) line a made text b
       → Listens server start (lines ++ line ∷ []) (calls ++ made) (said ++ text) b
-  -- in between the store goes on without a call: its list is emptied, its history rolled
+  -- in between, the store goes on without a call: its list is emptied, or its history rolled
   Waits : (lines : List (List ℕ)) (calls : List Deed) (said : List ℕ) (a b : S)
       → Listens server start lines calls said a → Goes server.ways a [] b → Listens server start lines calls said b
 
 -- ---- how it ends
 
--- a read that gave nothing, and may be made again
+-- a read that gave nothing and may be repeated
 abbrev pub is_quiet : ErrorKind → Bool
 is_quiet Interrupted = true
 is_quiet WouldBlock = true
 is_quiet TimedOut = true
 is_quiet kind = false
 
--- A read that failed ends it, but for one that may be made again; then the run may be closing.
+-- A failed read ends it, unless the read may be repeated; in that case the run may be closing.
 abbrev pub FailsAs : Option OperatorEnd → ErrorKind → Type 0 → Type 0
 FailsAs None kind may_close = is_quiet kind ≡ true
 FailsAs (Some ReadFault) kind may_close = is_quiet kind ≡ false
@@ -117,8 +117,8 @@ abbrev pub is_out : OperatorEnd → Bool
 is_out WriteFault = false
 is_out end = true
 
--- Why no more is heard of what was read after the lines that were answered. The reader has no more, and there is no whole
--- line; the first line there asks for the end; or the run may be closing.
+-- Why no more is heard of what was read after the answered lines: the reader has no more, and there is no whole line;
+-- the first line there asks for the end; or the run may be closing.
 abbrev pub IsOver : OperatorEnd → Type 0 → Option (List ℕ) → List ℕ → Type 0
 IsOver InputEnded may_close left rest = IsAtEnd left × ((cut rest).0 ≡ [])
 IsOver EndAsked may_close left rest = (line : List ℕ) × (request_of line ≡ Some End) × (more : List ℕ) × (rest ≡ line ++ 10 ∷ more)
@@ -127,9 +127,9 @@ IsOver ReadFault may_close left rest = ⊤
 IsOver WriteFault may_close left rest = ⊤
 IsOver FlushFault may_close left rest = ⊤
 
--- An operator from `start` on, until nothing more is heard. Of the reader and the writer the known bytes are meant, at
--- the start and now. The lines of `front` were answered, each ended by a line break: a line without one does nothing. What
--- was said to them went out, or a part of it if the writer failed.
+-- An operator from `start` on, until nothing more is heard. It gives the known bytes of the reader and of the writer,
+-- at the start and now. The lines of `front` were answered, each ended by a line break; a line without one does
+-- nothing. What was said to them went out, or a part of it if the writer failed.
 pub record Operated {S : Type 0} (server : Server S) (start : S) (unread blank : Option (List ℕ)) (end : OperatorEnd) (may_close : Type 0) (now : S) (left written : Option (List ℕ)) : Type 0 where
   pub front : List ℕ
   pub rest : List ℕ
@@ -141,7 +141,7 @@ pub record Operated {S : Type 0} (server : Server S) (start : S) (unread blank :
   pub out : TakesAll (is_out end) blank written said
   pub over : IsOver end may_close left rest
 
--- How a call ends: this way, or for want of memory before anything was done.
+-- How a call ends: in this way, or because memory ran out before anything was done.
 abbrev pub EndsAs : {E : Type 0} → Result OperatorEnd E → (OperatorEnd → Type 0) → Type 0 → Type 0
 EndsAs (Ok end) operated undone = operated end
 EndsAs (Err fault) operated undone = undone

@@ -1,4 +1,4 @@
--- What a reload would change, as an operator is shown.
+-- What an operator is shown of the changes that a reload would make.
 use Rattle.std.specs.Prelude.{ℕ, ◌+◌, ◌==◌, ◌&&◌, not, ℤ, pos, ◌-ℤ◌, int_le, Bool, false, List, [], ◌∷◌, ◌++◌, codes, Option, Some, None, slice_get, if◌then◌else◌}
 use Rattle.std.specs.List.{list_any}
 use Rattle.std.specs.Fmt.{decimal}
@@ -25,12 +25,12 @@ values_text old new =
 abbrev pub change_text : ℕ → Values → Values → List ℕ
 change_text link old new = if is_same old new then [] else codes "link " ++ (decimal link ++ (values_text old new ++ codes "\n"))
 
--- of a link that is there
+-- the line of an entry, if its link exists
 abbrev pub entry_text : Option Values → LinkReload → List ℕ
 entry_text None entry = []
 entry_text (Some old) entry = change_text entry.link old entry.values
 
--- these are the values that links have, and the ones that they would have
+-- the lines of all entries, given the values that links have now
 abbrev pub changes_text : List Values → List LinkReload → List ℕ
 changes_text values [] = []
 changes_text values (entry ∷ entries) = entry_text (slice_get values entry.link) entry ++ changes_text values entries
@@ -41,7 +41,7 @@ changes_text values (entry ∷ entries) = entry_text (slice_get values entry.lin
 abbrev pub falls_below : Values → Values → ℤ → Bool
 falls_below old new left = not (int_le (pos old.reservable -ℤ pos new.reservable) left)
 
--- at some priority
+-- a link would be below zero at some priority
 abbrev pub is_below : Option Values → Option (List ℤ) → LinkReload → Bool
 is_below (Some old) (Some amounts) entry = list_any (falls_below old entry.values) amounts
 is_below old amounts entry = false
@@ -57,6 +57,7 @@ abbrev pub outlook_text : List ℕ → ℕ → List ℕ
 outlook_text [] below = codes "nothing changes\n"
 outlook_text (c ∷ changes) below = (c ∷ changes) ++ (codes "below zero " ++ (decimal below ++ codes "\n"))
 
--- Links have these values, and this is left of each at each priority; the entries are what a link text gives.
+-- What a reload would change if links have these values, this is left of each at each priority, and a link text gives
+-- these entries.
 abbrev pub check_text : List Values → List (List ℤ) → List LinkReload → List ℕ
 check_text values left entries = outlook_text (changes_text values entries) (below_count values left entries)

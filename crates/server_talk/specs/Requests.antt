@@ -1,4 +1,4 @@
--- What a line asks of a running server.
+-- What a line asks a running server for.
 use Rattle.std.specs.Prelude.{ℕ, ◌&&◌, nat_le, Bool, true, false, List, length, codes, Option, Some, None, option_map, if◌then◌else◌}
 use Rattle.std.specs.Str.{bytes_eq, is_utf8}
 use Rattle.step_core.specs.declared.event.Event.{Event}
@@ -9,7 +9,7 @@ use Rattle.script_lines.specs.declared.views.ViewLine.{ViewLine}
 use Rattle.server_talk.specs.declared.requests.Request.{Request}
 use Rattle.server_talk.specs.declared.requests.Request.TheVariants.{Book, Check, End, Reload, Submit, View}
 
--- an operator's events: tickets are taken by the server's workers, and peers are forgotten by its clock
+-- the events of an operator; tickets are taken by the server's workers, and peers are forgotten by its clock
 abbrev pub is_operators : Event → Bool
 is_operators (event.Ask peer purpose) = true
 is_operators (event.Return peer plsp) = true
@@ -18,12 +18,12 @@ is_operators (event.Refused peer srp) = true
 is_operators (event.Reload links) = true
 is_operators other = false
 
--- what a line asks to see, else the event that it asks for
+-- what a line asks to see, or else the event that it asks for
 abbrev pub view_or_event : Option ViewLine → Option Event → Option Request
 view_or_event (Some view) event = Some (View view)
 view_or_event None event = option_map Submit event
 
--- None for a bad line
+-- the request of a line; None for a bad line
 unfoldable pub request_in : List ℕ → Option Request
 request_in line =
     if bytes_eq line (codes "book") then Some Book
@@ -32,19 +32,19 @@ request_in line =
     else if bytes_eq line (codes "reload check") then Some Check
     else view_or_event (view_line_in line) (operator_event_in line)
 
--- it asks for an event, so that a full history takes nothing
+-- the request is for an event, so a full history can't take it
 abbrev pub asks_step : Option Request → Bool
 asks_step (Some Reload) = true
 asks_step (Some (Submit of)) = true
 asks_step asked = false
 
--- it asks for what the link text gives
+-- the request is for what the link text gives
 abbrev pub asks_reading : Option Request → Bool
 asks_reading (Some Check) = true
 asks_reading (Some Reload) = true
 asks_reading asked = false
 
--- the number of bytes that a line has, at most
+-- the greatest number of bytes of a line
 abbrev pub line_limit : ℕ
 line_limit = 4096
 

@@ -8,6 +8,6 @@ pub record WatchNow : Type 1 where
   -- the run may be asked to end
   pub may_close : Type 0
 
--- by the members of the trait `Watch`
+-- the run, by the members of the trait `Watch`
 abbrev pub watch_of : {V : Type 0} → watch.Ghosts V → V → WatchNow
 watch_of by now = record { may_show = by.may_show now; may_close = by.may_close now }

@@ -1,4 +1,4 @@
-//! Standard input: its waits.
+//! Standard input, and the waits for it.
 use crate::terminal::is_in_front;
 use crate::traits::Patient;
 use mio::unix::SourceFd;
@@ -14,13 +14,13 @@ use std::time::Duration;
 /// The descriptor of standard input.
 const STANDARD_INPUT: RawFd = 0;
 
-/// What a wait found it by.
+/// The token of standard input among what a wait finds.
 const INPUT: Token = Token(0);
 
-/// The fault of a descriptor that isn't open for reading (errno(3), EBADF).
+/// The error of a descriptor that isn't open for reading (errno(3), EBADF).
 const BAD_DESCRIPTOR: i32 = 9;
 
-/// Whether a read failed because the descriptor isn't open for reading.
+/// Tests whether a read failed because the descriptor isn't open for reading.
 fn is_not_open(read: &io::Result<usize>) -> bool {
     match read {
         Ok(_) => false,
@@ -28,8 +28,9 @@ fn is_not_open(read: &io::Result<usize>) -> bool {
     }
 }
 
-/// Standard input that is waited for no longer than it is asked. A regular file, which can't be waited for, is read at
-/// once. A terminal is read only while this process is in front there. One that isn't open for reading has ended.
+/// Standard input. A wait for it takes no longer than the given time. A regular file, which can't be waited for, is
+/// read at once. A terminal is read only while this process is in its foreground. If the descriptor isn't open for
+/// reading, the input has ended.
 #[derive(Drop)]
 pub struct PolledInput<'a, I: Read, F: Files> {
     reader: &'a mut I,
@@ -42,7 +43,7 @@ pub struct PolledInput<'a, I: Read, F: Files> {
 }
 
 impl<'a, I: Read, F: Files + AllocGlobal> PolledInput<'a, I, F> {
-    /// The reader is one of standard input that reads nothing ahead.
+    /// Makes a reader of standard input. The reader that it is given must not read ahead.
     pub fn new<R: Net>(
         rt: &R,
         alloc: Global,
@@ -66,7 +67,7 @@ impl<'a, I: Read, F: Files + AllocGlobal> PolledInput<'a, I, F> {
         })
     }
 
-    /// Notes standard input anew, so that what came before the wait is found by it.
+    /// Registers standard input again, so that a wait also finds what came before it.
     fn note_input(&mut self) -> io::Result<()> {
         let registry = self.poll.registry();
         let noted = registry.reregister(&mut SourceFd(&STANDARD_INPUT), INPUT, Interest::READABLE);
@@ -76,7 +77,7 @@ impl<'a, I: Read, F: Files + AllocGlobal> PolledInput<'a, I, F> {
         registry.register(&mut SourceFd(&STANDARD_INPUT), INPUT, Interest::READABLE)
     }
 
-    /// Waits, and gives whether there is something to read, or the end.
+    /// Waits, and returns whether there is something to read, or the end.
     fn is_ready(&mut self) -> io::Result<bool> {
         if self.is_terminal && !is_in_front(self.files) {
             let _was_noted = self

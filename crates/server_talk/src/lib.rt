@@ -1,11 +1,13 @@
-//! PCEP over one connection, and an operator's lines: over any reader, writer, watch and store, on one thread.
+//! PCEP over one connection, and an operator's lines. All of it runs over any reader, writer, watch and store, on one
+//! thread.
 //!
-//! `connection` is one connection. However it ends, the peer's Down is submitted before it returns, or that is answered as
-//! a fault of the store; every other call is one that the engine's table names for this peer and the bytes that came, and
-//! so is all that the store is shown (`specs/Connections`). What it returns says why the session ended. `operate` is an operator: each line asks for one thing or for none (`specs/Requests`), that is done
-//! once, and what came of it is said (`specs/Operators`). What a session makes of bytes and what a step does is proved
-//! in the layers below. `PolledSocket` is a peer's socket as a reader whose wait another thread may end, `PolledInput`
-//! and `PolledOutput` are standard input and output; that they deliver is shown by tests alone.
+//! `connection` is one connection. However it ends, the peer's Down is submitted before it returns, or a fault of the
+//! store says that it wasn't. Every other call, and all that the store is shown, is named by the engine's table for
+//! this peer and the bytes that came (`specs/Connections`). Its result says why the session ended. `operate` is an
+//! operator: each line asks for at most one thing (`specs/Requests`), which is done once and answered
+//! (`specs/Operators`). The layers below prove what a session makes of bytes and what a step does. `PolledSocket` is a
+//! peer's socket as a reader whose wait another thread may end; `PolledInput` and `PolledOutput` are standard input and
+//! output. Only tests show that they deliver.
 //!
 //! ```text
 //! fn ends_by_line<R: Wait, D: Show, I: Patient, O: Write, W: Watch, P: Plan>(rt: &R, alloc: Global, reader: &mut I, writer: &mut O, watch: &W, plan: &P, store: &mut D) -> bool
@@ -14,9 +16,9 @@
 //! }
 //! ```
 //!
-//! The modules, lowest first: `traits` (what a connection asks of its surroundings), `talk` (a connection), `socket`,
-//! `terminal`, `input`, `requests` (what a line asks for), `pending` (a line that hasn't ended), `reload_check` (what a reload would
-//! change), `commands` (what comes of a line), `operator`.
+//! The modules, lowest first: `traits` (what a connection needs from its surroundings), `talk` (a connection),
+//! `socket`, `terminal`, `input`, `requests` (what a line asks for), `pending` (a line that hasn't ended),
+//! `reload_check` (what a reload would change), `commands` (what a line does), `operator`.
 #![tactic(auto)]
 
 mod commands;

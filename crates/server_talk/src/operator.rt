@@ -1,4 +1,5 @@
-//! The operator: lines from a reader, each answered on a writer: `book` by a line for each link, others by one.
+//! The operator: lines from a reader, each answered on a writer. `book` is answered by a line for each link, others by
+//! one.
 ghost use Rattle.std.specs.Prelude.{◌≡◌, ◌<◌, ◌∷◌, ◌++◌, [], ℕ, List, Option, true, length, codes};
 ghost use Rattle.std.specs.Fmt.{decimal};
 ghost use Rattle.std.specs.Io.KnownBytes.{Consumes};
@@ -25,31 +26,30 @@ use std::io::{ErrorKind, Write};
 use std::sync::Wait;
 use te_base::TeFault;
 
-/// The number of bytes that are read at once, at most.
+/// The most bytes that are read at once.
 const PIECE: usize = 4096;
 
-/// The longest wait of a read, in milliseconds, before it is looked whether the run is to end.
+/// The longest wait of a read, in milliseconds, before checking whether the run should end.
 const PATIENCE_MS: u64 = 250;
 
-/// Why an operator is heard no more.
+/// Why an operator is no longer listened to.
 #[derive(Clone, Copy, PartialEq, Eq, Debug)]
 pub enum OperatorEnd {
     /// The reader has no more.
     InputEnded,
     /// The line `end` asks for the end of the run.
     EndAsked,
-    /// The run is to end.
+    /// The run should end.
     RunEnding,
     /// A read failed.
     ReadFault,
-    /// The writer didn't take all of what was said. The run goes on without an operator.
+    /// The writer didn't take all that it was given. The run goes on without an operator.
     WriteFault,
-    /// The writer took what was said, and failed to hand it on.
+    /// The writer took all that it was given, but failed to hand it on.
     FlushFault,
 }
 
-/// Writes all of the bytes, in one call but where a write takes a part of them alone. Gives whether the writer took
-/// all.
+/// Writes all of the bytes, in one call unless a write takes only a part of them. Returns whether the writer took all.
 fn write<O: Write>(writer: &mut O, bytes: &[u8]) -> bool
     ensures { TakesAll result (O.contents writer.old) (O.contents writer.new) bytes.now }
 {
@@ -79,7 +79,7 @@ fn write_line<O: Write>(writer: &mut O, text: &str) -> bool
     write(writer, b"\n")
 }
 
-/// Writes a word, and a number with a line break.
+/// Writes a word, a number and a line break.
 fn write_numbered<O: Write>(writer: &mut O, word: &str, number: u64) -> bool
     ensures { TakesAll result (O.contents writer.old) (O.contents writer.new) (word.now ++ (decimal number ++ codes "\n")) }
 {
@@ -120,7 +120,7 @@ fn fault_text(fault: Fault) -> &'static str
     }
 }
 
-/// Writes what came of the line with this number.
+/// Writes the answer to the line with this number.
 fn say<O: Write>(writer: &mut O, number: u64, answer: &Result<Answer, CommandFault>) -> bool
     ensures { TakesAll result (O.contents writer.old) (O.contents writer.new) (said_of number answer.now) }
 {
@@ -135,7 +135,7 @@ fn say<O: Write>(writer: &mut O, number: u64, answer: &Result<Answer, CommandFau
     }
 }
 
-/// The same, and hands on what was written. Gives the end if the writer fails.
+/// Writes the answer to the line with this number, and hands on what was written. Returns the end if the writer fails.
 fn say_at_once<O: Write>(
     writer: &mut O,
     number: u64,
@@ -152,7 +152,7 @@ fn say_at_once<O: Write>(
     }
 }
 
-/// Answers a line that has ended. The store's list is emptied. Gives the end, where that has come.
+/// Answers a line that has ended, and empties the store's list. Returns the end, if it has come.
 fn take_line<D: Show, O: Write, W: Watch, P: Plan>(
     alloc: Global,
     line: &OpenLine,
@@ -174,7 +174,7 @@ fn take_line<D: Show, O: Write, W: Watch, P: Plan>(
     say_at_once(writer, line.number, &came)
 }
 
-/// Takes a byte: a line break ends a line, which is answered. Gives the end, where that has come.
+/// Takes a byte. A line break ends a line, which is answered. Returns the end, if it has come.
 fn take_byte<D: Show, O: Write, W: Watch, P: Plan>(
     alloc: Global,
     pending: &mut OpenLine,
@@ -202,7 +202,7 @@ fn take_byte<D: Show, O: Write, W: Watch, P: Plan>(
     }
 }
 
-/// Takes bytes, up to the end, and gives that, where it has come.
+/// Takes bytes, up to the end. Returns the end, if it has come.
 fn take_piece<D: Show, O: Write, W: Watch, P: Plan>(
     alloc: Global,
     pending: &mut OpenLine,
@@ -226,7 +226,7 @@ fn take_piece<D: Show, O: Write, W: Watch, P: Plan>(
     None
 }
 
-/// Whether a read that failed so gave nothing, and may be made again.
+/// Tests whether a read that failed with this error gave nothing and may be repeated.
 fn is_quiet(kind: ErrorKind) -> bool
     ensures { result ≡ is_quiet kind }
 {
@@ -236,7 +236,7 @@ fn is_quiet(kind: ErrorKind) -> bool
     )
 }
 
-/// What comes of a read that failed: the next, unless the run is to end, or the fault isn't a quiet one.
+/// Decides what follows a failed read: another one, unless the run should end, or the error isn't a quiet one.
 fn after_fault<W: Watch>(kind: ErrorKind, watch: &W) -> Option<OperatorEnd>
     ensures { FailsAs result kind (W.may_close watch.now) }
 {
@@ -249,7 +249,7 @@ fn after_fault<W: Watch>(kind: ErrorKind, watch: &W) -> Option<OperatorEnd>
     None
 }
 
-/// Reads once, and answers the whole lines that came. Gives the end, if that has come.
+/// Reads once, and answers the whole lines that came. Returns the end, if it has come.
 fn turn<D: Show, I: Patient, O: Write, W: Watch, P: Plan>(
     alloc: Global,
     pending: &mut OpenLine,
@@ -282,12 +282,12 @@ fn turn<D: Show, I: Patient, O: Write, W: Watch, P: Plan>(
     take_piece(alloc, pending, &piece[..count], watch, plan, store, writer)
 }
 
-/// Answers an operator's lines until no more is to be heard, and gives why. A line that asks for an event submits it,
-/// once, and is answered by the reply; `book` by what is left of each link at each priority, in bytes per second; `end`
-/// asks for the end of the run. A bad line is answered `bad line N`, want of memory `out of memory`, and the next line
-/// is read. What no line break ends does nothing: it may be half of another line. If the run is to end, what was read last is
-/// left. The only fault is want of memory before the first
-/// read.
+/// Answers an operator's lines until no more should be heard, and returns why. A line that asks for an event submits it
+/// once, and is answered by the reply; `book` is answered by what is left of each link at each priority, in bytes per
+/// second; `end` asks for the end of the run. A bad line is answered `bad line N`, and if memory runs out the answer is
+/// `out of memory`; then the next line is read. Bytes without a line break after them do nothing, since they may be
+/// half of another line. If the run should end, what was read last is left. The only fault is that memory runs out
+/// before the first read.
 pub fn operate<R: Wait, D: Show, I: Patient, O: Write, W: Watch, P: Plan>(
     rt: &R,
     alloc: Global,

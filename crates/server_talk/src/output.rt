@@ -1,4 +1,4 @@
-//! Standard output: its waits.
+//! Standard output, and the waits for it.
 use mio::unix::SourceFd;
 use mio::{Events, Interest, Poll, Token};
 use std::alloc::{AllocError, Global};
@@ -11,14 +11,14 @@ use std::time::Duration;
 /// The descriptor of standard output.
 const STANDARD_OUTPUT: RawFd = 1;
 
-/// The number of bytes that are written at once: a pipe that takes any takes as many.
+/// The most bytes that are written at once. A pipe that takes any bytes takes this many.
 const PIECE: usize = 4096;
 
-/// The wait of a write for a reader, in milliseconds.
+/// How long a write waits for a reader, in milliseconds.
 const WRITE_WAIT_MS: u64 = 250;
 
-/// Standard output, which may be a pipe that nobody reads. A write waits a while for its reader, and takes nothing where
-/// that took nothing. What can't be waited for, as a file, is written at once.
+/// Standard output, which may be a pipe that nobody reads. A write waits a while for its reader; if that was in vain,
+/// it takes nothing. What can't be waited for, such as a file, is written at once.
 #[derive(Drop)]
 pub struct PolledOutput<'a, O: Write> {
     writer: &'a mut O,
@@ -26,7 +26,7 @@ pub struct PolledOutput<'a, O: Write> {
     found: Events,
 }
 
-/// Standard output's poll, where it can be waited for.
+/// Makes a poll of standard output, if it can be waited for.
 fn poll_of<R: Net>(rt: &R) -> io::Result<Poll> {
     let poll = Poll::new(rt)?;
     let registry = poll.registry();
@@ -38,8 +38,8 @@ fn poll_of<R: Net>(rt: &R) -> io::Result<Poll> {
     Ok(poll)
 }
 
-/// Whether standard output takes a piece now, or within the time of a write. It is noted anew, so that room that there
-/// was is found.
+/// Waits, within the time of a write, until standard output takes a piece, and returns whether it does. Registers it
+/// again, so that room that was there before is found.
 fn is_ready(poll: &mut Poll, found: &mut Events) -> io::Result<bool> {
     let registry = poll.registry();
     registry.reregister(
@@ -52,7 +52,7 @@ fn is_ready(poll: &mut Poll, found: &mut Events) -> io::Result<bool> {
 }
 
 impl<'a, O: Write> PolledOutput<'a, O> {
-    /// The writer is one of standard output.
+    /// Makes a writer of standard output, over the given one.
     pub fn new<R: Net>(
         rt: &R,
         alloc: Global,

@@ -36,7 +36,7 @@ impl OpenLine {
         self.number = self.number.saturating_add(1);
     }
 
-    /// What the line asks for. One that is too long is bad.
+    /// Returns what the line asks for. A line that is too long is bad.
     pub fn request(&self, alloc: Global) -> Result<Option<Request>, AllocError>
         ensures { (line : List ℕ) → IsKept self.now line → Asks result (request_of line) }
     {

@@ -8,11 +8,11 @@ use te_base::TeFault;
 pub enum PlanFault {
     /// It can't be read.
     Device,
-    /// It has this fault, want of memory among them.
+    /// It has this fault, which may be that memory ran out.
     Te(TeFault),
 }
 
-/// The link text of a server's network. It may be another at each reading.
+/// The link text of a server's network. Each reading may give another text.
 pub trait Plan {
     ghost use Rattle.std.specs.Prelude.{List, Result, ⊤};
     ghost use Rattle.link_reload.specs.declared.entry.LinkReload.{LinkReload};
@@ -21,7 +21,7 @@ pub trait Plan {
     /// A reading may give this.
     ghost reads: { Self → Result (List LinkReload) PlanFault → Type 0 } = { λ _ _. ⊤ };
 
-    /// Reads the text, and gives the values of all links by it.
+    /// Reads the text, and returns the values that it gives all links.
     fn read(&self) -> Result<Sequence<LinkReload>, PlanFault>
         ensures { reads self.now result };
 }

@@ -1,4 +1,4 @@
-//! What a reload would change, as an operator is shown.
+//! What an operator is shown of the changes that a reload would make.
 ghost use Rattle.std.specs.Prelude.{◌≡◌, ◌++◌, IfOk, OnOk, string_bytes, slice_get, None};
 ghost use Rattle.std.specs.Option.{option_copied};
 ghost use Rattle.std.specs.List.{list_any};
@@ -59,7 +59,7 @@ fn add_change(
     text.push_str("\n")
 }
 
-/// Adds the line of an entry's link, if that is there and would change.
+/// Adds the line of an entry's link, if the link exists and would change.
 fn add_entry(text: &mut String, values: &[LinkValues], entry: LinkReload) -> Result<(), AllocError>
     ensures { OnOk result (string_bytes text.new ≡ string_bytes text.old ++ entry_text (slice_get values.now entry.link) entry) }
 {
@@ -69,7 +69,7 @@ fn add_entry(text: &mut String, values: &[LinkValues], entry: LinkReload) -> Res
     }
 }
 
-/// A line for each link that would change.
+/// Writes a line for each link that would change.
 fn changes_text(
     alloc: Global,
     values: &[LinkValues],
@@ -84,21 +84,21 @@ fn changes_text(
     Ok(text)
 }
 
-/// Whether less is left than what may be reserved would fall by.
+/// Tests whether less is left than what may be reserved would fall by.
 fn falls_below(old: LinkValues, new: LinkValues, left: i64) -> bool
     ensures { result ≡ falls_below old new left }
 {
     left < old.reservable() as i64 - new.reservable() as i64
 }
 
-/// Whether a link would be below zero at some priority.
+/// Tests whether a link would be below zero at some priority.
 fn is_any_below(old: LinkValues, new: LinkValues, amounts: &[i64; 8]) -> bool
     ensures { result ≡ list_any (falls_below old new) amounts.now }
 {
     amounts.iter().any(|left| falls_below(old, new, *left))
 }
 
-/// Whether an entry's link would be below zero at some priority.
+/// Tests whether an entry's link would be below zero at some priority.
 fn is_below(values: &[LinkValues], left: &[[i64; 8]], entry: LinkReload) -> bool
     ensures { result ≡ is_below (slice_get values.now entry.link) (slice_get left.now entry.link) entry }
 {
@@ -108,7 +108,7 @@ fn is_below(values: &[LinkValues], left: &[[i64; 8]], entry: LinkReload) -> bool
     }
 }
 
-/// How many links would be below zero at some priority.
+/// Counts the links that would be below zero at some priority.
 fn below_count(values: &[LinkValues], left: &[[i64; 8]], entries: &[LinkReload]) -> usize
     ensures { result ≡ below_count values.now left.now entries.now }
 {
@@ -121,7 +121,7 @@ fn below_count(values: &[LinkValues], left: &[[i64; 8]], entries: &[LinkReload])
     count
 }
 
-/// What these entries would change, where links have these values, and this is left of each.
+/// Writes what these entries would change, if links have these values and this is left of each.
 pub(crate) fn check_text(
     alloc: Global,
     values: &[LinkValues],

@@ -6,7 +6,7 @@ use engine_core::Event;
 use script_lines::{ViewLine, operator_event_in, view_line_in};
 use std::alloc::{AllocError, Global};
 
-/// The number of bytes that a line has, at most. A longer one is bad.
+/// The most bytes of a line. A longer one is bad.
 pub const LINE_LIMIT: usize = 4096;
 
 /// What a line asks for.
@@ -18,7 +18,7 @@ pub(crate) enum Request {
     Check,
     /// The end of the run.
     End,
-    /// The link text is read again, and its values are those of the links from now on.
+    /// To read the link text again, and give the links its values from now on.
     Reload,
     /// To see something.
     View(ViewLine),
@@ -26,7 +26,7 @@ pub(crate) enum Request {
     Submit(Event),
 }
 
-/// What a text asks for, or None for a bad line. Memory is asked for only for a line that asks for something.
+/// Returns what a text asks for, or `None` for a bad line. Only a line that asks for something takes memory.
 #[tactic(auto, unfolding(crate::specs::Requests::request_in))]
 fn request_in(alloc: Global, text: &str) -> Result<Option<Request>, AllocError>
     ensures request { IfOk result (λ request. request ≡ request_in text.now) }
@@ -53,7 +53,7 @@ fn request_in(alloc: Global, text: &str) -> Result<Option<Request>, AllocError>
     }
 }
 
-/// What a line asks for, or None for a bad line. Memory is asked for only for a line that asks for something.
+/// Returns what a line asks for, or `None` for a bad line. Only a line that asks for something takes memory.
 #[tactic(auto, unfolding(crate::specs::Requests::request_of))]
 pub(crate) fn request_of(alloc: Global, line: &[u8]) -> Result<Option<Request>, AllocError>
     ensures request { IfOk result (λ request. request ≡ request_of line.now) }

@@ -1,4 +1,4 @@
-//! A peer's socket: its waits, and its end.
+//! A peer's socket, the waits for it, and its end.
 use crate::talk::TAKEN_WITHIN_MS;
 use crate::traits::{Patient, Watch};
 use mio::unix::SourceFd;
@@ -10,29 +10,29 @@ use std::net::{Net, Shutdown, SocketAddr, TcpListener, TcpStream};
 use std::os::fd::{AsRawFd, OwnedFd, RawFd};
 use std::time::Duration;
 
-/// The wait of a read where bytes were found and are not there, and for what a peer still sends after the end, in
-/// milliseconds.
+/// How long a read waits for bytes that were announced and aren't there, and for what a peer still sends after the end,
+/// in milliseconds.
 const READ_WAIT_MS: u64 = 80;
 
-/// The wait of an accept, in milliseconds.
+/// How long an accept waits, in milliseconds.
 pub const ACCEPT_WAIT_MS: u64 = 100;
 
-/// The wait of a write for a peer that takes nothing, in milliseconds: when it gives up, a clock says that the
+/// How long a write waits for a peer that takes nothing, in milliseconds. When it gives up, a clock says that the
 /// peer's time is over.
 const WRITE_WAIT_MS: u64 = TAKEN_WITHIN_MS + 20;
 
-/// The time for which it is heard what a peer still sends after the end, in milliseconds.
+/// How long to read what a peer still sends after the end, in milliseconds.
 const PART_MS: u64 = 1000;
 
-/// The number of reads then, at most.
+/// The most reads after the end.
 const PART_READS: u32 = 64;
 
-/// What a wait found the socket by, and what by a ring.
+/// The token of the socket among what a wait finds, and that of a ring.
 const SOCKET: Token = Token(0);
 
 const BELL: Token = Token(1);
 
-/// The number of things that one wait finds: bytes, and a ring.
+/// The most things that one wait finds: bytes, and a ring.
 const FOUND: usize = 2;
 
 /// A socket that is waited for together with a bell.
@@ -64,12 +64,13 @@ impl<'a> PolledSocket<'a> {
         })
     }
 
-    /// By which another thread ends a wait of this socket.
+    /// Makes a waker, by which another thread ends a wait of this socket.
     pub fn waker(&self) -> io::Result<Waker> {
         Waker::new(self.poll.registry(), BELL)
     }
 
-    /// Waits for a ring, and so long at most. What comes meanwhile ends no wait, and is found by the next read.
+    /// Waits for a ring, at most for this time. What comes meanwhile doesn't end the wait, and is found by the next
+    /// read.
     pub fn await_ring(&mut self, most_ms: u64) -> io::Result<()> {
         let registry = self.poll.registry();
         registry.deregister(&mut SourceFd(&self.descriptor))?;
@@ -80,8 +81,8 @@ impl<'a> PolledSocket<'a> {
         waited
     }
 
-    /// Waits, and says whether bytes came, or the end. What came before the wait is found anew, since the socket
-    /// is noted anew.
+    /// Waits, and returns whether bytes came, or the end. The socket is registered again, so that what came before the
+    /// wait is found too.
     fn is_spoken_to(&mut self) -> io::Result<bool> {
         let registry = self.poll.registry();
         registry.reregister(&mut SourceFd(&self.descriptor), SOCKET, Interest::READABLE)?;
@@ -111,7 +112,7 @@ impl<'a> Patient for PolledSocket<'a> {
     }
 }
 
-/// The number of the source address: a peer is known by it. 0 where it is none of IPv4.
+/// Returns the number of the source address, by which a peer is known; 0 if it isn't an IPv4 address.
 pub fn peer_of(address: SocketAddr) -> u32 {
     match address {
         SocketAddr::V4(v4) => v4.ip().to_bits(),
@@ -119,20 +120,20 @@ pub fn peer_of(address: SocketAddr) -> u32 {
     }
 }
 
-/// Sends without delay, and bounds the waits.
+/// Sets a socket to send without delay, and bounds its waits.
 pub fn prepare(stream: &TcpStream) -> io::Result<()> {
     stream.set_nodelay(true)?;
     stream.set_read_timeout(Some(Duration::from_millis(READ_WAIT_MS)))?;
     stream.set_write_timeout(Some(Duration::from_millis(WRITE_WAIT_MS)))
 }
 
-/// Bounds the wait of an accept. The option is the socket's, whichever handle sets it.
+/// Bounds the wait of an accept. The option belongs to the socket, whichever handle sets it.
 pub fn bound_accepts(listener: &TcpListener) -> io::Result<()> {
     let handle = TcpStream::from(OwnedFd::from(listener.try_clone()?));
     handle.set_read_timeout(Some(Duration::from_millis(ACCEPT_WAIT_MS)))
 }
 
-/// Whether the peer may still send: it doesn't once it has closed, or a read fails.
+/// Reads once, and returns whether the peer may still send. It doesn't after it has closed, or a read failed.
 fn may_send(stream: &TcpStream, buffer: &mut [u8]) -> bool {
     let mut reader = stream;
     match reader.read(buffer) {
@@ -141,8 +142,8 @@ fn may_send(stream: &TcpStream, buffer: &mut [u8]) -> bool {
     }
 }
 
-/// Shows the peer that no more comes, and hears for a while what it still sends: a socket that is closed over
-/// unread bytes is reset, and the peer may lose the last bytes that were sent to it.
+/// Tells the peer that no more comes, and reads for a while what it still sends. A socket that is closed over unread
+/// bytes is reset, and the peer may then lose the last bytes that were sent to it.
 pub fn part<W: Watch>(stream: &TcpStream, watch: &W) {
     if stream.shutdown(Shutdown::Write).is_err() {
         return;

@@ -18,36 +18,36 @@ use std::alloc::Global;
 use std::io::{ErrorKind, Write};
 use std::sync::Wait;
 
-/// The number of bytes that a turn reads, at most.
+/// The most bytes that a turn reads.
 pub const PIECE: usize = 4096;
 
-/// The longest wait of a session for bytes, in milliseconds, until it looks what it has to say.
+/// The longest wait of a session for bytes, in milliseconds, before it looks for messages to send.
 const LONGEST_WAIT_MS: u64 = 10_000;
 
-/// The time within which a peer takes a turn's bytes, in milliseconds, or its connection ends.
+/// The time within which a peer must take a turn's bytes, in milliseconds; otherwise its connection ends.
 pub const TAKEN_WITHIN_MS: u64 = 10_000;
 
-/// The number of times that the writes of some bytes may be interrupted, or take nothing.
+/// How often the writes of some bytes may be interrupted, or take nothing.
 pub(crate) const INTERRUPTS: usize = 1000;
 
-/// The number of times that it is tried to submit that a peer went down.
+/// How often submitting that a peer went down is tried.
 const HANG_UPS: u32 = 4;
 
 /// No explanation (RFC 5440 section 7.17).
 const NO_EXPLANATION: u8 = 1;
 
-/// How a connection ended. The peer is left joined where that is `StoreFault`, and only there.
+/// How a connection ended. The peer is left joined only if it is `StoreFault`.
 #[derive(Clone, Copy, PartialEq, Eq, Debug)]
 pub enum Ended {
     /// The peer sends no more.
     PeerClosed,
-    /// The session has ended: by a Close, by an error, by a timer, or because memory was refused to it.
+    /// The session has ended: by a Close, by an error, by a timer, or because memory ran out for it.
     SessionEnded,
     /// A read failed.
     ReadFault,
     /// A write failed, or the peer didn't take all of it in time.
     WriteFault,
-    /// That the peer went down could not be submitted, four times over.
+    /// That the peer went down could not be submitted in four tries.
     StoreFault(Fault),
 }
 
@@ -55,8 +55,8 @@ pub enum Ended {
 #[derive(Clone, Copy, PartialEq, Eq, Debug)]
 pub struct Departure {
     pub ended: Ended,
-    /// What the session itself says, before the end of the connection ends it. `None` if it hadn't ended, or there was no
-    /// memory for it.
+    /// Why the session itself ended, before the end of the connection ended it. `None` if it hadn't ended, or there was
+    /// no memory for it.
     pub reason: Option<EndReason>,
 }
 
@@ -78,9 +78,10 @@ struct Talk {
 }
 
 /// Serves one peer until its end. Every call that the store gets is one that the engine's table names for this peer and
-/// the bytes that the reader gave, or the Down of its end; the store's list has that alone, or nothing where the peer
-/// wasn't joined. The store is shown the peer's Open and each message that the session delivers. All that the session says
-/// goes to the writer. Where there is no memory for a session, nothing is done, and that is answered as `SessionEnded`.
+/// the bytes that the reader gave, or the Down at its end. At the end the store's list has only that Down, or nothing
+/// if the peer wasn't joined. The store is shown the peer's Open and each message that the session delivers. All that
+/// the session sends goes to the writer. If there is no memory for a session, nothing is done, and the result is
+/// `SessionEnded`.
 pub fn connection<R: Wait, I: Patient, O: Write, W: Watch, D: Desk>(
     rt: &R,
     alloc: Global,
@@ -117,15 +118,15 @@ pub fn connection<R: Wait, I: Patient, O: Write, W: Watch, D: Desk>(
     }
 }
 
-/// Makes room after a fault, so that the next call finds some: a history that is full is rolled, unless another thread has
-/// rolled it. If it isn't full, memory was refused, and the store is asked all the same: it may know who sees to that.
+/// Makes room after a fault, so that the next call finds some: a full history is rolled, unless another thread has
+/// rolled it. If it isn't full, memory ran out; the store is asked anyway, since it may know who can make room.
 pub(crate) fn make_room<D: Desk>(store: &mut D)
     ensures { (start : D) (deeds : List Deed) → Goes D.Store start deeds store.old → Goes D.Store start deeds store.new }
 {
     let _rolled = store.roll_if_full();
 }
 
-/// Hangs up, and again after a fault. The list of the store has the calls of that alone.
+/// Hangs up, and again after a fault. The list of the store then has only the calls of that.
 fn leave<D: Desk>(talk: &mut Talk, store: &mut D) -> Result<(), Fault>
     ensures { (start : D) (deeds : List Deed) → Goes D.Store start deeds store.old
         → Leaves result D.Store talk.old.peer talk.old.client.joined start deeds store.new }
@@ -170,7 +171,7 @@ fn talk_on<R: Wait, I: Patient, O: Write, W: Watch, D: Desk>(
     unreachable!()
 }
 
-/// Reads once, serves what came, and writes what the session has to say. Gives the end, where that has come. Where nothing
+/// Reads once, serves what came, and writes what the session has to send. Returns the end, if it has come. If nothing
 /// came and nothing is due, the store's list is emptied once more, by which a seat drops its receipts of rolled steps.
 fn turn<I: Patient, O: Write, W: Watch, D: Desk>(
     talk: &mut Talk,
@@ -208,8 +209,8 @@ fn turn<I: Patient, O: Write, W: Watch, D: Desk>(
     }
 }
 
-/// Serves the session because something is due: messages wait for the peer, or a timer. What is there to be read is served
-/// first, since the wait may have been interrupted: a timer acts only if nothing came.
+/// Serves the session because something is due: messages wait for the peer, or a timer is due. What can be read is
+/// served first, since the wait may have been interrupted: a timer acts only if nothing came.
 fn answer_due<I: Patient, O: Write, W: Watch, D: Desk>(
     talk: &mut Talk,
     reader: &mut I,
@@ -233,7 +234,7 @@ fn answer_due<I: Patient, O: Write, W: Watch, D: Desk>(
     }
 }
 
-/// Has the reader wait until the session's next timer is due, and no longer.
+/// Sets the reader to wait until the session's next timer is due, and no longer.
 fn wait_for_timer<I: Patient, W: Watch>(talk: &Talk, reader: &mut I, watch: &W)
     ensures kept { Keeps (I.remaining reader.old) (I.remaining reader.new) }
     ensures waits { WaitsUntilDue (I.may_wait reader.new) (W.may_show watch.now) talk.now.client.session }
@@ -243,7 +244,7 @@ fn wait_for_timer<I: Patient, W: Watch>(talk: &Talk, reader: &mut I, watch: &W)
     reader.set_patience(wait_until(next, now_ms));
 }
 
-/// How long the session may wait for bytes, in milliseconds, if its next timer is due at a moment.
+/// Returns how long the session may wait for bytes, in milliseconds, if its next timer is due at a moment.
 fn wait_until(next: Option<u64>, now_ms: u64) -> u64
     ensures { result ≡ wait_until next now_ms }
 {
@@ -253,7 +254,7 @@ fn wait_until(next: Option<u64>, now_ms: u64) -> u64
     }
 }
 
-/// Whether a timer of the session is due (RFC 5440 section 4.2.1).
+/// Tests whether a timer of the session is due (RFC 5440 section 4.2.1).
 fn is_timer_due(talk: &Talk, now_ms: u64) -> bool
     ensures { result ≡ is_due_at now_ms talk.now.client.session }
 {
@@ -263,7 +264,7 @@ fn is_timer_due(talk: &Talk, now_ms: u64) -> bool
     }
 }
 
-/// Whether the session is to be served though no bytes came: messages wait for the peer, or a timer is due.
+/// Tests whether the session should be served without bytes: messages wait for the peer, or a timer is due.
 fn is_due<W: Watch, D: Desk>(talk: &Talk, watch: &W, store: &mut D) -> bool
     ensures due { IsDue (D.queues store.new talk.now.peer) (W.may_show watch.now) talk.now.client.session result }
     ensures same { D.moves store.old [] store.new }
@@ -273,7 +274,7 @@ fn is_due<W: Watch, D: Desk>(talk: &Talk, watch: &W, store: &mut D) -> bool
     is_queued || is_timer_due(talk, now_ms)
 }
 
-/// What a read that failed means: where nothing came in time, or the wait was interrupted, it is tried again.
+/// Says what a failed read means. If nothing came in time, or the wait was interrupted, it is tried again.
 fn heard_of_fault(kind: ErrorKind) -> Heard
     ensures table { result ≡ heard_of_fault kind }
     ensures within { (buffer : List ℕ) → IsWithin result buffer }
@@ -285,7 +286,7 @@ fn heard_of_fault(kind: ErrorKind) -> Heard
     }
 }
 
-/// Reads once. What came stands at the front of the buffer.
+/// Reads once. What came is at the front of the buffer.
 fn hear<I: Patient>(reader: &mut I, buffer: &mut [u8]) -> Heard
     requires room { 0 < length buffer.old }
     ensures within { IsWithin result buffer.new }
@@ -298,7 +299,7 @@ fn hear<I: Patient>(reader: &mut I, buffer: &mut [u8]) -> Heard
     }
 }
 
-/// Reads what is there, and waits for nothing.
+/// Reads what is there, without waiting.
 fn hear_at_once<I: Patient>(reader: &mut I, buffer: &mut [u8]) -> Heard
     requires room { 0 < length buffer.old }
     ensures within { IsWithin result buffer.new }
@@ -308,7 +309,7 @@ fn hear_at_once<I: Patient>(reader: &mut I, buffer: &mut [u8]) -> Heard
     hear(reader, buffer)
 }
 
-/// The moment that it is, or the last one at which the session was served, where that is later.
+/// Returns the present moment, or, if it is later, the last one at which the session was served.
 fn moment_ms<W: Watch>(talk: &Talk, watch: &W) -> u64
     ensures rises { talk.now.served_ms ≤ result }
     ensures shown { (result ≡ talk.now.served_ms) ⊎ W.may_show watch.now result }
@@ -321,7 +322,7 @@ fn moment_ms<W: Watch>(talk: &Talk, watch: &W) -> u64
     now_ms
 }
 
-/// Serves a piece at the moment that it is.
+/// Serves a piece at the present moment.
 fn serve_piece<W: Watch, D: Desk>(talk: &mut Talk, piece: &[u8], watch: &W, store: &mut D)
     ensures peer { talk.new.peer ≡ talk.old.peer }
     ensures served { (start : D) (unread blank left read written : Option (List ℕ))
@@ -337,7 +338,7 @@ fn serve_piece<W: Watch, D: Desk>(talk: &mut Talk, piece: &[u8], watch: &W, stor
     }
 }
 
-/// Serves a piece, and writes what the session has to say in one call.
+/// Serves a piece, and writes what the session has to send in one call.
 fn answer<O: Write, W: Watch, D: Desk>(
     talk: &mut Talk,
     piece: &[u8],
@@ -356,7 +357,7 @@ fn answer<O: Write, W: Watch, D: Desk>(
     say(talk, writer, watch)
 }
 
-/// Writes what the session has to say, and gives the end, where that has come.
+/// Writes what the session has to send, and returns the end, if it has come.
 fn say<O: Write, W: Watch>(talk: &mut Talk, writer: &mut O, watch: &W) -> Option<Ended>
     ensures peer { talk.new.peer ≡ talk.old.peer }
     ensures moment { talk.new.served_ms ≡ talk.old.served_ms }
@@ -375,7 +376,7 @@ fn say<O: Write, W: Watch>(talk: &mut Talk, writer: &mut O, watch: &W) -> Option
     None
 }
 
-/// How many bytes a write that failed took: none where it was interrupted.
+/// Returns how many bytes a failed write took: none if it was interrupted.
 fn taken_of_fault(kind: ErrorKind) -> Option<usize>
     ensures table { result ≡ taken_of_fault kind }
     ensures none { MatchOption result ⊤ (λ count. count ≡ 0) }
@@ -386,7 +387,7 @@ fn taken_of_fault(kind: ErrorKind) -> Option<usize>
     }
 }
 
-/// Writes once, and says how many bytes were taken: none where the write was interrupted. `None` where it failed.
+/// Writes once, and returns how many bytes were taken: 0 if the write was interrupted, `None` if it failed.
 pub(crate) fn write_once<O: Write>(writer: &mut O, bytes: &[u8]) -> Option<usize>
     ensures { MatchOption result (Keeps (O.contents writer.old) (O.contents writer.new))
         (λ count. (count ≤ length bytes.now) × Appends (O.contents writer.old) (O.contents writer.new) (take count bytes.now)) }
@@ -397,8 +398,8 @@ pub(crate) fn write_once<O: Write>(writer: &mut O, bytes: &[u8]) -> Option<usize
     }
 }
 
-/// Writes bytes, in one call but where a write takes a part of them alone. Says whether the peer took all of them
-/// in time. A write that waited for its time has used it up, though a part was taken meanwhile.
+/// Writes bytes, in one call unless a write takes only a part of them. Returns whether the peer took all of them in
+/// time. A write that waited for its whole time has used it up, even if a part was taken meanwhile.
 fn is_taken<O: Write, W: Watch>(writer: &mut O, watch: &W, bytes: &[u8]) -> bool
     ensures { TakesAll result (O.contents writer.old) (O.contents writer.new) bytes.now }
 {
@@ -422,7 +423,7 @@ fn is_taken<O: Write, W: Watch>(writer: &mut O, watch: &W, bytes: &[u8]) -> bool
     false
 }
 
-/// Ends the session from this side, with a Close where there is memory for it.
+/// Ends the session, with a Close if there is memory for it.
 fn close(talk: &mut Talk)
     ensures peer { talk.new.peer ≡ talk.old.peer }
     ensures moment { talk.new.served_ms ≡ talk.old.served_ms }

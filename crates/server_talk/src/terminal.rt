@@ -1,12 +1,13 @@
-//! Whether this process is in front at its terminal: one that reads in the background is stopped by the terminal (SIGTTIN).
+//! Tests whether this process is in the foreground of its terminal. The terminal stops a background process that reads
+//! (SIGTTIN).
 use std::fs;
 use std::fs::Files;
 
-/// Where the system says the process group of this process, and that in front at its terminal (proc(5)).
+/// Where the system gives the process group of this process, and the foreground group of its terminal (proc(5)).
 const STAT: &str = "/proc/self/stat";
 
-/// Whether both groups are the same, by the fields after the program's name: state, parent, group, session, terminal, and
-/// the group in front. A text that isn't so says nothing of a background.
+/// Tests whether both groups are the same, using the fields after the program's name: state, parent, group, session,
+/// terminal, and the foreground group. A text of another form doesn't count as a background.
 fn says_front(stat: &str) -> bool {
     let Some((_name, fields)) = stat.rsplit_once(')') else {
         return true;
@@ -20,7 +21,7 @@ fn says_front(stat: &str) -> bool {
     }
 }
 
-/// Whether this process may read its terminal.
+/// Tests whether this process may read its terminal.
 pub(crate) fn is_in_front<R: Files + AllocGlobal>(rt: &R) -> bool {
     let Ok(stat) = fs::read(rt, STAT) else {
         return true;

@@ -11,7 +11,7 @@ use Rattle.server_viewers.specs.States.AreStates.{Ends, Goes_on}
 use Rattle.server_viewers.specs.Views.{IsMetrics}
 
 module _ (text : Ted) (begun : List (Happening Event)) where
-  -- after this past and these states come those of the LSPs from a place on
+  -- after this past and these states come the states of the LSPs from a place on
   abbrev pub Awaits : List (Happening Event) → ℕ → List ShownState → Type 0
   Awaits past from states = (rest : List ShownState) (last : List (Happening Event)) → AreStates text past from rest last → AreStates text begun 0 (states ++ rest) last
 
@@ -27,7 +27,7 @@ module _ (text : Ted) (begun : List (Happening Event)) where
       (subst (λ (states : List ShownState). AreStates text begun 0 states last) (sym (append_assoc old h.0 rest))
       (on (h.0 ++ rest) last (Goes_on past then last from next h.0 rest h.1 h.2 k)))
 
--- the states begin where less had been seen
+-- the states also begin where less had been seen
 pub states_earlier : (text : Ted) (earlier begun : List (Happening Event)) (from : ℕ) (states : List ShownState) (last : List (Happening Event)) → IsPrefix earlier begun → AreStates text begun from states last → AreStates text earlier from states last
 states_earlier text earlier begun from states last less (Ends b l f page more is) = Ends earlier l f page (prefix_trans earlier b l less more) is
 states_earlier text earlier begun from states last less (Goes_on b past l f next page rest more is on) = Goes_on earlier past l f next page rest (prefix_trans earlier b past less more) is on

@@ -1,6 +1,6 @@
-//! The viewers of a run, who see documents and metrics by HTTP (`specs/Views`). They change nothing.
+//! The viewers of a run, which see documents and metrics over HTTP (`specs/Views`). They change nothing.
 //!
-//! - `process`: what the system says of the process
+//! - `process`: what the system says about the process
 //! - `states`: the states in which LSPs are shown, of all of them
 //! - `viewers`: what viewers see, and the thread that serves them
 #![tactic(auto)]

@@ -1,18 +1,18 @@
-//! What the system says of the process.
+//! What the system says about the process.
 use metrics_text::Process;
 use std::fs;
 use std::fs::Files;
 
-/// Linux describes a process here, a line for each value.
+/// Where Linux describes a process, with a line for each value.
 const STATUS: &str = "/proc/self/status";
 
-/// Linux says the limits of a process here, a line for each.
+/// Where Linux gives the limits of a process, with a line for each.
 const LIMITS: &str = "/proc/self/limits";
 
-/// Linux names the descriptors of a process here.
+/// Where Linux names the descriptors of a process.
 const DESCRIPTORS: &str = "/proc/self/fd";
 
-/// The bytes that a line `VmRSS: N kB` gives.
+/// Returns the bytes that a line `VmRSS: N kB` gives.
 fn resident_in(text: &str) -> Option<u64> {
     for line in text.lines() {
         if let Some(rest) = line.strip_prefix("VmRSS:") {
@@ -23,13 +23,13 @@ fn resident_in(text: &str) -> Option<u64> {
     None
 }
 
-/// Reads how much memory of the process is in RAM, in bytes; `None` where the system doesn't say.
+/// Reads how much memory of the process is in RAM, in bytes; `None` if the system doesn't say.
 fn resident_bytes<R: Files + AllocGlobal>(rt: &R) -> Option<u64> {
     let text = fs::read(rt, STATUS).ok()?;
     resident_in(str::from_utf8(&text).ok()?)
 }
 
-/// The limit that holds, in a line `Max open files N M files`.
+/// Returns the limit in force, from a line `Max open files N M files`.
 fn limit_in(text: &str) -> Option<u64> {
     for line in text.lines() {
         if let Some(rest) = line.strip_prefix("Max open files") {
@@ -45,7 +45,7 @@ fn descriptor_limit<R: Files + AllocGlobal>(rt: &R) -> Option<u64> {
     limit_in(str::from_utf8(&text).ok()?)
 }
 
-/// Counts the descriptors that are open, but for the one by which they are read.
+/// Counts the open descriptors, except for the one by which they are read.
 fn open_descriptors(rt: &HostRuntime) -> Option<u64> {
     let mut count = 0u64;
     for entry in fs::read_dir(rt, DESCRIPTORS).ok()? {
@@ -55,7 +55,7 @@ fn open_descriptors(rt: &HostRuntime) -> Option<u64> {
     Some(count.saturating_sub(1))
 }
 
-/// Reads what the system says of the process.
+/// Reads what the system says about the process.
 pub(crate) fn process_of(rt: &HostRuntime) -> Process {
     Process {
         resident_bytes: resident_bytes(rt),

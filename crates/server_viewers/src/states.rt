@@ -16,7 +16,7 @@ use std::alloc::AllocError;
 use std::sync::Wait;
 use std::time::Clock;
 
-/// Adds the states of the LSPs of a page, with what routers said of them.
+/// Adds the states of the LSPs of a page, with what routers said about them.
 fn add_heard<R: Wait + Clock, B: Brands>(
     outlook: &Outlook<'_, R, B>,
     question: &Lsps,
@@ -30,7 +30,7 @@ fn add_heard<R: Wait + Clock, B: Brands>(
     add_states(states, &heard, placed)
 }
 
-/// Adds the states of a page of LSPs, and gives where the next page starts.
+/// Adds the states of a page of LSPs, and returns where the next page starts.
 fn add_page<R: Wait + Clock, B: Brands>(
     outlook: &Outlook<'_, R, B>,
     front: &mut Front<Event, B>,
@@ -46,7 +46,7 @@ fn add_page<R: Wait + Clock, B: Brands>(
     Ok(placed.page.next)
 }
 
-/// The states of all LSPs, page by page. Each page is of a look that saw no less than the one before.
+/// Returns the states of all LSPs, page by page. Each page comes from a look that saw no less than the one before.
 pub(crate) fn all_states<R: Wait + Clock, B: Brands>(
     outlook: &Outlook<'_, R, B>,
     front: &mut Front<Event, B>,

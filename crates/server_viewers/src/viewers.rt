@@ -1,4 +1,4 @@
-//! Viewers: documents and metrics of the run, by HTTP.
+//! Viewers: documents and metrics of the run, over HTTP.
 ghost use Rattle.std.specs.Prelude.{ℕ, List, IfOk, OnOk};
 ghost use mathlib.Core.List.{IsPrefix};
 ghost use Rattle.http_server.specs.Response.{IsBlank, IsResponse};
@@ -35,13 +35,13 @@ pub struct ViewerListener<'a> {
     pub listener: &'a TcpListener,
     /// Secret keys for the maps of a request's fields.
     pub keys: RandomState,
-    /// The JSON document of where the network's nodes are on a map.
+    /// The JSON document that says where on a map the network's nodes are.
     pub places: &'a [u8],
-    /// What the system says of the process is read here.
+    /// Where what the system says about the process is read.
     pub files: &'a HostRuntime,
 }
 
-/// The document of JSON of what one look sees.
+/// Writes the JSON document of what one look sees.
 fn document_text<R: Wait + Clock, B: Brands>(
     outlook: &Outlook<'_, R, B>,
     front: &mut Front<Event, B>,
@@ -54,7 +54,7 @@ fn document_text<R: Wait + Clock, B: Brands>(
     Ok(page_of(outlook, front, Form::Json, around, ask)?.text)
 }
 
-/// The same. If memory is refused, it is tried once more after the history was rolled for that.
+/// Writes the same. If memory runs out, the history is rolled for that, and it is tried once more.
 fn sure_text<R: Wait + Clock, B: Brands>(
     outlook: &Outlook<'_, R, B>,
     front: &mut Front<Event, B>,
@@ -73,7 +73,7 @@ fn sure_text<R: Wait + Clock, B: Brands>(
     }
 }
 
-/// The metrics of what one look sees, of what was counted, and of the states in which LSPs are shown.
+/// Writes the metrics of what one look sees, of what was counted, and of the states in which LSPs are shown.
 fn counted_text<R: Wait + Clock, B: Brands>(
     outlook: &Outlook<'_, R, B>,
     front: &mut Front<Event, B>,
@@ -98,7 +98,7 @@ fn counted_text<R: Wait + Clock, B: Brands>(
     )
 }
 
-/// The metrics: the states in which all LSPs are shown, and then the rest of one look.
+/// Writes the metrics: the states in which all LSPs are shown, and then the rest from one look.
 fn numbers_text<R: Wait + Clock, B: Brands>(
     outlook: &Outlook<'_, R, B>,
     front: &mut Front<Event, B>,
@@ -113,7 +113,7 @@ fn numbers_text<R: Wait + Clock, B: Brands>(
     counted_text(outlook, front, around, counters, process, &states)
 }
 
-/// Answers by the document of one look.
+/// Answers with the document of one look.
 fn answer_document<R: Wait + Clock, B: Brands>(
     outlook: &Outlook<'_, R, B>,
     front: &mut Front<Event, B>,
@@ -138,7 +138,7 @@ fn answer_document<R: Wait + Clock, B: Brands>(
     give_document(response, text)
 }
 
-/// Answers by the metrics.
+/// Answers with the metrics.
 fn answer_metrics<R: Wait + Clock, B: Brands>(
     outlook: &Outlook<'_, R, B>,
     front: &mut Front<Event, B>,
@@ -165,8 +165,9 @@ fn answer_metrics<R: Wait + Clock, B: Brands>(
     give_metrics(response, text)
 }
 
-/// What viewers see: each document is of one look, and the metrics of one behind others for the states of LSPs. All looks are shown
-/// to one front. A contract sees what that had seen when viewers were answered last: an answer that finds no memory shows nothing.
+/// What viewers see. Each document comes from one look; the metrics come from one look, after others for the states of
+/// LSPs. All looks are shown to one front. A contract sees what that front had seen when viewers were last answered; an
+/// answer that runs out of memory shows nothing.
 #[derive(Drop)]
 pub(crate) struct Views<'a, 'c, 'f, R: Clock, B: Brands> {
     outlook: &'a Outlook<'c, R, B>,
@@ -189,7 +190,7 @@ impl<'a, 'c, 'f, R: Clock, B: Brands> Model for Views<'a, 'c, 'f, R, B> {
 }
 
 impl<'a, 'c, 'f, R: Wait + Clock, B: Brands> Views<'a, 'c, 'f, R, B> {
-    /// What is seen from now on.
+    /// Makes the views of what is seen from now on.
     fn new(outlook: &'a Outlook<'c, R, B>, files: &'f HostRuntime) -> Views<'a, 'c, 'f, R, B> {
         let front = outlook.front();
         let shown = Snapshot::of(&front);
@@ -224,7 +225,7 @@ impl<'a, 'c, 'f, R: Wait + Clock, B: Brands> ViewSource for Views<'a, 'c, 'f, R,
     }
 }
 
-/// Until when viewers are served.
+/// Tells until when viewers are served.
 #[derive(Drop)]
 struct Serving<'a, 'c, R: Clock, B: Brands> {
     outlook: &'a Outlook<'c, R, B>,
@@ -240,7 +241,7 @@ impl<'a, 'c, R: Wait + Clock, B: Brands> http_views::Watch for Serving<'a, 'c, R
     }
 }
 
-/// The thread that serves viewers until the run is over. Where it can't, that is logged, and the run goes on.
+/// Runs the thread that serves viewers until the run is over. If it can't, that is logged, and the run goes on.
 pub fn show_views<R: Wait + Clock + Net<Listener = TcpListener, Stream = TcpStream>, B: Brands>(
     context: &Context<'_, R, B>,
     at: &ViewerListener<'_>,

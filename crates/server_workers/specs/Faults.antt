@@ -9,7 +9,7 @@ abbrev pub turn : Bool → Turn
 turn true = Failed
 turn false = Went
 
--- nothing after a turn that went well; after another by the faults in a row, this one too
+-- nothing after a turn that went well; after a fault, what the number of faults in a row calls for, this one included
 abbrev pub after_turn : Bool → List Turn → Option AfterFault
 after_turn true past = Some (after_fault (in_a_row (Failed ∷ past)))
 after_turn false past = None

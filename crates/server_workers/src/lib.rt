@@ -1,5 +1,5 @@
-//! The threads of a run that serve no connection: the workers, who search for paths, and the keeper of time, who
-//! forgets peers that stay down and rolls the history.
+//! The threads of a run that serve no connection: the workers, which search for paths, and the timer, which forgets
+//! peers that stay down and rolls the history.
 #![tactic(auto)]
 
 mod workers;

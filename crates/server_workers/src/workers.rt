@@ -1,4 +1,4 @@
-//! The workers, who search for paths, and the keeper of time.
+//! The workers, which search for paths, and the timer.
 ghost use Rattle.std.specs.Prelude.{◌≡◌, ◌<◌, ◌++◌, ◌∷◌, [], true, false, List, length, Some};
 ghost use Rattle.server_rules.specs.Faults.{Knows};
 ghost use Rattle.server_rules.specs.declared.faults.Turn.{Turn};
@@ -21,26 +21,26 @@ use std::sync::Wait;
 use std::thread;
 use std::time::{Clock, Duration};
 
-/// The sleep of a worker that nothing wakes, in milliseconds.
+/// How long a worker sleeps if nothing wakes it, in milliseconds.
 const WORK_WAIT_MS: u64 = 250;
 
-/// Its sleep where no ticket may be taken yet, in milliseconds.
+/// How long a worker sleeps while no ticket may be taken yet, in milliseconds.
 const GATE_WAIT_MS: u64 = 20;
 
-/// The sleep of the keeper of time between two looks, in milliseconds.
+/// How long the timer sleeps between two looks, in milliseconds.
 const KEEPER_WAIT_MS: u64 = 10;
 
-/// The time between two moments at which the keeper of time notes how many steps there are, in milliseconds.
+/// The time between two moments at which the timer notes how many steps there are, in milliseconds.
 const MARK_EVERY_MS: u64 = 1_000;
 
-/// The time between two moments at which the keeper of time looks after grants, in milliseconds.
+/// The time between two moments at which the timer looks after grants, in milliseconds.
 const UPKEEP_EVERY_MS: u64 = 500;
 
-/// The number of times that the Downs that are owed are tried at the end of a run.
+/// How often submitting the owed Downs is tried at the end of a run.
 const LAST_TRIES: u32 = 500;
 
-/// Says that memory was refused to a roll, and whether it wasn't. That the history was rolled is said by the keeper of time, whoever
-/// rolled it.
+/// Logs if memory ran out for a roll, and returns whether it didn't. That the history was rolled is logged by the
+/// timer, whoever rolled it.
 fn note_rolled<R: Wait + Clock, B: Brands>(
     context: &Context<'_, R, B>,
     rolled: Result<Option<u64>, AllocError>,
@@ -51,25 +51,25 @@ fn note_rolled<R: Wait + Clock, B: Brands>(
     rolled.is_ok()
 }
 
-/// Rolls the history where it is full. False where memory was refused: the next look tries again.
+/// Rolls the history if it is full. Returns false if memory ran out; the next look then tries again.
 fn make_room<R: Wait + Clock, B: Brands>(context: &Context<'_, R, B>, seat: &mut Seat<B>) -> bool {
     note_rolled(context, context.shared.roll_if_full(context.rt, seat))
 }
 
-/// Rolls the history for want of memory, and has the seat drop its receipts of rolled steps.
+/// Rolls the history because memory ran out, and drops the seat's receipts of rolled steps.
 fn spare<R: Wait + Clock, B: Brands>(context: &Context<'_, R, B>, seat: &mut Seat<B>) {
     let rolled = context.shared.roll_if(context.rt, seat, SPARE_AT);
     let _is_rolled = note_rolled(context, rolled);
     rest(context, seat);
 }
 
-/// Rolls the history if it is nearly full, or takes as much memory as it may beside the receipts of rolled steps. A step does so
-/// too: this is for the time in which there is none to wait for it.
+/// Rolls the history if it is nearly full, or takes as much memory as the receipts of rolled steps leave it. A step
+/// does so too; this is for the time in which no step would have to wait for it.
 fn tend<R: Wait + Clock, B: Brands>(context: &Context<'_, R, B>, seat: &mut Seat<B>) {
     let _is_rolled = note_rolled(context, context.shared.roll_if_due(context.rt, seat));
 }
 
-/// Rolls the history if memory was refused to a thread that can't.
+/// Rolls the history if memory ran out for a thread that can't roll it.
 fn spare_others<R: Wait + Clock, B: Brands>(context: &Context<'_, R, B>, seat: &mut Seat<B>) {
     if context.run.is_memory_short() {
         spare(context, seat);
@@ -77,14 +77,14 @@ fn spare_others<R: Wait + Clock, B: Brands>(context: &Context<'_, R, B>, seat: &
     }
 }
 
-/// Has a seat whose thread has nothing to do drop its receipts of rolled steps, where it keeps any.
+/// Drops the receipts of rolled steps of a seat whose thread has nothing to do, if the seat keeps any.
 fn rest<R: Wait + Clock, B: Brands>(context: &Context<'_, R, B>, seat: &mut Seat<B>) {
     if !seat.receipts().is_empty() {
         context.shared.fold(context.rt, seat);
     }
 }
 
-/// Has the connections of these routers look for what they have to say.
+/// Wakes the connections of these routers, so that they look for messages to send.
 fn ring<R: Wait + Clock, B: Brands>(context: &Context<'_, R, B>, unrung: &mut Unrung)
     ensures { unrung.new ≡ [] }
 {
@@ -94,8 +94,9 @@ fn ring<R: Wait + Clock, B: Brands>(context: &Context<'_, R, B>, unrung: &mut Un
     *unrung = Unrung::none();
 }
 
-/// Has the connection of the router for which a path was sought look for what it has to say: at once where no ticket is in
-/// the worker's hand, else after some turns, so that a connection finds several messages when it is woken.
+/// Wakes the connection of the router for which a path was searched for, so that it looks for messages to send. If no
+/// ticket is in the worker's hand, that happens at once, otherwise after some turns, so that a connection finds several
+/// messages when it is woken.
 fn ring_for<R: Wait + Clock, B: Brands>(
     context: &Context<'_, R, B>,
     unrung: &mut Unrung,
@@ -114,7 +115,8 @@ fn ring_for<R: Wait + Clock, B: Brands>(
     }
 }
 
-/// Whether tickets may be taken: what routers hold is known by now, or time is up. Else waits a while.
+/// Asks whether tickets may be taken: they may if what routers hold is known by now, or the time is up. If they may
+/// not, waits a while.
 fn may_grant<R: Wait + Clock, B: Brands>(context: &Context<'_, R, B>) -> bool {
     match context.grants.look(context.rt, context.moments().now_ms()) {
         GrantGateLook::Open => true,
@@ -151,14 +153,14 @@ impl<'a, R: Clock> Gate for SearchTimer<'a, R> {
     }
 }
 
-/// How long a turn's search took, and how long its ticket waited where that was settled, in microseconds.
+/// How long a turn's search took, and how long its ticket waited if it was settled, in microseconds.
 #[derive(Clone, Copy)]
 struct TurnTimes {
     search_us: u64,
     wait_us: Option<u64>,
 }
 
-/// Times a worker's turn, whose search began at this moment, in microseconds.
+/// Returns the times of a worker's turn whose search began at this moment, in microseconds.
 fn times_of<R: Wait + Clock, B: Brands>(
     context: &Context<'_, R, B>,
     worked: &Worked,
@@ -187,7 +189,7 @@ fn count_times(counters: &mut Counters, times: TurnTimes)
     }
 }
 
-/// Counts the step by which a turn took the ticket whose job is in its seat's hand, where one is.
+/// Counts the step by which a turn took the ticket whose job is in its seat's hand, if there is one.
 fn count_taken(counters: &mut Counters, has_job: bool)
     ensures { counters.new ≡ hand_counted has_job counters.old }
 {
@@ -196,7 +198,7 @@ fn count_taken(counters: &mut Counters, has_job: bool)
     }
 }
 
-/// Counts a worker's turn and its times, which began with a job in its hand or without, and ended so.
+/// Counts a worker's turn and its times. The turn began and ended with a job in its hand or without one.
 fn count_turn(
     counters: &mut Counters,
     worked: &Worked,
@@ -228,7 +230,7 @@ fn note_worked<R: Wait + Clock, B: Brands>(
     count_turn(&mut counters, worked, times, had_job, has_job);
 }
 
-/// Works at the job in the seat's hand, or at the ticket that waits, and notes what came of it.
+/// Works on the job in the seat's hand, or on the ticket that waits, and notes the result.
 fn work_once<R: Wait + Clock, B: Brands>(
     context: &Context<'_, R, B>,
     seat: &mut Seat<B>,
@@ -256,8 +258,9 @@ fn recover<R: Wait + Clock, B: Brands>(
     }
 }
 
-/// A turn of a worker: works at the job in the seat's hand, or sleeps until a ticket waits, and works at that. Where none
-/// comes, it looks at the history, and its seat drops its receipts of rolled steps. Gives the fault, if one came.
+/// Makes one turn of a worker: works on the job in the seat's hand, or sleeps until a ticket waits, and works on that.
+/// If none comes, it looks at the history, and drops its seat's receipts of rolled steps. Returns the fault, if one
+/// came.
 fn worker_turn<R: Wait + Clock, B: Brands>(
     context: &Context<'_, R, B>,
     seat: &mut Seat<B>,
@@ -287,7 +290,7 @@ fn worker_turn<R: Wait + Clock, B: Brands>(
     Some(fault)
 }
 
-/// Notes how a turn went, and says what the worker does after a fault.
+/// Notes how a turn went, and returns what the worker does after a fault.
 fn note_turn(faults: &mut FaultsInARow, has_failed: bool) -> Option<AfterFault>
     ensures noted { (past : List Turn) → Knows faults.old past → Knows faults.new (turn has_failed ∷ past) }
     ensures after { (past : List Turn) → Knows faults.old past → result ≡ after_turn has_failed past }
@@ -299,7 +302,7 @@ fn note_turn(faults: &mut FaultsInARow, has_failed: bool) -> Option<AfterFault>
     None
 }
 
-/// Notes how a turn went. After a fault the worker pauses, for memory to come back; or it gives up, and the run ends.
+/// Notes how a turn went. After a fault the worker pauses, for memory to come back, or gives up, and the run ends.
 fn goes_on<R: Wait + Clock, B: Brands>(
     context: &Context<'_, R, B>,
     faults: &mut FaultsInARow,
@@ -345,7 +348,7 @@ fn work_on<R: Wait + Clock, B: Brands>(context: &Context<'_, R, B>, seat: &mut S
     ring(context, &mut unrung);
 }
 
-/// A worker's thread.
+/// Runs a worker's thread.
 pub fn work<R: Wait + Clock, B: Brands>(context: &Context<'_, R, B>, at: usize) {
     let Some(mut seat) = context.pool.take(context.rt, at) else {
         return;
@@ -354,13 +357,13 @@ pub fn work<R: Wait + Clock, B: Brands>(context: &Context<'_, R, B>, at: usize) 
     context.pool.put(context.rt, at, seat);
 }
 
-/// Says what came of what was due. False if nothing was.
+/// Logs the result of submitting what was due. Returns false if nothing was due.
 fn note_settled<R: Wait + Clock, B: Brands>(context: &Context<'_, R, B>, settled: Settled) -> bool {
     context.say_settled(settled);
     settled != Settled::Nothing
 }
 
-/// Submits what is due of a peer that is kept for this time, or waits a while where nothing is, or memory is refused.
+/// Submits what is due for a peer that is kept for this time. If nothing is due, or memory runs out, waits a while.
 fn settle<R: Wait + Clock, B: Brands>(
     context: &Context<'_, R, B>,
     seat: &mut Seat<B>,
@@ -389,7 +392,7 @@ fn settle<R: Wait + Clock, B: Brands>(
     }
 }
 
-/// Submits the Downs that are still owed once no connection lives.
+/// Submits the Downs that are still owed after all connections have ended.
 fn settle_last<R: Wait + Clock, B: Brands>(context: &Context<'_, R, B>, seat: &mut Seat<B>) {
     for _try in 0..LAST_TRIES {
         if !context.peers.owes_a_down(context.rt) {
@@ -399,7 +402,7 @@ fn settle_last<R: Wait + Clock, B: Brands>(context: &Context<'_, R, B>, seat: &m
     }
 }
 
-/// Notes how many steps there are, where that is due, and gives when it is due next.
+/// Notes how many steps there are, if that is due, and returns when it is due next.
 fn mark_steps<R: Wait + Clock, B: Brands>(
     context: &Context<'_, R, B>,
     front: &mut Front<Event, B>,
@@ -413,8 +416,9 @@ fn mark_steps<R: Wait + Clock, B: Brands>(
     now_ms.saturating_add(MARK_EVERY_MS)
 }
 
-/// Says that the history was rolled, whoever rolled it, and has every seat drop its receipts of rolled steps: those that rest at
-/// once, and those of connections when they have been woken. Given and gives how many steps lie before the base of the history.
+/// Logs that the history was rolled, whoever rolled it, and drops the receipts of rolled steps of every seat: at once
+/// for seats that rest, and for those of connections after they were woken. Takes the last known number of steps before
+/// the base of the history, and returns the present one.
 fn fold_all<R: Wait + Clock, B: Brands>(
     context: &Context<'_, R, B>,
     seat: &mut Seat<B>,
@@ -429,8 +433,8 @@ fn fold_all<R: Wait + Clock, B: Brands>(
     rolled
 }
 
-/// Looks after grants and awaited deletions, where that is due, and gives when it is due next. Nothing is submitted once the run
-/// ends.
+/// Looks after grants and awaited deletions, if that is due, and returns when it is due next. When the run ends,
+/// nothing is submitted.
 fn keep_up<R: Wait + Clock, B: Brands>(
     context: &Context<'_, R, B>,
     seat: &mut Seat<B>,
@@ -450,7 +454,7 @@ fn keep_up<R: Wait + Clock, B: Brands>(
     now_ms.saturating_add(UPKEEP_EVERY_MS)
 }
 
-/// Submits what is due, until the end. The history is looked at between them, since workers that have tickets don't.
+/// Submits what is due, until the end. Looks at the history in between, since workers that have tickets don't.
 fn keep_on<R: Wait + Clock, B: Brands>(context: &Context<'_, R, B>, seat: &mut Seat<B>) {
     let mut front = context.shared.front(context.rt);
     let mut due_ms = 0u64;
@@ -470,7 +474,7 @@ fn keep_on<R: Wait + Clock, B: Brands>(context: &Context<'_, R, B>, seat: &mut S
     }
 }
 
-/// The keeper of time's thread.
+/// Runs the timer's thread.
 pub fn keep_time<R: Wait + Clock, B: Brands>(context: &Context<'_, R, B>, at: usize) {
     let Some(mut seat) = context.pool.take(context.rt, at) else {
         return;

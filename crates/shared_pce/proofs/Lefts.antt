@@ -1,4 +1,4 @@
--- What is read of each link around a step was left of it.
+-- What is read about each link before and after a step was left of it then.
 use Rattle.std.proofs.Common.{◌≡◌, ◌∙◌, ℕ, Bool, true, false, List, length, map, drop, ap, sym, refl, subst}
 use Rattle.std.specs.Prelude.{All, Contains, nat_lt, Result, Ok, Err, OnOk, OnErr, if◌then◌else◌}
 use Rattle.std.specs.declared.alloc.AllocError.{AllocError}
@@ -11,7 +11,7 @@ use Rattle.step_core.specs.Steps.{step}
 use Rattle.history_core.specs.Histories.{Content, Replays}
 use Rattle.shared_pce.specs.Lefts.{brings, left_at, links_in, row_after, row_before, with_rows, IsBefore, IsLookedAt, WasLeft}
 
--- each row is of one of the event's links
+-- each row belongs to one of the event's links
 pub all_before : (d : Content) (e : Event) (priority : ℕ) (rows : List LeftRow) → rows ≡ map (row_before d priority) (links_in d.state.te e) → All (IsBefore d e priority) rows
 all_before d e priority rows is =
     let links : List ℕ = links_in d.state.te e in
@@ -48,11 +48,11 @@ kept_by : (b : Bool) (old : List LeftRow) → All WasLeft old → All WasLeft (i
 kept_by true old h = h
 kept_by false old h = All-drop WasLeft 32768 old h
 
--- what is kept was left
+-- all kept rows say what was left
 pub all_kept : (rows old : List LeftRow) → All WasLeft rows → All WasLeft old → All WasLeft (with_rows rows old)
 all_kept rows old h k = All-append WasLeft (if nat_lt (length old) 65536 then old else drop 32768 old) rows (kept_by (nat_lt (length old) 65536) old k) h
 
--- where nothing was added too
+-- so do they if nothing was added
 pub all_noted : (r : Result (Unit {0}) AllocError) (rows old new : List LeftRow) → OnOk r (new ≡ with_rows rows old) → OnErr r (new ≡ old) → All WasLeft rows → All WasLeft old → All WasLeft new
 all_noted (Ok u) rows old new added same h k = All-same WasLeft new (with_rows rows old) added (all_kept rows old h k)
 all_noted (Err e) rows old new added same h k = All-same WasLeft new old same k

@@ -1,4 +1,4 @@
--- A seat that has seen more: what follows from it for its next step.
+-- A seat that has seen more, and what that means for its next step.
 use Rattle.std.proofs.Common.{◌≡◌, ◌++◌, ℕ, Bool, true, false, List, [], ◌∷◌, Option, None, Some, Result, Ok, Err, refl, sym, subst, ◌∙◌, ap, append_assoc}
 use Rattle.std.proofs.lemmas.List.{append-nil}
 use Rattle.std.specs.Prelude.{IfOk, OnErr, if◌then◌else◌}
@@ -22,7 +22,7 @@ sees_on a b c h k = record {
   same = k.same ∙ ap (λ (s : SeatContent). with_seen c.seen s) h.same;
 }
 
--- it was shown all that had happened
+-- the seat was shown all that had happened
 pub shown_seen : (past : List (Happening Event)) (old new : SeatContent) → IsPrefix old.seen past → new ≡ with_seen past old → SeesMore old new
 shown_seen past old new begins is = record {
   begins = subst (λ (h : List (Happening Event)). IsPrefix old.seen h) (sym (ap (λ (s : SeatContent). s.seen) is)) begins;
@@ -44,7 +44,7 @@ pub received_on : (text : Ted) (a b c : SeatContent) (event : Event) (reply : Re
 received_on text a b c event reply h k =
     (k.0, prefix_trans a.seen b.seen k.0 h.begins k.1, k.2, k.3 ∙ ap (λ (s : SeatContent). stepped_at text k.0 event reply s) h.same ∙ stepped_seen text k.0 event reply b.seen a)
 
--- a roll is seen, and changes nothing else of the seat
+-- the seat sees a roll, and is otherwise unchanged
 pub rolls_seen : (due : Content → Bool) (text : Ted) (old new : SeatContent) (r : Option ℕ) → RollsIf due text old new r → SeesMore old new
 rolls_seen due text old new None h = h.0
 rolls_seen due text old new (Some steps) h = record {
@@ -52,7 +52,7 @@ rolls_seen due text old new (Some steps) h = record {
   same = h.4 ∙ ap (λ (seen : List (Happening Event)). with_seen seen old) (sym (ap (λ (s : SeatContent). s.seen) h.4));
 }
 
--- so it is if memory is refused
+-- the same if memory ran out
 pub rolled_seen : {E : Type 0} (due : Content → Bool) (text : Ted) (old new : SeatContent) (r : Result (Option ℕ) E) → IfOk r (RollsIf due text old new) → OnErr r (SeesMore old new) → SeesMore old new
 rolled_seen due text old new (Ok o) h k = rolls_seen due text old new o h
 rolled_seen due text old new (Err e) h k = k

@@ -1,4 +1,4 @@
--- What a step left of the links of the path that it brought.
+-- What a step left of the links of the path that it added.
 use Rattle.std.specs.Prelude.{ℕ, ℤ, ◌≡◌, ◌++◌, nat_lt, Bool, true, false, List, [], length, drop, Some, Contains, if◌then◌else◌}
 use Rattle.lsp_base.specs.Shares.{unreserved}
 use Rattle.te_base.specs.Ted.{Ted}
@@ -12,13 +12,13 @@ use Rattle.step_core.specs.States.{State}
 use Rattle.step_core.specs.Steps.{step}
 use Rattle.history_core.specs.Histories.{Content, Replays, steps_of}
 
--- the links of the path that an event brings: those of a report's route (RFC 3209), or those that a commit offers
+-- the links of the path that an event adds: those of a report's route (RFC 3209), or those that a commit offers
 abbrev pub links_in : Ted → Event → List ℕ
 links_in te (Report peer r) = links_of te r
 links_in te (Commit ticket (Some links)) = links
 links_in te e = []
 
--- a report's route has so many hops that its links aren't looked at
+-- a report's route has too many hops for its links to be looked at
 abbrev pub is_long : Event → Bool
 is_long (Report peer r) = nat_lt 256 (length (hops_of r))
 is_long e = false
@@ -29,7 +29,8 @@ brings (Booked wants) = true
 brings (Granted srp) = true
 brings r = false
 
--- a report is looked at by its setup priority; a commit has only the number of its ticket
+-- the priority at which a step is looked at: for a report its setup priority; a commit has only the number of its
+-- ticket, so it may be any
 abbrev pub IsLookedAt : Event → ℕ → Type 0
 IsLookedAt (Report peer r) priority = priority ≡ (r.priorities).setup
 IsLookedAt e priority = Unit {0}
@@ -38,8 +39,8 @@ IsLookedAt e priority = Unit {0}
 abbrev pub left_at : State → ℕ → ℕ → ℤ
 left_at s link priority = unreserved s.te.links s.base.paths link priority
 
--- The next step of a database that replays was of an event that brought a path over the link, and this was left of the
--- link before that step and after it.
+-- The row's next step, of a database that replays, was of an event that added a path over the link, and this was left
+-- of the link before that step and after it.
 pub record WasLeft (row : LeftRow) : Type 0 where
   pub d : Content
   pub e : Event
@@ -57,14 +58,14 @@ pub record WasLeft (row : LeftRow) : Type 0 where
 abbrev pub row_before : Content → ℕ → ℕ → LeftRow
 row_before d priority link = let left = left_at d.state link priority in record { step = steps_of d; link = link; priority = priority; before = left; after = left }
 
--- and after it
+-- the row of a link after the step
 abbrev pub row_after : State → LeftRow → LeftRow
 row_after s row = record row { after = left_at s row.link row.priority }
 
--- it is of a link of the event
+-- the row is of a link of the event
 abbrev pub IsBefore : Content → Event → ℕ → LeftRow → Type 0
 IsBefore d e priority row = (row ≡ row_before d priority row.link) × Contains (links_in d.state.te e) row.link
 
--- rows after others; of 65,536 the older half is dropped
+-- rows after others; if there are 65,536, the older half is dropped first
 abbrev pub with_rows : List LeftRow → List LeftRow → List LeftRow
 with_rows rows old = (if nat_lt (length old) 65536 then old else drop 32768 old) ++ rows

@@ -4,17 +4,17 @@ use Rattle.history_core.specs.Histories.{Content}
 use Rattle.history_seats.specs.Bytes.{kept_bytes}
 use Rattle.shared_pce.specs.declared.due.RollAt.{RollAt}
 
--- so many steps are kept, or steps of so many bytes
+-- this many steps are kept, or steps of this many bytes
 abbrev pub is_due : RollAt → Content → Bool
 is_due at d = nat_le at.steps (length d.history) || nat_le at.bytes (kept_bytes d)
 
--- One seat's steps take a sixteenth of what the history may take. Then its thread rolls the history and folds the seat before it
--- may have to wait, with receipts that only it can drop.
+-- When a seat's own steps take a sixteenth of what the history may take, its thread rolls the history and folds the
+-- seat. So it doesn't have to wait later for receipts that only it can drop.
 abbrev pub of_seat : RollAt → RollAt
 of_seat at = record { steps = 18446744073709551615; bytes = max (at.bytes / 16) 1048576 }
 
--- Given receipts of rolled steps of so many bytes, which seats haven't folded, a history that is rolled at half of what
--- it may take is rolled earlier: once its kept steps take half of what those leave. But a roll drops only the kept
--- steps, so there is at least a megabyte of them.
+-- The limit at which a history is rolled earlier, given how many bytes the rolled steps take whose receipts seats
+-- haven't folded. A history that is rolled at half of what it may take is then rolled when its kept steps take half of
+-- what those leave. A roll drops only kept steps, so there is at least a megabyte of them.
 abbrev pub beside : ℕ → RollAt → RollAt
 beside unfolded at = record at { bytes = max (at.bytes - unfolded / 2) 1048576 }

@@ -5,7 +5,7 @@ ghost use Rattle.shared_pce.specs.Rolls.{beside, is_due, of_seat};
 
 use history_seats::{Brands, Held};
 
-/// The least number of bytes of kept steps for which a roll is worth it. A roll takes memory too.
+/// The fewest bytes of kept steps for which a roll is worthwhile. A roll takes memory too.
 const LEAST_BYTES: u64 = 1_048_576;
 
 /// When a history is rolled because memory ran out.
@@ -23,14 +23,14 @@ pub struct RollAt {
 }
 
 impl RollAt {
-    /// For a history that isn't rolled for its length.
+    /// The limit for a history that isn't rolled for its length.
     pub const NEVER: RollAt = RollAt {
         steps: u64::MAX,
         bytes: u64::MAX,
     };
 
-    /// Returns when the history is rolled for the steps of one seat: once they take a sixteenth of the bytes, and at
-    /// least a megabyte.
+    /// Returns when the history is rolled because of the steps of one seat: when they take a sixteenth of the bytes,
+    /// and at least a megabyte.
     pub fn of_seat(self) -> RollAt
         ensures { result ≡ of_seat self }
     {
@@ -40,7 +40,8 @@ impl RollAt {
         }
     }
 
-    /// Takes half of what the receipts of rolled steps take off the bytes. A megabyte stays, so that each roll drops something.
+    /// Subtracts half of what the receipts of rolled steps take from the bytes. A megabyte stays, so that each roll
+    /// drops something.
     pub fn beside(self, unfolded: u64) -> RollAt
         ensures { result ≡ beside unfolded self }
     {
@@ -51,7 +52,7 @@ impl RollAt {
     }
 }
 
-/// Tests whether the history is to be rolled.
+/// Tests whether the history should be rolled.
 pub(crate) fn is_due<B: Brands>(held: &Held<B>, at: RollAt) -> bool
     ensures { result ≡ is_due at (database_at B.text held.now) }
 {

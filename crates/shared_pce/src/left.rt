@@ -14,11 +14,11 @@ use server_counts::LeftRow;
 use std::alloc::{AllocError, Global};
 use te_base::{LinkNumber, TeBase};
 
-/// The greatest number of links of a path that are read.
+/// The most links of a path that are read.
 const LINK_LIMIT: usize = 64;
 
-/// The greatest number of hops of a report whose links are read: four for each of the links that are read at most. A
-/// longer route is walked only by the step, so that no router can make the lock last by a walk that shows nothing.
+/// The most hops of a report whose links are read: four for each of the most links that are read. Only the step walks a
+/// longer route, so that no router can make the lock last by a walk that shows nothing.
 const HOP_LIMIT: usize = 256;
 
 /// Counts the hops of the route that a report gives its path.

@@ -27,7 +27,7 @@ impl Model for LeftTable {
     ghost invariant = { λ t. All WasLeft t.rows.items };
 }
 
-/// Appends the rows to those that are kept from a place on.
+/// Appends the rows to those that are kept from this place on.
 fn add_behind(kept: &mut Vec<LeftRow>, start: usize, rows: &[LeftRow]) -> Result<(), AllocError>
     requires { start ≤ length kept.old.items }
     ensures added { OnOk result (kept.new.items ≡ drop start kept.old.items ++ rows.now) }

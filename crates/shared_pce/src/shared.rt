@@ -37,7 +37,7 @@ mod drops;
 mod rolls;
 mod turns;
 
-/// One database for all threads, behind one lock.
+/// One database for all threads, under one lock.
 pub struct Shared<B: Brands> {
     alloc: Global,
     held: Mutex<Held<B>>,
@@ -69,8 +69,8 @@ impl<B: Brands> Drop for Shared<B> {
 }
 
 impl<B: Brands> Shared<B> {
-    /// Puts a database of which no step was taken behind a lock, with 1 to 256 seats. From `roll_at` on each step rolls
-    /// the history first. Drops everything if memory runs out.
+    /// Puts a database that has taken no step under a lock, with 1 to 256 seats. From `roll_at` on each step rolls the
+    /// history first. Drops everything if memory runs out.
     pub fn new(
         alloc: Global,
         database: Database,
@@ -337,8 +337,7 @@ impl<B: Brands> Shared<B> {
         self.bell.is_over()
     }
 
-    /// Takes the database from behind the lock and audits all of its seats. If the audit fails everything is handed
-    /// back.
+    /// Takes the database out of the lock and audits all of its seats. If the audit fails everything is handed back.
     pub fn close(self, seats: Vec<Seat<B>>) -> Result<Audit, AuditRefused<B>>
         ensures audited { IfOk result (λ audit. IsAudited B.seats audit.database seats.items) }
         ensures one_history { IfOk result (λ audit. (past : List (Happening Event)) × (audit.database ≡ database_at B.text past) × All (HasSeenOf past) seats.items) }

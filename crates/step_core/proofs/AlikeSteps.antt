@@ -1,4 +1,4 @@
--- States that differ in the order of their lists alone answer each event alike, and differ in nothing else after it.
+-- States that differ only in the order of their lists answer each event alike, and differ in nothing else after it.
 use Rattle.std.proofs.Common.{◌≡◌, ◌≤◌, ◌==◌, ◌&&◌, ◌||◌, ℕ, ◌+◌, Bool, true, cond, not, nat_le, List, [], ◌∷◌, ◌++◌, length, filter, IsPermutation, refl, sym, ap, ◌∙◌, subst, arith}
 use Rattle.std.specs.Prelude.{Option, Some, None, Result, Ok, Err, option_map, unwrap_or, if◌then◌else◌}
 use Rattle.std.proofs.lemmas.Bool.{and_from, and_parts}
@@ -59,11 +59,11 @@ use Rattle.step_core.proofs.PermutedShares.{all_left-permuted, fits-permuted, ow
 use Rattle.step_core.proofs.PermutedLists.{empty-permuted, names-permuted, paths-permuted, records-permuted}
 use Rattle.step_core.proofs.PermutedEffects.{AreSameLsps, ComeToTheSame, DoTheSame, deleted-same, down-same, expire-same, held-same, known-same, marker-same, new-same, pending-same, refused-same, result-same, same_effect, up-same, used-same}
 
--- the state with these LSPs and names in the place of its own
+-- the state with these LSPs and names instead of its own
 abbrev with_lists : State → Lsps → List AwaitedName → State
 with_lists s b ns = record s { base = b; names = ns }
 
--- the outcomes have one reply, and their states are alike
+-- both outcomes have the same reply, and their states are alike
 abbrev AreAlikeOutcomes : Outcome → Outcome → Type 0
 AreAlikeOutcomes o u = (o.reply ≡ u.reply) × AreAlike o.state u.state
 
@@ -74,7 +74,7 @@ decided_alike s t why other o u alike is after = subst (λ (w : Option Why). Are
     by (Some w) = (refl, alike)
     by None = after
 
--- where the sessions of both are set alike
+-- the sessions of both are set alike
 in_sessions : (s t : State) (peers : List Peer) (session : ℕ) → AreAlike s t → AreAlike (record s { peers = peers; last_session = session }) (record t { peers = peers; last_session = session })
 in_sessions s t peers session alike = record {
   paths = alike.paths;
@@ -219,7 +219,7 @@ module _ (s : State) (b : Lsps) (ns : List AwaitedName) (c : IsConsistent s) (pa
   constraints-same n (purposes.Initiate name constraints) = refl
   constraints-same n (purposes.Answer request plsp constraints) = refl
 
-  -- where only tickets and sessions change, and change alike
+  -- only tickets and sessions change, and they change alike
   kept : (peers : List Peer) (tickets : List Ticket) (last : ℕ) → AreAlike (record s { peers = peers; tickets = tickets; last_ticket = last }) (record (with_lists s b ns) { peers = peers; tickets = tickets; last_ticket = last })
   kept peers tickets last = record { paths = paths; records = records; names = names; te = refl; peers = refl; tickets = refl; changes = refl; last_session = refl; last_ticket = refl }
 

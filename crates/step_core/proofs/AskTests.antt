@@ -1,4 +1,4 @@
--- An ask that is refused, by the test that fails.
+-- A refused ask, by the test that fails.
 use Rattle.std.proofs.Common.{◌≡◌, refl, sym, ap}
 use Rattle.std.specs.Prelude.{ℕ, Some, None}
 use Rattle.lsp_base.specs.declared.lsp.Constraints.{Constraints}

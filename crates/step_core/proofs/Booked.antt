@@ -1,4 +1,4 @@
--- A network stays booked under the changes of its LSPs.
+-- A book stays right when LSPs change.
 use Rattle.std.proofs.Common.{◌≡◌, ℕ, List, ◌++◌, ◌∙◌}
 use Rattle.te_base.specs.Ted.{Ted}
 use Rattle.lsp_base.specs.Lsps.{Lsps, HasAll, changed, with_stale, without}
@@ -11,7 +11,7 @@ use Rattle.bandwidth_book.specs.declared.book.Book.{Book}
 use Rattle.bandwidth_book.proofs.Stands.{stands_stale}
 use Rattle.step_core.specs.Networks.{IsBooked}
 
--- room that is made changes nothing
+-- making room changes nothing
 pub IsBooked-reserved : (te : Ted) (base : Lsps) (old new : Book) → books.network_of new ≡ books.network_of old → ((paths : List Path) → StandsFor old paths → StandsFor new paths) → IsBooked te base old → IsBooked te base new
 IsBooked-reserved te base old new same keeps is = record { network = same ∙ is.network; stands = keeps base.paths is.stands }
 

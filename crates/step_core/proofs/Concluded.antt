@@ -1,4 +1,4 @@
--- What a verdict says of its ticket's peer, of the offer and of the paths.
+-- What a verdict says about its ticket's peer, about the offer and about the paths.
 use Rattle.std.proofs.Common.{◌≡◌, ◌∙◌, ◌==◌, ◌&&◌, ◌||◌, ℕ, ◌<◌, ◌≤◌, Bool, true, false, not, nat_lt, nat_le, length, List, [], refl, sym, subst, ap, arith}
 use Rattle.std.specs.Prelude.{Option, Some, None, IfSome, option_map, unwrap_or, is_some, find, if◌then◌else◌}
 use Rattle.std.proofs.lemmas.Bool.{and_parts}
@@ -82,7 +82,7 @@ path_by : (s : State) (t : Ticket) (links : List ℕ) (p : Path) → p ≡ path_
 unfolding offered_path
 path_by s t links p is = let same : p.links ≡ links = ap (λ (x : Path). x.links) is in (same, is ∙ ap (λ (ls : List ℕ). path_of s t ls) (sym same))
 
--- the path is that over the links which are offered
+-- the path is the one over the offered links
 pub path_is : (s : State) (t : Ticket) (offer : Option (List ℕ)) (path : Option Path) (p : Path) → path ≡ option_map (path_of s t) offer → path ≡ Some p → (p.links ≡ unwrap_or offer []) × (p ≡ path_of s t p.links)
 path_is s t None path p is some = absurd (cc (is, some))
 path_is s t (Some links) path p is some = let same : p ≡ path_of s t links = cc in path_by s t links p same
@@ -99,7 +99,7 @@ grant_is_possible s t offer path p is some verdict_is =
 pub answer_is_possible : (s : State) (t : Ticket) (offer : Option (List ℕ)) (path : Option Path) (p : Path) → path ≡ option_map (path_of s t) offer → path ≡ Some p → verdict_on s t offer ≡ Answer → length p.links ≤ 64
 answer_is_possible s t offer path p is some verdict_is = answer_is_short t p s.base s.te (view_of s t.peer) (offer_is s t offer path p Answer is some verdict_is)
 
--- ---- a ticket that waits again has tries left
+-- ---- a ticket that waits again may be tried again
 
 again_by : (request cannot : Bool) → (if request then Answer else (if cannot then GivenUp else Grant)) ≡ Again → ⊥
 again_by true cannot is = cc

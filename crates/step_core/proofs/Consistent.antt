@@ -1,4 +1,4 @@
--- Each event leaves the state consistent, and none of its SRP-IDs above the last that its peer was given.
+-- Each event leaves the state consistent, and no SRP-ID is above the last that its peer was given.
 use Rattle.std.proofs.Common.{◌≡◌, ◌≤◌, ◌==◌, ℕ, Bool, true, false, cond, List, map, refl, sym, ap, ◌∙◌, subst, arith}
 use Rattle.std.specs.Prelude.{Some}
 use Rattle.std.proofs.lemmas.Bool.{eqb-true}
@@ -23,7 +23,7 @@ use Rattle.step_core.proofs.RecordCounts.{set-numbered}
 
 -- ---- after an effect that asks for nothing
 
--- no grant and no awaited removal comes
+-- no grant and no awaited removal is added
 pub less_asked : (base : Lsps) (n : ℕ) (e : Effect) → IsPlain base n e → (m k : ℕ) → asked_as (changed base n e) m k ≤ asked_as base m k
 unfolding changed
 less_asked base n e plain m k =
@@ -66,7 +66,7 @@ Rise old new = (m : ℕ) → (peer_at old m).last_srp ≤ (peer_at new m).last_s
 pub none_by : (s t : State) → ((m k : ℕ) → asked_as t.base m k ≤ asked_as s.base m k) → Rise s.peers t.peers → NoneAbove s → NoneAbove t
 none_by s t less rise above = record { none = λ m k lt. (let no = above.none m k (let r = rise m in omega (arith, lt, r)) in let l = less m k in omega (arith, no, l)) }
 
--- the peer that is set has a last SRP-ID that is no less
+-- the last SRP-ID of the peer that is set doesn't fall
 pub put_rise : (ps : List Peer) (n : ℕ) (p : Peer) → p.number ≡ n → (peer_at ps n).last_srp ≤ p.last_srp → Rise ps (put_peer ps p)
 put_rise ps n p number no_less m = by (p.number == m) refl
   where
@@ -85,7 +85,7 @@ number_of n ps = eqb-true (peer_at ps n).number n (peer_at-number n ps)
 pub same_peers : (ps : List Peer) → Rise ps ps
 same_peers ps m = omega arith
 
--- where the LSPs and the names stay
+-- the LSPs and the names stay
 pub keeps_lsps : (s t : State) → IsConsistent s → t.base ≡ s.base → t.names ≡ s.names → ((m : ℕ) → count (is_peer m) t.peers ≤ 1) → Rise s.peers t.peers → AreInOrder t.last_ticket t.tickets → Keeps s t
 keeps_lsps s t c base names peers rise tickets = record {
   consistent = record {
@@ -104,7 +104,7 @@ keeps_lsps s t c base names peers rise tickets = record {
 pub keeps_all : (s : State) → IsConsistent s → Keeps s s
 keeps_all s c = record { consistent = c; none = λ above rising. above }
 
--- what an effect needs of the LSPs
+-- the facts about the LSPs that an effect needs
 pub has_paths : (s : State) → IsConsistent s → HasPaths s.base
 has_paths s c = record { distinct = c.distinct; asked = c.asked; grants = c.grants; kept = c.kept }
 

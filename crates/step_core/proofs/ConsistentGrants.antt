@@ -1,4 +1,4 @@
--- What a peer is asked for, under SRP-IDs that are free, leaves the state consistent.
+-- Asking a peer for something under a free SRP-ID leaves the state consistent.
 use Rattle.std.proofs.Common.{◌≡◌, ◌≤◌, ◌<◌, ◌==◌, ◌&&◌, ◌||◌, ℕ, ◌+◌, Bool, true, false, not, nat_lt, nat_le, List, [], ◌∷◌, length, refl, sym, ap, ◌∙◌, subst, arith}
 use Rattle.std.specs.Prelude.{Option, Some, None, option_map, if◌then◌else◌}
 use Rattle.std.specs.List.{list_any}
@@ -45,7 +45,7 @@ use Rattle.lsp_base.proofs.Distinct.{set_records_distinct}
 
 -- ---- SRP-IDs that are free
 
--- none has one that isn't used
+-- no grant or awaited removal has an SRP-ID that isn't used
 none_used : (base : Lsps) (n k : ℕ) → is_srp_used base n k ≡ false → asked_as base n k ≡ 0
 none_used base n k free =
     let grants = count_of_none (is_grant_as n k) base.paths (left (list_any (is_grant_as n k) base.paths) _ free) in
@@ -72,7 +72,7 @@ below a b lt = grind (arith, nat_tests)
 next_is : (last : ℕ) → last < 0xFFFFFFFE → next_srp last ≡ last + 1
 next_is last low = grind (arith, nat_tests)
 
--- the next SRP-ID is free where none is above the last, and no last one is the greatest
+-- the next SRP-ID is free if none is above the last, and no last one is the greatest
 pub free_next : (s : State) → NoneAbove s → AreRising s → AreFree s
 free_next s above rising = record {
   free = λ n. (
@@ -82,7 +82,7 @@ free_next s above rising = record {
 
 -- ---- peers
 
--- the peer that is asked, written to or found in another session
+-- the peer may be asked for something, sent a message, or put into another session
 pub keeps_once : (s : State) (p : Peer) → IsConsistent s → (m : ℕ) → count (is_peer m) (put_peer s.peers p) ≤ 1
 keeps_once s p c m = put_peer-once p m s.peers (c.peers m)
 
@@ -182,7 +182,7 @@ keeps_delete s n plsp c is = keeps_removal s n plsp (lsp_at s.base.records n pls
 
 -- ---- a path that is granted
 
--- what a grant says of the peer, of the LSP and of the SRP-ID
+-- what a grant says about the peer, the LSP and the SRP-ID
 pub record MayGrant (s : State) (t : Ticket) : Type 0 where
   pub asks : is_request t.purpose ≡ false
   pub held : is_moot s.base t.peer t.purpose ≡ false
@@ -234,7 +234,7 @@ unbound_one n m k srp = ap one (by (n == m) ∙ ap (λ (b : Bool). n == m && tru
     by true = refl
     by false = refl
 
--- the name that is held goes with the grant
+-- the name is held together with the grant
 name_held : (base : Lsps) (names : List AwaitedName) (n srp : ℕ) (p : Purpose) → is_request p ≡ false → is_moot base n p ≡ false → count (λ r. r.plsp == 0) base.records ≡ 0 → (m k : ℕ)
     → count (is_of_grant m k) (with_name names (name_of_grant n srp p)) ≡ count (is_of_grant m k) names + one (n == m && granted_plsp p == 0 && k == srp)
 name_held base names n srp (purposes.Update plsp) asks held numbered m k =

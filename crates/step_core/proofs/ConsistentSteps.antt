@@ -99,7 +99,7 @@ never_both : (b c : Bool) → (not b && (b && c)) ≡ false
 never_both true c = refl
 never_both false c = refl
 
--- none of its grants is left
+-- no grant of the peer is left
 no_grants_left : (base : Lsps) (n k : ℕ) → count (is_grant_as n k) (changed base n (expire_effect base n)).paths ≡ 0
 unfolding changed expire_effect dropping
 no_grants_left base n k =
@@ -108,7 +108,7 @@ no_grants_left base n k =
     let all = count-same (λ (x : Path). is_of_peer n x && is_grant_as n k x) (is_grant_as n k) (λ x. own_twice (x.peer == n) (has_srp (Some k) x.part)) base.paths in
     omega (arith, paths, gone, all)
 
--- each of its records goes
+-- each of its records is removed
 each_goes : (base : Lsps) (n q : ℕ) → count (is_record_of n q) base.records ≤ count (λ c. c.plsp == q) (map taking (filter (has_none_left (is_of_peer n) n base.paths) base.records))
 each_goes base n q =
     let mapped = count-map (λ (c : RecordChange). c.plsp == q) taking (filter (has_none_left (is_of_peer n) n base.paths) base.records) in
@@ -197,7 +197,7 @@ keeps_with_message s t message c = keeps_lsps s _ c refl refl (keeps_once s (wit
 keeps_in_vain : (s : State) (t : Ticket) → IsConsistent s → Keeps s (answered_in_vain (ended s t) t.peer t.purpose)
 keeps_in_vain s t c = in_vain-has (Keeps s) (ended s t) t.peer t.purpose (keeps_ended s t c) (λ m. keeps_with_message s t m c)
 
--- a ticket is searched for again only where it has tries left
+-- a ticket is searched for again only if it may be tried again
 offer_again : (gone acceptable low request many used : Bool) → (if gone then verdicts.Gone else (if acceptable then (if request then verdicts.Answer else (if many || used then verdicts.GivenUp else verdicts.Grant)) else (if low then verdicts.Again else verdicts.GivenUp))) ≡ verdicts.Again → low ≡ true
 offer_again true acceptable low request many used is = absurd (cc (is))
 offer_again false true low true many used is = absurd (cc (is))
@@ -250,7 +250,7 @@ keeps_ask s n purpose (Some constraints) c =
 
 -- ---- any event
 
--- where the tests pass, the last of them passes
+-- if all tests pass, so does the last one
 last_passes : (a b : Option Why) → (a ⨟ b) ≡ None → b ≡ None
 last_passes (Some why) b is = absurd (cc (is))
 last_passes None b is = is
@@ -283,7 +283,7 @@ empty_consistent te = record { distinct = λ peer plsp. omega arith; numbered = 
 pub empty_none : (te : Ted) → NoneAbove (empty te)
 empty_none te = record { none = λ peer srp lt. refl }
 
--- ---- the same of a call that takes the step, or leaves the state if memory runs out
+-- ---- the same for a call that takes the step, or leaves the state if memory runs out
 
 pub consistent_by : (s t : State) (event : Event) (result : Result Reply AllocError) → IsConsistent s → OnOk result (t ≡ (step s event).state) → OnErr result (t ≡ s) → IsConsistent t
 consistent_by s t event result c ok err = by_step IsConsistent s t event result c (step_keeps s event c).consistent ok err
@@ -293,7 +293,7 @@ none_above_by s t event result c above rising ok err = by_step NoneAbove s t eve
 
 -- ---- what the calls ask for
 
--- each last SRP-ID is low where each peer in the list has some left
+-- each last SRP-ID is low if each listed peer has some left
 low_by : (n : ℕ) (ps : List Peer) → list_all has_srps_left ps ≡ true → (peer_at ps n).last_srp < 0xFFFFFFFE
 low_by n [] all = omega arith
 low_by n (p ∷ ps) all = by (is_peer n p) (and_parts (has_srps_left p) (list_all has_srps_left ps) all) (low_by n ps)
@@ -308,7 +308,7 @@ low_by n (p ∷ ps) all = by (is_peer n p) (and_parts (has_srps_left p) (list_al
 pub rising_by : (s : State) → list_all has_srps_left s.peers ≡ true → AreRising s
 rising_by s all = record { low = λ n. low_by n s.peers all }
 
--- the name that a grant holds is held for no other
+-- no name is held yet for a grant that is new
 pub name_absent : (names : List AwaitedName) (n srp : ℕ) (p : Purpose) → list_any (is_of_grant n srp) names ≡ false → IfSome (name_of_grant n srp p) (λ a. list_any (is_of_grant a.peer a.srp) names ≡ false)
 name_absent names n srp (purposes.Update plsp) absent = tt
 name_absent names n srp (purposes.Initiate name constraints) absent = absent

@@ -15,7 +15,7 @@ use Rattle.step_core.specs.Consistent.{count}
 abbrev pub one : Bool → ℕ
 one b = cond b 1 0
 
--- as a sum, which doesn't see the order
+-- as a sum, which doesn't depend on the order
 count-sum : {X : Type 0} (p : X → Bool) (xs : List X) → count p xs ≡ sum_by (λ x. cond (p x) 1 0) xs
 count-sum p [] = refl
 count-sum p (x ∷ xs) = ap (λ n. cond (p x) 1 0 + n) (count-sum p xs) ∙ sym (sum_by-cons (λ y. cond (p y) 1 0) x xs)
@@ -27,7 +27,7 @@ pub count-append : {X : Type 0} (p : X → Bool) (xs ys : List X) → count p (x
 count-append p [] ys = omega arith
 count-append p (x ∷ xs) ys = let rest = count-append p xs ys in omega (arith, rest)
 
--- no more pass a test that is harder
+-- a stricter test passes no more items
 pub count-fewer : {X : Type 0} (p q : X → Bool) → ((x : X) → p x ≡ true → q x ≡ true) → (xs : List X) → count p xs ≤ count q xs
 count-fewer p q harder [] = omega arith
 count-fewer {X} p q harder (x ∷ xs) = by (p x) (q x) refl refl (count-fewer p q harder xs)
@@ -58,7 +58,7 @@ pub count-map : {X Y : Type 0} (p : Y → Bool) (f : X → Y) (xs : List X) → 
 count-map p f [] = refl
 count-map p f (x ∷ xs) = let rest = count-map p f xs in omega (arith, rest)
 
--- of a part of the list no more pass
+-- no more items of a part of the list pass
 pub count-part : {X : Type 0} (p q r : X → Bool) → ((x : X) → q x ≡ true → r x ≡ true) → (xs : List X) → count p (filter q xs) ≤ count p (filter r xs)
 count-part {X} p q r part xs =
     let some = count-filter p q xs in
@@ -79,7 +79,7 @@ count-filtered {X} p q (x ∷ xs) = by (q x) (count-filtered p q xs)
     by true rest = omega (arith, rest)
     by false rest = omega (arith, rest)
 
--- none passes where the count is 0
+-- if the count is 0, none passes
 pub none_of : {X : Type 0} (p : X → Bool) (xs : List X) → count p xs ≡ 0 → list_any p xs ≡ false
 none_of p [] none = refl
 none_of {X} p (x ∷ xs) none = by (p x) none (none_of p xs)
@@ -96,7 +96,7 @@ count_of_none {X} p (x ∷ xs) none = by (p x) none (count_of_none p xs)
     by true any rest = absurd (cc (any))
     by false any rest = let none = rest any in omega (arith, none)
 
--- ---- a first item that goes
+-- ---- a first item that is removed
 
 last_in_front-count : {X : Type 0} (p : X → Bool) (xs : List X) → count p (last_in_front xs) ≡ count p xs
 last_in_front-count p xs = count-permuted p xs (last_in_front xs) (last_in_front-permutes xs)
@@ -109,7 +109,7 @@ without_first-fewer {X} p test (x ∷ xs) = by (test x) (without_first-fewer p t
     by true rest = let same = last_in_front-count p xs in omega (arith, same)
     by false rest = omega (arith, rest)
 
--- one that fails the other test
+-- the removed item fails the counted test
 pub without_first-other : {X : Type 0} (p test : X → Bool) → ((x : X) → test x ≡ true → p x ≡ false) → (xs : List X) → count p (without_first test xs) ≡ count p xs
 without_first-other p test apart [] = refl
 without_first-other {X} p test apart (x ∷ xs) = by (test x) refl (without_first-other p test apart xs)
@@ -118,7 +118,7 @@ without_first-other {X} p test apart (x ∷ xs) = by (test x) refl (without_firs
     by true is rest = let same = last_in_front-count p xs in let here = ap one (apart x is) in omega (arith, same, here)
     by false is rest = omega (arith, rest)
 
--- one that passes both
+-- both tests are the same
 pub without_first-one : {X : Type 0} (p test : X → Bool) → ((x : X) → test x ≡ p x) → (xs : List X) → count p (without_first test xs) ≡ count p xs - 1
 without_first-one p test same [] = refl
 without_first-one {X} p test same (x ∷ xs) = by (test x) refl (count_of_first (test x) refl) (without_first-one p test same xs)
@@ -132,7 +132,7 @@ without_first-one {X} p test same (x ∷ xs) = by (test x) refl (count_of_first 
 
 -- ---- paths
 
--- those that stood and those that come are those that go and those that stand after it
+-- the old paths and the added ones are the dropped ones and the new paths
 pub count-exchanged : (p : Path → Bool) (paths dropped added : List Path) → HasAll paths dropped → count p paths + count p added ≡ count p dropped + count p (without paths dropped ++ added)
 count-exchanged p paths dropped added has =
     let same = count-permuted p (paths ++ added) (dropped ++ (without paths dropped ++ added)) (paths_exchanged paths dropped added has) in

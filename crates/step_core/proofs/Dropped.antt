@@ -1,4 +1,4 @@
--- The paths that stand have each of those that an effect drops.
+-- An effect only drops paths that exist.
 use Rattle.std.proofs.Common.{◌≡◌, ℕ, Bool, true, false, List, [], ◌∷◌, sym, subst, ap, ◌∙◌, arith}
 use Rattle.std.specs.Prelude.{Option, Some, None, Ok, Err, if◌then◌else◌}
 use Rattle.lsp_words.specs.declared.object.Capabilities.{Capabilities}
@@ -18,7 +18,7 @@ use Rattle.delegate_rules.specs.Returns.{given_back}
 use Rattle.delegate_rules.specs.Effects.{goes_by_report, report_effect_by, goes_by_removal, removal_effect_by, reported_effect, is_reserved, is_too_many, allowed, report_result}
 use Rattle.step_core.specs.Steps.{removal_asked}
 
--- the paths that stand have what the effect drops
+-- the existing paths include those that the effect drops
 abbrev pub HasDropped : Lsps → Effect → Type 0
 HasDropped base e = HasAll base.paths e.change.dropped
 
@@ -92,7 +92,7 @@ pub return-has : (base : Lsps) (plsp : ℕ) (lsp : Option Lsp) → HasDropped ba
 return-has base plsp None = has_none base.paths
 return-has base plsp (Some lsp) = has_none base.paths
 
--- ---- the same of an effect that was computed from equal LSPs
+-- ---- the same for an effect that was computed from equal LSPs
 
 has-by : (base given : Lsps) (effect_on : Lsps → Effect) (e : Effect) → given ≡ base → e ≡ effect_on given → HasDropped base (effect_on base) → HasDropped base e
 has-by base given effect_on e same is has = subst (HasDropped base) (sym (is ∙ ap effect_on same)) has

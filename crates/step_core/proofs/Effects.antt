@@ -1,4 +1,4 @@
--- Each effect drops and adds paths of its own peer alone.
+-- Each effect drops and adds only paths of its own peer.
 use Rattle.std.proofs.Common.{◌≡◌, ◌==◌, ◌&&◌, ◌||◌, ℕ, Bool, true, false, List, [], ◌∷◌, refl, map, subst}
 use Rattle.std.specs.Prelude.{filter, not, Option, Some, None, Ok, Err, if◌then◌else◌}
 use Rattle.lsp_words.specs.declared.object.Capabilities.{Capabilities}
@@ -21,7 +21,7 @@ use Rattle.step_core.specs.Grants.{granting}
 use Rattle.step_core.specs.Steps.{removal_asked}
 use Rattle.step_core.proofs.Others.{same_number, first_of_both, AllOwn, AllOwn-filter, AllOwn-map, IsOwn}
 
--- paths of the peer that a test chooses go
+-- paths of the peer that a test chooses are dropped
 pub dropping-own : (n : ℕ) (base : Lsps) (test : Path → Bool) → ((y : Path) → test y ≡ true → (y.peer == n) ≡ true) → IsOwn n (dropping base n test)
 unfolding dropping
 dropping-own n base test own = record { dropped = AllOwn-filter n test base.paths own; added = tt }

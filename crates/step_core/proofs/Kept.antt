@@ -1,4 +1,4 @@
--- Each effect leaves each record a path of its LSP, and each LSP at most one grant.
+-- After each effect, each record has a path of its LSP, and each LSP has at most one grant.
 use Rattle.std.proofs.Common.{◌≡◌, ◌≤◌, ◌==◌, ◌&&◌, ◌||◌, ℕ, ◌+◌, Bool, true, false, cond, not, List, [], ◌∷◌, ◌++◌, length, map, filter, find, option_map, refl, sym, ap, ◌∙◌, subst, arith}
 use Rattle.std.specs.Prelude.{Option, Some, None, is_some}
 use Rattle.std.specs.List.{list_any}
@@ -20,14 +20,14 @@ use Rattle.step_core.proofs.Dropped.{has_none}
 use Rattle.step_core.proofs.Others.{first_of_both}
 use Rattle.step_core.proofs.RecordCounts.{AllTake, AllTake-map, put-more, record_set, taken_all}
 
--- what holds of the LSPs before
+-- what holds of the LSPs before the effect
 pub record HasPaths (base : Lsps) : Type 0 where
   pub distinct : AreDistinct base.records
   pub asked : (m k : ℕ) → asked_as base m k ≤ 1
   pub grants : (m q : ℕ) → (q == 0) ≡ false → count (is_grant_of m q) base.paths ≤ 1
   pub kept : (m q : ℕ) → (q == 0) ≡ false → count (is_record_of m q) base.records ≤ count (is_path_of m q) base.paths
 
--- and after an effect
+-- what an effect keeps of that
 pub record KeepsPaths (base : Lsps) (n : ℕ) (e : Effect) : Type 0 where
   pub grants : (m q : ℕ) → (q == 0) ≡ false → count (is_grant_of m q) (changed base n e).paths ≤ 1
   pub kept : (m q : ℕ) → (q == 0) ≡ false → count (is_record_of m q) (changed base n e).records ≤ count (is_path_of m q) (changed base n e).paths
@@ -71,7 +71,7 @@ take-fewer n m q rs (c ∷ cs) take =
     let same = ap (λ (o : Option Lsp). count (is_record_of m q) (set_records n (set_record n rs c.plsp o) cs)) take.0 in
     omega (arith, fewer, rest, same)
 
--- a record of another LSP that is set
+-- setting a record of another LSP
 pub put-apart : (n plsp m q : ℕ) (lsp : Lsp) (rs : List Record) → (n == m && plsp == q) ≡ false → count (is_record_of m q) (put rs n plsp lsp) ≤ count (is_record_of m q) rs
 put-apart n plsp m q lsp rs apart = let more = put-more (is_record_of m q) n plsp lsp rs in let e = ap one apart in omega (arith, more, e)
 
@@ -80,7 +80,7 @@ same_record n plsp m q r is =
     let both = and_parts (r.peer == n) (r.plsp == plsp) is in
     sym (ap (λ (k : ℕ). k == m && r.plsp == q) (eqb-true r.peer n both.0) ∙ ap (λ (k : ℕ). n == m && k == q) (eqb-true r.plsp plsp both.1))
 
--- a record that stands is set in its place
+-- a record that exists is set in its place
 put-there : (n plsp m q : ℕ) (lsp : Lsp) (rs : List Record) → 1 ≤ count (is_record_of n plsp) rs → count (is_record_of m q) (put rs n plsp lsp) ≡ count (is_record_of m q) rs
 put-there n plsp m q lsp [] there = absurd (omega (arith, there))
 put-there n plsp m q lsp (r ∷ rs) there = by (is_record_of n plsp r) refl there (put-there n plsp m q lsp rs)
@@ -90,7 +90,7 @@ put-there n plsp m q lsp (r ∷ rs) there = by (is_record_of n plsp r) refl ther
     by true is there rest = let e = ap one (same_record n plsp m q r is) in omega (arith, e)
     by false is there rest = let same = rest (omega (arith, there)) in omega (arith, same)
 
--- each change sets a record that stands
+-- each change sets a record that exists
 abbrev pub AllThere : ℕ → List Record → List RecordChange → Type 0
 AllThere n rs [] = Unit {0}
 AllThere n rs (c ∷ cs) = (is_some c.lsp ≡ true) × (1 ≤ count (is_record_of n c.plsp) rs) × AllThere n rs cs
@@ -107,7 +107,7 @@ there-fewer n m q rs (c ∷ cs) there = by c.lsp there.0 (λ lsp. there-fewer n 
     by None is rest = absurd (cc (is))
     by (Some lsp) is rest = let more = rest lsp in let same = put-there n c.plsp m q lsp rs there.1 in omega (arith, more, same)
 
--- changes of records that stand
+-- changes of existing records
 pub chosen-there : (n : ℕ) (f : Record → RecordChange) (test : Record → Bool) (all xs : List Record) → ((r : Record) → test r ≡ true → (r.peer == n) ≡ true) → ((r : Record) → (f r).plsp ≡ r.plsp) → ((r : Record) → is_some (f r).lsp ≡ true)
     → ((q : ℕ) → count (is_record_of n q) xs ≤ count (is_record_of n q) all) → AllThere n all (map f (filter test xs))
 chosen-there n f test all [] own same sets part = tt
@@ -130,7 +130,7 @@ known_there n plsp lsp (r ∷ rs) known = by (is_record_of n plsp r) known (know
     by true here rest = omega arith
     by false later rest = let more = rest later in omega (arith, more)
 
--- ---- effects that leave the paths, and set records that stand
+-- ---- effects that leave the paths, and set existing records
 
 same_paths : (base : Lsps) (n : ℕ) (cs : List RecordChange) (p : Path → Bool) → count p (without base.paths [] ++ []) ≡ count p base.paths
 same_paths base n cs p = let paths = count-exchanged p base.paths [] [] (has_none base.paths) in omega (arith, paths)
@@ -156,9 +156,9 @@ pub down-keeps : (base : Lsps) (n : ℕ) → HasPaths base → KeepsPaths base n
 unfolding down_effect
 down-keeps base n h = sets-keep base n (map left_alone (filter (λ r. r.peer == n) base.records)) h (chosen-there n left_alone (λ r. r.peer == n) base.records base.records (λ r is. is) (λ r. refl) (λ r. refl) (λ q. omega arith))
 
--- ---- paths that go, with the records that then have none
+-- ---- paths that are dropped, and the records that then have none
 
--- a record of which no path stays goes
+-- a record of which no path stays is removed
 each_goes : (base : Lsps) (n q : ℕ) (test : Path → Bool) → list_any (λ x. not (test x) && is_path_of n q x) base.paths ≡ false → count (is_record_of n q) base.records ≤ count (λ c. c.plsp == q) (map taking (filter (has_none_left test n base.paths) base.records))
 each_goes base n q test none =
     let mapped = count-map (λ (c : RecordChange). c.plsp == q) taking (filter (has_none_left test n base.paths) base.records) in

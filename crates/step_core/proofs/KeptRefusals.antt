@@ -1,4 +1,4 @@
--- What a peer refuses leaves each record a path.
+-- After a peer refused something, each record still has a path.
 use Rattle.std.proofs.Common.{◌≡◌, ◌≤◌, ◌==◌, ◌&&◌, ℕ, ◌+◌, Bool, true, false, cond, not, List, [], ◌∷◌, ◌++◌, map, filter, find, option_map, refl, sym, ap, ◌∙◌, subst, arith}
 use Rattle.std.specs.Prelude.{Some, None, is_some, if◌then◌else◌}
 use Rattle.std.specs.List.{list_any}
@@ -35,7 +35,7 @@ ended-takes base n srp (g ∷ grants) = by (is_some (lsp_at base.records n g.pls
     by true rest = (refl, rest)
     by false rest = rest
 
--- the record of an LSP whose last paths go is ended
+-- the record of an LSP whose last paths are dropped is removed
 ended-each : (base : Lsps) (n srp q : ℕ) (grants : List Path) → is_some (lsp_at base.records n q) ≡ true → has_no_other base.paths n srp q ≡ true → 1 ≤ count (is_path_of n q) grants → 1 ≤ count (λ c. c.plsp == q) (records_ended base n srp grants)
 ended-each base n srp q [] known none some = absurd (omega (arith, some))
 ended-each base n srp q (g ∷ grants) known none some = by (is_path_of n q g) refl some (ended-each base n srp q grants known none)

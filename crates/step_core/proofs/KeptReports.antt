@@ -1,4 +1,4 @@
--- Each report leaves each record a path of its LSP, and each LSP at most one grant.
+-- After each report, each record has a path of its LSP, and each LSP has at most one grant.
 use Rattle.std.proofs.Common.{◌≡◌, ◌≤◌, ◌==◌, ◌&&◌, ◌||◌, ℕ, ◌+◌, Bool, true, false, cond, not, List, [], ◌∷◌, ◌++◌, map, filter, refl, sym, ap, ◌∙◌, subst, arith, ◌⊎◌, inl, inr}
 use Rattle.std.specs.Prelude.{Option, Some, None, Ok, Err, if◌then◌else◌}
 use Rattle.std.specs.List.{list_any}
@@ -39,7 +39,7 @@ apart_from n plsp m q x other bound (inr zero) = false_from_ne_true _ (λ also.
     let second = and_parts (x.peer == m) (x.plsp == q) also in
     both_ways (q == 0) bound (ap (λ (k : ℕ). k == 0) (sym (eqb-true x.plsp q second.1)) ∙ zero))
 
--- the grant that is met is of the LSP, or bound to none
+-- the grant that is met belongs to the LSP, or is bound to none
 met_where : (granted : Bool) (n : ℕ) (r : StateReport) (x : Path) → is_grant_met granted n r x ≡ true → (is_path_of n r.plsp x ≡ true) ⊎ ((x.plsp == 0) ≡ true)
 met_where true n r x is = inl (and_parts (is_path_of n r.plsp x) (not (is_reported x.part)) is).0
 met_where false n r x is = inr (and_parts (x.peer == n) (x.plsp == 0) (and_parts (x.peer == n && x.plsp == 0) (has_srp r.srp x.part) is).0).1
@@ -48,7 +48,7 @@ met_own : (granted : Bool) (n : ℕ) (r : StateReport) (x : Path) → is_grant_m
 met_own true n r x is = (and_parts (x.peer == n) (x.plsp == r.plsp) (and_parts (is_path_of n r.plsp x) (not (is_reported x.part)) is).0).0
 met_own false n r x is = (and_parts (x.peer == n) (x.plsp == 0) (and_parts (x.peer == n && x.plsp == 0) (has_srp r.srp x.part) is).0).0
 
--- one grant is met at most
+-- at most one grant is met
 unbound_few : (base : Lsps) (n : ℕ) (srp : Option ℕ) → ((m k : ℕ) → asked_as base m k ≤ 1) → count (is_unbound_grant n srp) base.paths ≤ 1
 unbound_few base n None asked = let none = count-none (is_unbound_grant n None) (λ x. no x.part (x.peer == n && x.plsp == 0)) base.paths in omega (arith, none)
   where
@@ -70,7 +70,7 @@ met_few : (granted : Bool) (base : Lsps) (n : ℕ) (r : StateReport) → (r.plsp
 met_few true base n r bound h = h.grants n r.plsp bound
 met_few false base n r bound h = unbound_few base n r.srp h.asked
 
--- of the grants that are kept no more are of one LSP than are met
+-- of the kept grants, no more belong to one LSP than are met
 kept_few : (granted : Bool) (base : Lsps) (n : ℕ) (r : StateReport) (p : Path → Bool) (f : Path → Path) (t : Path → Bool) → ((x : Path) → t x ≡ true → is_grant_met granted n r x ≡ true) → (r.plsp == 0) ≡ false → HasPaths base → count p (map f (filter t base.paths)) ≤ 1
 kept_few granted base n r p f t met bound h =
     let mapped = count-map p f (filter t base.paths) in
@@ -102,7 +102,7 @@ or_right : (a b : Bool) → b ≡ true → (a || b) ≡ true
 or_right true b is = refl
 or_right false b is = is
 
--- no grant of the LSP stands beside those that are moved
+-- no grant of the LSP stays except for those that are moved
 none_beside : (granted : Bool) (base : Lsps) (n : ℕ) (r : StateReport) → has_grant base.paths n r.plsp ≡ granted → count (is_grant_of n r.plsp) base.paths ≤ count (is_grant_of n r.plsp) (filter (goes_by_report granted n r) base.paths)
 none_beside true base n r is =
     let chosen = count-filter (is_grant_of n r.plsp) (goes_by_report true n r) base.paths in
@@ -192,7 +192,7 @@ removed_where granted n r x is = by (or_cases (is_removed n r x) (is_grant_met g
 bound_met : (granted : Bool) (n : ℕ) (r : StateReport) (x : Path) → is_grant_bound granted n r x ≡ true → is_grant_met granted n r x ≡ true
 bound_met granted n r x is = kept_met granted n r x (and_parts (is_grant_kept granted n r x) (x.plsp == 0) is).0
 
--- where the LSP has a grant, none is bound
+-- if the LSP has a grant, none is bound
 none_bound : (n : ℕ) (r : StateReport) (x : Path) → (r.plsp == 0) ≡ false → is_grant_bound true n r x ≡ false
 none_bound n r x bound = false_from_ne_true _ (λ is.
     let zero = (and_parts (is_grant_kept true n r x) (x.plsp == 0) is).1 in
@@ -240,7 +240,7 @@ binds false granted base n r has bound h = record {
   here = first_passes (is_grant_bound granted n r) (bound_grant r) (is_path_of n r.plsp) base.paths (λ x is. and_from (x.peer == n) (r.plsp == r.plsp) (met_own granted n r x (bound_met granted n r x is)) (eq-eqb r.plsp r.plsp refl));
 }
 
--- the record of the LSP goes where no path of it stays
+-- the record of the LSP is removed if no path of it stays
 module _ (base : Lsps) (n : ℕ) (r : StateReport) (goes : Path → Bool) (h : HasPaths base) (where_goes : (x : Path) → goes x ≡ true → (is_path_of n r.plsp x ≡ true) ⊎ ((x.plsp == 0) ≡ true)) where
   left_own : (added : List Path) (nil stays : Bool) → is_nil added ≡ nil → (nil ≡ false → 1 ≤ count (is_path_of n r.plsp) added) → list_any (λ x. not (goes x) && is_path_of n r.plsp x) base.paths ≡ stays
       → count (is_record_of n r.plsp) (set_records n base.records (if nil then (if stays then [] else record { plsp = r.plsp; lsp = None } ∷ []) else [])) ≤ count (is_path_of n r.plsp) (without base.paths (filter goes base.paths) ++ added)

@@ -1,4 +1,4 @@
--- How many names are held for a grant, as grants go.
+-- How many names are held for a grant when grants are dropped.
 use Rattle.std.proofs.Common.{◌≡◌, ◌==◌, ◌&&◌, ℕ, ◌-◌, Bool, true, false, List, [], ◌∷◌, refl, sym, ap, ◌∙◌, arith}
 use Rattle.std.specs.Prelude.{Some}
 use Rattle.std.specs.Cmp.{nat_eq_equiv}
@@ -14,7 +14,7 @@ use Rattle.step_core.specs.declared.names.AwaitedName.{AwaitedName}
 use Rattle.step_core.specs.Consistent.{count}
 use Rattle.step_core.proofs.Counts.{one, without_first-one, without_first-other}
 
--- the grant's SRP-ID gives its name's
+-- the SRP-ID of the grant is that of its name
 same_srp : (part : Part) (s t : ℕ) → has_srp (Some s) part ≡ true → has_srp (Some t) part ≡ (t == s)
 same_srp (Reported i) s t is = absurd (cc (is))
 same_srp (Granted k) s t is = ap (λ (j : ℕ). t == j) (sym (eqb-true s k is))
@@ -32,7 +32,7 @@ name_of peer srp x a is =
     true_and true c = refl
     true_and false c = refl
 
--- another path leaves the names of the grant
+-- dropping another path leaves the names of the grant
 pub other_name : (peer srp : ℕ) (x : Path) (a : AwaitedName) → is_unbound_grant peer (Some srp) x ≡ false → is_grant_of_name a x ≡ true → is_of_grant peer srp a ≡ false
 other_name peer srp x a other is = false_from_ne_true _ (λ named.
     let parts = and_parts (a.peer == peer) (a.srp == srp) named in
@@ -44,7 +44,7 @@ names_without_one : (peer srp : ℕ) (x : Path) (names : List AwaitedName) (b : 
 names_without_one peer srp x names true is = without_first-one (is_of_grant peer srp) (λ a. is_grant_of_name a x) (λ a. name_of peer srp x a is) names
 names_without_one peer srp x names false is = let same = without_first-other (is_of_grant peer srp) (λ (a : AwaitedName). is_grant_of_name a x) (λ a. other_name peer srp x a is) names in omega (arith, same)
 
--- the names of a grant go with it
+-- the names of a grant are dropped with it
 pub names_without-count : (peer srp : ℕ) (names : List AwaitedName) (gone : List Path) → count (is_of_grant peer srp) (names_without names gone) ≡ count (is_of_grant peer srp) names - count (is_unbound_grant peer (Some srp)) gone
 names_without-count peer srp names [] = omega arith
 names_without-count peer srp names (x ∷ gone) =

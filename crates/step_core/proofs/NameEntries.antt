@@ -1,4 +1,4 @@
--- Names as a map holds them, under the keys of their grants.
+-- Names as a map holds them, each under the key of its grant.
 use Rattle.std.proofs.Common.{◌≡◌, ℕ, suc, ◌+◌, ◌-◌, ◌<◌, ◌&&◌, ◌||◌, Bool, true, false, true≢false, cond, not, List, [], ◌∷◌, ◌++◌, length, take, drop, get_or, swap_remove, position, find, Option, None, Some, IsPermutation, is_some, refl, sym, ap, subst, ◌∙◌, arith}
 use Rattle.std.specs.Cmp.{nat_eq_equiv}
 use Rattle.std.specs.List.{list_any, position_or_len}
@@ -14,11 +14,11 @@ use Rattle.step_core.specs.Names.{AreKeyed, is_of_grant, key_of, same_key}
 use Rattle.step_core.specs.declared.names.AwaitedName.{AwaitedName}
 use Rattle.step_core.specs.declared.names.GrantKey.{GrantKey}
 
--- a key passes where the name's own numbers do
+-- a key passes exactly if the name's own numbers do
 same_test : (k : GrantKey) (e : GrantKey × AwaitedName) → e.0 ≡ key_of e.1 → same_key k e.0 ≡ is_of_grant k.peer k.srp e.1
 same_test k e h = ap (same_key k) h ∙ (λ j. nat_eq_equiv.symm k.peer e.1.peer j && nat_eq_equiv.symm k.srp e.1.srp j)
 
--- a grant has a name where its key is found
+-- a grant has a name exactly if its key is found
 pub is_there : (k : GrantKey) (es : List (GrantKey × AwaitedName)) → AreKeyed es → is_some (lookup (same_key k) es) ≡ list_any (is_of_grant k.peer k.srp) (values_of es)
 is_there k [] h = refl
 is_there k (e ∷ es) h = by (same_key k e.0) (is_there k es h.1) ∙ ap (λ b. b || list_any (is_of_grant k.peer k.srp) (values_of es)) (same_test k e h.0)
@@ -28,7 +28,7 @@ is_there k (e ∷ es) h = by (same_key k e.0) (is_there k es h.1) ∙ ap (λ b. 
     by true rest = refl
     by false rest = rest
 
--- the name under a grant's key is the first that is its own
+-- the name under a grant's key is the first name of that grant
 pub found : (k : GrantKey) (es : List (GrantKey × AwaitedName)) → AreKeyed es → lookup (same_key k) es ≡ find (is_of_grant k.peer k.srp) (values_of es)
 found k [] h = refl
 found k (e ∷ es) h = λ j. cond (same_test k e h.0 j) (Some e.1) (found k es h.1 j)
@@ -55,7 +55,7 @@ pub keyed_placed : (a : AwaitedName) (es : List (GrantKey × AwaitedName)) → A
 keyed_placed a [] h = (refl, tt)
 keyed_placed a (e ∷ es) h = (h.0, keyed_placed a es h.1)
 
--- ---- a name that is taken away
+-- ---- a name that is removed
 
 removed_head : {X : Type 0} (y x : X) (ys : List X) → swap_remove (y ∷ ys) 0 x ≡ last_in_front ys
 removed_head y x [] = refl
@@ -147,12 +147,12 @@ keyed_taken k es h = subst AreKeyed (sym (swap_remove-first (same_key k) es)) (g
             recursion_from_All (λ e. e.0 ≡ key_of e.1) (last_in_front es) (All-permutation (λ e. e.0 ≡ key_of e.1) es (last_in_front es) (permutes es) all)
         by false rest = (h.0, rest)
 
--- a test that nothing passes takes nothing away
+-- a test that nothing passes removes nothing
 pub without_none : {A : Type 0} (test : A → Bool) → ((x : A) → test x ≡ false) → (xs : List A) → without_first test xs ≡ xs
 without_none test none [] = refl
 without_none test none (x ∷ xs) = ap (λ b. cond b (last_in_front xs) (x ∷ without_first test xs)) (none x) ∙ ap (λ ys. x ∷ ys) (without_none test none xs)
 
--- two tests that agree take the same away
+-- two tests that agree remove the same
 pub without_agreeing : {A : Type 0} (test other : A → Bool) → ((x : A) → test x ≡ other x) → (xs : List A) → without_first test xs ≡ without_first other xs
 without_agreeing test other same [] = refl
 without_agreeing test other same (x ∷ xs) = λ j. cond (same x j) (last_in_front xs) (x ∷ without_agreeing test other same xs j)

@@ -1,4 +1,4 @@
--- What names and tickets that come, change and go leave of the lists of all peers.
+-- Adding, changing and removing names and tickets of one peer leaves those of all other peers.
 use Rattle.std.proofs.Common.{◌≡◌, ◌==◌, ◌&&◌, ℕ, Bool, true, false, cond, List, [], ◌∷◌, ◌++◌, IsPermutation, refl, sym, subst, ◌∙◌, ap, arith}
 use Rattle.std.specs.Prelude.{filter, not, Option, Some, None, IfSome, find, if◌then◌else◌}
 use Rattle.std.proofs.lemmas.List.Elements.{filter-append}
@@ -22,7 +22,7 @@ other_names n names = filter (λ a. not (a.peer == n)) names
 own_too : (n p q : ℕ) → (p == q) ≡ true → (p == n) ≡ true → (q == n) ≡ true
 own_too n p q same own = grind (arith, nat_tests)
 
--- a name that goes with a path of the peer is the peer's
+-- a name that is dropped with a path of the peer is the peer's
 name_own : (n : ℕ) (x : Path) (a : AwaitedName) → (x.peer == n) ≡ true → is_grant_of_name a x ≡ true → not (a.peer == n) ≡ false
 name_own n x a own is = ap not (own_too n x.peer a.peer (first_of_both (x.peer == a.peer) _ (first_of_both (x.peer == a.peer && x.plsp == 0) _ is)) own)
 
@@ -71,7 +71,7 @@ edit_by_test n test edit x xs true is keeps own rest =
     filter-skip (λ y. not (y.peer == n)) (edit x) xs (ap not (ap (λ (p : ℕ). p == n) (keeps x) ∙ own is)) ∙ sym (filter-skip (λ y. not (y.peer == n)) x xs (ap not (own is)))
 edit_by_test n test edit x xs false is keeps own rest = filter-both (λ y. not (y.peer == n)) x (edit_first test edit xs) xs (rest is)
 
--- the first that passes the test is the peer's, and stays so
+-- the first that passes the test is the peer's, and stays the peer's
 pub edit-others : (n : ℕ) (test : Ticket → Bool) (edit : Ticket → Ticket) (xs : List Ticket) → ((t : Ticket) → (edit t).peer ≡ t.peer) → ((t : Ticket) → find test xs ≡ Some t → (t.peer == n) ≡ true) → other_tickets n (edit_first test edit xs) ≡ other_tickets n xs
 edit-others n test edit [] keeps own = refl
 edit-others n test edit (x ∷ xs) keeps own =

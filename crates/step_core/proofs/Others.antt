@@ -1,4 +1,4 @@
--- What changes of one peer's paths, records and sessions leave of the lists of all peers.
+-- Changes of one peer's paths, records and sessions leave those of all other peers.
 use Rattle.std.proofs.Common.{◌≡◌, ◌==◌, ◌&&◌, ℕ, Bool, true, false, cond, List, [], ◌∷◌, ◌++◌, IsPermutation, refl, sym, subst, ◌∙◌, ap, map, arith}
 use Rattle.std.specs.Prelude.{filter, not, Option, Some, None, find, unwrap_or}
 use Rattle.std.proofs.lemmas.Bool.{not-true}
@@ -45,7 +45,7 @@ pub other_paths-own : (n : ℕ) (xs : List Path) → AllOwn n xs → other_paths
 other_paths-own n [] own = refl
 other_paths-own n (x ∷ xs) own = filter-skip (λ y. not (y.peer == n)) x xs (ap not own.0) ∙ other_paths-own n xs own.1
 
--- the paths that pass a test of the peer's paths alone are the peer's
+-- paths that pass a test that only paths of the peer pass are the peer's
 own_chosen : (n : ℕ) (test : Path → Bool) (x : Path) (xs : List Path) (b : Bool) → test x ≡ b → ((y : Path) → test y ≡ true → (y.peer == n) ≡ true) → AllOwn n xs → AllOwn n (cond b (x ∷ xs) xs)
 own_chosen n test x xs true is own all = (own x is, all)
 own_chosen n test x xs false is own all = all
@@ -136,14 +136,14 @@ forget_one : (n : ℕ) (q : Peer) (ps : List Peer) (b : Bool) → not (is_peer n
 forget_one n q ps true is rest = ap (λ b. cond b (q ∷ other_peers n ps) (other_peers n ps)) is ∙ ap (λ t. q ∷ t) rest
 forget_one n q ps false is rest = rest
 
--- forgetting the peer once is enough
+-- forgetting a peer twice is forgetting it once
 pub forget-others : (n : ℕ) (ps : List Peer) → other_peers n (other_peers n ps) ≡ other_peers n ps
 forget-others n [] = refl
 forget-others n (q ∷ ps) = forget_one n q (other_peers n ps) (not (is_peer n q)) refl (forget-others n ps)
 
 -- ---- effects
 
--- the effect drops and adds paths of the peer alone
+-- the effect drops and adds only paths of the peer
 pub record IsOwn (n : ℕ) (e : Effect) : Type 0 where
   pub dropped : AllOwn n e.change.dropped
   pub added : AllOwn n e.change.added

@@ -1,4 +1,4 @@
--- A peer in the list, as one is set or goes.
+-- A listed peer, after one is set or removed.
 use Rattle.std.proofs.Common.{◌≡◌, ◌≤◌, ◌==◌, ℕ, ◌+◌, Bool, true, false, cond, List, [], ◌∷◌, refl, sym, ap, ◌∙◌, arith}
 use Rattle.std.specs.Prelude.{Some, None, find, filter, not, unwrap_or}
 use Rattle.std.proofs.lemmas.Bool.{eqb-true, eq-eqb}
@@ -7,7 +7,7 @@ use Rattle.step_core.specs.declared.peer.Peer.{Peer}
 use Rattle.step_core.specs.Consistent.{count}
 use Rattle.step_core.proofs.Counts.{one}
 
--- two numbers that pass one test are one
+-- if two numbers are equal, they pass the same tests
 same_test : (a b n : ℕ) → (a == b) ≡ true → (a == n) ≡ (b == n)
 same_test a b n is = ap (λ (k : ℕ). k == n) (eqb-true a b is)
 
@@ -20,7 +20,7 @@ put_peer-own p (q ∷ ps) = by (is_peer p.number q) refl (put_peer-own p ps)
     by true is rest = ap (λ (c : Bool). unwrap_or (cond c (Some p) (find (is_peer p.number) ps)) (unknown_peer p.number)) (eq-eqb p.number p.number refl)
     by false is rest = ap (λ (c : Bool). unwrap_or (cond c (Some q) (find (is_peer p.number) (put_peer ps p))) (unknown_peer p.number)) is ∙ rest
 
--- and no other is changed
+-- no other peer is changed
 pub put_peer-other : (p : Peer) (n : ℕ) → (p.number == n) ≡ false → (ps : List Peer) → peer_at (put_peer ps p) n ≡ peer_at ps n
 put_peer-other p n other [] = ap (λ (b : Bool). unwrap_or (cond b (Some p) None) (unknown_peer n)) other
 put_peer-other p n other (q ∷ ps) = by (is_peer p.number q) refl (put_peer-other p n other ps)
@@ -35,7 +35,7 @@ put_peer-other p n other (q ∷ ps) = by (is_peer p.number q) refl (put_peer-oth
         at true rest = refl
         at false rest = rest
 
--- a peer that goes isn't known
+-- a peer that was removed isn't known
 pub forgotten-own : (n : ℕ) (ps : List Peer) → peer_at (filter (λ p. not (is_peer n p)) ps) n ≡ unknown_peer n
 forgotten-own n [] = refl
 forgotten-own n (q ∷ ps) = by (is_peer n q) refl (forgotten-own n ps)
@@ -56,7 +56,7 @@ forgotten-other n m other (q ∷ ps) = by (is_peer n q) refl (forgotten-other n 
     by true is rest = rest ∙ sym (ap (λ (c : Bool). unwrap_or (cond c (Some q) (find (is_peer m) ps)) (unknown_peer m)) (same_test q.number n m is ∙ other))
     by false is rest = at (is_peer m q) rest
 
--- a peer stands once
+-- each peer is listed once
 pub put_peer-once : (p : Peer) (n : ℕ) (ps : List Peer) → count (is_peer n) ps ≤ 1 → count (is_peer n) (put_peer ps p) ≤ 1
 put_peer-once p n [] few = by (p.number == n)
   where

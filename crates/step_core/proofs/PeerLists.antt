@@ -20,7 +20,7 @@ put_by_test : (p q : Peer) (ps : List Peer) (k : ℕ) (b : Bool) → cond (not b
 put_by_test p q ps k true within rest = refl
 put_by_test p q ps k false within rest = ap (λ j. set (q ∷ ps) j p) (one_more k) ∙ ap (λ t. q ∷ t) (rest (omega arith))
 
--- the first place of a peer's number is where the peer is set
+-- the peer is set at the first place of its number
 put_first : (p : Peer) (ps : List Peer) → position_or_len (is_peer p.number) ps < length ps → set ps (position_or_len (is_peer p.number) ps) p ≡ put_peer ps p
 put_first p [] within = absurd (omega arith)
 put_first p (q ∷ ps) within = put_by_test p q ps (position_or_len (is_peer p.number) ps) (is_peer p.number q) within (put_first p ps)
@@ -38,7 +38,7 @@ found_there n i ps d is = find_at (is_peer n) ps ∙ ap (λ k. slice_get ps k) (
 peer_there : (n i : ℕ) (ps : List Peer) (d : Peer) → position (is_peer n) ps ≡ Some i → peer_at ps n ≡ get_or ps i d
 peer_there n i ps d is = ap (λ o. unwrap_or o (unknown_peer n)) (found_there n i ps d is)
 
--- the peer that stands at the place is changed there, and keeps its number
+-- the peer at the place is changed there, and keeps its number
 pub put_there : (n i : ℕ) (ps : List Peer) (q : Peer) (change : Peer → Peer) → ((p : Peer) → (change p).number ≡ p.number) → position (is_peer n) ps ≡ Some i → q ≡ get_or ps i q → set ps i (change q) ≡ put_peer ps (change (peer_at ps n))
 put_there n i ps q change keeps is there =
     let same : peer_at ps n ≡ q = peer_there n i ps q is ∙ sym there in

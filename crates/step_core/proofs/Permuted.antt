@@ -45,7 +45,7 @@ none_found {X} p (x ∷ xs) none = by (p x) none (none_found p xs)
     by true none rest = absurd (true≢false (ap is_some none))
     by false none rest = let n = rest none in omega (arith, n)
 
--- the item is the one that is found
+-- this item is the one that is found
 abbrev IsFound : {X : Type 0} → (X → Bool) → List X → X → Type 0
 IsFound p xs x = p x ≡ true → find p xs ≡ Some x
 
@@ -57,7 +57,7 @@ none_passes {X} p o (x ∷ xs) none = (λ is. absurd (by (p x) none is), none_pa
     by true none is = omega (arith, none)
     by false none is = cc
 
--- where at most one passes, each that passes is the one that is found
+-- if at most one passes, each item that passes is the one that is found
 each_found : {X : Type 0} (p : X → Bool) (xs : List X) → count p xs ≤ 1 → AllByRecursion (IsFound p xs) xs
 each_found p [] few = tt
 each_found {X} p (x ∷ xs) few = by (p x) refl few (each_found p xs)
@@ -82,7 +82,7 @@ find-permuted {X} p xs ys few same = by (find p ys) refl
     by None is = sym (found_none p xs (sym (count-permuted p xs ys same) ∙ none_found p ys is))
     by (Some y) is = sym (found_in p (find p xs) ys (recursion_from_All (IsFound p xs) ys (All-permutation (IsFound p xs) xs ys same (All-from_recursion (IsFound p xs) xs (each_found p xs few)))) y is)
 
--- ---- lists that have each item as often
+-- ---- lists that have each item equally often
 
 find-at_once : {X : Type 0} (p : X → Bool) (x : X) (xs : List X) → p x ≡ true → find p (x ∷ xs) ≡ Some x
 find-at_once p x xs is = ap (λ b. cond b (Some x) (find p xs)) is
@@ -107,7 +107,7 @@ module _ {X : Type 0} (same : X → X → Bool) (itself : (x : X) → same x x �
 
 -- ---- items with a key of two numbers
 
--- an item that fails the other test is found all the same where the first of those goes
+-- removing the first item of another test leaves which item is found
 pub find-without : {X : Type 0} (p test : X → Bool) → ((x : X) → test x ≡ true → p x ≡ false) → (xs : List X) → count p xs ≤ 1 → find p (without_first test xs) ≡ find p xs
 find-without {X} p test apart xs few = by (find test xs) refl
   where
@@ -131,17 +131,17 @@ module _ {X : Type 0} (a b : X → ℕ) where
   own_key : (x : X) → has_key a b (a x) (b x) x ≡ true
   own_key x = and_from (a x == a x) (b x == b x) (eq-eqb (a x) (a x) refl) (eq-eqb (b x) (b x) refl)
 
-  -- a key that the item has is its own
+  -- if the item has a key, that is its own key
   same_key : (m k : ℕ) (x : X) → has_key a b m k x ≡ true → (y : X) → has_key a b (a x) (b x) y ≡ has_key a b m k y
   same_key m k x is y =
       let parts = and_parts (a x == m) (b x == k) is in
       ap (λ (n : ℕ). a y == n && b y == b x) (eqb-true (a x) m parts.0) ∙ ap (λ (n : ℕ). a y == m && b y == n) (eqb-true (b x) k parts.1)
 
-  -- an item with the key of another has no key that the other hasn't
+  -- two items with the same key have no other keys
   other_key : (m k : ℕ) (x : X) → has_key a b m k x ≡ false → (y : X) → has_key a b (a x) (b x) y ≡ true → has_key a b m k y ≡ false
   other_key m k x other y is = false_from_ne_true _ (λ has. both_ways (has_key a b m k x) other (sym (same_key m k y has x) ∙ same_key (a x) (b x) y is x ∙ own_key x))
 
-  -- lists in which no key stands twice, and in which the same is found under each key, are the same but for their order
+  -- two lists are the same up to order if no key occurs twice in either, and the same item is found under each key
   pub permutes_by_keys : (xs ys : List X) → ((m k : ℕ) → count (has_key a b m k) xs ≤ 1) → ((m k : ℕ) → count (has_key a b m k) ys ≤ 1) → ((m k : ℕ) → find (has_key a b m k) xs ≡ find (has_key a b m k) ys) → IsPermutation xs ys
   permutes_by_keys [] [] few_xs few_ys found = IsPermutation-refl []
   permutes_by_keys [] (y ∷ ys) few_xs few_ys found = absurd (true≢false (sym (ap is_some (found (a y) (b y) ∙ find-at_once (has_key a b (a y) (b y)) y ys (own_key y)))))

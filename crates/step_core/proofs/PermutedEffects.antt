@@ -1,4 +1,4 @@
--- What an event does to LSPs is the same, in whatever order their paths and records stand.
+-- What an event does to LSPs doesn't depend on the order of their paths and records.
 use Rattle.std.proofs.Common.{◌≡◌, ◌≤◌, ◌==◌, ◌&&◌, ◌||◌, ℕ, ◌+◌, Bool, true, false, cond, not, nat_lt, List, [], ◌∷◌, map, filter, find, IsPermutation, refl, sym, ap, ◌∙◌, subst, arith}
 use Rattle.std.specs.Prelude.{Option, Some, None, Result, Ok, Err, is_none, is_some, if◌then◌else◌}
 use Rattle.std.specs.List.{flat_map}
@@ -31,7 +31,8 @@ use Rattle.step_core.proofs.Counts.{one, count-permuted}
 use Rattle.step_core.proofs.Permuted.{any-permuted, find-permuted, found_none}
 use Rattle.step_core.proofs.PermutedLists.{chosen-permuted, filter-permuted, lsp_at-permuted, set_at}
 
--- the same paths and records, in any order; of each LSP one record at most, and of each SRP-ID one grant or awaited removal
+-- the same paths and records in any order, with at most one record for each LSP, and at most one grant or awaited
+-- removal for each SRP-ID
 pub record AreSameLsps (a b : Lsps) : Type 0 where
   pub paths : IsPermutation a.paths b.paths
   pub records : IsPermutation a.records b.records
@@ -161,7 +162,7 @@ reported-same a b same te n r = by r.remove
     by true = removal-same a b same n r
     by false = report-same a b same te n r
 
--- both are refused for the same, or do the same
+-- both are refused for the same reason, or do the same
 abbrev pub ComeToTheSame : Result Effect Why → Result Effect Why → Type 0
 ComeToTheSame (Err why) (Err other) = why ≡ other
 ComeToTheSame (Ok e) (Ok f) = DoTheSame e f

@@ -1,4 +1,4 @@
--- The paths, records and names after an effect, in whatever order they stood before it.
+-- The paths, records and names after an effect don't depend on their order before it.
 use Rattle.std.proofs.Common.{◌≡◌, ◌≤◌, ◌==◌, ◌&&◌, ◌||◌, ℕ, ◌+◌, ◌-◌, Bool, true, false, cond, List, [], ◌∷◌, ◌++◌, map, filter, find, IsPermutation, refl, sym, ap, ◌∙◌, subst, arith}
 use Rattle.std.specs.Prelude.{Option, Some, None, option_map, if◌then◌else◌}
 use Rattle.std.specs.List.{list_any}
@@ -52,7 +52,8 @@ found_record m q (r ∷ rs) = by (is_record_of m q r) refl (found_record m q rs)
         ap (λ (k : ℕ). Some (record_with k r.plsp r.lsp)) (eqb-true r.peer m parts.0) ∙ ap (λ (k : ℕ). Some (record_with m k r.lsp)) (eqb-true r.plsp q parts.1)
     by false other rest = rest
 
--- records of which each LSP has at most one, and the same is known of each, are the same but for their order
+-- two lists of records are the same up to order if each LSP has at most one record, and the same is known about each
+-- LSP
 records_permute : (rs ss : List Record) → AreDistinct rs → AreDistinct ss → ((m q : ℕ) → lsp_at rs m q ≡ lsp_at ss m q) → IsPermutation rs ss
 records_permute rs ss distinct_rs distinct_ss known =
     permutes_by_keys (λ (r : Record). r.peer) (λ (r : Record). r.plsp) rs ss (few_records rs distinct_rs) (few_records ss distinct_ss)
@@ -60,7 +61,7 @@ records_permute rs ss distinct_rs distinct_ss known =
 
 -- ---- records that are set
 
--- what is known of one of the peer's LSPs after the changes
+-- what is known about one of the peer's LSPs after the changes
 abbrev pub set_at : List RecordChange → ℕ → Option Lsp → Option Lsp
 set_at [] q o = o
 set_at (c ∷ cs) q o = set_at cs q (if c.plsp == q then c.lsp else o)
@@ -153,7 +154,7 @@ find-filter {X} p q (x ∷ xs) = by (q x) (find-filter p q xs)
     by true rest = ap (cond (p x) (Some x)) rest
     by false rest = rest
 
--- what is changed of the peer's records that pass a test
+-- changes of those of the peer's records that pass a test
 pub chosen-permuted : (f : Record → RecordChange) → ((r : Record) → (f r).plsp ≡ r.plsp) → (n : ℕ) (test : Record → Bool) → ((r : Record) → test r ≡ true → (r.peer == n) ≡ true) → (rs ss : List Record) → AreDistinct rs → IsPermutation rs ss
     → (q : ℕ) (o : Option Lsp) → set_at (map f (filter test rs)) q o ≡ set_at (map f (filter test ss)) q o
 chosen-permuted f keeps n test own rs ss distinct same q o =
@@ -178,7 +179,7 @@ chosen-permuted f keeps n test own rs ss distinct same q o =
         let once = few_chosen xs distinct in
         omega (arith, mapped, chosen, once)
 
--- ---- names of grants that go
+-- ---- names of grants that are dropped
 
 names_left : (m k : ℕ) (names : List AwaitedName) (gone : List Path) → count (is_of_grant m k) names ≤ 1 → find (is_of_grant m k) (names_without names gone) ≡ cond (list_any (is_unbound_grant m (Some k)) gone) None (find (is_of_grant m k) names)
 names_left m k names [] few = refl

@@ -1,4 +1,4 @@
--- What paths reserve and leave, in whatever order they stand.
+-- What paths reserve and leave doesn't depend on their order.
 use Rattle.std.proofs.Common.{◌≡◌, ◌≤◌, ◌&&◌, ◌||◌, ℕ, ◌+◌, Bool, true, false, cond, not, nat_lt, List, [], ◌∷◌, ◌++◌, length, map, filter, sum_by, pos, ◌-ℤ◌, IsPermutation, refl, sym, ap, ◌∙◌, arith}
 use Rattle.std.specs.Prelude.{int_le}
 use Rattle.std.specs.List.{AllByRecursion, list_all, list_any, range_with_len}
@@ -60,7 +60,7 @@ share-permuted xs ys same t l p =
 
 -- ---- what all tunnels reserve
 
--- each tunnel that has a path stands once
+-- each tunnel that has a path occurs once
 tunnel_once : (t : Tunnel) (xs : List Path) → count (λ u. same_tunnel u t) (tunnels_of xs) ≡ one (list_any (is_of_tunnel t) xs)
 tunnel_once t [] = refl
 tunnel_once t (x ∷ xs) = by (list_any (is_of_tunnel x.tunnel) xs) (same_tunnel x.tunnel t) refl refl (tunnel_once t xs)

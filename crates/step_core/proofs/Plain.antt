@@ -1,4 +1,4 @@
--- Effects of events that ask a peer for nothing: no grant and no awaited removal comes, and no record of PLSP-ID 0.
+-- Effects of events that ask a peer for nothing: they add no grant, no awaited removal, and no record of PLSP-ID 0.
 use Rattle.std.proofs.Common.{◌≡◌, ◌≤◌, ◌==◌, ◌&&◌, ◌||◌, ℕ, ◌+◌, Bool, true, false, not, List, [], ◌∷◌, ◌++◌, map, filter, refl, ap, ◌∙◌, subst, arith}
 use Rattle.std.specs.Prelude.{Option, Some, None, Ok, Err, is_some, if◌then◌else◌}
 use Rattle.std.proofs.lemmas.Bool.{and_parts}
@@ -36,7 +36,7 @@ pub record IsPlain (base : Lsps) (n : ℕ) (e : Effect) : Type 0 where
 abbrev pub AreNumbered : List Record → Type 0
 AreNumbered rs = count (λ r. r.plsp == 0) rs ≡ 0
 
--- changes of records that stand set none of PLSP-ID 0
+-- changes of existing records set none of PLSP-ID 0
 no_more : (f : Record → RecordChange) → ((r : Record) → (f r).plsp ≡ r.plsp) → (test : Record → Bool) (rs : List Record) → AreNumbered rs → count sets_none (map f (filter test rs)) ≡ 0
 no_more f same test rs none =
     let mapped = count-map sets_none f (filter test rs) in
@@ -117,7 +117,7 @@ not_unbound : (te : Ted) (m srp n : ℕ) (r : StateReport) → is_unbound_grant 
 unfolding reported_path
 not_unbound te m srp n r = and_false (n == m && r.plsp == 0)
 
--- a grant that a report binds is bound
+-- a grant that a report binds isn't unbound any more
 bound_one : (m srp plsp : ℕ) (x y : Path) → y.plsp ≡ plsp → (plsp == 0) ≡ false → is_unbound_grant m (Some srp) y ≡ false
 bound_one m srp plsp x y is bound = ap (λ (k : ℕ). y.peer == m && k == 0 && has_srp (Some srp) y.part) is ∙ ap (λ (b : Bool). y.peer == m && b && has_srp (Some srp) y.part) bound ∙ by (y.peer == m) (has_srp (Some srp) y.part)
   where
@@ -171,7 +171,7 @@ binds_own false granted base n r bound = record {
   unbound = λ m srp. count-map (is_unbound_grant m (Some srp)) (bound_grant r) (filter (is_grant_bound granted n r) base.paths) ∙ count-none (λ (x : Path). is_unbound_grant m (Some srp) (bound_grant r x)) (λ x. bound_one m srp r.plsp x (bound_grant r x) refl bound) (filter (is_grant_bound granted n r) base.paths);
 }
 
--- records that are taken away
+-- records that are removed
 record Takes (cs : List RecordChange) : Type 0 where
   none : AwaitNone cs
   numbered : count sets_none cs ≡ 0

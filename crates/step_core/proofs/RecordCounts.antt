@@ -1,4 +1,4 @@
--- How many records pass a test, as they are set and taken away.
+-- How many records pass a test when some are set and removed.
 use Rattle.std.proofs.Common.{◌≡◌, ◌≤◌, ◌==◌, ◌&&◌, ℕ, ◌+◌, Bool, true, false, cond, List, [], ◌∷◌, map, find, option_map, Option, Some, None, refl, sym, ap, ◌∙◌, arith}
 use Rattle.std.specs.Prelude.{IfSome, is_some}
 use Rattle.std.proofs.lemmas.Bool.{and_from, and_parts, both_ways, eq-eqb, eqb-true, false_from_ne_true}
@@ -15,7 +15,7 @@ use Rattle.step_core.proofs.Counts.{one, without_first-fewer, without_first-one,
 abbrev pub record_set : ℕ → ℕ → Lsp → Record
 record_set n plsp lsp = record { peer = n; plsp = plsp; lsp = lsp }
 
--- a record that is set is at most one more
+-- setting a record adds at most one
 pub put-more : (p : Record → Bool) (n plsp : ℕ) (lsp : Lsp) (rs : List Record) → count p (put rs n plsp lsp) ≤ count p rs + one (p (record_set n plsp lsp))
 put-more p n plsp lsp [] = omega arith
 put-more p n plsp lsp (r ∷ rs) = by (is_record_of n plsp r) (put-more p n plsp lsp rs)
@@ -24,7 +24,7 @@ put-more p n plsp lsp (r ∷ rs) = by (is_record_of n plsp r) (put-more p n plsp
     by true rest = omega arith
     by false rest = omega (arith, rest)
 
--- one that awaits the same removal as what was known is none more
+-- setting a record that awaits the same removal as before adds none
 pub put-same : (m srp n plsp : ℕ) (lsp : Lsp) (rs : List Record) → old_removing (lsp_at rs n plsp) ≡ lsp.removing → count (is_removed_as m srp) (put rs n plsp lsp) ≤ count (is_removed_as m srp) rs
 put-same m srp n plsp lsp [] same = by (n == m) (lsp.removing) same
   where
@@ -79,7 +79,7 @@ AwaitNone-map f none (x ∷ xs) = (none x, AwaitNone-map f none xs)
 abbrev pub sets_none : RecordChange → Bool
 sets_none c = is_some c.lsp && c.plsp == 0
 
--- no record of PLSP-ID 0 comes but by a change that sets one
+-- only a change that sets a record of PLSP-ID 0 adds one
 pub set-numbered : (n : ℕ) (rs : List Record) (cs : List RecordChange) → count (λ r. r.plsp == 0) (set_records n rs cs) ≤ count (λ r. r.plsp == 0) rs + count sets_none cs
 set-numbered n rs [] = omega arith
 set-numbered n rs (c ∷ cs) =
@@ -91,9 +91,9 @@ set-numbered n rs (c ∷ cs) =
     by None = let fewer = without_first-fewer (λ (r : Record). r.plsp == 0) (is_record_of n c.plsp) rs in omega (arith, fewer)
     by (Some l) = put-more (λ r. r.plsp == 0) n c.plsp l rs
 
--- ---- records that are taken away
+-- ---- records that are removed
 
--- each change takes a record away
+-- each change removes a record
 abbrev pub AllTake : List RecordChange → Type 0
 AllTake [] = Unit {0}
 AllTake (c ∷ cs) = (c.lsp ≡ None) × AllTake cs
@@ -111,7 +111,7 @@ other_lsp n plsp q other r is = false_from_ne_true _ (λ also.
     let second = (and_parts (r.peer == n) (r.plsp == q) also).1 in
     both_ways (plsp == q) other (ap (λ (k : ℕ). k == q) (sym first) ∙ second))
 
--- an LSP's record is taken away by a change of the LSP
+-- an LSP's record is removed by a change of the LSP
 pub taken_all : (n q : ℕ) (rs : List Record) (cs : List RecordChange) → AllTake cs → count (is_record_of n q) rs ≤ 1 → count (is_record_of n q) rs ≤ count (λ c. c.plsp == q) cs → count (is_record_of n q) (set_records n rs cs) ≡ 0
 taken_all n q rs [] take few each = omega arith
 taken_all n q rs (c ∷ cs) take few each =
@@ -124,7 +124,7 @@ taken_all n q rs (c ∷ cs) take few each =
     by true is each = let less = without_first-one (is_record_of n q) (is_record_of n c.plsp) (same_lsp n c.plsp q is) rs in omega (arith, less, few, each)
     by false is each = let same = without_first-other (is_record_of n q) (is_record_of n c.plsp) (other_lsp n c.plsp q is) rs in omega (arith, same, each)
 
--- where no LSP of the peer has a record, no removal of it is awaited
+-- if no LSP of the peer has a record, no removal of it is awaited
 pub none_awaited : (n srp : ℕ) (rs : List Record) → ((q : ℕ) → count (is_record_of n q) rs ≡ 0) → count (is_removed_as n srp) rs ≡ 0
 none_awaited n srp [] none = refl
 none_awaited n srp (r ∷ rs) none = by (is_removed_as n srp r) refl (none_awaited n srp rs (λ q. let h = none q in omega (arith, h)))
@@ -137,7 +137,7 @@ none_awaited n srp (r ∷ rs) none = by (is_removed_as n srp r) refl (none_await
         absurd (omega (arith, e, h))
     by false is rest = omega (arith, rest)
 
--- what is known is known under a PLSP-ID that isn't 0
+-- what is known has a PLSP-ID that isn't 0
 pub known_numbered : (n plsp : ℕ) (lsp : Lsp) (rs : List Record) → count (λ r. r.plsp == 0) rs ≡ 0 → lsp_at rs n plsp ≡ Some lsp → (plsp == 0) ≡ false
 known_numbered n plsp lsp [] numbered known = absurd (cc (known))
 known_numbered n plsp lsp (r ∷ rs) numbered known = by (is_record_of n plsp r) refl known (known_numbered n plsp lsp rs (omega (arith, numbered)))
@@ -149,7 +149,7 @@ known_numbered n plsp lsp (r ∷ rs) numbered known = by (is_record_of n plsp r)
         absurd (omega (arith, e, numbered)))
     by false is later rest = rest later
 
--- a record that is set to await a removal is one more of its SRP-ID
+-- setting a record that awaits a removal adds one of its SRP-ID
 pub put_awaiting : (m k n plsp srp : ℕ) (lsp : Lsp) (rs : List Record) → lsp.removing ≡ Some srp → count (is_removed_as m k) (put rs n plsp lsp) ≤ count (is_removed_as m k) rs + one (n == m && srp == k)
 put_awaiting m k n plsp srp lsp rs is =
     let more = put-more (is_removed_as m k) n plsp lsp rs in

@@ -27,7 +27,7 @@ use Rattle.link_reload.specs.declared.entry.LinkReload.{LinkReload}
 abbrev joined : Ends → Values → Link
 joined e v = record { from = e.from; to = e.to; local = e.local; remote = e.remote; igp = v.igp; te = v.te; colour = v.colour; reservable = v.reservable }
 
--- links with the same ends and addresses are one with the same values
+-- links with the same ends and addresses are the same if they have the same values
 same_links : (ls ks : List Link) (vs : List Values) → map ends_in ls ≡ map ends_in ks → length vs ≡ length ls → set_all_values ls vs ≡ set_all_values ks vs
 same_links [] [] vs same long = refl
 same_links [] (k ∷ ks) vs same long = absurd cc
@@ -39,14 +39,14 @@ same_links (l ∷ ls) (k ∷ ks) (v ∷ vs) same long =
     let rest : map ends_in ls ≡ map ends_in ks = cc in
     ap (λ x. x ∷ set_all_values ls vs) first ∙ ap (λ xs. with_values k v ∷ xs) (same_links ls ks vs rest (omega (arith, long)))
 
--- the values of all links leave nothing else of the network than what stays
+-- if two networks are the same apart from the values of their links, and get the same values, they are the same
 pub same_over : (a b : Ted) (vs : List Values) → IsSameNetwork a b → length vs ≡ length a.links → with_all_values a vs ≡ with_all_values b vs
 same_over a b vs same long = rw (same.nodes, same.owners, same_links a.links b.links vs same.ends long) refl
 
 pub state_over-same : (a b : Ted) (base : known.Base) → IsSameNetwork a b → length base.values ≡ length a.links → state_over a base ≡ state_over b base
 state_over-same a b base same long = ap (λ (te : Ted). record (state_over a base) { te = te }) (same_over a b base.values same long)
 
--- what is known of a state is all of it
+-- a state is made again from what is known of it
 pub known_again : (s : State) (base : known.Base) → base ≡ known_in s → state_over s.te base ≡ s
 known_again s base is = ap (state_over s.te) is ∙ ap (λ (te : Ted). record s { te = te }) (own_values s.te)
 

@@ -1,4 +1,4 @@
--- What the answer of the rule says of a return's tests.
+-- What the rule's answer says about the tests of a return.
 use Rattle.std.proofs.Common.{◌≡◌, ◌∙◌, ℕ, refl, sym, subst, ap}
 use Rattle.std.specs.Prelude.{Option, Some, None, Ok, Err}
 use Rattle.lsp_base.specs.Lsps.{Lsps, HasAll, lsp_at}
@@ -36,7 +36,7 @@ not_held_by base given n plsp why same is = answered_err (must_be_held base n pl
 pub has_by_return : (base given : Lsps) (n plsp : ℕ) (e : Effect) → given ≡ base → return_result given n plsp ≡ Ok e → HasAll base.paths e.change.dropped
 has_by_return base given n plsp e same is = subst (λ (x : Effect). HasAll base.paths x.change.dropped) (sym (held_by base given n plsp e same is).1) (return-has base plsp (lsp_at base.records n plsp))
 
--- ---- a return, by the rule's answer
+-- ---- a return, depending on the rule's answer
 
 -- the rule refuses it
 refused_return : (s : State) (n plsp : ℕ) (why : Why) → must_take_updates s.peers n ≡ None → return_result s.base n plsp ≡ Err why → return_step s n plsp ≡ record { state = s; reply = Refused why }
@@ -68,7 +68,7 @@ returned_state s t n plsp e taken is free same =
     let tests = held_by s.base s.base n plsp e refl is in
     same ∙ ap (λ x. asking s n x (return_message (next_number s n) plsp)) tests.1 ∙ rw (taken, tests.0, free) refl
 
--- ---- the same where the number was computed from parts of the state
+-- ---- the same if the number was computed from parts of the state
 
 pub asking_by : (s u t : State) (n plsp number : ℕ) (e : Effect) (message : Message) → u ≡ s → number ≡ next_number u n → message ≡ return_message number plsp → t ≡ asking u n e message → t ≡ asking s n e (return_message (next_number s n) plsp)
 asking_by s u t n plsp number e message same number_is message_is is =

@@ -104,7 +104,7 @@ gone : (te : Ted) (a : Message) → ((step (at te no_lsps (record ready { outgoi
 unfolding step
 gone te a = refl
 
--- ---- a refusal: the grant of the number goes, another peer's doesn't, and a number that nothing has changes nothing
+-- ---- a refusal drops the grant of the number, but not another peer's; a number that nothing has changes nothing
 
 refused : (te : Ted) → step (at te (known (grant 0 7 ∷ record (grant 0 7) { peer = 2 } ∷ []) []) (ready ∷ [])) (event.Refused 1 7)
     ≡ record { state = record (at te (known (record (grant 0 7) { peer = 2 } ∷ []) []) (ready ∷ [])) { changes = 5 }; reply = Done }

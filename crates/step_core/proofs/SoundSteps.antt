@@ -58,7 +58,7 @@ no_offer : (t : Ticket) (lsps : Lsps) (te : Ted) (v : PeerView) → verdict t No
 unfolding verdict
 no_offer t lsps te v h = nothing_granted (is_gone lsps t v) (v.changes == t.seen) (nat_lt t.tries 4) h
 
--- the path is one more, beside those that stand
+-- the path is added to the existing ones
 path_added : (s : State) (t : Ticket) (links : List ℕ) → (granted s t links).base.paths ≡ s.base.paths ++ path_of s t links ∷ []
 unfolding changed
 path_added s t links = refl
@@ -129,7 +129,7 @@ granted_is_sound s Take srp is = sound_take s (first_waiting s.tickets) srp is
 granted_is_sound s (Commit id offer) srp is = sound_commit s id offer (ticket_at s.tickets id) srp refl is
 granted_is_sound s (Reload entries) srp is = sound_by s (Reload entries) (must_have_links s.te entries) (done (after_reload s entries)) srp (λ no. absurd (cc (no))) is
 
--- ---- the same of a call that takes the step, or leaves the state if memory runs out
+-- ---- the same for a call that takes the step, or leaves the state if memory runs out
 
 pub sound_by_step : (s t : State) (event : Event) (result : Result Reply AllocError) (srp : ℕ) → OnOk result (t ≡ (step s event).state) → IfOk result (λ reply. reply ≡ (step s event).reply) → result ≡ Ok (Granted srp) → IsSoundGrant s event t
 sound_by_step s t event (Ok reply) srp ok replied is =

@@ -1,4 +1,4 @@
--- What the layers above use of the step.
+-- What the layers above use about the step.
 use Rattle.std.proofs.Common.{◌≡◌, ◌∙◌, ℕ, ◌+◌, ◌≤◌, Bool, true, false, cond, List, IsPermutation, refl, sym, subst, ap, arith}
 use Rattle.std.specs.Prelude.{◌==◌, [], Option, Some, None, IfSome, Result, Ok, Err, OnOk, OnErr, find, unwrap_or}
 use Rattle.std.proofs.lemmas.List.Sorted.{IsPermutation-refl}
@@ -44,22 +44,22 @@ use Rattle.step_core.proofs.Effects.{up-own, marker-own, down-own, expire-own, r
 use Rattle.link_reload.proofs.Entries.{with_entries-same}
 use Rattle.step_core.proofs.OtherTickets.{other_names, other_tickets, names_without-others, same_others, with_name-others, with_ticket-others, edit-others, drop-others, only_own, found_by_own}
 
--- what holds of the state, and of what follows where no test fails, holds after
+-- if P holds of the state, and of the outcome if no test fails, it holds after the event
 pub decided-has : (P : State → Type 0) (s : State) (whys : Option Why) (o : Outcome) → P s → P o.state → P (decided s whys o).state
 decided-has P s (Some why) o here there = here
 decided-has P s None o here there = there
 
--- what holds of the state, and after any effect that a report may have, holds after the report
+-- if P holds of the state, and after any effect that a report may have, it holds after the report
 pub booked-has : (P : State → Type 0) (s : State) (n plsp : ℕ) (result : Result Effect Why) → P s → ((e : Effect) → result ≡ Ok e → P (affected s n e)) → P (booked s n plsp result).state
 booked-has P s n plsp (Err why) here there = here
 booked-has P s n plsp (Ok e) here there = there e refl
 
--- what holds of the state, and with one more ticket of the peer, holds after an ask
+-- if P holds of the state, also with one more ticket of the peer, it holds after an ask
 pub asked-has : (P : State → Type 0) (s : State) (n : ℕ) (purpose : Purpose) (c : Option Constraints) → P s → ((t : Ticket) → t.peer ≡ n → t.id ≡ s.last_ticket + 1 → P (with_ticket s t).state) → P (asked_with s n purpose c).state
 asked-has P s n purpose None here there = here
 asked-has P s n purpose (Some c) here there = decided-has P s (must_have_ends s.te c ⨟ may_have_one_more s.tickets) (with_ticket s (new_ticket s n purpose c)) here (there (new_ticket s n purpose c) refl refl)
 
--- what holds of a state to which messages are added holds after a ticket that ended in vain
+-- if P stays when messages are added, it holds after a ticket ended in vain
 pub in_vain-has : (P : State → Type 0) (s : State) (n : ℕ) (purpose : Purpose) → P s → ((m : Message) → P (saying s n m)) → P (answered_in_vain s n purpose)
 in_vain-has P s n (purposes.Update plsp) here there = here
 in_vain-has P s n (purposes.Initiate name constraints) here there = here
@@ -74,7 +74,7 @@ judged-has P s t links verdicts.NoPath grant again end tell = in_vain-has P (end
 judged-has P s t links verdicts.GivenUp grant again end tell = in_vain-has P (ended s t) t.peer t.purpose end tell
 judged-has P s t links verdicts.Gone grant again end tell = end
 
--- what a return is tested for
+-- the tests of a return
 abbrev return_tests : State → ℕ → ℕ → Option Why
 return_tests s n plsp = must_take_updates s.peers n ⨟ must_be_held s.base n plsp ⨟ must_have_a_number s n
 
@@ -107,7 +107,7 @@ network_stays s Take = take_network s (first_waiting s.tickets)
 network_stays s (Commit id offer) = commit_network s offer (ticket_at s.tickets id)
 network_stays s (Reload entries) = decided-has (λ t. IsSameNetwork s.te t.te) s (must_have_links s.te entries) (done (after_reload s entries)) (same-refl s.te) (with_entries-same s.te entries)
 
--- ---- counts rise by one at most, and never fall
+-- ---- counts rise by at most one, and never fall
 
 rise_by : (s t : State) → (s.changes ≤ t.changes) × (t.changes ≤ s.changes + 1) → (s.last_session ≤ t.last_session) × (t.last_session ≤ s.last_session + 1) → (s.last_ticket ≤ t.last_ticket) × (t.last_ticket ≤ s.last_ticket + 1) → CountsRise s t
 rise_by s t changes sessions tickets = record { changes_kept = changes.0; changes_rise = changes.1; sessions_kept = sessions.0; sessions_rise = sessions.1; tickets_kept = tickets.0; tickets_rise = tickets.1 }
@@ -122,14 +122,14 @@ counted : (b : Bool) (n : ℕ) → (n ≤ cond b (n + 1) n) × (cond b (n + 1) n
 counted true n = one_more n (n + 1) refl
 counted false n = same_count n
 
--- where no path comes or goes, no session begins and nothing is asked for
+-- if no path is added or dropped, no session begins and nothing is asked for, the counts stay
 no_rise : (s t : State) → t.changes ≡ s.changes → t.last_session ≡ s.last_session → t.last_ticket ≡ s.last_ticket → CountsRise s t
 no_rise s t changes sessions tickets = rise_by s t (omega arith, omega arith) (omega arith, omega arith) (omega arith, omega arith)
 
 stays : (s : State) → CountsRise s s
 stays s = no_rise s s refl refl refl
 
--- after an effect
+-- the counts after an effect
 effect_rise : (s t : State) (e : Effect) → t.changes ≡ cond (moves_paths e) (s.changes + 1) s.changes → t.last_session ≡ s.last_session → t.last_ticket ≡ s.last_ticket → CountsRise s t
 effect_rise s t e changes sessions tickets =
     let c = counted (moves_paths e) s.changes in
@@ -173,12 +173,12 @@ counts_rise s Take = take_rise s (first_waiting s.tickets)
 counts_rise s (Commit id offer) = commit_rise s offer (ticket_at s.tickets id)
 counts_rise s (Reload entries) = decided-has (CountsRise s) s (must_have_links s.te entries) (done (after_reload s entries)) (stays s) (reload_rise s entries)
 
--- ---- an event changes what is of its own peer alone
+-- ---- an event changes only what belongs to its own peer
 
 all_stay : (peer : Option ℕ) (s : State) → OthersStay peer s s
 all_stay peer s = record { paths = IsPermutation-refl _; records = IsPermutation-refl _; known = λ m plsp other. refl; peers = refl; names = IsPermutation-refl _; tickets = refl }
 
--- where the paths and the records stay
+-- the paths and the records stay
 kept_others : (n : ℕ) (s t : State) → t.base ≡ s.base → other_peers n t.peers ≡ other_peers n s.peers → other_names n t.names ≡ other_names n s.names → other_tickets n t.tickets ≡ other_tickets n s.tickets → OthersStay (Some n) s t
 kept_others n s t same peers names tickets = record {
   paths = subst (λ (b : Lsps). IsPermutation (other_paths n s.base.paths) (other_paths n b.paths)) (sym same) (IsPermutation-refl _);
@@ -189,7 +189,7 @@ kept_others n s t same peers names tickets = record {
   tickets = tickets;
 }
 
--- after an effect on the peer's LSPs
+-- after an effect on the peer's LSPs, those of others stay
 effect_others : (n : ℕ) (s t : State) (e : Effect) → AreDistinct s.base.records → IsOwn n e → t.base ≡ changed s.base n e → other_peers n t.peers ≡ other_peers n s.peers → IsPermutation (other_names n s.names) (other_names n t.names) → other_tickets n t.tickets ≡ other_tickets n s.tickets → OthersStay (Some n) s t
 effect_others n s t e distinct own is peers names tickets = record {
   paths = subst (λ (b : Lsps). IsPermutation (other_paths n s.base.paths) (other_paths n b.paths)) (sym is) (changed-paths n s.base e own);
@@ -344,7 +344,7 @@ refused_stays s Take why is = refused_take s (first_waiting s.tickets) why is
 refused_stays s (Commit id offer) why is = refused_commit s offer (ticket_at s.tickets id) why is
 refused_stays s (Reload entries) why is = refused_tests s (must_have_links s.te entries) (done (after_reload s entries)) why (λ no. absurd (cc (no))) is
 
--- ---- the same of a call that takes the step, or leaves the state if memory runs out
+-- ---- the same for a call that takes the step, or leaves the state if memory runs out
 
 pub by_step : (P : State → Type 0) (s t : State) (event : Event) (result : Result Reply AllocError) → P s → P (step s event).state → OnOk result (t ≡ (step s event).state) → OnErr result (t ≡ s) → P t
 by_step P s t event (Ok reply) here there ok err = subst P (sym ok) there

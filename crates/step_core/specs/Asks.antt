@@ -32,13 +32,13 @@ may_be_asked s n (purposes.Update plsp) = must_take_updates s.peers n ⨟ must_b
 may_be_asked s n (purposes.Initiate name constraints) = must_take_initiations s.peers n ⨟ must_be_new s.base n name (is_name_held s n name)
 may_be_asked s n (purposes.Answer request plsp constraints) = must_be_up s.peers n
 
--- what is asked of the path: for an update, what the LSP's record asks
+-- what is asked of the path; for an update, what the LSP's record asks
 abbrev pub constraints_for : List Record → ℕ → Purpose → Option Constraints
 constraints_for records peer (purposes.Update plsp) = option_map (λ lsp. lsp.constraints) (lsp_at records peer plsp)
 constraints_for records peer (purposes.Initiate name constraints) = Some constraints
 constraints_for records peer (purposes.Answer request plsp constraints) = Some constraints
 
--- which ends no node owns; a path to the node at which it begins has no destination
+-- the ends that no node owns; a path that ends at the node at which it begins has no destination
 abbrev pub missing_ends : Option ℕ → Option ℕ → Option Ends
 missing_ends None None = Some Both
 missing_ends None (Some to) = Some Source
@@ -48,7 +48,7 @@ missing_ends (Some from) (Some to) = if from == to then Some Destination else No
 abbrev pub missing_ends_of : Ted → Constraints → Option Ends
 missing_ends_of te c = missing_ends (node_of te.owners c.source) (node_of te.owners c.destination)
 
--- nodes own both ends of the path, and they are two
+-- nodes own both ends of the path, and they are two different nodes
 abbrev pub must_have_ends : Ted → Constraints → Option Why
 must_have_ends te c = option_map UnknownNode (missing_ends_of te c)
 
@@ -56,7 +56,7 @@ must_have_ends te c = option_map UnknownNode (missing_ends_of te c)
 abbrev pub may_have_one_more : List Ticket → Option Why
 may_have_one_more tickets = unless (nat_lt (length tickets) 1024) TooManyTickets
 
--- the next ticket, which waits
+-- the next ticket, which waits to be searched for
 abbrev pub new_ticket : State → ℕ → Purpose → Constraints → Ticket
 new_ticket s n purpose c = record { id = s.last_ticket + 1; peer = n; session = (peer_at s.peers n).session; purpose = purpose; constraints = c; tries = 0; seen = 0; taken = false }
 

@@ -4,7 +4,7 @@ use Rattle.te_base.specs.Values.{values_in, with_all_values}
 use Rattle.step_core.specs.declared.base.Base.{Base}
 use Rattle.step_core.specs.States.{State}
 
--- what a state knows besides nodes, owners, and ends and addresses of links
+-- all that a state knows, apart from nodes, owners, and the ends and addresses of links
 abbrev pub known_in : State → Base
 known_in s = record {
   values = values_in s.te;
@@ -18,7 +18,7 @@ known_in s = record {
   last_ticket = s.last_ticket;
 }
 
--- the state over a network of these nodes and links in which this is known
+-- the state that knows this, over a network of these nodes and links
 abbrev pub state_over : network.Ted → Base → State
 state_over te b = record {
   te = with_all_values te b.values;

@@ -1,4 +1,4 @@
--- What holds of every state that events lead to.
+-- What holds in every state that events lead to.
 use Rattle.std.specs.Prelude.{ℕ, ◌≡◌, ◌≤◌, ◌<◌, ◌+◌, ◌==◌, Bool, false, List, [], ◌∷◌, Some, if◌then◌else◌, nat_lt}
 use Rattle.lsp_base.specs.Lsps.{Lsps, AreDistinct, is_path_of, is_record_of}
 use Rattle.lsp_base.specs.Grants.{is_grant_of, is_unbound_grant}
@@ -32,14 +32,14 @@ pub record IsConsistent (s : State) : Type 0 where
   pub names : (peer srp : ℕ) → count (is_of_grant peer srp) s.names ≡ count (is_unbound_grant peer (Some srp)) s.base.paths
   -- each peer is listed once
   pub peers : (number : ℕ) → count (is_peer number) s.peers ≤ 1
-  -- tickets' numbers rise, none is above the last that was given, and none is searched for more than four times
+  -- tickets' numbers rise, none is above the last that was given, and none was searched for more than four times
   pub tickets : AreInOrder s.last_ticket s.tickets
 
 -- no grant or awaited removal has an SRP-ID above the last that its peer was given
 pub record NoneAbove (s : State) : Type 0 where
   pub none : (peer srp : ℕ) → (peer_at s.peers peer).last_srp < srp → asked_as s.base peer srp ≡ 0
 
--- the peer was not given the greatest SRP-ID, 0xFFFFFFFE, after which 1 comes again (RFC 8231 section 7.2)
+-- the peer was not yet given the greatest SRP-ID, 0xFFFFFFFE, after which 1 comes again (RFC 8231 section 7.2)
 abbrev pub has_srps_left : Peer → Bool
 has_srps_left p = nat_lt p.last_srp 0xFFFFFFFE
 

@@ -1,4 +1,4 @@
--- What the PCE searches for and grants: a ticket is taken, its search is made without the database, and the offer is
+-- What the PCE searches for and grants: a ticket is taken, its search runs without the database, and the offer is
 -- committed.
 use Rattle.std.specs.Prelude.{ℕ, false, List, [], ◌∷◌, ◌++◌, length, option_map, unwrap_or, Option, Some, None}
 use Rattle.te_base.specs.Ted.{Ted}
@@ -39,7 +39,7 @@ use Rattle.ticket_table.specs.Tickets.{first_waiting, ticket_at, searched_for, t
 abbrev pub snapshot_of : Ted → Lsps → NetworkState
 snapshot_of te lsps = state_beside (network_of te) lsps.paths
 
--- what the tunnel reserves, if there is one
+-- what the tunnel reserves; nothing if there is none
 abbrev pub held_by : List Path → ℕ → Option Tunnel → List OwnShare
 held_by paths links None = []
 held_by paths links (Some tunnel) = own_shares paths tunnel links
@@ -60,23 +60,23 @@ take_step s = taken s (first_waiting s.tickets)
 
 -- ---- what a grant and an answer do
 
--- the state after an effect on a peer's LSPs that a message asks the peer for, under its next number
+-- the state after an effect on a peer's LSPs, for which a message asks the peer under its next number
 abbrev pub asking : State → ℕ → Effect → Message → State
 asking s n e message = record (affected s n e) { peers = put_peer s.peers (asked (peer_at s.peers n) message) }
 
--- the state after a message without a number to a peer
+-- the state after a message without a number waits for a peer
 abbrev pub saying : State → ℕ → Message → State
 saying s n message = record s { peers = put_peer s.peers (with_message (peer_at s.peers n) message) }
 
--- the ticket is gone
+-- the state without the ticket
 abbrev pub ended : State → Ticket → State
 ended s t = record s { tickets = without_ticket s.tickets t.id }
 
--- one path more, and nothing else
+-- the effect that adds one path, and nothing else
 abbrev pub granting : Path → Effect
 granting g = effect_of [] (g ∷ []) [] false
 
--- what the peer is sent if the offer is good: an update, an initiation, or the reply to its request
+-- what the peer is sent if the offer is accepted: an update, an initiation, or the reply to its request
 abbrev pub message_of : List Link → ℕ → Constraints → List ℕ → Purpose → Message
 message_of links srp c numbers (purposes.Update plsp) = update_message links srp plsp c numbers
 message_of links srp c numbers (purposes.Initiate name constraints) = initiate_message links srp name c numbers
@@ -92,7 +92,7 @@ abbrev pub with_name : List AwaitedName → Option AwaitedName → List AwaitedN
 with_name names None = names
 with_name names (Some a) = names ++ a ∷ []
 
--- ---- the search's answer is judged by what stands now
+-- ---- the search's answer is judged by the state as it is now
 
 abbrev pub view_of : State → ℕ → PeerView
 view_of s n = let p = peer_at s.peers n in record { session = p.session; up = p.up; syncing = p.syncing; changes = s.changes; srp_in_use = is_srp_used s.base n (next_number s n) }
@@ -115,7 +115,7 @@ granted s t links =
 abbrev pub answered : State → Ticket → List ℕ → State
 answered s t links = saying (ended s t) t.peer (message_of s.te.links (next_number s t.peer) t.constraints links t.purpose)
 
--- there is no path: if it was for a request, that is the answer
+-- there is no path; a request is answered with that
 abbrev pub answered_in_vain : State → ℕ → Purpose → State
 answered_in_vain s n (purposes.Update plsp) = s
 answered_in_vain s n (purposes.Initiate name constraints) = s
@@ -124,7 +124,7 @@ answered_in_vain s n (purposes.Answer request plsp constraints) = saying s n (no
 abbrev pub in_vain : State → Ticket → State
 in_vain s t = answered_in_vain (ended s t) t.peer t.purpose
 
--- an offer that is searched for again waits; each other verdict ends the ticket
+-- a ticket whose offer must be searched for again waits; each other verdict ends the ticket
 abbrev pub judged : State → Ticket → List ℕ → Verdict → Outcome
 judged s t links verdicts.Grant = record { state = granted s t links; reply = Granted (next_number s t.peer) }
 judged s t links verdicts.Answer = record { state = answered s t links; reply = Answered }

@@ -1,4 +1,4 @@
--- What holds of every step.
+-- What holds for every step.
 use Rattle.std.specs.Prelude.{ℕ, ◌≡◌, ◌≢◌, ◌+◌, ◌≤◌, pos, ◌+ℤ◌, ◌-ℤ◌, Bool, true, ◌==◌, not, filter, Option, Some, None, option_map, IsPermutation}
 use Rattle.lsp_base.specs.Lsps.{lsp_at}
 use Rattle.lsp_base.specs.Shares.{reservable, unreserved}
@@ -12,8 +12,8 @@ use Rattle.ticket_table.specs.Tickets.{first_waiting, ticket_at}
 abbrev pub peer_of_ticket : Option Ticket → Option ℕ
 peer_of_ticket ticket = option_map (λ t. t.peer) ticket
 
--- The peer of an event in a state: for a ticket it is the ticket's. If there is no such ticket the event has no peer,
--- and neither has a reload of links.
+-- The peer of an event in a state: for a ticket, the ticket's peer. If there is no such ticket, the event has no peer;
+-- nor has a reload of links.
 abbrev pub peer_of : State → Event → Option ℕ
 peer_of s (Up n sent) = Some n
 peer_of s (Report n r) = Some n
@@ -34,9 +34,9 @@ abbrev pub is_other : Option ℕ → ℕ → Bool
 is_other None m = true
 is_other (Some n) m = not (m == n)
 
--- the paths and the records of all other peers and the names of what they were asked for are the same, in any order;
--- what is known of each of their LSPs is as it was; and so are their sessions, what waits to be sent to them, and the
--- tickets of what they are to be asked for, in the same order
+-- All other peers keep their paths, their records and the names of what they were asked for, in any order, and what is
+-- known about each of their LSPs. They also keep their sessions, what waits to be sent to them, and the tickets of what
+-- they are to be asked for, in the same order.
 pub record OthersStay (peer : Option ℕ) (old new : State) : Type 0 where
   pub paths : IsPermutation (filter (λ x. is_other peer x.peer) old.base.paths) (filter (λ x. is_other peer x.peer) new.base.paths)
   pub records : IsPermutation (filter (λ r. is_other peer r.peer) old.base.records) (filter (λ r. is_other peer r.peer) new.base.records)
@@ -45,7 +45,7 @@ pub record OthersStay (peer : Option ℕ) (old new : State) : Type 0 where
   pub names : IsPermutation (filter (λ a. is_other peer a.peer) old.names) (filter (λ a. is_other peer a.peer) new.names)
   pub tickets : filter (λ t. is_other peer t.peer) new.tickets ≡ filter (λ t. is_other peer t.peer) old.tickets
 
--- the three counts rise by at most one, and none falls: the number of a session or a ticket is never used again
+-- the three counts rise by at most one, and none falls, so the number of a session or a ticket is never used again
 pub record CountsRise (old new : State) : Type 0 where
   pub changes_kept : old.changes ≤ new.changes
   pub changes_rise : new.changes ≤ old.changes + 1
@@ -54,14 +54,14 @@ pub record CountsRise (old new : State) : Type 0 where
   pub tickets_kept : old.last_ticket ≤ new.last_ticket
   pub tickets_rise : new.last_ticket ≤ old.last_ticket + 1
 
--- what is unreserved on the entry's link has moved, at each priority, by the difference of the two reservable
--- bandwidths, and has moved on no other link
+-- what is unreserved on the entry's link has changed, at each priority, by the difference of the two reservable
+-- bandwidths; on no other link has it changed
 pub record MovesAlone (entry : LinkReload) (old new : State) : Type 0 where
   pub there : (p : ℕ) → unreserved new.te.links new.base.paths entry.link p ≡ unreserved old.te.links old.base.paths entry.link p +ℤ (pos (entry.values).reservable -ℤ pos (reservable old.te.links entry.link))
   pub elsewhere : (l p : ℕ) → l ≢ entry.link → unreserved new.te.links new.base.paths l p ≡ unreserved old.te.links old.base.paths l p
 
 -- the states differ only in the order of their lists: both have the same paths, records and names, and all else is
--- equal, what waits to be sent to each peer too
+-- equal, also what waits to be sent to each peer
 pub record AreAlike (s t : State) : Type 0 where
   pub paths : IsPermutation s.base.paths t.base.paths
   pub records : IsPermutation s.base.records t.base.records

@@ -1,10 +1,10 @@
--- The names of granted initiations as a map holds them, under the keys of their grants.
+-- The names of granted initiations as a map holds them, each under the key of its grant.
 use Rattle.std.specs.Prelude.{ℕ, ◌≡◌, ◌==◌, ◌&&◌, Bool, List}
 use Rattle.std.specs.List.{AllByRecursion}
 use Rattle.step_core.specs.declared.names.AwaitedName.{AwaitedName}
 use Rattle.step_core.specs.declared.names.GrantKey.{GrantKey}
 
--- the names in order, and for how many more there is room
+-- the names in order, and how many more there is room for
 pub record NameRoom : Type 0 where
   pub names : List AwaitedName
   pub room : ℕ

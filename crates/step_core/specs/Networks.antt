@@ -15,11 +15,11 @@ pub record Network : Type 0 where
   pub base : Lsps
   pub names : List AwaitedName
 
--- the network after an effect on a peer's LSPs: a name goes with its grant
+-- the network after an effect on a peer's LSPs; a name is dropped with its grant
 abbrev pub carried_out : Network → ℕ → Effect → Network
 carried_out n peer e = record n { base = changed n.base peer e; names = names_without n.names e.change.dropped }
 
--- the book is of the network, and stands for the paths of all LSPs
+-- the book is over the network, and stands for the paths of all LSPs
 pub record IsBooked (te : Ted) (base : Lsps) (book : Book) : Type 0 where
   pub network : books.network_of book ≡ network_of te
   pub stands : StandsFor book base.paths

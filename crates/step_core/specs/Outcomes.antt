@@ -36,14 +36,14 @@ must_be_down peers n = unless (not (peer_at peers n).up) PeerUp
 abbrev pub must_be_in_sync : List Peer → ℕ → Option Why
 must_be_in_sync peers n = must_be_known peers n ⨟ unless (peer_at peers n).up PeerDown ⨟ unless (not (peer_at peers n).syncing) Syncing
 
--- and takes updates (RFC 8231 section 7.1.1)
+-- the peer also takes updates (RFC 8231 section 7.1.1)
 abbrev pub must_take_updates : List Peer → ℕ → Option Why
 must_take_updates peers n = must_be_in_sync peers n ⨟ unless ((peer_at peers n).capabilities).update NoUpdate
 
--- and takes initiations (RFC 8281 section 4.1)
+-- the peer also takes initiations (RFC 8281 section 4.1)
 abbrev pub must_take_initiations : List Peer → ℕ → Option Why
 must_take_initiations peers n = must_be_in_sync peers n ⨟ unless ((peer_at peers n).capabilities).create NoInitiate
 
--- the number of the next request to the peer isn't that of one that is awaited
+-- the number of the next request to the peer isn't one that is still awaited
 abbrev pub must_have_a_number : State → ℕ → Option Why
 must_have_a_number s n = unless (not (is_srp_used s.base n (next_number s n))) SrpInUse

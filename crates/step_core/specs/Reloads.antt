@@ -5,7 +5,7 @@ use Rattle.link_reload.specs.declared.entry.LinkReload.{LinkReload}
 use Rattle.step_core.specs.Outcomes.{Outcome, decided, done}
 use Rattle.step_core.specs.States.{State}
 
--- no path changes; the reload is counted, so that a search from before it no longer decides
+-- no path changes; the reload is counted, so that a search that began before it no longer decides
 abbrev pub after_reload : State → List LinkReload → State
 after_reload s entries = record s { te = with_entries s.te entries; changes = s.changes + 1 }
 

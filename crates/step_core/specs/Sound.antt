@@ -9,7 +9,8 @@ use Rattle.step_core.specs.Grants.{path_of}
 use Rattle.step_core.specs.States.{State}
 use Rattle.ticket_table.specs.Tickets.{ticket_at}
 
--- with the path, no link of it is below zero at a priority, setup or better, at which its tunnel reserves more than before
+-- with the path, none of its links is below zero at a priority, setup or better, at which its tunnel reserves more than
+-- before
 abbrev pub IsCovered : State → State → Path → ℕ → Type 0
 IsCovered old new g setup = (l p : ℕ) → has_link l g ≡ true → p ≤ setup → rises old.base.paths g l p ≡ true → pos 0 ≤ℤ unreserved new.te.links new.base.paths l p
 

@@ -20,11 +20,11 @@ pub record State : Type 0 where
   -- the names of granted initiations that no report has named yet
   pub names : List AwaitedName
   pub peers : List Peer
-  -- in the order in which they were asked for
+  -- the tickets, in the order in which they were asked for
   pub tickets : List Ticket
   -- how many events dropped or added a path, or reloaded links
   pub changes : ℕ
-  -- counted over all peers, and never used again
+  -- the last session's number; it counts over all peers, and no number is used again
   pub last_session : ℕ
   pub last_ticket : ℕ
 
@@ -53,7 +53,7 @@ peer_at peers n = unwrap_or (find (is_peer n) peers) (unknown_peer n)
 abbrev pub is_up : State → ℕ → Bool
 is_up s n = (peer_at s.peers n).up
 
--- the peer set: in its place if it is known, else as the last
+-- the peers with this one set: in its place if it is known, else as the last
 abbrev pub put_peer : List Peer → Peer → List Peer
 put_peer [] p = p ∷ []
 put_peer (q ∷ ps) p = if is_peer p.number q then p ∷ ps else q ∷ put_peer ps p
@@ -97,7 +97,7 @@ is_queued s n = not (is_nothing (outgoing s n))
 abbrev pub next_number : State → ℕ → ℕ
 next_number s n = next_srp (peer_at s.peers n).last_srp
 
--- a ticket waits to be searched for
+-- some ticket waits to be searched for
 abbrev pub has_waiting : State → Bool
 has_waiting s = is_some (first_waiting s.tickets)
 
@@ -111,7 +111,8 @@ is_awaited_as peer name a = a.peer == peer && same_links a.name name
 abbrev pub is_grant_of_name : AwaitedName → Path → Bool
 is_grant_of_name a x = is_unbound_grant a.peer (Some a.srp) x
 
--- a name goes with its grant: for each path that goes the first such name, and the last one takes its place
+-- A name is dropped with its grant: for each path that is dropped, the first such name is removed, and the last name
+-- takes its place.
 abbrev pub names_without : List AwaitedName → List Path → List AwaitedName
 names_without names [] = names
 names_without names (x ∷ gone) = names_without (without_first (λ a. is_grant_of_name a x) names) gone

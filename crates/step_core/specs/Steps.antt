@@ -1,4 +1,4 @@
--- One event: its tests in their order, and what it does if all of them pass.
+-- One event: its tests in order, and what it does if all of them pass.
 use Rattle.std.specs.Prelude.{ℕ, ◌+◌, Bool, false, ◌&&◌, ◌||◌, not, List, [], length, filter, Option, Some, None, Result, Ok, Err, nat_lt}
 use Rattle.lsp_words.specs.declared.object.Capabilities.{Capabilities}
 use Rattle.pcep_messages.specs.declared.message.StateReport.{StateReport}
@@ -25,7 +25,7 @@ use Rattle.step_core.specs.Reloads.{reload_step}
 use Rattle.step_core.specs.States.{State, is_known, peer_at, is_peer, put_peer, in_session, synchronized, out_of_session, emptied, outgoing, next_number, affected}
 use Rattle.ticket_table.specs.Tickets.{is_update_asked}
 
--- ---- a session comes up: it has the next number (RFC 8231 section 5.6)
+-- ---- a session comes up, with the next number (RFC 8231 section 5.6)
 
 abbrev pub may_be_known : List Peer → ℕ → Option Why
 may_be_known peers n = unless (is_known peers n || nat_lt (length peers) 64) TooManyPeers
@@ -44,7 +44,7 @@ after_marker s n = record (affected s n (marker_effect s.base n)) { peers = put_
 abbrev pub marker_step : State → ℕ → Outcome
 marker_step s n = decided s (must_be_up s.peers n) (done (after_marker s n))
 
--- ---- a session ends: delegations and removals end, what waits to be sent is gone, paths are stale, and none is dropped
+-- ---- a session ends: delegations and removals end, what waits to be sent is dropped, all paths stay and are stale
 
 abbrev pub after_down : State → ℕ → State
 after_down s n = let t = affected s n (down_effect s.base n) in record t { base = with_stale t.base n; peers = put_peer s.peers (out_of_session (peer_at s.peers n)) }
@@ -70,7 +70,7 @@ drain_step s n = decided s (must_be_up s.peers n) (drained s n)
 
 -- ---- an LSP is reported (RFC 8231 section 6.1)
 
--- the LSP waits for a path, none is asked for, and the PCE may send the peer one (RFC 8231 section 5.8.3)
+-- the LSP waits for a path, no path is asked for yet, and the PCE may send the peer one (RFC 8231 section 5.8.3)
 abbrev pub wants : State → ℕ → ℕ → Effect → Bool
 wants s n plsp e = e.wants_path && ((peer_at s.peers n).capabilities).update && not (peer_at s.peers n).syncing && not (is_update_asked s.tickets n plsp)
 
@@ -99,7 +99,7 @@ return_step s n plsp = decided s (must_take_updates s.peers n ⨟ must_be_held s
 
 -- ---- an LSP that the PCE initiated is to be removed (RFC 8281 section 5.4)
 
--- its removal is awaited, under this number
+-- what is known about an LSP whose removal is awaited under this number
 abbrev pub removing : ℕ → Lsp → Lsp
 removing srp lsp = record lsp { removing = Some srp }
 

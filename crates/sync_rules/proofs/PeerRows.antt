@@ -30,14 +30,14 @@ lsp peer n = record {
 abbrev known : ℕ → ℕ → Record
 known peer n = record { peer = peer; plsp = n; lsp = lsp peer n }
 
--- peers 1 and 2, each with an LSP; peer 1 with a grant too
+-- peers 1 and 2, each with an LSP; peer 1 also has a grant
 abbrev before : Lsps
 before = record { paths = path 1 5 ∷ path 2 5 ∷ grant 1 ∷ []; records = known 1 5 ∷ known 2 5 ∷ [] }
 
 abbrev left : Record
 left = record (known 1 5) { lsp = record (lsp 1 5) { delegated = false; removing = None } }
 
--- the session of peer 1 ends: its paths stay, stale; its delegation and removal end
+-- the session of peer 1 ends: its paths stay and are stale; its delegation and removal end
 abbrev ended : Lsps
 ended = with_stale (changed before 1 (down_effect before 1)) 1
 
@@ -45,12 +45,12 @@ stale_paths_stay : ended ≡ record { paths = record (path 1 5) { fresh = false 
 unfolding with_stale changed down_effect
 stale_paths_stay = refl
 
--- back in a session, nothing reported: at the end of synchronization all of it is gone
+-- the peer comes back and reports nothing: at the end of synchronization all of it is gone
 gone_after_synchronization : changed ended 1 (marker_effect ended 1) ≡ record { paths = path 2 5 ∷ []; records = known 2 5 ∷ [] }
 unfolding with_stale changed down_effect marker_effect dropping
 gone_after_synchronization = refl
 
--- at once where the peer doesn't synchronize, not yet where it does
+-- all is gone at once if the peer doesn't synchronize, and not yet if it does
 gone_without_capability : changed ended 1 (up_effect ended 1 None) ≡ record { paths = path 2 5 ∷ []; records = known 2 5 ∷ [] }
 unfolding with_stale changed down_effect up_effect marker_effect dropping
 gone_without_capability = refl

@@ -18,12 +18,12 @@ is_stale_of peer x = x.peer == peer && not x.fresh
 unfoldable pub marker_effect : Lsps → ℕ → Effect
 marker_effect lsps peer = dropping lsps peer (is_stale_of peer)
 
--- a peer that doesn't synchronize has nothing to report again
+-- a peer that doesn't synchronize reports nothing again
 unfoldable pub up_effect : Lsps → ℕ → Option Capabilities → Effect
 up_effect lsps peer None = marker_effect lsps peer
 up_effect lsps peer (Some capabilities) = no_effect
 
--- the LSP isn't delegated any more, and its removal isn't awaited
+-- the LSP is no longer delegated, and its removal is no longer awaited
 abbrev pub left_alone : Record → RecordChange
 left_alone r = record { plsp = r.plsp; lsp = Some (record (r.lsp) { delegated = false; removing = None }) }
 
@@ -31,6 +31,6 @@ left_alone r = record { plsp = r.plsp; lsp = Some (record (r.lsp) { delegated = 
 unfoldable pub down_effect : Lsps → ℕ → Effect
 down_effect lsps peer = effect_of [] [] (map left_alone (filter (λ r. r.peer == peer) lsps.records)) false
 
--- the peer is given up
+-- the peer is forgotten, with all its paths and records
 unfoldable pub expire_effect : Lsps → ℕ → Effect
 expire_effect lsps peer = dropping lsps peer (is_of_peer peer)

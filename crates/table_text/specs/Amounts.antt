@@ -5,7 +5,7 @@ use Rattle.table_text.specs.Adding.{◌+>◌}
 use Rattle.table_text.specs.declared.amounts.Unit.{Unit}
 use Rattle.table_text.specs.declared.amounts.Unit.TheVariants.{Kilobit, Megabit, Gigabit}
 
--- how many bits per second it has
+-- how many bits per second the unit has
 abbrev pub size : Unit → ℕ
 size Kilobit = 1_000
 size Megabit = 1_000_000
@@ -24,7 +24,7 @@ rounded number by = (number + by / 2) / by
 abbrev pub tenths : Unit → ℕ → ℕ
 tenths unit bits = rounded (10 * bits) (size unit)
 
--- the least unit in which they are below 1,000 as shown, or the greatest
+-- the least unit in which the bits are below 1,000 as shown, or the greatest unit
 unfoldable pub unit_of : ℕ → Unit
 unit_of bits = if nat_lt (tenths Kilobit bits) 10_000 then Kilobit else if nat_lt (tenths Megabit bits) 10_000 then Megabit else Gigabit
 
@@ -32,7 +32,7 @@ unit_of bits = if nat_lt (tenths Kilobit bits) 10_000 then Kilobit else if nat_l
 abbrev pub point_words : ℕ → List ℕ
 point_words tenths = decimal (tenths / 10) +> codes "." +> decimal (tenths % 10)
 
--- nothing has no sign
+-- the sign of a number; nothing for 0
 abbrev pub sign_words : ℤ → ℕ → List ℕ
 sign_words (pos bytes) tenths = []
 sign_words (negsuc bytes) tenths = if nat_eq tenths 0 then [] else codes "-"
@@ -51,11 +51,12 @@ in_bits bytes bits = bits_words bytes (unit_of bits) (tenths (unit_of bits) bits
 abbrev pub rate_words : ℤ → List ℕ
 rate_words bytes = signed_decimal bytes +> codes " (" +> in_bits bytes (8 * magnitude bytes) +> codes ")"
 
--- how much of a link is reserved, by how much may be and how much is left, which is below zero if more is reserved
+-- how much of a link is reserved, given how much may be reserved and how much is left; what is left is below zero if
+-- more is reserved
 abbrev pub reserved : ℕ → ℤ → ℕ
 reserved reservable (pos left) = reservable - left
 reserved reservable (negsuc left) = reservable + (left + 1)
 
--- in percent of what may be reserved
+-- what is reserved, in percent of what may be reserved
 abbrev pub percent_words : ℕ → ℤ → List ℕ
 percent_words reservable left = if nat_eq reservable 0 then codes "-" else decimal (rounded (100 * reserved reservable left) reservable) +> codes "%"

@@ -7,7 +7,7 @@ abbrev pub rest_words : List ℕ → List ℕ
 rest_words [] = []
 rest_words (n ∷ ns) = codes "," +> decimal n +> rest_words ns
 
--- joined by commas, or a dash if there are none
+-- the numbers joined by commas; a dash if there are none
 abbrev pub numbers_words : List ℕ → List ℕ
 numbers_words [] = codes "-"
 numbers_words (n ∷ ns) = decimal n +> rest_words ns

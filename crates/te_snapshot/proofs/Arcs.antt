@@ -8,7 +8,7 @@ use Rattle.te_base.specs.Ted.{IsLinkAmong}
 use Rattle.te_snapshot.specs.declared.outgoing.Outgoing.{Outgoing}
 use Rattle.te_snapshot.specs.Leaving.{arc_of, entering, leaving, leaving_from, turned, IsArcAmong}
 
--- what reading past the end gives
+-- what a read past the end gives
 abbrev pub blank : Link
 blank = record { from = 0; to = 0; local = 0; remote = 0; igp = 0; te = 0; colour = 0; reservable = 0 }
 
@@ -64,7 +64,7 @@ leaving_has P links n l here all = subst (λ (k : ℕ). P (arc_of k l)) (zero-ad
 turned_among : (nodes : ℕ) (l : Link) → IsLinkAmong nodes l → IsLinkAmong nodes (turned l)
 turned_among nodes l h = record { from = h.to; to = h.from; apart = λ e. h.apart (sym e); igp_positive = h.igp_positive; igp_small = h.igp_small; te_positive = h.te_positive; te_small = h.te_small; reservable_small = h.reservable_small }
 
--- links the other way round join the same nodes
+-- links turned round join the same nodes
 pub all_turned_among : (nodes : ℕ) (links : List Link) → All (IsLinkAmong nodes) links → All (IsLinkAmong nodes) (map turned links)
 all_turned_among nodes links h = All-map (IsLinkAmong nodes) turned links (λ k d lt. turned_among nodes (get_or links k d) (h k d lt))
 

@@ -1,4 +1,4 @@
--- Lists cut out of one list, when it grows and when its elements change.
+-- Lists cut out of one list, when that grows and when its elements change.
 use Rattle.std.proofs.Common.{◌≡◌, ◌≤◌, ◌<◌, ◌+◌, ◌-◌, ℕ, zero, suc, List, [], ◌∷◌, ◌++◌, All, length, map, take, drop, slice_range, get_or, refl, ap, ◌∙◌, arith}
 use Rattle.std.specs.List.{take-map, drop-map}
 use Rattle.std.specs.declared.vec.Vec.{Vec}

@@ -1,4 +1,4 @@
--- A network with other values of its links.
+-- A network whose links get other values.
 use Rattle.std.proofs.Common.{◌≡◌, ◌+◌, ◌==◌, ℕ, suc, Bool, true, false, List, [], ◌∷◌, Option, Some, None, length, map, option_map, slice_get, refl, sym, ap, ◌∙◌, arith, add-zero, zero-add, subst, if◌then◌else◌}
 use Rattle.std.proofs.lemmas.List.{length-map}
 use Rattle.std.proofs.lemmas.Option.{slice_get-map}
@@ -53,7 +53,7 @@ from-now all k (o ∷ os) (n ∷ ns) v same here =
     let more : map (arc_now all) (leaving_from (k + 1) os v) ≡ leaving_from (k + 1) ns v = from-now all (k + 1) os ns v (tail-ends n o ns os same) next in
     rw from (kept-now (arc_now all) (o.from == v) (arc_of k o) (arc_of k n) (leaving_from (k + 1) os v) (leaving_from (k + 1) ns v) one more)
 
--- those that leave it, with their values of now
+-- those that leave it, with their present values
 pub leaving-now : (old new : List Link) (v : ℕ) → map ends_in new ≡ map ends_in old → map (arc_now new) (leaving old v) ≡ leaving new v
 leaving-now old new v same = from-now new 0 old new v same (λ j. ap (slice_get new) (zero-add j))
 
@@ -79,7 +79,7 @@ all_now-turned : (links : List Link) (arcs : List Outgoing) → map (arc_now (ma
 all_now-turned links [] = refl
 all_now-turned links (a ∷ rest) = ap (λ x. x ∷ map (arc_now (map turned links)) rest) (arc_now-turned links a) ∙ ap (λ xs. arc_now links a ∷ xs) (all_now-turned links rest)
 
--- those that enter it
+-- those that enter it, with their present values
 pub entering-now : (old new : List Link) (v : ℕ) → map ends_in new ≡ map ends_in old → map (arc_now new) (entering old v) ≡ entering new v
 entering-now old new v same =
     sym (all_now-turned new (leaving (map turned old) v)) ∙ leaving-now (map turned old) (map turned new) v (turned-ends new old same)

@@ -10,7 +10,7 @@ use Rattle.lsp_base.specs.Shares.{reservable, reserved, unreserved}
 abbrev reserves : Option Link → ℕ
 reserves o = unwrap_or (option_map (λ k. k.reservable) o) 0
 
--- it moves by the difference of the two reservable bandwidths
+-- on its own link what is left changes by the difference of the two reservable bandwidths
 pub moved_there : (links : List Link) (n : ℕ) (v : Values) (l : Link) (paths : List Path) (p : ℕ) → slice_get links n ≡ Some l → unreserved (set_values links n v) paths n p ≡ unreserved links paths n p +ℤ (pos v.reservable -ℤ pos l.reservable)
 unfolding unreserved
 moved_there links n v l paths p is =
@@ -18,7 +18,7 @@ moved_there links n v l paths p is =
     let after : reservable (set_values links n v) n ≡ v.reservable = ap reserves (set-at links n v l is) in
     rw (before, after) (grind (arith))
 
--- on no other link at all
+-- on no other link does it change
 pub moved_nowhere_else : (links : List Link) (n m : ℕ) (v : Values) (paths : List Path) (p : ℕ) → n ≢ m → unreserved (set_values links n v) paths m p ≡ unreserved links paths m p
 unfolding unreserved
 moved_nowhere_else links n m v paths p apart = ap (λ k. pos k -ℤ pos (reserved paths m p)) (ap reserves (set-other links n m v apart))

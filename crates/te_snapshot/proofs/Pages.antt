@@ -9,7 +9,7 @@ use Rattle.std.specs.declared.sync.Arc.{Arc}
 use Rattle.std.specs.declared.alloc.Global.{Global}
 use Rattle.te_snapshot.specs.Pages.{row, row_at, rows_of}
 
--- what holds of the elements, and of the new one at its place, holds after a push
+-- if P holds of each element, and of the new one at its place, it holds after a push
 pub pushed_at : {A : Type 0} (P : ℕ → Option A → Type 0) (xs : List A) (x : A) → P (length xs) (Some x) → ((n : ℕ) → n < length xs → P n (slice_get xs n)) → (n : ℕ) → n < length xs + 1 → P n (slice_get (xs ++ x ∷ []) n)
 pushed_at P [] x here f zero less = here
 pushed_at P [] x here f (suc n) less = absurd (omega (arith, less))

@@ -31,13 +31,13 @@ paths = path 1 first 0 500000 (3 ∷ 1 ∷ []) ∷ path 2 first 4 600000 (1 ∷ 
 abbrev link : ℕ → Link
 link reservable = record { from = 0; to = 1; local = 0; remote = 0; igp = 10; te = 10; colour = 0; reservable = reservable }
 
--- below zero where more is reserved than may be; what a path holds on a link that isn't there counts nowhere
+-- what is left is below zero if more is reserved than may be; what a path holds on a missing link counts nowhere
 left_by_all : all_left (link 1000000 ∷ link 550000 ∷ link 1000000 ∷ []) paths
     ≡ (replicate 4 (pos 1000000) ++ replicate 4 (pos 400000)) ∷ (replicate 4 (pos 50000) ++ replicate 4 (negsuc 49999)) ∷ replicate 8 (pos 750000) ∷ []
 unfolding all_left unreserved reserved share
 left_by_all = refl
 
--- the links in the order of their numbers; on the common one the greater bandwidth from 4 on
+-- the links are in the order of their numbers; on the common one the greater bandwidth counts, from 4 on
 of_two_paths : own_shares paths first 4 ≡ on 0 (replicate 4 0 ++ replicate 4 600000) ∷ on 1 (replicate 4 500000 ++ replicate 4 600000) ∷ on 3 (replicate 8 500000) ∷ []
 unfolding own_shares share
 of_two_paths = refl
@@ -50,12 +50,12 @@ of_no_path : own_shares paths (Asked 1 1) 4 ≡ []
 unfolding own_shares share
 of_no_path = refl
 
--- a link that isn't there is not listed
+-- a link that doesn't exist isn't listed
 of_three_links : own_shares paths first 3 ≡ on 0 (replicate 4 0 ++ replicate 4 600000) ∷ on 1 (replicate 4 500000 ++ replicate 4 600000) ∷ []
 unfolding own_shares share
 of_three_links = refl
 
--- on a link that is not listed nothing is reserved
+-- on a link that isn't listed nothing is reserved
 not_listed : own_share (own_shares paths first 4) 2 7 ≡ 0
 unfolding own_shares share
 not_listed = refl

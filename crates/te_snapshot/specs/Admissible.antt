@@ -14,8 +14,8 @@ use Rattle.te_snapshot.specs.Room.{has_room}
 
 -- ---- links
 
--- the link has none of the excluded colours, one of those of which any must be included (unless there are none), and
--- all of those that must all be included (RFC 3209 section 4.7.4)
+-- the link has none of the excluded colours, at least one of the include-any colours (unless there are none), and all
+-- of the include-all colours (RFC 3209 section 4.7.4)
 abbrev pub colours_pass : Colours → ℕ → Bool
 colours_pass c colour =
     bit_and colour c.exclude_any == 0
@@ -58,7 +58,7 @@ abbrev pub end_of : Option Link → ℕ
 end_of None = 0
 end_of (Some l) = l.to
 
--- the nodes that a path passes, its first and its last among them
+-- the nodes that a path passes, including its first and its last
 abbrev pub nodes_of : List Link → ℕ → List ℕ → List ℕ
 nodes_of links a [] = a ∷ []
 nodes_of links a (n ∷ ns) = a ∷ nodes_of links (end_of (slice_get links n)) ns
@@ -73,8 +73,8 @@ abbrev pub node_of : List Owner → Option ℕ → Option ℕ
 node_of owners None = None
 node_of owners (Some address) = owner_of owners address
 
--- the path leads from the source's node to the destination's, passes no node twice, has 1 to 64 links and
--- no more than the hop bound, takes links that it may take, and keeps the bound on the metric to minimise
+-- the path leads from the source's node to the destination's, passes no node twice, has 1 to 64 links and no more than
+-- the hop bound, takes only links that it may take, and keeps the bound on the metric to minimise
 pub record IsAdmissible (s : NetworkState) (c : Constraints) (own : List OwnShare) (path : List ℕ) : Type 0 where
   pub source : ℕ
   pub destination : ℕ
@@ -88,7 +88,7 @@ pub record IsAdmissible (s : NetworkState) (c : Constraints) (own : List OwnShar
   pub each : EachOpen s.network.links s.unreserved c own path
   pub cost : IfSome c.bound (λ b. cost_of c.minimise s.network.links path ≤ b)
 
--- an admissible path of this cost, and no admissible path costs less
+-- the path is admissible and has this cost, and no admissible path costs less
 pub record IsLeast (s : NetworkState) (c : Constraints) (own : List OwnShare) (path : List ℕ) (cost : ℕ) : Type 0 where
   pub admissible : IsAdmissible s c own path
   pub total : cost ≡ cost_of c.minimise s.network.links path

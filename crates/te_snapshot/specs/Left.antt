@@ -10,7 +10,7 @@ use Rattle.te_snapshot.specs.Network.{Network, NetworkState, state_of}
 abbrev pub left_on : List Link → List Path → ℕ → List ℤ
 left_on links paths l = map (unreserved links paths l) (priorities 0 7)
 
--- what they leave of each link, by its number
+-- what the paths leave of each link, by its number
 unfoldable pub all_left : List Link → List Path → List (List ℤ)
 all_left links paths = map (left_on links paths) (range_with_len 0 (length links))
 

@@ -10,10 +10,10 @@ use Rattle.te_snapshot.specs.declared.own.OwnShare.{OwnShare}
 abbrev pub own_share_on : List Path → Tunnel → ℕ → OwnShare
 own_share_on paths t l = record { link = l; shares = map (share paths t l) (priorities 0 7) }
 
--- something is reserved: at the worst priority all paths count
+-- something is reserved; at the worst priority all paths count
 abbrev pub is_something : OwnShare → Bool
 is_something held = nat_lt 0 (slice_index held.shares 7)
 
--- what the tunnel reserves on each link on which it reserves something, of this number of links, numbered from 0
+-- what the tunnel reserves on each of this number of links, from 0 on, on which it reserves something
 unfoldable pub own_shares : List Path → Tunnel → ℕ → List OwnShare
 own_shares paths t count = filter is_something (map (own_share_on paths t) (range_with_len 0 count))

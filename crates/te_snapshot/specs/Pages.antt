@@ -9,20 +9,20 @@ use Rattle.te_base.specs.declared.network.Link.{Link}
 use Rattle.te_snapshot.specs.declared.marks.Marks.{Marks}
 use Rattle.te_snapshot.specs.declared.table.Table.TheInside.{Inside}
 
--- the row at a place of a page; none if the page is missing
+-- the row at a place of a page; empty if the page is missing
 abbrev pub row_in : Option (Arc (List (List ℤ)) Global) → ℕ → List ℤ
 row_in None place = []
 row_in (Some page) place = slice_index_or (arc_value page) place []
 
--- 64 consecutive links have their rows in one page
+-- the row of a link; 64 consecutive links have their rows in one page
 abbrev pub row_at : List (Arc (List (List ℤ)) Global) → ℕ → List ℤ
 row_at pages l = row_in (slice_get pages (l / 64)) (l % 64)
 
--- the rows of the first links, this number of them
+-- the rows of this number of links, from 0 on
 abbrev pub rows_of : ℕ → List (Arc (List (List ℤ)) Global) → List (List ℤ)
 rows_of count pages = map (row_at pages) (range_with_len 0 count)
 
--- each link has a page, and there are 64 pages at most
+-- each link has a page, and there are at most 64 pages
 pub record IsPaged (t : Inside) : Type 0 where
   pub whole : t.links ≤ 64 * length t.pages.items
   pub few : length t.pages.items ≤ 64

@@ -7,6 +7,6 @@ use Rattle.te_snapshot.specs.Network.{NetworkState, state_of}
 abbrev pub state_in : Inside → NetworkState
 state_in s = state_of (arc_value (arc_value s.shared).topology) (arc_value s.shared).unreserved
 
--- there are numbers for each link
+-- each link has a row of numbers
 abbrev pub IsWhole : Inside → Type 0
 IsWhole s = length (arc_value s.shared).unreserved ≡ length (arc_value (arc_value s.shared).topology).links

@@ -3,7 +3,7 @@ use Rattle.std.specs.Prelude.{ℕ, ◌≤◌, List, [], Option, Some, None, slic
 use Rattle.te_snapshot.specs.declared.spans.Span.{Span}
 use Rattle.te_snapshot.specs.declared.outgoing.Outgoing.{Outgoing}
 
--- from its start on, up to its end, which is in the list
+-- it lies in the list, from its start up to its end
 pub record IsWithin (length : ℕ) (s : Span) : Type 0 where
   pub start : s.start ≤ s.end
   pub end : s.end ≤ length

@@ -1,4 +1,4 @@
--- Tickets as a map holds them, under their numbers.
+-- Tickets as a map holds them, each under its number.
 use Rattle.std.proofs.Common.{◌≡◌, ℕ, ◌+◌, ◌≤◌, Bool, true, false, true≢false, cond, nat_eq, nat_le, List, [], ◌∷◌, ◌++◌, None, Some, IfSome, is_some, find, refl, sym, ap, subst, ◌∙◌, arith}
 use Rattle.std.specs.Cmp.{nat_eq_equiv}
 use Rattle.std.specs.List.{list_all}
@@ -10,7 +10,7 @@ use Rattle.commit_core.specs.declared.ticket.Ticket.{Ticket}
 use Rattle.ticket_table.specs.Tickets.{AreNumbered, AreRising, AreRisingFrom, edit_first, first_waiting, is_ticket, is_waiting, searched_for, take_first, ticket_at, without_ticket}
 use Rattle.ticket_table.proofs.TicketOrders.{le_of}
 
--- a number is equal to a ticket's key where it is the ticket's own
+-- a number equals a ticket's key exactly if it is the ticket's own number
 same_test : (id : ℕ) (e : ℕ × Ticket) → e.0 ≡ e.1.id → nat_eq id e.0 ≡ is_ticket id e.1
 same_test id e h = nat_eq_equiv.symm id e.0 ∙ ap (λ k. nat_eq k id) h
 
@@ -37,7 +37,7 @@ pub numbered_pushed : (t : Ticket) (es : List (ℕ × Ticket)) → AreNumbered e
 numbered_pushed t [] h = (refl, tt)
 numbered_pushed t (e ∷ es) h = (h.0, numbered_pushed t es h.1)
 
--- ---- a ticket that is taken out
+-- ---- a ticket that is removed
 
 pub numbered_removed : (test : ℕ → Bool) (es : List (ℕ × Ticket)) → AreNumbered es → AreNumbered (remove_entry test es)
 numbered_removed test [] h = h
@@ -77,7 +77,7 @@ numbered_written w test (e ∷ es) h s = by (test e.0) s (numbered_written w tes
     by true s rest = (h.0 ∙ sym s, h.1)
     by false s rest = (h.0, rest s)
 
--- nothing is written where no ticket passes
+-- if no ticket passes, nothing is written
 pub unwritten : (test : Ticket → Bool) (edit : Ticket → Ticket) (ts : List Ticket) → find test ts ≡ None → edit_first test edit ts ≡ ts
 unwritten test edit [] none = refl
 unwritten test edit (t ∷ ts) none = by (test t) none (unwritten test edit ts)
@@ -96,7 +96,7 @@ found_from n test (x ∷ xs) t h is = by (test x) is (found_from (x.id + 1) test
     by true is rest = let same : x.id ≡ t.id = ap (λ o. (unwrap_or o t).id) is in omega (arith, same, h.0)
     by false is rest = let later = rest is in omega (arith, later, h.0)
 
--- the first that waits is found by its number, and edited by it
+-- the first waiting ticket is found and edited by its number
 waiting_found : (n : ℕ) (edit : Ticket → Ticket) (ts : List Ticket) (t : Ticket) → AreRisingFrom n ts → first_waiting ts ≡ Some t
     → (ticket_at ts t.id ≡ Some t) × (edit_first (is_ticket t.id) edit ts ≡ edit_first is_waiting edit ts)
 waiting_found n edit [] t h is = absurd (true≢false (sym (ap is_some is)))
@@ -114,7 +114,7 @@ waiting_found n edit (x ∷ xs) t h is = by (is_waiting x) is (λ later. found_f
         let other : is_ticket t.id x ≡ false = ne_eqb x.id t.id (λ same. omega (arith, same, above)) in
         (rw other (rest is).0, rw other (ap (λ l. x ∷ l) (rest is).1))
 
--- the ticket of its number is the first that waits, and takes its place once it is taken
+-- the ticket of this number is the first waiting one, and is replaced when it is taken
 pub take_written : (changes : ℕ) (es : List (ℕ × Ticket)) (waiting ticket : Ticket) → AreNumbered es → AreRising (values_of es) → first_waiting (values_of es) ≡ Some waiting → Some ticket ≡ lookup (nat_eq waiting.id) es
     → values_of (set_value (nat_eq waiting.id) es (record ticket { taken = true; tries = waiting.tries + 1; seen = changes })) ≡ take_first (values_of es) changes
 take_written changes es waiting ticket h rising first there =

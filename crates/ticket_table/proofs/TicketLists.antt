@@ -1,4 +1,4 @@
--- Tickets have tries left, whatever is done to their list.
+-- All tickets may be tried again, whatever is done to their list.
 use Rattle.std.proofs.Common.{◌≡◌, ◌&&◌, ℕ, ◌+◌, ◌<◌, Bool, List, [], ◌∷◌, ◌++◌, ◌∙◌, ap, subst, true, false, cond, refl, arith, nat_lt, nat_le}
 use Rattle.std.specs.Prelude.{Option, Some, None, IfSome, find, not, if◌then◌else◌}
 use Rattle.std.proofs.lemmas.Bool.{and_parts}
@@ -10,7 +10,8 @@ both : (a b : Bool) → a ≡ true → b ≡ true → (a && b) ≡ true
 both true b p q = q
 both false b p q = p
 
--- tickets have tries left after an edit of the first that passes a test, where it keeps so
+-- if an edit keeps that a ticket may be tried again, tickets may be tried again after it edits the first that passes a
+-- test
 tries_by_test : (test : Ticket → Bool) (edit : Ticket → Ticket) (x : Ticket) (xs : List Ticket) (b : Bool) → test x ≡ b → (test x ≡ true → has_tries_left x ≡ true → has_tries_left (edit x) ≡ true) → (has_tries_left x && all_have_tries xs) ≡ true
     → (test x ≡ false → all_have_tries (edit_first test edit xs) ≡ true) → all_have_tries (if b then edit x ∷ xs else x ∷ edit_first test edit xs) ≡ true
 tries_by_test test edit x xs true is keeps all rest =
@@ -39,7 +40,7 @@ tries_after_push t (x ∷ xs) left all =
     let parts = and_parts (has_tries_left x) (all_have_tries xs) all in
     both (has_tries_left x) (all_have_tries (xs ++ t ∷ [])) parts.0 (tries_after_push t xs left parts.1)
 
--- what is found passes the test, and has tries left
+-- the ticket that is found passes the test, and may be tried again
 found_by_test : (test : Ticket → Bool) (x t : Ticket) (o : Option Ticket) (b : Bool) → test x ≡ b → has_tries_left x ≡ true → cond b (Some x) o ≡ Some t → (o ≡ Some t → (test t ≡ true) × (has_tries_left t ≡ true)) → (test t ≡ true) × (has_tries_left t ≡ true)
 found_by_test test x t o true is left found rest = let same : x ≡ t = cc in subst (λ (y : Ticket). (test y ≡ true) × (has_tries_left y ≡ true)) same (is, left)
 found_by_test test x t o false is left found rest = rest found

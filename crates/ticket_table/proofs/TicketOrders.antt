@@ -20,7 +20,7 @@ le_of a b is = grind (arith, nat_tests)
 of_le : (a b : ℕ) → a ≤ b → nat_le a b ≡ true
 of_le a b le = grind (arith, nat_tests)
 
--- ---- one ticket more, of the next number
+-- ---- one more ticket, with the next number
 
 rising_pushed : (t : Ticket) (least last : ℕ) (ts : List Ticket) → least ≤ t.id → last < t.id → AreRisingFrom least ts → list_all (is_given last) ts ≡ true → AreRisingFrom least (ts ++ t ∷ [])
 rising_pushed t least last [] low above rising given = (low, tt)
@@ -121,6 +121,6 @@ least_of n (x ∷ xs) t h is = by (is_waiting x) refl is (least_of (x.id + 1) xs
         (λ _. omega (arith, same), all_from (x.id + 1) (λ u. is_waiting u ≡ true → t.id ≤ u.id) xs h.1 (λ u l _. omega (arith, same, l)))
     by false e is rest = (λ w. absurd (true≢false (sym w ∙ e)), rest is)
 
--- the first that waits is, of those that do, the one of the least number
+-- the first waiting ticket has the least number of all that wait
 pub least : (ts : List Ticket) (t : Ticket) → AreRising ts → first_waiting ts ≡ Some t → All (λ u. is_waiting u ≡ true → t.id ≤ u.id) ts
 least ts t h is = All-from_recursion (λ u. is_waiting u ≡ true → t.id ≤ u.id) ts (least_of 0 ts t h is)

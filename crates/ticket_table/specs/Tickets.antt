@@ -1,4 +1,4 @@
--- Tickets, which are paths that are asked for, in the order in which they were asked for. So their numbers rise.
+-- Tickets, which are paths that are asked for, in the order in which they were asked for, so that their numbers rise.
 use Rattle.std.specs.Prelude.{ℕ, ◌≡◌, ◌+◌, ◌≤◌, Bool, true, false, ◌==◌, ◌&&◌, not, nat_lt, nat_le, List, [], ◌∷◌, find, Option, if◌then◌else◌}
 use Rattle.std.specs.List.{AllByRecursion, list_any, list_all}
 use Rattle.std.specs.Map.{values_of}
@@ -13,7 +13,7 @@ is_ticket id t = t.id == id
 abbrev pub ticket_at : List Ticket → ℕ → Option Ticket
 ticket_at tickets id = find (is_ticket id) tickets
 
--- no search for it is under way
+-- the ticket waits: no search for it is under way
 abbrev pub is_waiting : Ticket → Bool
 is_waiting t = not t.taken
 
@@ -49,7 +49,7 @@ is_name_asked tickets peer name = list_any (is_initiation_for peer name) tickets
 
 -- ---- the list, as tickets are taken, wait again and end
 
--- the first that passes a test, changed
+-- the list with the first element that passes a test changed
 abbrev pub edit_first : {X : Type 0} → (X → Bool) → (X → X) → List X → List X
 edit_first test edit [] = []
 edit_first test edit (x ∷ xs) = if test x then edit x ∷ xs else x ∷ edit_first test edit xs
@@ -59,14 +59,14 @@ abbrev pub drop_first : {X : Type 0} → (X → Bool) → List X → List X
 drop_first test [] = []
 drop_first test (x ∷ xs) = if test x then xs else x ∷ drop_first test xs
 
--- a search for it begins; paths came or went, or links were reloaded, this often so far
+-- the ticket when a search for it begins; this is how often paths came or went, or links were reloaded
 abbrev pub searched_for : ℕ → Ticket → Ticket
 searched_for changes t = record t { taken = true; tries = t.tries + 1; seen = changes }
 
 abbrev pub take_first : List Ticket → ℕ → List Ticket
 take_first tickets changes = edit_first is_waiting (searched_for changes) tickets
 
--- it is to be searched for again
+-- the ticket when it is to be searched for again
 abbrev pub waiting_again : Ticket → Ticket
 waiting_again t = record t { taken = false }
 
@@ -87,7 +87,7 @@ AreRisingFrom least (t ∷ ts) = (least ≤ t.id) × AreRisingFrom (t.id + 1) ts
 abbrev pub AreRising : List Ticket → Type 0
 AreRising tickets = AreRisingFrom 0 tickets
 
--- a ticket is searched for at most four times, and while it waits it was searched for fewer times
+-- a ticket is searched for at most four times; while it waits, it was searched for fewer times
 abbrev pub has_tries_left : Ticket → Bool
 has_tries_left t = if t.taken then nat_le t.tries 4 else nat_lt t.tries 4
 

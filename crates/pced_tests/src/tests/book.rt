@@ -1,4 +1,4 @@
-//! A book beside plain sums over the paths, and its snapshots.
+//! A book compared with plain sums over the paths, and its snapshots.
 use super::*;
 use bandwidth_book::Book;
 use lsp_base::{Change, Part, Path, Tunnel};
@@ -10,21 +10,21 @@ use std::process::Abort;
 use std::sync::Arc;
 use te_snapshot::{Snapshot, Topology};
 
-/// A book of the diamond's links.
+/// Makes a book of the diamond's links.
 fn new_book(alloc: Global) -> Result<Book, Fail> {
     let te = diamond(alloc)?;
     let topology = Arc::new(alloc, Topology::new(alloc, &te)?)?;
     Ok(Book::new(alloc, topology)?)
 }
 
-/// Numbers that look drawn at random (Knuth's MMIX generator).
+/// Numbers that look as if drawn at random (Knuth's MMIX generator).
 #[derive(Drop)]
 struct Draws {
     state: u64,
 }
 
 impl Draws {
-    /// One below `count`, which isn't 0.
+    /// Draws a number below `count`, which isn't 0.
     fn below(&mut self, count: u8) -> u8 {
         self.state = self
             .state
@@ -37,7 +37,7 @@ impl Draws {
     }
 }
 
-/// One of eight tunnels of two peers.
+/// Returns one of eight tunnels of two peers.
 fn tunnel_of(number: u8) -> Tunnel {
     Tunnel::Signalled {
         peer: 1 + (number % 2) as u32,
@@ -47,7 +47,7 @@ fn tunnel_of(number: u8) -> Tunnel {
     }
 }
 
-/// A path with one of four bandwidths, so that maxima are tied, over some links or none.
+/// Draws a path with one of four bandwidths, so that maxima are tied, over some links or none.
 fn drawn_path(rt: &impl Abort, alloc: Global, draws: &mut Draws) -> Result<Path, AllocError> {
     let mut links = Vec::new(alloc);
     for link in 0..4usize {
@@ -86,7 +86,7 @@ fn plain_sum(paths: &[Path], link: usize, priority: Priority) -> u64 {
     sum
 }
 
-/// Whether the book says of each link what the paths say.
+/// Tests whether the book says the same about each link as the paths.
 fn says_the_same(book: &Book, paths: &[Path]) -> bool {
     for link in 0..book.link_count() {
         for number in 0..8u8 {
@@ -110,7 +110,7 @@ fn says_the_same(book: &Book, paths: &[Path]) -> bool {
     true
 }
 
-/// One path goes or changes its tunnel, or one comes, or both.
+/// Draws a change: one path goes or changes its tunnel, or one comes, or both.
 fn drawn_change(
     rt: &impl Abort,
     alloc: Global,
@@ -160,7 +160,7 @@ fn apply_drawn(
     apply(book, &change)
 }
 
-/// Carries out a thousand drawn changes, and counts those behind which the book says what the paths say.
+/// Carries out a thousand drawn changes, and counts those after which the book says the same as the paths.
 fn agreeing(rt: &impl Abort, alloc: Global, book: &mut Book) -> Result<u32, AllocError> {
     let mut draws = Draws { state: 7 };
     let mut paths = Vec::new(alloc);

@@ -5,7 +5,7 @@ use pcep_session::{Session, SessionFault};
 /// A Keepalive, and the first ten bytes of a report.
 const KEEPALIVE_AND_FRONT: &[u8] = b"\x20\x02\x00\x04\x20\x0a\x00\x50\x20\x10\x00\x1c\x00\x00";
 
-/// How many bytes a session keeps, and for how many it holds memory, once it has handled the Keepalive.
+/// Returns how many bytes a session keeps, and how many it holds memory for, after it handled the Keepalive.
 fn behind_a_keepalive(alloc: Global) -> Result<[usize; 2], SessionFault> {
     let mut session = Session::new(alloc, 0)?;
     session.feed(OPEN, 0)?;

@@ -1,6 +1,6 @@
-//! Copies where memory is ample, and snapshots that are given again. A contract says that a copy which is made equals its
-//! original, and not that one is made. Messages and objects are copied by the program of the rows of bytes
-//! (`message_rows`).
+//! Copies made with ample memory, and snapshots that are returned again. A contract says that a copy, if it is made,
+//! equals its original, but not that one is made. The program of the rows of bytes (`message_rows`) copies messages and
+//! objects.
 use super::refused::{Ask, event_of};
 use super::*;
 use bandwidth_book::Book;
@@ -25,13 +25,13 @@ fn is_written<T: fmt::Debug>(alloc: Global, value: &T, text: &str) -> Result<boo
     Ok(other.as_str() == text)
 }
 
-/// Whether two values are written alike.
+/// Tests whether two values are written alike.
 fn are_alike<T: fmt::Debug>(alloc: Global, first: &T, second: &T) -> Result<bool, AllocError> {
     let text = format!(in alloc; "{first:?}")?;
     is_written(alloc, second, &text)
 }
 
-/// Whether a copy is made, and is written as its original.
+/// Tests whether a copy is made, and is written like its original.
 fn is_copied<T: PlainData + fmt::Debug>(alloc: Global, value: &T) -> Result<bool, AllocError> {
     let copy = value.copy()?;
     are_alike(alloc, value, &copy)
@@ -46,7 +46,7 @@ fn are_copied<T: PlainData + fmt::Debug>(alloc: Global, values: &[T]) -> Result<
     Ok(true)
 }
 
-/// Whether there are as many values here as there, each written as the one in its place.
+/// Tests whether both have as many values, each written like the one in its place.
 fn are_each_alike<T: fmt::Debug>(
     alloc: Global,
     firsts: &[T],
@@ -62,7 +62,7 @@ fn are_each_alike<T: fmt::Debug>(
 
 // ---- what a database keeps, and answers
 
-/// Whether the base is of the state's paths, records and peers.
+/// Tests whether the base has the state's paths, records and peers.
 fn is_base_of(alloc: Global, base: &Base, state: &State) -> Result<bool, AllocError> {
     Ok(
         are_each_alike::<Path>(alloc, base.paths.as_slice(), state.lsps().paths())?
@@ -71,7 +71,7 @@ fn is_base_of(alloc: Global, base: &Base, state: &State) -> Result<bool, AllocEr
     )
 }
 
-/// The same, and whether each part of the base is copied.
+/// Tests the same, and whether each part of the base is copied.
 fn are_lists_copied(alloc: Global, base: &Base, state: &State) -> Result<bool, AllocError> {
     Ok(
         is_base_of(alloc, base, state)?
@@ -84,7 +84,7 @@ fn are_lists_copied(alloc: Global, base: &Base, state: &State) -> Result<bool, A
     )
 }
 
-/// Whether a state is copied.
+/// Tests whether a state is copied.
 fn is_state_copied(alloc: Global, state: &State) -> Result<bool, AllocError> {
     let base = state.copy()?;
     are_lists_copied(alloc, &base, state)
@@ -97,19 +97,19 @@ fn is_found(alloc: Global, job: &Job, links: &Links) -> Result<bool, AllocError>
     are_alike(alloc, links, &found)
 }
 
-/// Whether both find the same path.
+/// Tests whether both find the same path.
 fn find_the_same(alloc: Global, first: &Job, second: &Job) -> Result<bool, AllocError> {
     let links = first.search(alloc)?;
     is_found(alloc, second, &links)
 }
 
-/// Whether what is found for a job is copied.
+/// Tests whether what is found for a job is copied.
 fn is_find_copied(alloc: Global, job: &Job) -> Result<bool, AllocError> {
     let found = find(alloc, &job.snapshot, &job.ticket.constraints, &job.own)?;
     is_copied(alloc, &found)
 }
 
-/// Whether a job is copied, with its network.
+/// Tests whether a job is copied, with its network.
 fn is_job_copied(alloc: Global, job: &Job) -> Result<bool, AllocError> {
     let copy = job.copy()?;
     find_the_same(alloc, job, &copy)
@@ -124,23 +124,23 @@ fn is_reply_copied(alloc: Global, reply: &Reply) -> Result<bool, AllocError> {
     }
 }
 
-/// Whether a reply is copied, and the state that it leaves.
+/// Tests whether a reply is copied, and the state that it leaves.
 fn are_both_copied(alloc: Global, reply: &Reply, state: &State) -> Result<bool, Fail> {
     Ok(is_reply_copied(alloc, reply)? && is_state_copied(alloc, state)?)
 }
 
-/// Submits an event: whether its reply is copied, and then the state.
+/// Submits an event, and tests whether its reply is copied, and then the state.
 fn submit(alloc: Global, database: &mut Database, event: Event) -> Result<bool, Fail> {
     let reply = database.apply(event)?;
     are_both_copied(alloc, &reply, database.state())
 }
 
-/// The same of a copy of the event, and whether the event is copied.
+/// Submits a copy of the event, and tests the same, and whether the event is copied.
 fn submit_copy(alloc: Global, database: &mut Database, event: &Event) -> Result<bool, Fail> {
     Ok(is_copied(alloc, event)? && submit(alloc, database, event.copy()?)?)
 }
 
-/// The same of what is asked for.
+/// Submits what is asked for, and tests the same.
 fn ask(alloc: Global, database: &mut Database, ask: Ask) -> Result<bool, Fail> {
     match event_of(alloc, ask) {
         Some(event) => submit_copy(alloc, database, &event),
@@ -157,7 +157,7 @@ fn ask_all(alloc: Global, database: &mut Database, asks: &[Ask]) -> Result<bool,
     Ok(true)
 }
 
-/// The offer of the way over B.
+/// Makes the offer of the way over B.
 fn over_b(alloc: Global) -> Result<Event, AllocError> {
     let links = vec![in alloc; 0, 1]?;
     Ok(Event::Commit {
@@ -166,13 +166,13 @@ fn over_b(alloc: Global) -> Result<Event, AllocError> {
     })
 }
 
-/// What the first LSP asks of its path.
+/// Returns what the first LSP asks of its path.
 fn constraints(database: &Database) -> Option<Constraints> {
     let first = database.state().lsps().records().first()?;
     Some(first.lsp.constraints)
 }
 
-/// A request for a path like that of the first LSP, and beside it.
+/// Makes a request for a path like that of the first LSP, in addition to it.
 fn request(database: &Database) -> Option<Event> {
     let constraints = constraints(database)?;
     let purpose = Purpose::Answer {
@@ -195,7 +195,8 @@ fn ask_beside(alloc: Global, database: &mut Database) -> Result<bool, Fail> {
     }
 }
 
-/// An LSP is granted, reported, updated, asked for beside, given back and forgotten, and links are reloaded.
+/// Submits all events of an LSP: it is granted, reported, updated, requested once more, given back and forgotten, and
+/// links are reloaded.
 fn live(alloc: Global, database: &mut Database) -> Result<bool, Fail> {
     let first = [
         Ask::Up,
@@ -238,7 +239,7 @@ fn is_life_copied(alloc: Global) -> Result<bool, Fail> {
     is_history_copied(alloc, &mut database)
 }
 
-/// Each event and reply is copied, the state after each, and each step.
+/// Tests that each event and reply is copied, and the state after each, and each step.
 #[test]
 fn what_a_database_keeps_is_copied(rt: HostRuntime) -> Result<(), Fail> {
     let copied = is_life_copied(rt.alloc())?;
@@ -298,7 +299,7 @@ fn are_owners_copied(alloc: Global) -> Result<bool, Fail> {
     Ok(is_copied(alloc, te.owners())?)
 }
 
-/// What needs no memory.
+/// Tests whether values that need no memory are copied.
 fn are_words_copied(alloc: Global) -> Result<bool, AllocError> {
     let capabilities = Capabilities {
         update: true,
@@ -316,7 +317,7 @@ fn are_words_copied(alloc: Global) -> Result<bool, AllocError> {
     )
 }
 
-/// Effects, calls, inputs of a session, nodes, owners of addresses, and words are copied.
+/// Tests that effects, calls, inputs of a session, nodes, owners of addresses, and words are copied.
 #[test]
 fn what_goes_from_part_to_part_is_copied(rt: HostRuntime) -> Result<(), Fail> {
     let alloc = rt.alloc();
@@ -333,7 +334,7 @@ fn what_goes_from_part_to_part_is_copied(rt: HostRuntime) -> Result<(), Fail> {
 
 // ---- snapshots
 
-/// Whether a snapshot that was given is given again. `None`: memory was refused to the first.
+/// Tests whether a snapshot that was returned is returned again. `None`: memory ran out for the first.
 fn is_given_again(book: &mut Book) -> Option<bool> {
     match book.snapshot() {
         Ok(_first) => Some(book.snapshot().is_ok()),
@@ -341,7 +342,7 @@ fn is_given_again(book: &mut Book) -> Option<bool> {
     }
 }
 
-/// A book of the links, where there is memory for it.
+/// Makes a book of the links, if there is memory for it.
 fn book_of(alloc: Global, te: &TeBase) -> Result<Book, AllocError> {
     let topology = Arc::new(alloc, Topology::new(alloc, te)?)?;
     Book::new(alloc, topology)
@@ -361,8 +362,8 @@ fn is_given_again_in(alloc: Global) -> Option<bool> {
     }
 }
 
-/// A snapshot that was given is given again without memory. It is tried twice, so that this holds whichever allocation is
-/// refused: `tools/refused` runs the test with each of them refused in turn.
+/// Tests that a snapshot that was returned is returned again without memory. It is tried twice, so that this holds
+/// whichever allocation is refused: `tools/refused` runs the test with each of them refused in turn.
 #[test]
 fn a_snapshot_is_given_again(rt: HostRuntime) -> Result<(), Fail> {
     let given = [is_given_again_in(rt.alloc()), is_given_again_in(rt.alloc())];

@@ -1,4 +1,4 @@
-//! Each end of a connection.
+//! Each way in which a connection ends.
 use super::fakes::{Beat, Beats, Failing, Faulty, Noon, Slow, Tap};
 use super::*;
 use engine_core::Fault;
@@ -16,23 +16,23 @@ struct Case {
     last: Beat,
     /// How many writes succeed.
     writes: u64,
-    /// What the store answers the first `faults` of these events by.
+    /// The events that the store answers with a fault, the first `faults` times.
     failing: Failing,
     fault: Fault,
     faults: u32,
     is_closing: bool,
     ended: Ended,
-    /// What the session says itself.
+    /// Why the session itself ended.
     reason: Option<EndReason>,
-    /// The number of Downs that are in, and of rolls.
+    /// The number of Downs that were submitted, and of rolls.
     downs: u32,
     rolls: u32,
 }
 
-/// The Close of the peer's.
+/// The peer's Close.
 const BY_PEER: Option<EndReason> = Some(EndReason::PeerClose(1));
 
-/// A Close of this side's: malformed (RFC 5440 section 7.17, reason 3).
+/// The server's Close: malformed (RFC 5440 section 7.17, reason 3).
 const MALFORMED: Option<EndReason> = Some(EndReason::Said(Notices::One(Notice::Close(3))));
 
 /// The peer has closed.
@@ -166,7 +166,7 @@ fn each_end_hangs_up(rt: HostRuntime) -> Result<(), Fail> {
     Ok(())
 }
 
-/// A store that replies Done to all.
+/// Makes a store that replies Done to everything.
 pub fn done(alloc: Global) -> Faulty {
     Faulty {
         calls: Vec::new(alloc),
@@ -179,7 +179,8 @@ pub fn done(alloc: Global) -> Faulty {
     }
 }
 
-/// Where the run is to end, the session is closed at its next turn. All bytes go out, however few a write takes.
+/// Tests that if the run should end, the session is closed at its next turn. All bytes go out, however few a write
+/// takes.
 #[test]
 fn a_closing_run_closes_its_sessions(rt: HostRuntime) -> Result<(), Fail> {
     let alloc = rt.alloc();
@@ -208,7 +209,7 @@ fn a_closing_run_closes_its_sessions(rt: HostRuntime) -> Result<(), Fail> {
     Ok(())
 }
 
-/// A write that takes a part once its time is over isn't followed by another.
+/// Tests that a write that takes a part after its time is over isn't followed by another.
 #[test]
 fn a_part_taken_late_ends_the_connection(rt: HostRuntime) -> Result<(), Fail> {
     let alloc = rt.alloc();
@@ -230,12 +231,13 @@ fn a_part_taken_late_ends_the_connection(rt: HostRuntime) -> Result<(), Fail> {
     Ok(())
 }
 
-/// A session that says nothing for half a minute sends a Keepalive, also where nothing comes. Its first answers the Open.
+/// Tests that a session that sends nothing for half a minute sends a Keepalive, even if nothing comes. Its first one
+/// answers the Open.
 #[test]
 fn a_keepalive_is_sent_when_it_is_due(rt: HostRuntime) -> Result<(), Fail> {
     let alloc = rt.alloc();
     let mut beats = VecDeque::new(alloc);
-    // (once the timer is due, what is there is read first, which is nothing)
+    // (after the timer is due, what is there is read first, which is nothing)
     let beats_given = [
         Beat::Bytes(OPEN),
         Beat::Bytes(KEEPALIVE),
@@ -265,7 +267,7 @@ fn a_keepalive_is_sent_when_it_is_due(rt: HostRuntime) -> Result<(), Fail> {
     Ok(())
 }
 
-/// The first `reads` bytes of a session that comes up, one a read. The read after them fails.
+/// Makes the first `reads` bytes of a session that comes up, one for each read. The read after them fails.
 fn beats_until(alloc: Global, reads: usize) -> Result<Beats, Fail> {
     let mut beats = VecDeque::new(alloc);
     for piece in [OPEN, KEEPALIVE] {
@@ -279,7 +281,8 @@ fn beats_until(alloc: Global, reads: usize) -> Result<Beats, Fail> {
     Ok(Beats { beats })
 }
 
-/// Whichever read fails, the connection ends by that, and its Down is submitted if the session is up by then.
+/// Tests that whichever read fails, the connection ends with that, and its Down is submitted if the session is up by
+/// then.
 #[test]
 fn each_read_may_fail(rt: HostRuntime) -> Result<(), Fail> {
     let alloc = rt.alloc();

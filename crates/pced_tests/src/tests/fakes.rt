@@ -13,7 +13,7 @@ use std::io;
 use std::io::{ErrorKind, Read, Write};
 use te_base::{LinkValues, TeFault};
 
-/// What a read gives. At the end of the list the peer has closed.
+/// What a read gives. After the end of the list the peer has closed.
 #[derive(Clone, Copy)]
 pub enum Beat {
     Bytes(&'static [u8]),
@@ -62,7 +62,8 @@ impl<'a> Patient for Given<'a> {
     fn set_patience(&mut self, _most_ms: u64) {}
 }
 
-/// A link text that gives two links, or has a fault: the first link the values that it has, the second other ones.
+/// A link text that gives two links values, or has a fault. The first link gets the values that it has, the second
+/// other ones.
 #[derive(Drop)]
 pub struct Text {
     pub alloc: Global,
@@ -81,7 +82,7 @@ impl Plan for Text {
     }
 }
 
-/// The values of a link of so much bandwidth.
+/// Makes the values of a link of this bandwidth.
 fn values_with(metric: u64, reservable: u64) -> Result<LinkValues, AllocError> {
     LinkValues::new(metric, 10, 0, reservable).ok_or(AllocError)
 }
@@ -99,7 +100,7 @@ fn entries(alloc: Global) -> Result<Sequence<LinkReload>, AllocError> {
     Ok(Sequence::from_vec(links))
 }
 
-/// A writer that takes `left` writes, of `most` bytes each at most, and then fails.
+/// A writer that takes `left` writes, of at most `most` bytes each, and then fails.
 #[derive(Drop)]
 pub struct Tap {
     pub left: u64,
@@ -125,7 +126,7 @@ impl Write for Tap {
     }
 }
 
-/// A watch that stands.
+/// A watch that stands still.
 #[derive(Drop)]
 pub struct Noon {
     pub is_closing: bool,
@@ -143,7 +144,7 @@ impl Watch for Noon {
     fn ring(&self, _peer: u32) {}
 }
 
-/// A watch by which each look takes as long as a peer may let a write wait.
+/// A watch on which each look takes as long as a peer may let a write wait.
 #[derive(Drop)]
 pub struct Slow {
     pub now_ms: Cell<u64>,
@@ -163,7 +164,7 @@ impl Watch for Slow {
     fn ring(&self, _peer: u32) {}
 }
 
-/// Of which kind events are that a store answers by a fault.
+/// The kind of events that a store answers with a fault.
 #[derive(Clone, Copy, PartialEq, Eq)]
 pub enum Failing {
     Ups,
@@ -181,7 +182,7 @@ impl Failing {
     }
 }
 
-/// A store that replies Done to all, but first answers `faults` events of a kind by a fault.
+/// A store that replies Done to everything, but first answers `faults` events of a kind with a fault.
 #[derive(Drop)]
 pub struct Faulty {
     pub calls: Vec<Call>,
@@ -256,7 +257,7 @@ impl Desk for Faulty {
 
     ghost is_left = { λ _ table. ⊤ };
 
-    /// It is rolled whenever it is asked.
+    /// Rolls whenever it is asked.
     fn roll_if_full(&mut self) -> Result<Option<u64>, AllocError> {
         let steps = self.roll()?;
         Ok(Some(steps))
@@ -266,7 +267,7 @@ impl Desk for Faulty {
         false
     }
 
-    /// Of two links, the second of which bears less than is reported.
+    /// Returns what is left of two links; more is reported on the second than it can carry.
     fn left(&mut self) -> Result<Vec<[i64; 8]>, AllocError> {
         let mut table = Vec::new(*self.calls.allocator());
         table.push([1, 2, 3, 4, 5, 6, 7, 8])?;
@@ -276,7 +277,7 @@ impl Desk for Faulty {
 }
 
 impl Show for Faulty {
-    /// Of two links, the second of which bears less than is reported.
+    /// Returns the values of two links, and what is left of them; more is reported on the second than it can carry.
     fn links(&mut self) -> Result<(Vec<LinkValues>, Vec<[i64; 8]>), AllocError> {
         let mut values = Vec::new(*self.calls.allocator());
         values.push(values_with(10, 1_000_000)?)?;

@@ -23,7 +23,7 @@ fn store_in(alloc: Global) -> Faulty {
 /// How an operator's part ended, or that there was no memory for it.
 type End = Result<OperatorEnd, AllocError>;
 
-/// What is answered to a reader's lines, by a writer that takes a number of writes.
+/// Returns what a reader's lines are answered, by a writer that takes this number of writes.
 fn answered_to<R: Wait, I: Patient>(
     rt: &R,
     alloc: Global,
@@ -42,7 +42,7 @@ fn answered_to<R: Wait, I: Patient>(
     (end, writer.bytes)
 }
 
-/// The same of bytes that are there.
+/// Returns the same for bytes that are there.
 fn answered<R: Wait>(rt: &R, alloc: Global, input: &[u8], writes: u64) -> (End, Vec<u8>) {
     answered_to(rt, alloc, &mut Given { bytes: input }, writes)
 }
@@ -51,7 +51,7 @@ fn answered<R: Wait>(rt: &R, alloc: Global, input: &[u8], writes: u64) -> (End, 
 fn lines_are_answered_and_bad_ones_by_number(rt: HostRuntime) -> Result<(), Fail> {
     let table: [(&[u8], &[u8]); 10] = [
         (b"", b""),
-        // half a line may be of another
+        // half a line may belong to another
         (b"update 1 1\nreturn 1 1", b"done\n"),
         (b"update 1 1\nend", b"done\n"),
         (b"\n", b"bad line 1\n"),
@@ -60,7 +60,7 @@ fn lines_are_answered_and_bad_ones_by_number(rt: HostRuntime) -> Result<(), Fail
             b"update 1 1\n\xff\xfe\nreturn 1 1\n",
             b"done\nbad line 2\ndone\n",
         ),
-        // tickets are the workers', and peers are forgotten by the clock
+        // the workers take tickets, and the clock forgets peers
         (
             b"take\ncommit 1 none\nexpire 1\n",
             b"bad line 1\nbad line 2\nbad line 3\n",
@@ -80,7 +80,7 @@ fn lines_are_answered_and_bad_ones_by_number(rt: HostRuntime) -> Result<(), Fail
     Ok(())
 }
 
-/// Where the history is full it is rolled, and the line is answered then; where it is still full, that is said.
+/// Tests that a full history is rolled for a line, which is then answered; if it is still full, that is the answer.
 #[test]
 fn a_full_history_is_rolled_for_a_line(rt: HostRuntime) -> Result<(), Fail> {
     let alloc = rt.alloc();

@@ -1,4 +1,4 @@
-//! Two workers that are between taking a ticket and committing it at once, and a seat that is missing at the audit.
+//! Two workers that both are between taking a ticket and committing it, and a seat that is missing at the audit.
 use super::*;
 use history_core::{Event, Reply};
 use history_seats::Brands;
@@ -14,17 +14,17 @@ use std::thread;
 use std::thread::Threads;
 use std::time::{Clock, Duration};
 
-/// How a gate waits at most, in turns of a millisecond.
+/// How long a gate waits at most, in turns of a millisecond.
 const TURNS: u32 = 10_000;
 
-/// What the two workers know of each other.
+/// What the two workers know about each other.
 #[derive(Drop)]
 struct Meeting {
     called: AtomicU32,
     answered: AtomicBool,
 }
 
-/// Holds a worker until both were called; the late one goes on once the other's commit was answered.
+/// Holds a worker until both were called; the late one goes on after the other's commit was answered.
 #[derive(Drop)]
 struct Holding<'a, R: Clock> {
     rt: &'a R,
@@ -53,7 +53,7 @@ impl<'a, R: Clock> Gate for Holding<'a, R> {
     }
 }
 
-/// What a turn came to.
+/// The result of a turn.
 #[derive(Clone, Copy, Debug, PartialEq, Eq)]
 pub enum Came {
     Idle,
@@ -97,7 +97,7 @@ fn turn<R: Wait + Clock, B: Brands>(
     }
 }
 
-/// The turns of both workers at once, of the late one and of the early one.
+/// Runs the turns of both workers at once, and returns the results of the late one and of the early one.
 fn work_at_once<R: Threads + Wait + Clock + Sync, B: Brands + Send + Sync>(
     rt: &R,
     shared: &Shared<B>,
@@ -116,7 +116,7 @@ fn work_at_once<R: Threads + Wait + Clock + Sync, B: Brands + Send + Sync>(
     Ok((late?, early?))
 }
 
-/// The event of an operator's line.
+/// Reads the event of an operator's line.
 fn event_of(alloc: Global, line: &str) -> Result<Event, Fail> {
     match operator_event_in(alloc, line)? {
         Some(event) => Ok(event),
@@ -136,7 +136,7 @@ pub fn ask<R: Wait, B: Brands>(
     Ok(())
 }
 
-/// The peer comes up, and is in sync at once.
+/// Submits that the peer comes up, and is in sync at once.
 pub fn come_up<R: Wait, B: Brands>(
     rt: &R,
     shared: &Shared<B>,
@@ -152,7 +152,7 @@ pub fn come_up<R: Wait, B: Brands>(
     Ok(())
 }
 
-/// Asks for two initiations of which the links over B bear one.
+/// Asks for two initiations; the links over B can carry one of them.
 fn ask_twice<R: Wait, B: Brands>(
     rt: &R,
     alloc: Global,
@@ -187,7 +187,7 @@ fn roll_at<R: Wait, B: Brands>(
     shared.roll_if(rt, seat, RollAt { steps, bytes })
 }
 
-/// The history is rolled where nine steps are kept, and once: who comes second finds it rolled.
+/// Rolls the history if nine steps are kept, and only once: the second to try finds it rolled.
 fn roll_once<R: Wait + Abort, B: Brands>(
     rt: &R,
     shared: &Shared<B>,
@@ -201,7 +201,7 @@ fn roll_once<R: Wait + Abort, B: Brands>(
     Ok(())
 }
 
-/// Whether a ticket waits, and whether messages wait to be sent to peer 1.
+/// Returns whether a ticket waits, and whether messages wait to be sent to peer 1.
 fn waits<R: Wait, B: Brands>(
     rt: &R,
     shared: &Shared<B>,
@@ -211,7 +211,7 @@ fn waits<R: Wait, B: Brands>(
     (waiting, shared.queued(rt, front, 1))
 }
 
-/// The messages of both grants wait until they are sent.
+/// Tests that the messages of both grants wait until they are sent, and sends them.
 fn send_all<R: Wait + Abort, B: Brands>(
     rt: &R,
     shared: &Shared<B>,
@@ -225,7 +225,7 @@ fn send_all<R: Wait + Abort, B: Brands>(
     Ok(())
 }
 
-/// The ticket that is searched for again is in the worker's hand, and granted over C, after a roll.
+/// Tests that the ticket that is searched for again is in the worker's hand, and is granted over C after a roll.
 fn grant_the_other<R: Wait + Abort, B: Brands>(
     rt: &R,
     shared: &Shared<B>,
@@ -244,7 +244,7 @@ fn grant_the_other<R: Wait + Abort, B: Brands>(
     Ok(())
 }
 
-/// Both tickets are searched for at once: one is granted, and the other is taken again.
+/// Searches for both tickets at once: one is granted, and the other is taken again.
 pub fn ask_and_meet<R: Threads + Wait + Clock + Abort + Sync, B: Brands + Send + Sync>(
     rt: &R,
     alloc: Global,
@@ -263,7 +263,7 @@ pub fn ask_and_meet<R: Threads + Wait + Clock + Abort + Sync, B: Brands + Send +
     send_all(rt, shared, first, &mut front)
 }
 
-/// What is left of each link at the best priority.
+/// Returns what is left of each link at the best priority.
 fn left_of_each(database: &Database) -> [Option<i64>; 4] {
     let best = Priority::capped(0);
     [
@@ -274,7 +274,7 @@ fn left_of_each(database: &Database) -> [Option<i64>; 4] {
     ]
 }
 
-/// The seats' sums are all steps and grants, and 400,000 are left on each link.
+/// Tests that the seats' sums are all steps and grants, and that 400,000 are left on each link.
 pub fn both_are_granted<R: Abort, B: Brands>(
     rt: &R,
     shared: Shared<B>,
@@ -294,7 +294,7 @@ pub fn both_are_granted<R: Abort, B: Brands>(
     Ok(())
 }
 
-/// All seats are here, and two steps were made through them.
+/// Tests that the audit passes with all seats, through which two steps were made.
 fn passes<R: Abort, B: Brands>(rt: &R, shared: Shared<B>, seats: Vec<Seat<B>>) -> Result<(), Fail> {
     let Ok(audit) = shared.close(seats) else {
         return Err(Fail::new("all seats are here"));
@@ -303,7 +303,7 @@ fn passes<R: Abort, B: Brands>(rt: &R, shared: Shared<B>, seats: Vec<Seat<B>>) -
     Ok(())
 }
 
-/// The audit without a seat hands the others back, and with it passes.
+/// Tests that the audit without a seat hands the others back, and passes with it.
 pub fn is_refused_without_a_seat<R: Abort, B: Brands>(
     rt: &R,
     shared: Shared<B>,

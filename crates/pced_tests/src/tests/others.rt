@@ -1,4 +1,4 @@
-//! One connection that fails behind its session's coming up, and another of the same shared database.
+//! One connection that fails after its session came up, and another of the same shared database.
 use super::fakes::{Beat, Beats, Noon, Tap};
 use super::*;
 use engine_core::Event;
@@ -11,7 +11,7 @@ use std::process::Abort;
 use std::sync::Wait;
 use std::time::Clock;
 
-/// How a peer's connection behaves behind its Open and Keepalive, and how it is to end.
+/// How a peer's connection behaves after its Open and Keepalive, and how it should end.
 #[derive(Clone, Copy)]
 struct Router {
     peer: u32,
@@ -29,7 +29,7 @@ const DEAF: Router = Router {
     ended: Ended::ReadFault,
 };
 
-/// Its Open and its Keepalive were taken, and the end that it is given isn't.
+/// Its Open and its Keepalive were taken, but the end that is sent to it isn't.
 const GONE: Router = Router {
     peer: 8,
     last: Beat::Bytes(b"\x00\x00\x00\x00"),
@@ -37,7 +37,7 @@ const GONE: Router = Router {
     ended: Ended::WriteFault,
 };
 
-/// It closes, and is answered to the end.
+/// It closes, and is answered up to the end.
 const WELL: Router = Router {
     peer: 9,
     last: Beat::Bytes(CLOSE),
@@ -53,7 +53,7 @@ fn beats_of(alloc: Global, router: Router) -> Result<Beats, Fail> {
     Ok(Beats { beats })
 }
 
-/// One connection, and what was written to it.
+/// Serves one connection, and returns what was written to it.
 fn served<R: Wait + Clock + Abort, B: Brands>(
     rt: &R,
     alloc: Global,
@@ -83,14 +83,14 @@ fn served<R: Wait + Clock + Abort, B: Brands>(
     Ok(writer.bytes)
 }
 
-/// Whether the peer's Down is among the steps.
+/// Tests whether the peer's Down is among the steps.
 fn has_down(database: &Database, peer: u32) -> bool {
     database.history().iter().any(
         |step| matches!(step.event.event(), Event::Down { peer: down } if *down == peer),
     )
 }
 
-/// Each peer is down, and nothing is booked.
+/// Tests that each peer is down, and nothing is booked.
 fn all_are_down(rt: &impl Abort, audit: &Audit) {
     for peer in [DEAF.peer, GONE.peer, WELL.peer] {
         assert!(rt; has_down(&audit.database, peer));
@@ -98,7 +98,7 @@ fn all_are_down(rt: &impl Abort, audit: &Audit) {
     }
 }
 
-/// The audit passes, and all peers are down.
+/// Tests that the audit passes, and all peers are down.
 pub fn are_down<R: Abort, B: Brands>(
     rt: &R,
     shared: Shared<B>,
@@ -111,7 +111,7 @@ pub fn are_down<R: Abort, B: Brands>(
     Ok(())
 }
 
-/// Two connections fail, and the one behind them is answered.
+/// Tests that two connections fail, and the one after them is answered.
 pub fn serve_all<R: Wait + Clock + Abort, B: Brands>(
     rt: &R,
     alloc: Global,

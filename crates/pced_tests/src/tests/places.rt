@@ -1,4 +1,4 @@
-//! Two seats draw the numbers of their steps in turn.
+//! Two seats that draw the numbers of their steps in turn.
 ghost use Rattle.std.specs.Prelude.{◌≡◌};
 
 use place_tokens::{Room, Unopened};

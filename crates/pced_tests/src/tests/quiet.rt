@@ -11,7 +11,7 @@ use std::collections::VecDeque;
 use std::process::Abort;
 use std::sync::Wait;
 
-/// A session that is up, and then reads nothing `quiet` times.
+/// Makes a session that is up, and then reads nothing `quiet` times.
 fn beats_of(alloc: Global, quiet: u32) -> Result<Beats, Fail> {
     let mut beats = VecDeque::new(alloc);
     beats.push_back(Beat::Bytes(OPEN))?;
@@ -22,7 +22,7 @@ fn beats_of(alloc: Global, quiet: u32) -> Result<Beats, Fail> {
     Ok(Beats { beats })
 }
 
-/// How often a connection with `quiet` quiet turns empties its store's list.
+/// Counts how often a connection with `quiet` quiet turns empties its store's list.
 fn forgets<R: Wait>(rt: &R, alloc: Global, quiet: u32) -> Result<u32, Fail> {
     let mut reader = beats_of(alloc, quiet)?;
     let mut writer = Tap {
@@ -36,7 +36,7 @@ fn forgets<R: Wait>(rt: &R, alloc: Global, quiet: u32) -> Result<u32, Fail> {
     Ok(store.forgets)
 }
 
-/// A turn in which nothing comes empties the store's list too.
+/// Tests that a turn in which nothing comes empties the store's list too.
 #[test]
 fn a_quiet_turn_empties_the_list(rt: HostRuntime) -> Result<(), Fail> {
     let none = forgets(&rt, rt.alloc(), 0)?;
@@ -45,7 +45,7 @@ fn a_quiet_turn_empties_the_list(rt: HostRuntime) -> Result<(), Fail> {
     Ok(())
 }
 
-/// Empties the list of a seat's store, which is empty already, and says how many receipts the seat keeps.
+/// Empties the list of a seat's store, which is empty already, and returns how many receipts the seat keeps.
 fn receipts_after<R: Wait, B: Brands>(
     rt: &R,
     alloc: Global,
@@ -56,8 +56,8 @@ fn receipts_after<R: Wait, B: Brands>(
     seat.receipts().len()
 }
 
-/// A seat keeps its receipts while their steps are kept, and drops them in a quiet turn once those are rolled. They stay
-/// counted.
+/// Tests that a seat keeps its receipts while their steps are kept, and drops them in a quiet turn after those are
+/// rolled. They stay counted.
 pub fn fold_when_quiet<R: Wait + Abort, B: Brands>(
     rt: &R,
     alloc: Global,
@@ -74,7 +74,7 @@ pub fn fold_when_quiet<R: Wait + Abort, B: Brands>(
     Ok(())
 }
 
-/// The audit passes, with the two steps that the quiet seat received.
+/// Tests that the audit passes, with the two steps that the quiet seat received.
 pub fn counts_all<R: Abort, B: Brands>(
     rt: &R,
     shared: Shared<B>,

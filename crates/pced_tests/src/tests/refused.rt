@@ -1,5 +1,6 @@
-//! Calls of a seat that memory is refused to: each leaves all as it was, and goes well when it is made again. So the test
-//! passes also where any one allocation is refused, and `tools/refused` runs it with each of them refused in turn.
+//! Calls of a seat for which memory is refused. Each leaves everything as it was, and succeeds when it is made again.
+//! So the test passes whichever single allocation is refused, and `tools/refused` runs it with each of them refused in
+//! turn.
 use super::*;
 use engine_core::{Client, hang_up, serve};
 use history_core::{Brief, Event, LinkReload};
@@ -16,12 +17,12 @@ use std::process::Abort;
 use std::sync::Wait;
 use te_base::LinkValues;
 
-/// The router whose events are submitted, and the one that has a session by bytes.
+/// The router whose events are submitted, and the one that has a session given by bytes.
 const PEER: u32 = 1;
 
 const OTHER: u32 = 2;
 
-/// What is asked of a seat.
+/// What a seat is asked to do.
 #[derive(Clone, Copy)]
 pub enum Ask {
     Up,
@@ -32,7 +33,7 @@ pub enum Ask {
     Refuse(u32),
     /// An operator's line.
     Line(&'static str),
-    /// The link from A to B bears 100,000.
+    /// The link from A to B can now carry 100,000.
     Reload,
     Take,
     /// No path was found for the ticket.
@@ -40,13 +41,13 @@ pub enum Ask {
     /// A worker's turn.
     Work,
     Drain,
-    /// The history is rolled, and the seat keeps its receipts no longer.
+    /// The history is rolled, and the seat drops its receipts.
     Roll,
     Down,
     Expire,
 }
 
-/// What is asked in turn, and what the newest receipt has then.
+/// What is asked in turn, and what the newest receipt has after it.
 const ASKS: [(Ask, Option<Brief>); 26] = [
     (Ask::Up, Some(Brief::Done)),
     (Ask::Marker, Some(Brief::Done)),
@@ -90,7 +91,7 @@ const REPORTED: &[u8] =
 const SESSION: &[u8] =
     b"\x20\x01\x00\x14\x01\x10\x00\x10\x20\x1e\x78\x00\x00\x10\x00\x04\x00\x00\x00\x05\x20\x02\x00\x04\x20\x0a\x00\x24\x20\x10\x00\x1c\x00\x00\x00\x00\x00\x12\x00\x10\x00\x00\x00\x00\x00\x00\x00\x00\x00\x00\x00\x00\x00\x00\x00\x00\x07\x10\x00\x04\x20\x0a\x00\x50\x20\x10\x00\x1c\x00\x00\x10\x18\x00\x12\x00\x10\x0a\x00\x00\x01\x00\x01\x00\x01\x0a\x00\x00\x01\x0a\x00\x00\x04\x07\x10\x00\x14\x01\x08\x0a\x01\x00\x02\x20\x00\x01\x08\x0a\x02\x00\x02\x20\x00\x09\x10\x00\x14\x00\x00\x00\x00\x00\x00\x00\x00\x00\x00\x00\x00\x07\x00\x00\x00\x05\x10\x00\x08\x48\xf4\x24\x00";
 
-/// The first report of a message.
+/// Returns the first report of a message.
 fn report_in(alloc: Global, bytes: &[u8]) -> Option<StateReport> {
     match read_message(alloc, bytes) {
         Ok(Message::Report(reports)) => reports.into_vec().pop(),
@@ -123,7 +124,7 @@ fn reload_event(alloc: Global) -> Option<Event> {
     }
 }
 
-/// The event that is asked for: none where there is no memory for it.
+/// Returns the event that is asked for; none if there is no memory for it.
 pub fn event_of(alloc: Global, ask: Ask) -> Option<Event> {
     let peer = PEER;
     match ask {
@@ -240,7 +241,7 @@ fn look<R: Wait, B: Brands>(
     })
 }
 
-/// A ticket was taken, whose job is in the seat's hand.
+/// Returns what is seen after a ticket was taken whose job is in the seat's hand.
 fn with_job(before: Seen) -> Seen {
     Seen {
         kept: before.kept.wrapping_add(1),
@@ -252,12 +253,12 @@ fn with_job(before: Seen) -> Seen {
     }
 }
 
-/// What a call leaves that was refused memory: all as it was, or a worker with the job in its hand.
+/// Tests what a call leaves for which memory was refused: all is as it was, or a worker has the job in its hand.
 fn is_borne(ask: Ask, before: Seen, after: Seen) -> bool {
     after == before || (matches!(ask, Ask::Work) && after == with_job(before))
 }
 
-/// Does what is asked for: again, where memory was refused.
+/// Does what is asked for, and again if memory was refused.
 fn obtain<R: Wait + Abort, B: Brands>(
     rt: &R,
     alloc: Global,
@@ -317,8 +318,8 @@ fn hang_up_once<R: Wait, B: Brands>(
     hang_up(client, OTHER, &mut store)
 }
 
-/// Serves a whole session, and ends it: whether memory was enough. Where it wasn't, the session is closed, and its events
-/// up to then stay.
+/// Serves a whole session, ends it, and returns whether memory sufficed. If it didn't, the session is closed, and its
+/// events up to then stay.
 fn has_served<R: Wait + Abort, B: Brands>(
     rt: &R,
     alloc: Global,
@@ -350,7 +351,7 @@ fn connect_once<R: Wait + Abort, B: Brands>(
     has_served(rt, alloc, shared, seat, &mut client)
 }
 
-/// Makes each call of a seat, again where it was refused memory, and serves a router by bytes.
+/// Makes each call of a seat, again if memory was refused, and serves a router by bytes.
 pub fn call_all<R: Wait + Abort, B: Brands>(
     rt: &R,
     alloc: Global,
@@ -363,7 +364,7 @@ pub fn call_all<R: Wait + Abort, B: Brands>(
     Ok(())
 }
 
-/// The audit passes, with three grants. It takes no memory.
+/// Tests that the audit passes, with three grants. It takes no memory.
 pub fn are_audited<R: Abort, B: Brands>(
     rt: &R,
     shared: Shared<B>,

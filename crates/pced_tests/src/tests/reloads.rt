@@ -9,7 +9,7 @@ use std::process::Abort;
 use std::sync::Wait;
 use te_base::LinkValues;
 
-/// Submits a reload of one link, and says whether it was made.
+/// Submits a reload of one link, and returns whether it was made.
 fn is_reloaded<R: Wait, B: Brands>(
     rt: &R,
     alloc: Global,
@@ -24,7 +24,7 @@ fn is_reloaded<R: Wait, B: Brands>(
     Ok(matches!(reply, Reply::Done))
 }
 
-/// Reloads a link once a ticket was taken, and before its path is sought.
+/// Reloads a link after a ticket was taken, and before its path is searched for.
 #[derive(Drop)]
 struct Reloading<'a, R: Wait, B: Brands> {
     rt: &'a R,
@@ -42,7 +42,7 @@ impl<'a, R: Wait, B: Brands> Gate for Reloading<'a, R, B> {
     }
 }
 
-/// What a search comes to during which this link is given these values.
+/// Returns the result of a search during which this link is given these values.
 fn came_beside<R: Wait, B: Brands>(
     rt: &R,
     alloc: Global,
@@ -71,7 +71,7 @@ fn came_beside<R: Wait, B: Brands>(
     }
 }
 
-/// What is left of each link at the best priority.
+/// Returns what is left of each link at the best priority.
 fn left_now<R: Wait, B: Brands>(rt: &R, shared: &Shared<B>) -> Result<[i64; 4], Fail> {
     let mut best = [0i64; 4];
     let table = shared.left(rt, &mut shared.front(rt))?;
@@ -81,9 +81,9 @@ fn left_now<R: Wait, B: Brands>(rt: &R, shared: &Shared<B>) -> Result<[i64; 4], 
     Ok(best)
 }
 
-/// A search goes by the links of the moment when its ticket was taken: the way over B is granted, though it costs more by
-/// then. The next search goes by those of now, over C; of that way a link bears too little at the commit, so it is sought
-/// again, and found over B.
+/// Tests that a search uses the links of the moment when its ticket was taken: the way over B is granted, although it
+/// costs more by then. The next search uses the present links, over C; at the commit a link of that way can carry too
+/// little, so the path is searched for again, and found over B.
 pub fn reload_beside_searches<R: Wait + Abort, B: Brands>(
     rt: &R,
     alloc: Global,
@@ -115,7 +115,7 @@ pub fn reload_beside_searches<R: Wait + Abort, B: Brands>(
     Ok(())
 }
 
-/// The audit, with both reloads in the history.
+/// Tests the audit, with both reloads in the history.
 pub fn replays<R: Abort, B: Brands>(
     rt: &R,
     shared: Shared<B>,

@@ -1,4 +1,4 @@
-//! Runs of the rules by which a server stays up, whose answers were counted by hand.
+//! Runs of the rules by which a server stays up, with answers that were worked out by hand.
 use server_rules::{Due, Entrance, Expiry, LineRate, Owing, Settling, Taken, admit};
 use std::alloc::{AllocError, Global};
 use std::test::Fail;
@@ -12,7 +12,8 @@ fn expire(peer: u32) -> Option<Due> {
     })
 }
 
-/// A session comes up and goes, and comes up again on a second connection; a third connection stays silent, and ends last.
+/// Runs this: a session comes up and goes, and comes up again on a second connection; a third connection stays silent,
+/// and ends last.
 fn beside_a_silent_connection(alloc: Global) -> Result<[Option<Due>; 4], AllocError> {
     let mut expiry = Expiry::new(alloc);
     expiry.connected(PEER)?;
@@ -39,7 +40,7 @@ fn a_silent_connection_changes_nothing(rt: HostRuntime) -> Result<(), Fail> {
     Ok(())
 }
 
-/// A Down finds no memory; two others end before it is submitted.
+/// Runs this: a Down finds no memory, and two others end before it is submitted.
 fn with_an_owed_down(alloc: Global) -> Result<[Option<Due>; 3], AllocError> {
     let mut expiry = Expiry::new(alloc);
     expiry.connected(PEER)?;
@@ -72,7 +73,7 @@ const fn taken(address: u32, is_up: bool) -> Taken {
     }
 }
 
-/// Whoever comes to four places, of which one session is up.
+/// Lets connections come to four places, of which one session is up.
 fn admitted() -> [Entrance; 4] {
     let full = [
         taken(1, true),
@@ -109,7 +110,7 @@ fn places_are_taken(rt: HostRuntime) {
     );
 }
 
-/// Twelve lines at once, one a second later, and one more.
+/// Asks for twelve lines at once, one a second later, and one more.
 fn lines() -> [Option<u64>; 4] {
     let mut rate = LineRate::new();
     for _line in 0..10 {
@@ -126,7 +127,8 @@ fn lines_are_withheld(rt: HostRuntime) {
     assert_eq!(rt; answers, [None, None, Some(2), None]);
 }
 
-/// Two routers are waited for, for ten seconds at most; the one comes in sync and goes down, then both come in sync.
+/// Runs this: two routers are waited for, for ten seconds at most; one comes in sync and goes down, then both come in
+/// sync.
 fn settled(alloc: Global) -> Result<[bool; 5], AllocError> {
     let mut settling = Settling::new(alloc, &[1, 2], 10_000)?;
     settling.note(1, true);

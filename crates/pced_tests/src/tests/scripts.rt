@@ -1,11 +1,11 @@
-//! Scripts of which a read fails. What a reader that fails has left, a contract can't say.
+//! Scripts in which a read fails. A contract can't say what a reader that fails has left.
 use super::fakes::{Beat, Beats, Tap};
 use super::*;
 use pce_engine::{ScriptFault, run_script};
 use std::alloc::AllocError;
 use std::collections::VecDeque;
 
-/// What stands behind the link text, as a reader gives it: a piece with each read, and what the lines print that end in it.
+/// What follows the link text, as a reader gives it: a piece for each read, and what the lines print that end in it.
 const PIECES: [(&[u8], &[u8]); 8] = [
     (b"---\n", b""),
     (b"take\n", b"idle\n"),
@@ -20,7 +20,7 @@ const PIECES: [(&[u8], &[u8]); 8] = [
     (b"book", b""),
 ];
 
-/// Adds reads of the link text and of the pieces, of which the one of this number, from 0, fails.
+/// Adds reads of the link text and of the pieces; the one of this number, from 0, fails.
 fn fill(beats: &mut VecDeque<Beat>, failing: usize) -> Result<(), AllocError> {
     if failing > 0 {
         beats.push_back(Beat::Bytes(DIAMOND.as_bytes()))?;
@@ -38,7 +38,7 @@ fn reads(alloc: Global, failing: usize) -> Result<VecDeque<Beat>, AllocError> {
     Ok(beats)
 }
 
-/// Whether this is what the lines print that end in the first pieces, of this number.
+/// Tests whether this is what the lines print that end in the first pieces, of this number.
 fn is_printed_by(bytes: &[u8], pieces: usize) -> bool {
     let mut rest = bytes;
     for (_piece, printed) in PIECES.iter().take(pieces) {
@@ -50,7 +50,7 @@ fn is_printed_by(bytes: &[u8], pieces: usize) -> bool {
     rest.is_empty()
 }
 
-/// Runs a script from the reader: whether it ends with a read that failed, behind the output of the first pieces.
+/// Runs a script from the reader, and tests whether it ends with a failed read after the output of the first pieces.
 fn ends_behind(alloc: Global, reader: &mut Beats, pieces: usize) -> bool {
     let mut writer = Tap {
         left: 99,
@@ -61,7 +61,7 @@ fn ends_behind(alloc: Global, reader: &mut Beats, pieces: usize) -> bool {
     end == Err(ScriptFault::ReadFault) && is_printed_by(&writer.bytes, pieces)
 }
 
-/// The same where the read of this number fails.
+/// Runs the same, with the read of this number failing.
 fn ends_whole(alloc: Global, failing: usize) -> Result<bool, AllocError> {
     let mut reader = Beats {
         beats: reads(alloc, failing)?,
@@ -69,7 +69,7 @@ fn ends_whole(alloc: Global, failing: usize) -> Result<bool, AllocError> {
     Ok(ends_behind(alloc, &mut reader, failing.saturating_sub(1)))
 }
 
-/// The first read whose failure ends a script in another way.
+/// Returns the first read whose failure ends a script in another way.
 fn first_that_ends_otherwise(alloc: Global) -> Result<Option<usize>, AllocError> {
     for failing in 0..PIECES.len() + 2 {
         if !ends_whole(alloc, failing)? {
@@ -79,7 +79,8 @@ fn first_that_ends_otherwise(alloc: Global) -> Result<Option<usize>, AllocError>
     Ok(None)
 }
 
-/// Whichever read fails, the lines that were read whole are answered, and nothing of a line that wasn't.
+/// Tests that whichever read fails, the lines that were read completely are answered, and nothing of a line that
+/// wasn't.
 #[test]
 fn a_read_that_fails_ends_a_script_behind_whole_lines(rt: HostRuntime) -> Result<(), Fail> {
     let other = first_that_ends_otherwise(rt.alloc())?;

@@ -1,4 +1,4 @@
-//! A database that two seats share, and what becomes of it in each case.
+//! A database that two seats share, and what happens to it in each case.
 ghost use Rattle.std.specs.Prelude.{◌≡◌, IfSome};
 ghost use Rattle.history_core.specs.Histories.{steps_of};
 
@@ -20,21 +20,21 @@ use std::time::Clock;
 
 #[derive(Clone, Copy)]
 enum Case {
-    /// Two workers search for a ticket each at once.
+    /// Two workers search for a ticket each at the same time.
     WorkersMeet,
     /// The audit is asked for without one of the seats.
     SeatMissing,
-    /// Connections fail beside one that doesn't.
+    /// Connections fail while another doesn't.
     OthersFail,
     /// Links are reloaded while searches run.
     LinksReload,
-    /// Calls are refused memory, and made again.
+    /// Memory is refused to calls, which are made again.
     MemoryRefused,
-    /// A seat is quiet once its steps are rolled.
+    /// A seat is quiet after its steps are rolled.
     SeatQuiet,
 }
 
-/// What is done before the audit.
+/// Does what comes before the audit.
 fn act<R: Threads + Wait + Clock + Abort + Sync, B: Brands + Send + Sync>(
     rt: &R,
     alloc: Global,
@@ -58,7 +58,7 @@ fn act<R: Threads + Wait + Clock + Abort + Sync, B: Brands + Send + Sync>(
     }
 }
 
-/// A database of which nothing was reported, where there is memory for it.
+/// Makes a database of which nothing was reported, if there is memory for it.
 fn quiet_database(alloc: Global) -> Option<Database>
     ensures { IfSome result (λ database. steps_of database ≡ 0) }
 {
@@ -71,10 +71,10 @@ fn quiet_database(alloc: Global) -> Option<Database>
     }
 }
 
-/// Drops them.
+/// Drops the database and its seats.
 fn release<B: Brands>(_shared: Shared<B>, _seats: Vec<Seat<B>>) {}
 
-/// The audit. True: there was memory for the seats.
+/// Makes the audit. Returns true: there was memory for the seats.
 fn closed<R: Abort, B: Brands>(
     rt: &R,
     case: Case,
@@ -122,7 +122,7 @@ fn on_shared<B: Brands + Send + Sync, R: Threads + Wait + Clock + Abort + Sync>(
     }
 }
 
-/// Runs a case over two seats: whether there was memory to make them.
+/// Runs a case over two seats, and returns whether there was memory to make them.
 fn run_once<R: Threads + Wait + Clock + Abort + Sync>(
     rt: &R,
     alloc: Global,
@@ -149,7 +149,7 @@ fn run_once<R: Threads + Wait + Clock + Abort + Sync>(
     )
 }
 
-/// Runs a case over two seats, which are made again where memory was refused.
+/// Runs a case over two seats, which are made again if memory was refused.
 fn run<R: Threads + Wait + Clock + Abort + Sync>(
     rt: &R,
     alloc: Global,

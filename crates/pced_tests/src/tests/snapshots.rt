@@ -23,7 +23,7 @@ fn ask(alloc: Global, database: &mut Database, line: &str) -> Result<(), Fail> {
     }
 }
 
-/// Peer 1 comes up, is in sync, and three of its LSPs are asked for.
+/// Submits that peer 1 comes up and is in sync, and asks for three of its LSPs.
 fn ask_thrice(alloc: Global, database: &mut Database) -> Result<(), Fail> {
     let capabilities = Some(Capabilities {
         update: true,
@@ -54,7 +54,7 @@ fn ask_thrice(alloc: Global, database: &mut Database) -> Result<(), Fail> {
     )
 }
 
-/// The snapshot of the next ticket.
+/// Takes the next ticket, and returns its snapshot.
 fn taken(database: &mut Database) -> Result<Snapshot, Fail> {
     match database.apply(Event::Take)? {
         Reply::Job(job) => Ok(job.snapshot),
@@ -62,7 +62,7 @@ fn taken(database: &mut Database) -> Result<Snapshot, Fail> {
     }
 }
 
-/// Peer 1 reports its LSP.
+/// Submits peer 1's report of its LSP.
 fn report(alloc: Global, database: &mut Database) -> Result<(), Fail> {
     let Some(Order::Report(peer, reports)) = order_of(alloc, REPORTED.as_bytes())? else {
         return Err(Fail::new("a bad line"));
@@ -73,7 +73,7 @@ fn report(alloc: Global, database: &mut Database) -> Result<(), Fail> {
     }
 }
 
-/// What is left of links 0, 1 and 2 at priority 0.
+/// Returns what is left of links 0, 1 and 2 at priority 0.
 fn left_in(snapshot: &Snapshot) -> [Option<i64>; 3] {
     let best = Priority::capped(0);
     [
@@ -93,7 +93,7 @@ fn left_of_next(database: &mut Database) -> Result<[Option<i64>; 3], Fail> {
     Ok(left_in(&next))
 }
 
-/// Whether the next snapshot is the same, what the one behind a report says, and what the first one says then.
+/// Whether the next snapshot is the same, what the one after a report says, and what the first one says then.
 type Seen = (bool, [Option<i64>; 3], [Option<i64>; 3]);
 
 fn seen_behind(alloc: Global, database: &mut Database, first: &Snapshot) -> Result<Seen, Fail> {
@@ -114,8 +114,8 @@ fn seen_in(alloc: Global) -> Result<Seen, Fail> {
     seen_by(alloc, &mut database)
 }
 
-/// Two takes without a change between give equal tables. One behind a report has what it leaves, and the first table is
-/// as it was.
+/// Tests that two takes without a change in between give equal tables. One after a report has what that leaves, and the
+/// first table is as it was.
 #[test]
 fn take_twice(rt: HostRuntime) -> Result<(), Fail> {
     let half = Some(500_000i64);

@@ -15,7 +15,7 @@ use std::process::Abort;
 struct Small {
     calls: Vec<Call>,
     room: u32,
-    /// A digit for each deed, the first one foremost: that of an event, 6 for an Open, 7 for a PCRpt.
+    /// A digit for each deed, the first deed first: that of an event, 6 for an Open, 7 for a PCRpt.
     deeds: u64,
 }
 
@@ -103,7 +103,7 @@ const GREETING: &[u8] =
 const GREETED_AND_REFUSED: &[u8] =
     b"\x20\x01\x00\x14\x01\x10\x00\x10\x20\x1e\x78\x00\x00\x10\x00\x04\x00\x00\x00\x05\x20\x02\x00\x04\x20\x06\x00\x0c\x0d\x10\x00\x08\x00\x00\x09\x00";
 
-/// A digit for each event: Up 1, Marker 2, Report 3, Drain 4, Down 5.
+/// Returns a digit for each event: Up 1, Marker 2, Report 3, Drain 4, Down 5.
 fn digit(event: &Event) -> u32 {
     match event {
         Event::Up { .. } => 1,
@@ -115,7 +115,7 @@ fn digit(event: &Event) -> u32 {
     }
 }
 
-/// The digits of the events, the first one foremost.
+/// Returns the digits of the events, the first event first.
 fn digits(calls: &[Call]) -> u32 {
     let mut number = 0u32;
     for call in calls {
@@ -126,12 +126,12 @@ fn digits(calls: &[Call]) -> u32 {
     number
 }
 
-/// Whether these bytes are sent.
+/// Tests whether these bytes are sent.
 fn is_sent(client: &mut Client, bytes: &[u8]) -> bool {
     client.session.take_output().as_slice() == bytes
 }
 
-/// What a whole session over a store comes to, and the end of its transport, tried twice.
+/// The result of a whole session over a store, and of the end of its transport, tried twice.
 #[derive(Clone, Copy, Debug, PartialEq, Eq)]
 struct Outcome {
     served: Result<(), Fault>,
@@ -139,7 +139,7 @@ struct Outcome {
     is_closed: bool,
     is_greeted: bool,
     was_up: bool,
-    /// The first end, and the second, once there is room.
+    /// The first end, and the second, after there is room.
     ended: [Result<(), Fault>; 2],
     is_up: bool,
     room: u32,
@@ -166,7 +166,7 @@ fn outcome_over(client: &mut Client, store: &mut Small) -> Outcome {
     }
 }
 
-/// The outcome over a store with room for `room` events.
+/// Returns the outcome over a store with room for `room` events.
 fn outcome_in(alloc: Global, room: u32) -> Result<Outcome, Fault> {
     let mut client = Client::new(alloc, 0)?;
     let mut store = Small {
@@ -189,7 +189,7 @@ const FULL: Outcome = Outcome {
     room: 1,
 };
 
-/// The store is full once `submitted` events are in.
+/// Returns the outcome if the store is full after the events `submitted`.
 const fn full_behind(submitted: u32) -> Outcome {
     Outcome {
         submitted,
@@ -200,8 +200,8 @@ const fn full_behind(submitted: u32) -> Outcome {
     }
 }
 
-/// The events and the output before a fault stay, the session ends with no Close, and its Down is submitted once there is
-/// room, and only where an Up was.
+/// Tests that the events and the output before a fault stay, that the session ends without a Close, and that its Down
+/// is submitted after there is room, and only if an Up was.
 #[test]
 fn a_full_store_ends_the_session(rt: HostRuntime) -> Result<(), Fail> {
     let outcomes = [
@@ -217,7 +217,7 @@ fn a_full_store_ends_the_session(rt: HostRuntime) -> Result<(), Fail> {
     Ok(())
 }
 
-/// What a session shows a store with room for `room` events, and submits to it, in order.
+/// Returns what a session shows a store with room for `room` events, and submits to it, in order.
 fn deeds_in(alloc: Global, room: u32) -> Result<u64, Fault> {
     let mut client = Client::new(alloc, 0)?;
     let mut store = Small {
@@ -229,7 +229,8 @@ fn deeds_in(alloc: Global, room: u32) -> Result<u64, Fault> {
     Ok(store.deeds)
 }
 
-/// The peer's Open is shown before its Up is submitted, and each message before its events, up to a fault too.
+/// Tests that the peer's Open is shown before its Up is submitted, and each message before its events, even up to a
+/// fault.
 #[test]
 fn what_a_session_delivers_is_shown_first(rt: HostRuntime) -> Result<(), Fail> {
     let deeds = [
@@ -241,7 +242,7 @@ fn what_a_session_delivers_is_shown_first(rt: HostRuntime) -> Result<(), Fail> {
     Ok(())
 }
 
-/// What two sessions of one peer over one store come to.
+/// The result of two sessions of one peer over one store.
 #[derive(Clone, Copy, Debug, PartialEq, Eq)]
 struct Second {
     is_said: bool,
@@ -274,7 +275,8 @@ fn second_in(alloc: Global) -> Result<Second, Fail> {
     Ok(second_of(alloc, &mut database)?)
 }
 
-/// The second session of a peer ends with Error-Type 9, nothing comes of its end, and the first one stays up.
+/// Tests that the second session of a peer ends with Error-Type 9, that its end does nothing, and that the first one
+/// stays up.
 #[test]
 fn a_second_session_of_a_peer_ends(rt: HostRuntime) -> Result<(), Fail> {
     let second = second_in(rt.alloc())?;
@@ -282,7 +284,7 @@ fn a_second_session_of_a_peer_ends(rt: HostRuntime) -> Result<(), Fail> {
         is_said: true,
         states: [State::Up, State::Closed],
         joined: [true, false],
-        // Up, Marker, Report, a drain behind them, and the second's Up, which is refused
+        // Up, Marker, Report, a drain after them, and the second's Up, which is refused
         submitted: 12341,
     };
     assert_eq!(rt; second, want);

@@ -60,7 +60,7 @@ impl<B: Brands> Shared<B> {
         Ok(steps)
     }
 
-    /// Rolls the history if it is due: if so many steps are kept, or steps of so many bytes. Returns how many were
+    /// Rolls the history if it is due: if this many steps are kept, or steps of this many bytes. Returns how many were
     /// taken before its new base. Returns `None` if it isn't due, for instance because another thread has rolled it:
     /// the test and the roll are under one lock. If memory runs out nothing has changed.
     pub fn roll_if<R: Wait>(
@@ -88,7 +88,7 @@ impl<B: Brands> Shared<B> {
 
     /// Rolls the history before a step, if it takes as much memory as it may, given the receipts of rolled steps.
     /// Returns the steps that were kept, so that they can be dropped after the lock is freed. If memory runs out, the
-    /// step is taken all the same.
+    /// step is taken anyway.
     fn make_way<R: Wait>(&self, rt: &R, held: &mut Held<B>, seat: &mut Seat<B>) -> Option<Vec<Step>>
         ensures { SeesMore seat.old seat.new }
     {
@@ -222,7 +222,7 @@ impl<B: Brands> Shared<B> {
         drop(folded);
     }
 
-    /// Returns when the history is to be rolled, given the receipts of rolled steps that seats haven't folded yet.
+    /// Returns when the history should be rolled, given the receipts of rolled steps that seats haven't folded yet.
     fn due_at<R: Wait>(&self, rt: &R) -> RollAt
         ensures { (unfolded : ℕ) × (result ≡ beside unfolded self.now.roll_at) }
     {

@@ -135,7 +135,7 @@ impl<B: Brands> Shared<B> {
     }
 
     /// Waits until a ticket waits, the end was announced or the time is up. Returns whether a ticket waits in what was
-    /// seen then.
+    /// seen by then.
     pub fn await_work<R: Wait + Clock>(
         &self,
         rt: &R,

@@ -12,7 +12,7 @@ module _ {K V : Type 0} (test : K → Bool) where
   past [] = omega arith
   past (e ∷ es) = let ih = past es in omega (arith, ih)
 
-  -- the key at the place of the first that passes, or at the end, passes
+  -- a key at the place of the first that passes passes, and there is none at the end
   at_place : (es : List (K × V)) (o : Option ℕ) (k : K) → o ≡ position test (keys_of es) → slice_get (keys_of es) (unwrap_or o (length es)) ≡ Some k → test k ≡ true
   at_place es None k is at = absurd (none-some k (sym (slice_get_past (keys_of es) (length es) (past es)) ∙ at))
   at_place es (Some i) k is at = lookup_key_passes test es k ((Found-position test es i (sym is)).key ∙ at)

@@ -11,12 +11,12 @@ use Rattle.bandwidth_book.proofs.Sums.{total_insert}
 use Rattle.bandwidth_book.proofs.Written.{by_key, no_length, unwritten, written}
 use Rattle.bandwidth_book.proofs.tunnels.put_tunnel.Goals as goal
 
--- what is promised alone holds nothing
+-- a new list with promises only holds nothing
 nothing : (m : Motion) (hs : List Reservation) (l p : ℕ) (before new : List LinkEntry) → takes_memory m ≡ true → before ≡ [] → IsMoved m hs (entry_on l before) (entry_on l new) → most (kept l new) p ≡ 0
 nothing m hs l p before new t first moved =
     ap (λ us. most us p) (moved.kept ∙ promised m t (kept l before) hs ∙ ap (kept l) first)
 
--- and leaves the sums
+-- it leaves the sums as they were
 same : (m : Motion) (hs : List Reservation) (l p a b : ℕ) (before new : List LinkEntry) → takes_memory m ≡ true → before ≡ [] → IsMoved m hs (entry_on l before) (entry_on l new)
     → a + most (kept l before) p ≡ b + most (kept l new) p → a ≡ b
 same m hs l p a b before new t first moved sums =

@@ -5,7 +5,7 @@ use Rattle.link_reload.specs.Reloads.{IsBookOf, with_entries}
 use Rattle.link_reload.proofs.Entries.{AreLinks}
 use Rattle.link_reload.proofs.reloading.set_links.Given as goal
 
--- what is left of the entries leads where all of them lead from the start, and each of them names a link
+-- the rest of the entries leads to where all entries lead from the start, and each of them names a link
 abbrev pub invariant-loop-entry : goal.invariant-loop-entry
 invariant-loop-entry l = record {
   values : with_entries l.te (drop l.entry-index l.entries) ≡ with_entries l.fn.te l.entries;

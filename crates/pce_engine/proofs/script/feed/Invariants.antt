@@ -3,7 +3,7 @@ use Rattle.pce_engine.specs.MachineOf.{machine_of}
 use Rattle.pce_engine.proofs.Unbroken.{IsUnbroken, Led}
 use Rattle.pce_engine.proofs.script.feed.Given as goal
 
--- the bytes before the line that hasn't ended led to where the script is, for answers that the searches may give
+-- the bytes before the unfinished line led to where the script is, for answers that the searches may give
 abbrev pub invariant-loop-place : goal.invariant-loop-place
 invariant-loop-place l = record {
   within : l.start ≤ l.place;

@@ -3,7 +3,7 @@ use Rattle.seated_store.specs.Seating.{SeatedMoves}
 use Rattle.server_operators.proofs.Showing.{Awaits}
 use Rattle.server_operators.proofs.shown.show_pages.Given as goal
 
--- after the pages so far comes what is shown to the ask that is next, and no call was made
+-- after the pages so far comes what the next ask is shown, and no call was made
 abbrev pub invariant-loop-page : goal.invariant-loop-page
 invariant-loop-page g l = record {
   shown : Awaits g.B.Room.text l.form l.around l.fn.store.seat.now.seen l.fn.first l.store.seat.now.seen l.ask l.text.items;

@@ -1,4 +1,4 @@
--- Of two connections the one that outweighs the other is kept, and on a tie the older one.
+-- Of two connections the one that outweighs the other is kept; on a tie, the older one.
 use Rattle.std.proofs.Common.{◌≡◌, ℕ, ◌+◌, ◌<◌, ◌≤◌, List, length, nat_lt, slice_index_or, true, false, arith}
 use Rattle.std.specs.List.{IsFirstBest}
 use Rattle.std.specs.Cmp.{IsStrictWeakOrder}

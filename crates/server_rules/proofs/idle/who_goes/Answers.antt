@@ -1,4 +1,4 @@
--- Whoever has been idle since later may go no sooner.
+-- A client that has been idle for a shorter time may not go sooner.
 use Rattle.std.proofs.Common.{sym, ◌∙◌, ◌≡◌, ℕ, ◌≤◌, List, nat_lt, slice_index_or, false, arith}
 use Rattle.std.specs.Prelude.{Some, slice_get}
 use Rattle.std.proofs.lemmas.Option.{slice_get_within, get_or_from_slice_get}

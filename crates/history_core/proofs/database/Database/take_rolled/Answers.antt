@@ -5,7 +5,7 @@ use Rattle.history_core.specs.Histories.{Content, IsWhole, content, rolled_up}
 use Rattle.history_core.proofs.Rolling.{IsWhole-rolled_up, content-rolled_up}
 use Rattle.history_core.proofs.database.Database.take_rolled.Goals as goal
 
--- the database as it is seen after the roll
+-- contracts see the database as it is after the roll
 pub returns-clause-rolled : goal.returns-clause-rolled
 returns-clause-rolled c =
     content-rolled_up c.self.inside.state c.self.inside.history.items c.replace.new.dest.items c.self.inside.base c.in_ok-base.base c.self.inside.text c.self.inside.rolled c.self.inside.rolled_grants (c.self.inside.rolled + c.len.result) c.self.inside.grants

@@ -20,7 +20,7 @@ returns-in_err-place c =
 pub invariant_of-self : goal.invariant_of-self
 invariant_of-self c = subst (ArePlaced c.self.inside.clients) (sym c.in_err-place.ensures.unchanged) c.self.invariant
 
--- the session at the place that was found is gone, and each entry that is left has its session
+-- the session at the place that was found is gone, and each remaining entry has its session
 pub invariant_of-self-2 : goal.invariant_of-self-2
 invariant_of-self-2 c =
     let others = c.try_remove.ensures.updates.others in

@@ -3,7 +3,7 @@ use Rattle.std.specs.List.{fold}
 use Rattle.server_counts.specs.Streams.{heard}
 use Rattle.server_counts.proofs.stream.MessageStream.hear.Given as goal
 
--- what is left makes of what was counted what all makes of the beginning
+-- the remaining bytes turn what was counted so far into what all bytes make of the beginning
 abbrev pub invariant-loop-at : goal.invariant-loop-at
 invariant-loop-at l = record {
   in_range : l.at ≤ length l.bytes;
