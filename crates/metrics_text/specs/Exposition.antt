@@ -59,7 +59,7 @@ kind_word Gauge = codes "gauge"
 kind_word Counter = codes "counter"
 kind_word Histogram = codes "histogram"
 
--- what the name of a series has beside its metric's name
+-- what the name of a series adds to the name of its metric
 abbrev pub suffix : Series → List ℕ
 suffix Own = []
 suffix Bucket = codes "_bucket"

@@ -78,7 +78,8 @@ pub data Reader : Type 0 where
   Kind : (before : List ReadFamily) (name help kind : List ℕ) → Reader
   -- a sample's name goes on
   Series : (before : List ReadFamily) (name : List ℕ) → Reader
-  -- behind these labels, a label's name or its text goes on, a backslash came in it, or it has ended
+  -- these labels were read; now a label's name goes on, or its text does, or a backslash came in the text, or the text
+  -- has ended
   LabelName : (before : List ReadFamily) (name : List ℕ) (labels : List Label) (label : List ℕ) → Reader
   LabelText : (before : List ReadFamily) (name : List ℕ) (labels : List Label) (label text : List ℕ) → Reader
   Escape : (before : List ReadFamily) (name : List ℕ) (labels : List Label) (label text : List ℕ) → Reader

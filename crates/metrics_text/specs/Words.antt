@@ -64,7 +64,7 @@ message_word message.Update = codes "PCUpd"
 message_word message.Initiate = codes "PCInitiate"
 message_word message.Other = codes "other"
 
--- the word that names what is counted beside the others of its metric
+-- the word that tells what is counted from the others of its metric
 abbrev pub word_of : Counted → List ℕ
 word_of (counted.Step e r) = reply_word r
 word_of (counted.Refusal number) = refusal_word number

@@ -184,7 +184,7 @@ fn kind_word(kind: Kind) -> &'static str
     }
 }
 
-/// What the name of a series has beside its metric's name.
+/// Returns what the name of a series adds to the name of its metric.
 fn suffix(series: Series) -> &'static str
     ensures { result.now ≡ suffix series }
 {

@@ -76,7 +76,7 @@ fn message_word(message: MessageKind) -> &'static str
     }
 }
 
-/// The word that names what is counted beside the others of its metric.
+/// Returns the word that tells what is counted from the others of its metric.
 pub(crate) fn word_of(what: Counted) -> &'static str
     ensures { result.now ≡ word_of what }
 {

@@ -41,7 +41,8 @@ better_page_json from page found = object
     (member (codes "better") (array (better_items found))
     no_members))))
 
--- the LSP is delegated, and a path for it is admissible beside what its tunnel holds and costs less than each that it has
+-- the LSP is delegated, and there is a path for it that costs less than each of its paths, and that is admissible if what its
+-- tunnel holds already counts as free for it
 pub record IsBetterFor (s : NetworkState) (lsp : KnownLsp) (own : List OwnShare) (b : BetterLsp) : Type 0 where
   pub peer : b.peer ≡ (lsp.known).peer
   pub plsp : b.plsp ≡ (lsp.known).plsp

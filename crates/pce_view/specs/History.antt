@@ -26,7 +26,7 @@ step_json place x = object
     (member (codes "number") (whole_or_null (outcome_number x.outcome))
     no_members)))))
 
--- each step, from this number on behind the first
+-- each step, counted from the number of the first plus this number
 abbrev pub step_items : ℕ → ℕ → List KnownStep → Items
 step_items first number [] = no_items
 step_items first number (x ∷ xs) = item (step_json (min (first + number) (2 ^ 64 - 1)) x) (step_items first (number + 1) xs)

@@ -55,8 +55,7 @@ movers_of [] owns = []
 movers_of (lsp ∷ lsps) [] = []
 movers_of (lsp ∷ lsps) (own ∷ owns) = mover_of lsp own ∷ movers_of lsps owns
 
--- the LSPs over the link are tried one after the other, those of the best setup priority first, where nothing is left on the
--- link
+-- each LSP over the link in turn, the best setup priority first, is tried as if the link had nothing left
 pub record IsRun (link : ℕ) (x : Displaced) (moves : List Move) : Type 0 where
   pub movers : List Mover
   pub each : IsPermutation (movers_of x.lsps.items x.own.items) movers
