@@ -6,7 +6,7 @@ import threading
 import time
 
 import pcep
-from harness.clock import SOON, Timed, comes, paced
+from harness.clock import TIMEOUT_S, Timed, comes, paced
 from harness.process import descriptors, threads
 from harness.router import Router, time_of_request, up
 from harness.server import ENDED, ControlledServer, ViewedServer, all_of, end, line_of
@@ -15,7 +15,7 @@ from pcep import diamond
 REFUSED = b"refused 1\n"
 
 
-def tells(server, line, within=SOON):
+def tells(server, line, within=TIMEOUT_S):
     """What `pced tell` prints, its status, and whether it had it within these seconds."""
     begun = paced()
     ran = subprocess.run([server.program, "tell", server.path, line], stdin=subprocess.DEVNULL, capture_output=True, timeout=120)

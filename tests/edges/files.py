@@ -6,7 +6,7 @@ import socket
 import subprocess
 import tempfile
 
-from harness.clock import SOON, comes, paced
+from harness.clock import TIMEOUT_S, comes, paced
 from harness.logs import STAMPED
 from harness.process import resident
 from harness.server import BOOK, ENDED, TE, ControlledServer, all_of, asked, end
@@ -15,7 +15,7 @@ from harness.server import BOOK, ENDED, TE, ControlledServer, all_of, asked, end
 def started(program, *words, te=TE, **how):
     """Status and standard error of a server that ends by itself."""
     ran = subprocess.run([program, "serve", "--te", te, "--listen", "127.0.0.1:0", "--endless", *words], stdin=subprocess.DEVNULL,
-                         capture_output=True, timeout=SOON, **how)
+                         capture_output=True, timeout=TIMEOUT_S, **how)
     return ran.returncode, ran.stderr.decode()
 
 
@@ -33,12 +33,12 @@ def others_files(program):
     server = ControlledServer(program, folder=folder)
     yield server.asked("book"), (BOOK, 0)
     yield server.asked("end"), (b"", 0)
-    yield server.process.wait(timeout=SOON), 0
+    yield server.process.wait(timeout=TIMEOUT_S), 0
     yield sorted(os.listdir(folder)), before
     server = ControlledServer(program, folder=f"{folder}/other")
     yield server.asked("book"), (BOOK, 0)
     yield server.asked("end"), (b"", 0)
-    yield server.process.wait(timeout=SOON), 0
+    yield server.process.wait(timeout=TIMEOUT_S), 0
     yield [os.path.exists(f"{folder}/{name}") for name in ("theirs/s", "pced.new/s", "pced.lock", "other/pced.new")], [True] * 4
     shutil.rmtree(folder)
 
@@ -72,7 +72,7 @@ def anothers_socket(program):
     os.remove(first.path)
     second = ControlledServer(program, folder=folder)
     first.process.stdin.write(b"end\n")
-    yield first.process.wait(timeout=SOON), 0
+    yield first.process.wait(timeout=TIMEOUT_S), 0
     yield os.path.exists(second.path), True
     yield second.asked("book"), (BOOK, 0)
     yield end(second), ENDED
@@ -131,7 +131,7 @@ def a_check_of_no_file(program):
             file.flush()
             ran = subprocess.run([program, "check", file.name], stdin=subprocess.DEVNULL, capture_output=True, timeout=300)
             yield ran.returncode, ran.stderr, status, said
-    ran = subprocess.run([program, "check", "/dev/zero"], stdin=subprocess.DEVNULL, capture_output=True, timeout=SOON)
+    ran = subprocess.run([program, "check", "/dev/zero"], stdin=subprocess.DEVNULL, capture_output=True, timeout=TIMEOUT_S)
     yield ran.stdout, ran.stderr, b"", b"cannot read /dev/zero: not a regular file\ndevice fault\n"
 
 
@@ -141,7 +141,7 @@ def statuses_of_no_file(program, words):
     os.mkfifo(f"{folder}/te")
     for te in (f"{folder}/te", "/dev/zero"):
         try:
-            ran = subprocess.run([program, *words(te)], stdin=subprocess.DEVNULL, capture_output=True, timeout=SOON,
+            ran = subprocess.run([program, *words(te)], stdin=subprocess.DEVNULL, capture_output=True, timeout=TIMEOUT_S,
                                  preexec_fn=lambda: resource.setrlimit(resource.RLIMIT_AS, (2 << 30, 2 << 30)))
             yield te, ran.returncode, te, 3
         except subprocess.TimeoutExpired:
@@ -177,7 +177,7 @@ def why_it_cannot_start(program):
     ]
     for words, status, last, parts in cases:
         more = [] if "--listen" in words else ["--listen", "127.0.0.1:0"]
-        ran = subprocess.run([program, "serve", "--endless", *words, *more], stdin=subprocess.DEVNULL, capture_output=True, timeout=SOON)
+        ran = subprocess.run([program, "serve", "--endless", *words, *more], stdin=subprocess.DEVNULL, capture_output=True, timeout=TIMEOUT_S)
         lines = ran.stderr.decode().splitlines()
         before = [line for line in lines[:-1] if all(part in line for part in parts)]
         yield words, ran.returncode, lines[-1:], len(before) > 0 or lines, words, status, [last], True
@@ -220,7 +220,7 @@ def the_log_of_a_file(program):
     """Lines of the log have their times if JOURNAL_STREAM is set, but standard error is a file."""
     with tempfile.TemporaryFile() as log:
         subprocess.run([program, "serve", "--te", TE, "--listen", "127.0.0.1:0", "--endless"], stdin=subprocess.DEVNULL,
-                       stdout=subprocess.DEVNULL, stderr=log, env={**os.environ, "JOURNAL_STREAM": "8:12345"}, timeout=SOON)
+                       stdout=subprocess.DEVNULL, stderr=log, env={**os.environ, "JOURNAL_STREAM": "8:12345"}, timeout=TIMEOUT_S)
         log.seek(0)
         lines = log.read().decode().splitlines()
     yield len(lines) > 1 and all(STAMPED.match(line) for line in lines), True

@@ -5,7 +5,7 @@ import socket
 import time
 
 import pcep
-from harness.clock import SOON, comes
+from harness.clock import TIMEOUT_S, comes
 from harness.exposition import ends_of
 from harness.router import time_of_request, up
 from harness.server import ControlledServer, ViewedServer, end_with_log
@@ -26,7 +26,7 @@ def counted(texts, *kinds):
 def from_address(server, number):
     """A connection from an address that no other number has."""
     each = socket.socket()
-    each.settimeout(SOON)
+    each.settimeout(TIMEOUT_S)
     each.bind((f"127.1.{number // 250}.{1 + number % 250}", 0))
     each.connect(("127.0.0.1", server.port))
     return each

@@ -3,7 +3,7 @@ import threading
 import time
 
 import pcep
-from harness.clock import SOON, comes, paced
+from harness.clock import TIMEOUT_S, comes, paced
 from harness.exposition import family, metrics_of, text_of
 from harness.logs import texts_of
 from harness.router import Deaf, Router, time_of_request, up
@@ -26,7 +26,7 @@ WAYS = {
     "six unknown messages": (pcep.OPEN, lambda router: router.send(pcep.message(99) * 6), "closed for reason 5: PCErr 2/0, capability not supported"),
     "DeadTimer": (HASTY, lambda router: None, "DeadTimer"),
     UNANNOUNCED: (STATELESS, lambda router: None, "closed for reason 1: PCErr 19/5, state report without the stateful capability"),
-    DEAF: (pcep.OPEN, Deaf.ask_without_end, "write not taken"),
+    DEAF: (pcep.OPEN, Deaf.ask_without_end, "write failed or timed out"),
 }
 
 
@@ -61,7 +61,7 @@ def every_end_is_an_end(program):
 
     comes(look, 8)
     yield [name for name in WAYS if name != DEAF and name not in gone], []
-    while not look() and routers[DEAF].waited() < 5 * SOON:
+    while not look() and routers[DEAF].waited() < 5 * TIMEOUT_S:
         time.sleep(0.1)
     yield list(WAYS.keys() - gone), []
     yield comes(lambda: server.asked("book")[0] == BOOK), True

@@ -9,7 +9,7 @@ import time
 
 import pcep
 from harness.cases import ROOT
-from harness.clock import SOON, comes
+from harness.clock import TIMEOUT_S, comes
 from harness.ports import free_port, listens_at
 from harness.router import time_of_request, up
 from harness.server import BOOK, TE, Server, asked
@@ -99,7 +99,7 @@ def a_signal_to_all(program):
     yield comes(status), True
     os.write(terminal, b"\x03")
     begun = time.monotonic()
-    while time.monotonic() - begun < SOON:
+    while time.monotonic() - begun < TIMEOUT_S:
         try:
             said.append(os.read(terminal, 65536))
         except OSError:
@@ -130,7 +130,7 @@ def a_signal_that_reloads(program):
     yield server.logs(b"pced: reload: te fault 1\n"), True
     time_of_request(router, 1)
     server.process.terminate()
-    yield server.process.wait(timeout=SOON), 0
+    yield server.process.wait(timeout=TIMEOUT_S), 0
     shutil.rmtree(folder)
 
 
@@ -139,7 +139,7 @@ def statuses_behind_the_shell(program):
     environment = {**os.environ, "PCED_PROGRAM": program}
 
     def ran(*words, **how):
-        run = subprocess.run(["/bin/sh", WRAPPER, *words], env=environment, capture_output=True, timeout=SOON, **how)
+        run = subprocess.run(["/bin/sh", WRAPPER, *words], env=environment, capture_output=True, timeout=TIMEOUT_S, **how)
         return run.returncode, run.stdout, run.stderr.splitlines()[-1:]
 
     yield ran("check", TE)[0], 0

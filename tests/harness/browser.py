@@ -17,7 +17,7 @@ FLAGS = [
     "--host-resolver-rules=MAP * ~NOTFOUND, EXCLUDE 127.0.0.1", "--remote-debugging-port=0",
 ]
 # how many seconds Chromium may take to start, and a page for what it is asked
-SOON = 60
+TIMEOUT_S = 60
 
 
 class Browser:
@@ -38,11 +38,11 @@ class Browser:
 
     def where(self):
         """The address of the page's socket."""
-        until = time.monotonic() + SOON
+        until = time.monotonic() + TIMEOUT_S
         while time.monotonic() < until:
             try:
                 port = open(f"{self.folder}/DevToolsActivePort").read().split()[0]
-                with urllib.request.urlopen(f"http://127.0.0.1:{port}/json/list", timeout=SOON) as answer:
+                with urllib.request.urlopen(f"http://127.0.0.1:{port}/json/list", timeout=TIMEOUT_S) as answer:
                     pages = [page for page in json.load(answer) if page["type"] == "page"]
                 if pages:
                     return pages[0]["webSocketDebuggerUrl"].removeprefix("ws://")
@@ -53,7 +53,7 @@ class Browser:
 
     def opened(self, place):
         host, path = place.split("/", 1)
-        stream = socket.create_connection(host.split(":"), timeout=SOON)
+        stream = socket.create_connection(host.split(":"), timeout=TIMEOUT_S)
         key = base64.b64encode(os.urandom(16)).decode()
         stream.sendall((
             f"GET /{path} HTTP/1.1\r\nHost: {host}\r\nUpgrade: websocket\r\nConnection: Upgrade\r\n"
@@ -107,7 +107,7 @@ class Browser:
             raise ValueError(f"{script}: {reply['exceptionDetails']['exception'].get('description')}")
         return reply["result"].get("value")
 
-    def waits_for(self, script, seconds=SOON):
+    def waits_for(self, script, seconds=TIMEOUT_S):
         """Whether an expression becomes true soon."""
         until = time.monotonic() + seconds
         while time.monotonic() < until:
@@ -148,6 +148,6 @@ class Browser:
             self.ask("Browser.close")
         except (OSError, ValueError):
             pass
-        self.process.wait(timeout=SOON)
+        self.process.wait(timeout=TIMEOUT_S)
         self.socket.close()
         shutil.rmtree(self.folder, ignore_errors=True)

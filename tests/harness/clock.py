@@ -8,7 +8,7 @@ import time
 from collections.abc import Callable
 
 # how many seconds an answer may take, also on such a machine
-SOON = 60
+TIMEOUT_S = 60
 # longer than a router waits that nobody keeps out, and less than one that is kept out has waited, in seconds
 HELD_UP = 2
 # what one tick of the clock `paced` counts, in seconds
@@ -38,7 +38,7 @@ class Pace:
 paced = Pace().now
 
 
-def comes(is_there: Callable[[], bool], within: float = SOON) -> bool:
+def comes(is_there: Callable[[], bool], within: float = TIMEOUT_S) -> bool:
     """Whether something is there within these seconds of `paced`. A look that takes long is followed by as long a pause."""
     until = paced() + within
     while True:

@@ -1,7 +1,7 @@
 """The lines that a server writes to its log."""
 import re
 
-from .clock import SOON
+from .clock import TIMEOUT_S
 
 LINE = re.compile(r"(?:\d{4}-\d\d-\d\dT\d\d:\d\d:\d\dZ )?\[(\w+) +pce_server\] (.*)")
 STAMPED = re.compile(r"\d{4}-\d\d-\d\dT\d\d:\d\d:\d\dZ \[")
@@ -12,7 +12,7 @@ def log_of(server) -> tuple[int, list[tuple], list[str]]:
     server.process.stdin.close()
     lines = server.rest_of_log()
     server.process.stdout.read()
-    return server.process.wait(timeout=SOON), [LINE.fullmatch(line).groups() for line in lines], lines
+    return server.process.wait(timeout=TIMEOUT_S), [LINE.fullmatch(line).groups() for line in lines], lines
 
 
 def texts_of(server) -> tuple[int, list[str]]:

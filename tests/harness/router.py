@@ -7,14 +7,14 @@ import time
 import pcep
 from pcep import diamond
 
-from .clock import SOON, paced
+from .clock import TIMEOUT_S, paced
 from .process import connections, name_of_end
 
 
 class Router:
     """A router that connects from 127.0.1.NUMBER to the port of a server."""
 
-    def __init__(self, server, number: int, timeout: float | None = SOON):
+    def __init__(self, server, number: int, timeout: float | None = TIMEOUT_S):
         self.socket = socket.socket()
         self.socket.setsockopt(socket.IPPROTO_TCP, socket.TCP_NODELAY, 1)
         self.address = f"127.0.1.{number}"

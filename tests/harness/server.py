@@ -11,7 +11,7 @@ import time
 
 from . import cases
 from .cases import ROOT
-from .clock import SOON, comes
+from .clock import TIMEOUT_S, comes
 from .logs import texts_in
 from .ports import free_port, listens_at
 from .viewer import Viewer
@@ -42,7 +42,7 @@ class Server:
         """What each link can still carry at each priority."""
         return [[int(word) for word in line.split()[2:]] for line in self.tell("book", 4)]
 
-    def waits_for(self, book: Book, within: float = SOON) -> bool:
+    def waits_for(self, book: Book, within: float = TIMEOUT_S) -> bool:
         """Whether the book says so within these seconds."""
         return comes(lambda: self.book() == book, within)
 
@@ -56,7 +56,7 @@ class Server:
 
     def logs(self, text: bytes) -> bool:
         """Whether a line with this text comes soon in the log, which is read up to there."""
-        while select.select([self.process.stderr], [], [], SOON)[0]:
+        while select.select([self.process.stderr], [], [], TIMEOUT_S)[0]:
             line = self.process.stderr.readline()
             if text in line or not line:
                 return text in line
@@ -77,7 +77,7 @@ class Server:
         """The lines of the log up to its end: those that weren't read before."""
         if not hasattr(self, "log"):
             return self.process.stderr.read().decode().splitlines()
-        self.reading.join(SOON)
+        self.reading.join(TIMEOUT_S)
         return self.log.decode().splitlines()
 
     def end(self) -> tuple:
@@ -85,7 +85,7 @@ class Server:
         self.process.stdin.close()
         rest = self.process.stdout.read()
         self.process.stderr.read()
-        return self.process.wait(timeout=SOON), rest
+        return self.process.wait(timeout=TIMEOUT_S), rest
 
     def kill(self):
         self.process.kill()
@@ -157,14 +157,14 @@ class ControlledServer(Server):
 
     def connect(self) -> socket.socket:
         operator = socket.socket(socket.AF_UNIX)
-        operator.settimeout(SOON)
+        operator.settimeout(TIMEOUT_S)
         operator.connect(self.path)
         return operator
 
     def ended(self) -> tuple[int, list[str]]:
         """The status of a server that is to end, and what is left in its folder."""
         self.process.stderr.read()
-        status, left = self.process.wait(timeout=SOON), os.listdir(self.folder)
+        status, left = self.process.wait(timeout=TIMEOUT_S), os.listdir(self.folder)
         shutil.rmtree(self.folder)
         return status, left
 
@@ -195,7 +195,7 @@ def end(server: ControlledServer, within: float = 20) -> tuple:
 def end_with_log(server: ControlledServer) -> tuple:
     """What a server says that is asked to end by its control socket, its status, and the texts of its log."""
     said = server.asked("end")
-    status = status_of(server, SOON)
+    status = status_of(server, TIMEOUT_S)
     return said, status, texts_in(server.rest_of_log())
 
 

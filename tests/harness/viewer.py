@@ -2,7 +2,7 @@
 import json
 import socket
 
-from .clock import SOON
+from .clock import TIMEOUT_S
 
 # after how many seconds a connection ends for want of requests, and less than that
 IDLE = 10
@@ -13,7 +13,7 @@ KEPT = {"cache-control": "no-store", "x-content-type-options": "nosniff"}
 class Viewer:
     """A connection of HTTP/1.1 that is kept."""
 
-    def __init__(self, port: int, timeout: float = SOON):
+    def __init__(self, port: int, timeout: float = TIMEOUT_S):
         self.port = port
         self.socket = socket.create_connection(("127.0.0.1", port), timeout=timeout)
         self.socket.setsockopt(socket.IPPROTO_TCP, socket.TCP_NODELAY, 1)

@@ -7,7 +7,7 @@ import tempfile
 
 from harness.cases import ROOT
 
-from .copies import SOON, constant, equal, helps, one_line
+from .copies import TIMEOUT_S, constant, equal, helps, one_line
 
 
 def help_is_the_program_s(program):
@@ -15,10 +15,10 @@ def help_is_the_program_s(program):
         whole, commands = helps(ROOT)
         os.symlink(os.path.realpath(program), f"{folder}/pced")
         for words in ([], *([command] for command in commands)):
-            said = subprocess.run([f"{folder}/pced", *words, "--help"], capture_output=True, text=True, timeout=SOON).stdout
+            said = subprocess.run([f"{folder}/pced", *words, "--help"], capture_output=True, text=True, timeout=TIMEOUT_S).stdout
             equal(commands[words[0]] if words else whole[:len(said)], said)
         for program in (f"{folder}/pced", f"{ROOT}/pced"):
-            said = subprocess.run([program, "--version"], capture_output=True, text=True, timeout=SOON).stdout
+            said = subprocess.run([program, "--version"], capture_output=True, text=True, timeout=TIMEOUT_S).stdout
             equal(said, f"pced {constant('VERSION')} logic {constant('LOGIC')}\n")
         equal([*commands], re.findall(r"^  (\w+)  ", whole.partition("Commands:\n")[2], re.M)[:-1])
 
@@ -35,7 +35,7 @@ def examples_without_a_server_say_so():
         free.bind(("127.0.0.1", 0))
         server = "%s:%d" % free.getsockname()
     for words in (["router.py", "--to", server], ["two_routers.py", server]):
-        run = subprocess.run([f"{ROOT}/examples/{words[0]}", *words[1:]], capture_output=True, text=True, timeout=SOON)
+        run = subprocess.run([f"{ROOT}/examples/{words[0]}", *words[1:]], capture_output=True, text=True, timeout=TIMEOUT_S)
         one_line((run.stdout, run.stderr, run.returncode), f"no server listens at {server}")
 
 

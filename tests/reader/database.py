@@ -323,7 +323,7 @@ class Database:
         record = self.delegated(peer, plsp, False)
         srp = self.take_srp(peer)
         record.delegated = False
-        known.queue.append(m.message(m.M_PCUPD, srp_thing(srp), lsp_thing(plsp, 0x8), m.thing(o.ERO, b"")))
+        known.queue.append(m.message(m.M_PCUPD, srp_object(srp), lsp_object(plsp, 0x8), m.pcep_object(o.ERO, b"")))
         return "done", None
 
     def on_delete(self, peer, plsp):
@@ -336,23 +336,23 @@ class Database:
         self.delegated(peer, plsp, False)
         srp = self.take_srp(peer)
         record.removing = srp
-        known.queue.append(m.message(m.M_PCINITIATE, srp_thing(srp, 1), lsp_thing(plsp, 0x1)))
+        known.queue.append(m.message(m.M_PCINITIATE, srp_object(srp, 1), lsp_object(plsp, 0x1)))
         return f"removing {srp}", srp
 
 
-def srp_thing(number, flags=0):
-    return m.thing(o.SRP, struct.pack(">II", flags, number))
+def srp_object(number, flags=0):
+    return m.pcep_object(o.SRP, struct.pack(">II", flags, number))
 
 
-def lsp_thing(plsp, flags, tlvs=b""):
-    return m.thing(o.LSP, struct.pack(">I", plsp << 12 | flags) + tlvs)
+def lsp_object(plsp, flags, tlvs=b""):
+    return m.pcep_object(o.LSP, struct.pack(">I", plsp << 12 | flags) + tlvs)
 
 
-def route_thing(network, links):
-    return m.thing(o.ERO, b"".join(struct.pack(">BBIBB", 1, 8, network.links[link].remote, 32, 0) for link in links))
+def route_object(network, links):
+    return m.pcep_object(o.ERO, b"".join(struct.pack(">BBIBB", 1, 8, network.links[link].remote, 32, 0) for link in links))
 
 
 def attributes(asked, is_protected):
-    return m.thing(o.LSPA, struct.pack(">III4B", *asked.colours, asked.setup, asked.hold, is_protected, 0)) + m.thing(
+    return m.pcep_object(o.LSPA, struct.pack(">III4B", *asked.colours, asked.setup, asked.hold, is_protected, 0)) + m.pcep_object(
         o.BANDWIDTH, struct.pack(">I", word_of(asked.bandwidth))
     )

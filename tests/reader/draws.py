@@ -81,7 +81,7 @@ class Draws:
                 at = self.random.choice(onward) if onward else at
         else:
             data = b"".join(self.hop(kind == o.ERO) for _ in range(self.pick(0, 0, 1, 2, 3)))
-        return m.thing(kind, data)
+        return m.pcep_object(kind, data)
 
     def lspa(self):
         colours = [self.random.getrandbits(2) if self.chance(0.25) else 0 for _ in range(3)]
@@ -90,14 +90,14 @@ class Draws:
             setup = self.pick(8, 255)
         if self.chance(0.05):
             hold = self.pick(8, 200)
-        return m.thing(o.LSPA, struct.pack(">III4B", *colours, setup, hold, self.pick(0, 1, 0xFF), 0) + self.tlvs())
+        return m.pcep_object(o.LSPA, struct.pack(">III4B", *colours, setup, hold, self.pick(0, 1, 0xFF), 0) + self.tlvs())
 
     def bandwidth(self, sort=1):
-        return m.thing(o.BANDWIDTH, struct.pack(">I", self.word()), sort)
+        return m.pcep_object(o.BANDWIDTH, struct.pack(">I", self.word()), sort)
 
     def metric(self):
         word = self.word() if self.chance(0.3) else word_of(self.random.choice((1, 2, 3, 10, 20, 30, 40, 45, 60, 100)))
-        return m.thing(o.METRIC, struct.pack(">HBBI", 0, self.pick(0, 1, 1, 2, 3, 0xFE), self.pick(0, 1, 2, 3, 3, 4), word))
+        return m.pcep_object(o.METRIC, struct.pack(">HBBI", 0, self.pick(0, 1, 1, 2, 3, 0xFE), self.pick(0, 1, 2, 3, 3, 4), word))
 
     def lsp(self, plsp, flags):
         lsp_id, tunnel = self.pick(0, 1, 1, 2, 3), self.random.randint(0, 3)
@@ -108,35 +108,35 @@ class Draws:
         if self.chance(0.3):
             tlvs.append(self.tlv(o.SYMBOLIC_NAME, self.random.choice(NAMES)))
         self.random.shuffle(tlvs)
-        return m.thing(o.LSP, struct.pack(">I", plsp << 12 | flags) + self.tlvs(*tlvs))
+        return m.pcep_object(o.LSP, struct.pack(">I", plsp << 12 | flags) + self.tlvs(*tlvs))
 
     def must(self):
         """P, which a request's RP and END-POINTS have to have."""
         return 0 if self.chance(0.05 * self.malice) else 2
 
     def rp(self, number):
-        return m.thing(o.RP, struct.pack(">II", self.pick(0, 0, 0, 8, 0x3F), number) + self.tlvs(), flags=self.must())
+        return m.pcep_object(o.RP, struct.pack(">II", self.pick(0, 0, 0, 8, 0x3F), number) + self.tlvs(), flags=self.must())
 
     def other(self):
         """An object that the message has no place for, of a known class or not."""
         kind = self.pick(*range(1, 16), o.LSP, o.SRP, 0, 16, 34, 200)
         sort = 1 if self.chance(0.8) else self.pick(0, 2, 3, 15)
         size = {o.END_POINTS: 8, o.BANDWIDTH: 4, o.METRIC: 8, o.LSPA: 16}.get(kind, self.pick(0, 4, 8, 8, 12))
-        return m.thing(kind, self.random.randbytes(size) if self.chance(0.5) else bytes(size), sort, self.random.getrandbits(2))
+        return m.pcep_object(kind, self.random.randbytes(size) if self.chance(0.5) else bytes(size), sort, self.random.getrandbits(2))
 
     # messages, as lists of objects
 
     def opening(self):
         capability = [self.tlv(o.STATEFUL_CAPABILITY, bytes([0, 0, 0, self.pick(5, 5, 5, 1, 4, 0)]))] if self.chance(0.9) else []
         dead = self.pick(120, 120, 0, 1, 10, 40, 255)
-        return [m.thing(o.OPEN, bytes([0x20, self.pick(0, 30, 255), dead, self.random.getrandbits(8)]) + self.tlvs(*capability))]
+        return [m.pcep_object(o.OPEN, bytes([0x20, self.pick(0, 30, 255), dead, self.random.getrandbits(8)]) + self.tlvs(*capability))]
 
     def item(self):
         flags = self.pick(0x18, 0x19, 0x09, 0x09, 0x28, 0x4, 0x4, 0x1A, 0x99, 0xC9, 0x89, 0x38, 0x48, 0x79)
         if self.chance(0.05):
             flags = self.random.getrandbits(12)
-        objects = [m.thing(o.SRP, struct.pack(">II", self.pick(0, 0, 1), self.srp()) + self.tlvs())] if self.chance(0.35) else []
-        objects += [self.lsp(self.plsp(), flags), self.route(o.ERO) if self.chance(0.75) else m.thing(o.ERO, b"")]
+        objects = [m.pcep_object(o.SRP, struct.pack(">II", self.pick(0, 0, 1), self.srp()) + self.tlvs())] if self.chance(0.35) else []
+        objects += [self.lsp(self.plsp(), flags), self.route(o.ERO) if self.chance(0.75) else m.pcep_object(o.ERO, b"")]
         rest = [self.bandwidth(self.pick(1, 1, 2)) for _ in range(self.pick(0, 1, 1, 2))]
         rest += [self.lspa()] if self.chance(0.6) else []
         rest += [self.route(o.RRO)] if self.chance(0.2) else []
@@ -145,26 +145,26 @@ class Draws:
 
     def report(self):
         if self.chance(0.15):
-            return [m.thing(o.LSP, bytes(4) + self.tlv(o.LSP_IDENTIFIERS, bytes(16))), m.thing(o.ERO, b"")]
-        return [thing for _ in range(self.pick(1, 1, 1, 2, 3)) for thing in self.item()]
+            return [m.pcep_object(o.LSP, bytes(4) + self.tlv(o.LSP_IDENTIFIERS, bytes(16))), m.pcep_object(o.ERO, b"")]
+        return [pcep_object for _ in range(self.pick(1, 1, 1, 2, 3)) for pcep_object in self.item()]
 
     def request(self):
-        objects = [m.thing(o.SVEC, self.random.randbytes(8)) for _ in range(self.pick(0, 0, 0, 1))]
+        objects = [m.pcep_object(o.SVEC, self.random.randbytes(8)) for _ in range(self.pick(0, 0, 0, 1))]
         for _ in range(self.pick(1, 1, 1, 2, 3)):
             objects.append(self.rp(self.pick(0, 1, 7, 0xFFFFFFFF)))
-            ends = m.thing(o.END_POINTS, struct.pack(">II", self.address(), self.address()), flags=self.must())
+            ends = m.pcep_object(o.END_POINTS, struct.pack(">II", self.address(), self.address()), flags=self.must())
             rest = [self.bandwidth(self.pick(1, 1, 1, 2)) for _ in range(self.pick(0, 1, 1, 2))]
             rest += [self.metric() for _ in range(self.pick(0, 0, 1, 1, 2, 3))]
             rest += [self.lspa()] if self.chance(0.4) else []
-            rest += [m.thing(o.LSP, struct.pack(">I", self.plsp() << 12) + self.tlvs())] if self.chance(0.3) else []
+            rest += [m.pcep_object(o.LSP, struct.pack(">I", self.plsp() << 12) + self.tlvs())] if self.chance(0.3) else []
             rest += [self.route(o.RRO)] if self.chance(0.2) else []
             self.random.shuffle(rest)
             objects += [ends, *rest]
         return objects
 
     def errors(self):
-        objects = [m.thing(o.SRP, struct.pack(">II", 0, self.srp())) for _ in range(self.pick(0, 1, 1, 1, 2))]
-        return objects + [m.thing(o.PCEP_ERROR, bytes([0, 0, self.pick(1, 24), 1]) + self.tlvs())]
+        objects = [m.pcep_object(o.SRP, struct.pack(">II", 0, self.srp())) for _ in range(self.pick(0, 1, 1, 1, 2))]
+        return objects + [m.pcep_object(o.PCEP_ERROR, bytes([0, 0, self.pick(1, 24), 1]) + self.tlvs())]
 
     def of_kind(self, kind):
         if kind == m.M_OPEN:
@@ -176,9 +176,9 @@ class Draws:
         if kind == m.M_PCERR:
             return self.errors()
         if kind == m.M_CLOSE:
-            return [m.thing(o.CLOSE, bytes([0, 0, 0, self.random.getrandbits(3)]) + self.tlvs())]
+            return [m.pcep_object(o.CLOSE, bytes([0, 0, 0, self.random.getrandbits(3)]) + self.tlvs())]
         if kind == m.M_PCNTF:
-            return [m.thing(o.NOTIFICATION, bytes([0, 0, 1, 1]) + self.tlvs())]
+            return [m.pcep_object(o.NOTIFICATION, bytes([0, 0, 1, 1]) + self.tlvs())]
         return [] if kind == m.M_KEEPALIVE else [self.other() for _ in range(self.pick(0, 1, 2))]
 
     # what an enemy does to a message
@@ -219,7 +219,7 @@ class Draws:
         place = self.random.randrange(len(objects))
         data = objects[place]
         body = data[4:] + self.random.randbytes(4) if self.chance(0.5) else data[4 : max(4, len(data) - self.pick(4, 8, 12))]
-        return [*objects[:place], m.thing(data[0], body, data[1] >> 4, data[1] & 0xF), *objects[place + 1 :]]
+        return [*objects[:place], m.pcep_object(data[0], body, data[1] >> 4, data[1] & 0xF), *objects[place + 1 :]]
 
     def with_other_bytes(self, data, first):
         """One to three bytes from `first` on drawn anew."""

@@ -111,82 +111,82 @@ class Report:
         return self
 
 
-def requests_of(things):
+def requests_of(pcep_objects):
     current, done = None, []
-    for thing in things:
+    for pcep_object in pcep_objects:
         about = current and current.about
-        if not thing.is_known:
-            if thing.p:
-                raise Refused(3, 2 if thing.kind in o.TYPES else 1, about)
-        elif thing.kind == o.RP:
+        if not pcep_object.is_known:
+            if pcep_object.p:
+                raise Refused(3, 2 if pcep_object.kind in o.TYPES else 1, about)
+        elif pcep_object.kind == o.RP:
             if current:
                 done.append(current.finished())
-            flags, number = thing.says
+            flags, number = pcep_object.says
             current = Request(number, flags & 0x8 != 0, (o.RP, number))
-            if not thing.p:
+            if not pcep_object.p:
                 raise Refused(10, 1, current.about)
-        elif current is None and thing.kind != o.SVEC:
+        elif current is None and pcep_object.kind != o.SVEC:
             raise Refused(6, 1)
-        elif thing.kind in (o.SVEC, o.IRO, o.LOAD_BALANCING):
-            if thing.p:
+        elif pcep_object.kind in (o.SVEC, o.IRO, o.LOAD_BALANCING):
+            if pcep_object.p:
                 raise Refused(4, 1, about)
-        elif thing.kind == o.END_POINTS and current.ends is None:
-            if not thing.p:
+        elif pcep_object.kind == o.END_POINTS and current.ends is None:
+            if not pcep_object.p:
                 raise Refused(10, 1, about)
-            current.ends = thing.says
-        elif thing.kind == o.LSP and current.plsp is None:
-            current.plsp = thing.says >> 12
-        elif thing.kind == o.LSPA and current.lspa is None:
-            current.lspa = thing.says
-        elif thing.kind == o.BANDWIDTH:
-            current.bandwidths.append((thing.sort, thing.says))
-        elif thing.kind == o.METRIC:
-            current.metrics.append(thing.says)
-        elif thing.kind == o.RRO:
+            current.ends = pcep_object.says
+        elif pcep_object.kind == o.LSP and current.plsp is None:
+            current.plsp = pcep_object.says >> 12
+        elif pcep_object.kind == o.LSPA and current.lspa is None:
+            current.lspa = pcep_object.says
+        elif pcep_object.kind == o.BANDWIDTH:
+            current.bandwidths.append((pcep_object.sort, pcep_object.says))
+        elif pcep_object.kind == o.METRIC:
+            current.metrics.append(pcep_object.says)
+        elif pcep_object.kind == o.RRO:
             current.has_rro = True
     if current is None:
         raise Refused(6, 1)
     return [*done, current.finished()]
 
 
-def take_lsp(item, thing):
+def take_lsp(item, pcep_object):
     item.awaits_lsp = False
-    item.plsp, item.flags = thing.says >> 12, thing.says & 0xFFF
-    item.name = thing.tlvs.get(o.SYMBOLIC_NAME)
-    if o.LSP_IDENTIFIERS in thing.tlvs:
+    item.plsp, item.flags = pcep_object.says >> 12, pcep_object.says & 0xFFF
+    item.name = pcep_object.tlvs.get(o.SYMBOLIC_NAME)
+    if o.LSP_IDENTIFIERS in pcep_object.tlvs:
         # sender, LSP ID, Tunnel ID, Extended Tunnel ID, endpoint
-        item.identifiers = struct.unpack(">IHHII", thing.tlvs[o.LSP_IDENTIFIERS])
+        item.identifiers = struct.unpack(">IHHII", pcep_object.tlvs[o.LSP_IDENTIFIERS])
     elif item.plsp != 0:
         raise NoIdentifiers(6, 11, item.about)
 
 
-def reports_of(things):
+def reports_of(pcep_objects):
     item, done = None, []
-    for thing in things:
-        if not thing.is_known:
+    for pcep_object in pcep_objects:
+        if not pcep_object.is_known:
             continue
-        if thing.kind == o.SRP:
+        if pcep_object.kind == o.SRP:
             if item:
                 done.append(item.finished())
-            item = Report(srp=thing.says[1] or None, awaits_lsp=True)
-        elif thing.kind == o.LSP:
+            item = Report(srp=pcep_object.says[1] or None, awaits_lsp=True)
+        elif pcep_object.kind == o.LSP:
             if item is None or not item.awaits_lsp:
                 if item:
                     done.append(item.finished())
                 item = Report()
-            take_lsp(item, thing)
-        elif thing.kind in (o.ERO, o.RRO, o.LSPA, o.BANDWIDTH):
+            take_lsp(item, pcep_object)
+        elif pcep_object.kind in (o.ERO, o.RRO, o.LSPA, o.BANDWIDTH):
             if item is None:
                 raise Refused(6, 8)
             item.awaits_lsp = False
-            if thing.kind == o.BANDWIDTH:
-                item.bandwidths.append(thing.says)
-            elif thing.kind == o.ERO:
-                item.ero = thing.says if item.ero is None else item.ero
-            elif thing.kind == o.RRO:
-                item.rro = thing.says if item.rro is None else item.rro
+            if pcep_object.kind == o.BANDWIDTH:
+                item.bandwidths.append(pcep_object.says)
+            elif pcep_object.kind == o.ERO:
+                item.ero = pcep_object.says if item.ero is None else item.ero
+            elif pcep_object.kind == o.RRO:
+                item.rro = pcep_object.says if item.rro is None else item.rro
             elif item.lspa is None:
-                item.lspa = thing.says
+                item.lspa = pcep_object.says
     if item is None:
         raise Refused(6, 8)
     return [*done, item.finished()]
@@ -196,16 +196,16 @@ def body_of(kind, data):
     """What a message of this type says. Types that no session takes are read as nothing."""
     try:
         if kind == M_PCREQ:
-            return requests_of(o.things_in(data))
+            return requests_of(o.pcep_objects_in(data))
         if kind == M_PCRPT:
-            return reports_of(o.things_in(data))
-        things = [thing for thing in o.things_in(data) if thing.is_known]
+            return reports_of(o.pcep_objects_in(data))
+        pcep_objects = [pcep_object for pcep_object in o.pcep_objects_in(data) if pcep_object.is_known]
     except o.Broken:
         raise Malformed from None
     if kind == M_PCERR:
-        return [thing.says[1] for thing in things if thing.kind == o.SRP]
+        return [pcep_object.says[1] for pcep_object in pcep_objects if pcep_object.kind == o.SRP]
     if kind == M_OPEN:
-        first = next((thing for thing in things if thing.kind == o.OPEN), None)
+        first = next((pcep_object for pcep_object in pcep_objects if pcep_object.kind == o.OPEN), None)
         if first is None:
             raise Malformed
         word = first.tlvs.get(o.STATEFUL_CAPABILITY)
@@ -221,18 +221,18 @@ def message(kind, *parts):
     return struct.pack(">BBH", 0x20, kind, 4 + len(body)) + body
 
 
-def thing(kind, body, sort=1, flags=0):
+def pcep_object(kind, body, sort=1, flags=0):
     return struct.pack(">BBH", kind, sort << 4 | flags, 4 + len(body)) + body
 
 
-OWN_OPEN = message(M_OPEN, thing(o.OPEN, bytes([0x20, 30, 120, 0, 0, 16, 0, 4, 0, 0, 0, 5])))
+OWN_OPEN = message(M_OPEN, pcep_object(o.OPEN, bytes([0x20, 30, 120, 0, 0, 16, 0, 4, 0, 0, 0, 5])))
 KEEPALIVE = message(M_KEEPALIVE)
 
 
 def close(reason):
-    return message(M_CLOSE, thing(o.CLOSE, bytes([0, 0, 0, reason])))
+    return message(M_CLOSE, pcep_object(o.CLOSE, bytes([0, 0, 0, reason])))
 
 
 def error(kind, value, about=None):
-    named = [thing(about[0], struct.pack(">II", 0, about[1]))] if about else []
-    return message(M_PCERR, *named, thing(o.PCEP_ERROR, bytes([0, 0, kind, value])))
+    named = [pcep_object(about[0], struct.pack(">II", 0, about[1]))] if about else []
+    return message(M_PCERR, *named, pcep_object(o.PCEP_ERROR, bytes([0, 0, kind, value])))

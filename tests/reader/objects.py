@@ -26,7 +26,7 @@ class Broken(Exception):
 
 
 @dataclass(slots=True)
-class Thing:
+class PcepObject:
     """An object: its class and type, whether it has to be processed (P), and what its body says."""
 
     kind: int
@@ -98,28 +98,28 @@ def says(kind, data):
     return None
 
 
-def thing_at(data, at):
+def pcep_object_at(data, at):
     """The object at this place and its length. One of an unknown class or type isn't looked into."""
     if len(data) - at < 4:
         raise Broken
     kind, second, length = struct.unpack_from(">BBH", data, at)
     if length < 4 or length % 4 or at + length > len(data):
         raise Broken
-    thing = Thing(kind, second >> 4, second & 2 != 0, second >> 4 in TYPES.get(kind, ()))
-    if thing.is_known:
+    pcep_object = PcepObject(kind, second >> 4, second & 2 != 0, second >> 4 in TYPES.get(kind, ()))
+    if pcep_object.is_known:
         body = data[at + 4 : at + length]
         if len(body) < BEFORE_TLVS.get(kind, 0) or len(body) != WHOLE_BODY.get(kind, len(body)):
             raise Broken
-        thing.says = says(kind, body)
+        pcep_object.says = says(kind, body)
         if kind in BEFORE_TLVS:
-            thing.tlvs = tlvs_of(kind, body[BEFORE_TLVS[kind] :])
-    return thing, length
+            pcep_object.tlvs = tlvs_of(kind, body[BEFORE_TLVS[kind] :])
+    return pcep_object, length
 
 
-def things_in(data):
+def pcep_objects_in(data):
     """The objects one after another; it raises `Broken` at the first that is none."""
     at = 0
     while at < len(data):
-        thing, length = thing_at(data, at)
-        yield thing
+        pcep_object, length = pcep_object_at(data, at)
+        yield pcep_object
         at += length

@@ -3,7 +3,7 @@ import struct
 
 from . import messages as m
 from . import objects as o
-from .database import GRANTED, MOST_PATHS, TRIES, Database, Path, Refusal, attributes, lsp_thing, route_thing, srp_thing
+from .database import GRANTED, MOST_PATHS, TRIES, Database, Path, Refusal, attributes, lsp_object, route_object, srp_object
 from .numbers import word_of
 
 
@@ -118,8 +118,8 @@ class Searches(Database):
         asked = ticket.constraints
         cost = word_of(self.network.cost(links, asked.minimise))
         self.peers[ticket.peer].queue.append(m.message(
-            m.M_PCREP, rp_thing(ticket.purpose[1]), route_thing(self.network, links),
-            m.thing(o.METRIC, struct.pack(">HBBI", 0, 2, asked.minimise, cost)),
+            m.M_PCREP, rp_object(ticket.purpose[1]), route_object(self.network, links),
+            m.pcep_object(o.METRIC, struct.pack(">HBBI", 0, 2, asked.minimise, cost)),
         ))
         return "answered"
 
@@ -127,23 +127,23 @@ class Searches(Database):
         peer, asked, (purpose, whom) = ticket.peer, ticket.constraints, ticket.purpose
         if purpose == "update":
             tunnel, plsp, name = self.own_tunnel(ticket), whom, None
-            kind, first, is_protected = m.M_PCUPD, lsp_thing(plsp, 0x9), asked.is_protected
+            kind, first, is_protected = m.M_PCUPD, lsp_object(plsp, 0x9), asked.is_protected
         else:
             tunnel, plsp, name = ("asked", peer, srp), 0, whom
             padded = whom + bytes(-len(whom) % 4)
-            kind, first = m.M_PCINITIATE, lsp_thing(0, 0x9, struct.pack(">HH", o.SYMBOLIC_NAME, len(whom)) + padded)
-            first += m.thing(o.END_POINTS, struct.pack(">II", asked.source, asked.destination), flags=2)
+            kind, first = m.M_PCINITIATE, lsp_object(0, 0x9, struct.pack(">HH", o.SYMBOLIC_NAME, len(whom)) + padded)
+            first += m.pcep_object(o.END_POINTS, struct.pack(">II", asked.source, asked.destination), flags=2)
             is_protected = False
         self.peers[peer].last_srp = srp
-        self.peers[peer].queue.append(m.message(kind, srp_thing(srp), first, route_thing(self.network, links), attributes(asked, is_protected)))
+        self.peers[peer].queue.append(m.message(kind, srp_object(srp), first, route_object(self.network, links), attributes(asked, is_protected)))
         self.replace([], [Path(peer, plsp, (GRANTED, srp), tunnel, asked.hold, asked.bandwidth, links, True, name)])
         return f"granted {srp}"
 
 
-def rp_thing(number):
-    return m.thing(o.RP, struct.pack(">II", 0, number), flags=2)
+def rp_object(number):
+    return m.pcep_object(o.RP, struct.pack(">II", 0, number), flags=2)
 
 
 def no_path(number, vector=None):
     tlv = b"" if vector is None else struct.pack(">HHI", o.NO_PATH_VECTOR, 4, vector)
-    return m.message(m.M_PCREP, rp_thing(number), m.thing(o.NO_PATH, bytes(4) + tlv))
+    return m.message(m.M_PCREP, rp_object(number), m.pcep_object(o.NO_PATH, bytes(4) + tlv))

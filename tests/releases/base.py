@@ -10,7 +10,7 @@ import tempfile
 from harness import clock
 from harness.cases import ROOT, NotTried
 
-SOON = 300
+TIMEOUT_S = 300
 AUTHOR = ["-c", "user.name=Maintainers of pced", "-c", "user.email=maintainers@pced.example"]
 MADE = ["pced_0.1.0_amd64.deb", "pced-0.1.0-linux-x86_64.tar.gz", "EVIDENCE", "SHA256SUMS"]
 GATE = ["rt ci: 900 passed, 0 failed", "tests/run: 300 passed, 0 failed", "clock 7200 s, processors 24000 s", "1200 passed, 0 failed"]
@@ -47,7 +47,7 @@ def clean():
 
 def ran(*words, **how):
     """Standard output, standard error and the status of a command."""
-    done = subprocess.run(words, capture_output=True, text=True, stdin=subprocess.DEVNULL, **{"timeout": SOON} | how)
+    done = subprocess.run(words, capture_output=True, text=True, stdin=subprocess.DEVNULL, **{"timeout": TIMEOUT_S} | how)
     return done.stdout, done.stderr, done.returncode
 
 

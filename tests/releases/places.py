@@ -152,7 +152,7 @@ def with_the_c_library_alone(program):
         yield base.comes(lambda: "link 0 250000 " in ran("chroot", root, "/pced", "tell", "/control", "book")[0]), True
         yield ran("chroot", root, "/pced", "tell", "/control", "reload"), ("done\n", "", 0)
         yield ran("chroot", root, "/pced", "tell", "/control", "end")[2], 0
-        _, log = process.communicate(timeout=base.SOON)
+        _, log = process.communicate(timeout=base.TIMEOUT_S)
         yield (process.returncode, log.splitlines()[-1].split("] ")[-1].split()[0]), (0, "audited")
     finally:
         process.kill()

@@ -144,7 +144,7 @@ def an_interrupt(program):
         yield base.comes(lambda: os.path.isdir(into) and os.listdir(into)), True
         time.sleep(0.2)
         os.killpg(run.pid, number)
-        out, err = run.communicate(timeout=base.SOON)
+        out, err = run.communicate(timeout=base.TIMEOUT_S)
         yield refused((out, err, run.returncode), into, "interrupted"), NOTHING
 
 

@@ -66,7 +66,7 @@ class Service:
         said, status = "", 0
         for command in self.unit.all(name):
             done = subprocess.run(self.inside(self.unit.words(command)), env=self.environment, stdin=subprocess.DEVNULL,
-                                  stdout=subprocess.PIPE, stderr=subprocess.STDOUT, text=True, timeout=base.SOON)
+                                  stdout=subprocess.PIPE, stderr=subprocess.STDOUT, text=True, timeout=base.TIMEOUT_S)
             said, status = said + done.stdout, done.returncode
             if status != 0:
                 break
@@ -75,13 +75,13 @@ class Service:
     def told(self, *lines):
         """What an operator is answered."""
         done = subprocess.run(self.inside([self.started[0], "tell", self.control, *lines]), env=self.environment,
-                              stdin=subprocess.DEVNULL, capture_output=True, text=True, timeout=base.SOON)
+                              stdin=subprocess.DEVNULL, capture_output=True, text=True, timeout=base.TIMEOUT_S)
         return done.stdout
 
     def ended(self):
         """The status after TERM to the first process, as `systemctl stop` sends it, and the last word of the log."""
         self.process.terminate()
-        _, log = self.process.communicate(timeout=base.SOON)
+        _, log = self.process.communicate(timeout=base.TIMEOUT_S)
         Service.running.remove(self)
         return self.process.returncode, log.splitlines()[-1].split("] ")[-1].split()[0]
 

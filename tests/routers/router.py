@@ -14,7 +14,7 @@ from collections import defaultdict
 from dataclasses import replace
 
 import pcep
-from harness.clock import SOON, paced
+from harness.clock import TIMEOUT_S, paced
 from pcep.reading import asks_of
 
 from .lsp import Lsp, Path, Temper, settle
@@ -134,7 +134,7 @@ class Router:
     def end(self):
         self.is_over = True
         self.lose_connection(None)
-        self.thread.join(SOON)
+        self.thread.join(TIMEOUT_S)
 
     # ---- what a case looks at
 
@@ -147,14 +147,14 @@ class Router:
         with self.lock:
             return [ask for ask in self.heard if ask.kind == kind and plsp in (None, ask.plsp)]
 
-    def waits_for_asks(self, count, kind=pcep.PCUPD, within=SOON, plsp=None):
+    def waits_for_asks(self, count, kind=pcep.PCUPD, within=TIMEOUT_S, plsp=None):
         """The asks, once there are so many, or what there is after these seconds of `paced`."""
         until = paced() + within
         while len(self.asks(kind, plsp)) < count and paced() < until:
             time.sleep(0.01)
         return self.asks(kind, plsp)
 
-    def waits_until_up(self, within=SOON, session=1):
+    def waits_until_up(self, within=TIMEOUT_S, session=1):
         until = paced() + within
         while not (self.is_up and self.session >= session) and paced() < until:
             time.sleep(0.01)
@@ -199,7 +199,7 @@ class Router:
         try:
             each = socket.socket()
             each.setsockopt(socket.IPPROTO_TCP, socket.TCP_NODELAY, 1)
-            each.settimeout(SOON)
+            each.settimeout(TIMEOUT_S)
             each.bind((self.address, 0))
             each.connect(self.server)
             self.socket = each

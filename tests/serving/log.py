@@ -4,7 +4,7 @@ import subprocess
 import time
 
 import pcep
-from harness.clock import SOON, comes
+from harness.clock import TIMEOUT_S, comes
 from harness.exposition import ends_of
 from harness.logs import STAMPED, log_of
 from harness.process import threads
@@ -27,7 +27,7 @@ def a_log_that_nobody_reads(program):
     yield router.hear_of(pcep.PCREP)[:2], bytes([0x20, pcep.PCREP])
     yield comes(lambda: threads(server.process) < 20), True
     server.process.stdin.close()
-    yield server.process.wait(timeout=SOON), 0
+    yield server.process.wait(timeout=TIMEOUT_S), 0
 
 
 def what_the_log_says(program):

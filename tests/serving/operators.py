@@ -9,7 +9,7 @@ import termios
 import time
 
 import pcep
-from harness.clock import SOON, comes
+from harness.clock import TIMEOUT_S, comes
 from harness.logs import log_of
 from harness.process import break_listener, ticks
 from harness.router import Router
@@ -55,7 +55,7 @@ def the_line_end(program):
         server.process.stdin.write(b"books\nend\nbook\n")
         yield router.hear(), pcep.CLOSE
         yield router.take(1), b""
-        yield server.process.wait(timeout=SOON), 0
+        yield server.process.wait(timeout=TIMEOUT_S), 0
         yield server.process.stdout.read(), b"bad line 1\n"
         server.kill()
 
@@ -78,7 +78,7 @@ def a_pipe_that_is_held_open(program):
     yield server.process.poll(), None
     with open(f"{folder}/lines", "w") as lines:
         lines.write("\n")
-    yield server.process.wait(timeout=SOON), 0
+    yield server.process.wait(timeout=TIMEOUT_S), 0
     shutil.rmtree(folder)
 
 
@@ -95,7 +95,7 @@ def a_read_that_would_block(program):
     os.write(writes, b"update 10.0.0.9 1\n")
     yield server.process.stdout.readline(), b"refused 1\n"
     os.close(writes)
-    yield server.process.wait(timeout=SOON), 0
+    yield server.process.wait(timeout=TIMEOUT_S), 0
 
 
 class LinkText:
@@ -206,7 +206,7 @@ def an_operator_that_reads_nothing(program):
     break_listener(server)
     yield router.hear_of(7), pcep.CLOSE
     try:
-        yield server.process.wait(timeout=SOON), 3
+        yield server.process.wait(timeout=TIMEOUT_S), 3
     except subprocess.TimeoutExpired:
         yield "it goes on", 3
     answered = server.process.stdout.read()

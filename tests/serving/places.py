@@ -14,7 +14,7 @@ from pcep import diamond
 
 
 def a_second_session(program):
-    """Beside a session that is up one connection of its address is answered so, and a third is closed unheard."""
+    """Beside a session that is up one connection of its address is answered so, and a third is rejected."""
     server = Server(program, "--endless")
     router = Router(server, 1)
     router.come_up()
@@ -98,7 +98,7 @@ def an_address_that_errs(program):
 
 def few_descriptors(program):
     """If descriptors run out for some seconds, sessions go on, and who came meanwhile is heard once they are back."""
-    for limit, words, said in ((511, ["--endless"], ["few descriptors 511"]), (512, ["--endless"], []), (133, ["--sessions", "1"], ["few descriptors 133"])):
+    for limit, words, said in ((511, ["--endless"], ["LimitNOFILE=511 is low"]), (512, ["--endless"], []), (133, ["--sessions", "1"], ["LimitNOFILE=133 is low"])):
         own = resource.getrlimit(resource.RLIMIT_NOFILE)
         resource.setrlimit(resource.RLIMIT_NOFILE, (limit, own[1]))
         try:
@@ -106,7 +106,7 @@ def few_descriptors(program):
         finally:
             resource.setrlimit(resource.RLIMIT_NOFILE, own)
         server.process.stdin.write(b"end\n")
-        yield [text for level, text in log_of(server)[1] if "descriptors" in text], said
+        yield [text for level, text in log_of(server)[1] if "LimitNOFILE" in text], said
     server = Server(program, "--endless")
     router = Router(server, 1)
     router.come_up()
@@ -141,7 +141,7 @@ def silent_addresses(program):
 
 
 def known_routers(program):
-    """With --only-known, an address that no node of the link text owns is closed unheard, and counted."""
+    """With --only-known, an address that no node of the link text owns is rejected, and counted."""
     known = open(TE).read().replace('"10.0.0.1"', '"127.0.1.1"')
     with tempfile.NamedTemporaryFile("w", suffix=".toml") as file:
         file.write(known)
@@ -156,10 +156,10 @@ def known_routers(program):
     texts = [text for _, text in said]
     yield status, 0
     yield [text for text in texts if text.startswith("ended ")], ["ended 127.0.1.1 why=closed by the peer"]
-    strangers = [text for text in texts if text.startswith("stranger 127.0.1.2 count=")]
-    withheld = [int(text.split()[1]) for text in texts if re.fullmatch(r"withheld \d+ lines: stranger", text)]
+    strangers = [text for text in texts if text.startswith("unknown router 127.0.1.2 count=")]
+    withheld = [int(text.split()[1]) for text in texts if re.fullmatch(r"withheld \d+ lines: unknown router", text)]
     yield len(strangers) + sum(withheld), 20
-    yield "stranger 127.0.1.2 count=1" in strangers, True
+    yield "unknown router 127.0.1.2 count=1" in strangers, True
 
 
 CASES = [a_second_session, a_crowd, sixty_four_that_come_and_go, silent_addresses, an_address_that_errs, few_descriptors, known_routers]

@@ -6,7 +6,7 @@ import threading
 import time
 
 import pcep
-from harness.clock import SOON, Timed, comes, paced
+from harness.clock import TIMEOUT_S, Timed, comes, paced
 from harness.logs import log_of
 from harness.router import Deaf, Router
 from harness.server import FREE, Server, book_of
@@ -146,7 +146,7 @@ def half_messages(program):
     began = paced()
     for number in range(20):
         yield diamond.number_of(router.ask(number)), number
-    yield paced() - began < SOON, True
+    yield paced() - began < TIMEOUT_S, True
     yield server.book(), FREE
     silent[2].send(whole[7:])
     yield server.waits_for(book_of(500_000, 500_000, 1_000_000, 1_000_000)), True
@@ -169,7 +169,7 @@ def resets(program):
         router.reset()
     yield diamond.number_of(other.ask(1)), 1
     # (its last session may not have ended yet, which refuses the next one)
-    heard, until = b"", time.monotonic() + SOON
+    heard, until = b"", time.monotonic() + TIMEOUT_S
     while heard[:2] != bytes([0x20, pcep.PCREP]) and time.monotonic() < until:
         router = Router(server, 1)
         try:
@@ -191,7 +191,7 @@ def a_deaf_router(program):
     slowest, number = 0.0, 0
     with Timed() as timed:
         deaf.ask_without_end()
-        while deaf.ended is None and deaf.waited() < 5 * SOON:
+        while deaf.ended is None and deaf.waited() < 5 * TIMEOUT_S:
             number += 1
             asked = paced()
             router.send(diamond.request(number))

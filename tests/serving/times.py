@@ -7,7 +7,7 @@ import threading
 import time
 
 import pcep
-from harness.clock import SOON, Timed, comes
+from harness.clock import TIMEOUT_S, Timed, comes
 from harness.logs import log_of
 from harness.process import break_listener
 from harness.router import Router
@@ -99,7 +99,7 @@ def a_run_that_is_cut(program):
         break_listener(server)
         yield router.hear(), pcep.CLOSE
         try:
-            yield server.process.wait(timeout=SOON), 3
+            yield server.process.wait(timeout=TIMEOUT_S), 3
         except subprocess.TimeoutExpired:
             yield "it goes on", 3
             server.kill()
@@ -131,7 +131,7 @@ def a_server_that_settles(program):
             pass
         other.come_up(sync=False)
         other.send(diamond.report(1, 500000.0) + pcep.END_OF_SYNC)
-    router.socket.settimeout(SOON)
+    router.socket.settimeout(TIMEOUT_S)
     yield router.hear_of(pcep.PCREP)[8:16], struct.pack(">II", 0, 1)
     status, said, _ = log_of(server)
     yield status, 0
@@ -154,7 +154,7 @@ def a_server_that_settles(program):
         pass
     second = Router(server, 2)
     second.come_up()
-    router.socket.settimeout(SOON)
+    router.socket.settimeout(TIMEOUT_S)
     yield router.hear_of(pcep.PCREP)[8:16], struct.pack(">II", 0, 1)
     yield server.end(), (0, b"")
     for words in ("--settle", "3601"), ("--settle-for", "router"):

@@ -7,7 +7,7 @@ import sys
 import tempfile
 
 from harness.cases import ROOT
-from harness.clock import SOON, comes
+from harness.clock import TIMEOUT_S, comes
 from harness.exposition import family, metrics_of, text_of
 from harness.server import ENDED, TE, ControlledServer, ViewedServer
 
@@ -61,7 +61,7 @@ def the_example_router(program):
         "sends PCRpt PLSP-ID 1 a-to-d delegated, LSP-ID 1 removed",
         "hears PCUpd SRP-ID 4, PLSP-ID 1 not delegated",
         f"sends PCRpt SRP-ID 4, PLSP-ID 1 a-to-d not delegated, LSP-ID 2 up, {over_c}, {rest}", "hears Close reason 1"]
-    yield router.wait(timeout=SOON), 0
+    yield router.wait(timeout=TIMEOUT_S), 0
     shutil.rmtree(folder)
 
 
@@ -131,7 +131,7 @@ def examples_of_two_routers(program):
     comes(lambda: len(server.shown("lsps")[0]["lsps"]) == 3)
     second = differences(server, "After Enter in the terminal", "A ticket exists as long")
     print("", file=routers.stdin, flush=True)
-    routers.wait(timeout=SOON)
+    routers.wait(timeout=TIMEOUT_S)
     return first, second, server.end()
 
 

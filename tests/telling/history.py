@@ -36,7 +36,7 @@ def where_paths_came_from(program):
     yield [server.shown(line) for line in ("why 127.0.1.1 9", "why 127.0.1.9 1")], [[None]] * 2
     yield server.asked("why 127.0.1.1 9"), (b"no such LSP\n", 0)
     lines = server.asked("why 127.0.1.1 7")[0].decode().splitlines()
-    yield lines[0].split(), ["PATH", "LINKS", "BY", "STEP", "TICKET", "AGO", "LINK", "LEFT", "BEFORE", "LEFT", "AFTER"]
+    yield lines[0].split(), ["PATH", "LINKS", "BY", "STEP", "TICKET", "AGO", "LINK", "UNRESERVED", "BEFORE", "UNRESERVED", "AFTER"]
     yield [line.split()[:6] for line in lines[1:3]], [
         ["lsp", "1", "-", "report", str(reports[7]), "-"],
         ["srp", "1", "0,1", "grant", str(grant["step"]), str(asked["number"])]]

@@ -48,7 +48,7 @@ def without_a_link(program):
     yield server.shown("without 3")[0]["moves"][0]["links"], []
     yield server.shown("without 4"), [None]
     yield server.asked("without 4"), (b"no such link\n", 0)
-    yield server.asked("without 0")[0].decode().splitlines()[-1].split(), ["no", "place", "1,", "200000", "(1.6", "Mbit/s)"]
+    yield server.asked("without 0")[0].decode().splitlines()[-1].split(), ["not", "rerouted", "1,", "200000", "(1.6", "Mbit/s)"]
     yield is_read_by_python(server, "without 0"), True
     yield server.shown("links 2")[0]["links"][0]["unreserved_bytes_per_second"], [900_000] * 8
     yield server.end(), ENDED

@@ -5,7 +5,7 @@ import sys
 import time
 
 import pcep
-from harness.clock import SOON
+from harness.clock import TIMEOUT_S
 from pcep import diamond
 
 
@@ -16,7 +16,7 @@ def chosen(document, *names):
 def status_at_rest(server):
     """What `status` says once no more steps are taken: twice the same, half a second apart."""
     before = None
-    for _ in range(2 * SOON):
+    for _ in range(2 * TIMEOUT_S):
         (now,) = server.shown("status")
         if before and now["steps"] == before["steps"]:
             return now

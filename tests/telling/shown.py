@@ -97,7 +97,7 @@ def tables_of_links(program):
     router.send(report_at(7, 5, 1, 500000.0) + report_at(3, 3, 2, 250000.0) + report_at(7, 7, 3, 100000.0))
     router.send(report_at(0, 0, 4, 1500000.0, links=diamond.OVER_C))
     router.ask(1, 100.0)
-    head = ["LINK", "FROM", "TO", "LOCAL", "REMOTE", "IGP", "TE", "COLOUR", "RESERVABLE", "PRIORITY", "LEFT", "RESERVED"]
+    head = ["LINK", "FROM", "TO", "LOCAL", "REMOTE", "IGP", "TE", "COLOUR", "RESERVABLE", "PRIORITY", "UNRESERVED", "RESERVED"]
     rest = [
         ["3-4", "750000 (6.0 Mbit/s)", "25%"], ["5-6", "250000 (2.0 Mbit/s)", "75%"], ["7", "150000 (1.2 Mbit/s)", "85%"]]
     first = [["0", "A", "B", "10.1.0.1", "10.1.0.2", "10", "11", "0x80000001", "1000000 (8.0 Mbit/s)", "0-2", "1000000 (8.0 Mbit/s)", "0%"], *rest]

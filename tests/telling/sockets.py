@@ -11,7 +11,7 @@ import threading
 import time
 
 import pcep
-from harness.clock import SOON, paced
+from harness.clock import TIMEOUT_S, paced
 from harness.router import Router
 from harness.server import BOOK, ENDED, TE, ControlledServer, all_of, asked, line_of
 from pcep import diamond
@@ -46,7 +46,7 @@ def a_prompt(program):
     asks.stdin.write(b"end\n")
     asks.stdin.close()
     yield asks.stdout.read(), b""
-    yield asks.wait(timeout=SOON), 2
+    yield asks.wait(timeout=TIMEOUT_S), 2
     yield server.ended(), (0, [])
 
 
@@ -130,7 +130,7 @@ def a_path_that_is_taken(program):
     words = [program, "serve", "--te", TE, "--listen", "127.0.0.1:0", "--endless", "--control"]
 
     def tried(path):
-        ran = subprocess.run([*words, path], stdin=subprocess.DEVNULL, capture_output=True, timeout=SOON)
+        ran = subprocess.run([*words, path], stdin=subprocess.DEVNULL, capture_output=True, timeout=TIMEOUT_S)
         why, fault = ran.stderr.decode().splitlines()[-2:]
         return ran.returncode, ran.stdout, why.startswith(f"cannot make the control socket {path}: "), fault
 
@@ -173,7 +173,7 @@ def four_at_once(program):
     sixth = server.connect()
     sixth.sendall(b"update 10.0.0.9 1\n")
     yield line_of(sixth), b"refused 1\n"
-    operators[0].settimeout(SOON)
+    operators[0].settimeout(TIMEOUT_S)
     yield all_of(operators[0]), b""
     sixth.close()
     for operator in [operators[0], *operators[2:], fifth]:
@@ -190,7 +190,7 @@ def four_at_once(program):
     askers = [threading.Thread(target=ask, args=(place,)) for place in range(4)]
     [asker.start() for asker in askers]
     slowest, number, begun = 0.0, 0, paced()
-    while (number < 100 or min(books) < 4 or paced() - begun < 3) and paced() - begun < SOON:
+    while (number < 100 or min(books) < 4 or paced() - begun < 3) and paced() - begun < TIMEOUT_S:
         number += 1
         asked = paced()
         routers[number % 3].send(diamond.request(number))

@@ -5,7 +5,7 @@ import threading
 import time
 
 import pcep
-from harness.clock import SOON, paced
+from harness.clock import TIMEOUT_S, paced
 from harness.router import Router
 from harness.server import ENDED, ViewedServer
 from harness.viewer import IDLE, SOONER
@@ -30,10 +30,10 @@ def nine_at_once(program):
         ninth.ask("/api/tickets")
     except TimeoutError:
         pass
-    ninth.socket.settimeout(SOON)
+    ninth.socket.settimeout(TIMEOUT_S)
     yield ninth.answer()[0], 200
     yield paced() - begun_paced < SOONER, True
-    yield viewers[0].has_ended(SOON), True
+    yield viewers[0].has_ended(TIMEOUT_S), True
     if time.monotonic() - begun < SOONER:  # (if the machine is held up for longer, they have ended too)
         yield [viewer.get("/api/tickets")[0] for viewer in viewers[1:]], [200] * 7
     # (one goes of itself: its place is free at once)
@@ -51,11 +51,11 @@ def nine_at_once(program):
 
     dripping = threading.Thread(target=drip)
     dripping.start()
-    yield slow.has_ended(SOON), True
+    yield slow.has_ended(TIMEOUT_S), True
     yield time.monotonic() - begun > IDLE - 1, True
     slow.close()
     dripping.join()
-    yield [viewer.has_ended(SOON) for viewer in (viewers[1], viewers[7], ninth)], [True] * 3
+    yield [viewer.has_ended(TIMEOUT_S) for viewer in (viewers[1], viewers[7], ninth)], [True] * 3
     yield server.end(), ENDED
 
 
@@ -154,7 +154,7 @@ def beside_routers(program):
         for router in routers:
             router.send(diamond.report(plsp, 100.0))
     # (each turn ends with answers, so that no more is sent than the server takes)
-    until, number, answers = paced() + SOON, 0, []
+    until, number, answers = paced() + TIMEOUT_S, 0, []
     while number == 0 or min(seen) <= 5 and not faults and paced() < until:
         number += 1
         for router in routers:

@@ -3,7 +3,7 @@ import re
 import subprocess
 from typing import NamedTuple
 
-SOON = 60
+TIMEOUT_S = 60
 
 
 class Word(NamedTuple):
@@ -29,7 +29,7 @@ class Program(NamedTuple):
 
 def help_of(program, *words):
     """The lines of a help, in which the program has its own name."""
-    ran = subprocess.run(["pced", "help", *words], executable=program, capture_output=True, text=True, timeout=SOON, check=True)
+    ran = subprocess.run(["pced", "help", *words], executable=program, capture_output=True, text=True, timeout=TIMEOUT_S, check=True)
     return ran.stdout.splitlines()
 
 

@@ -2,8 +2,8 @@
 use Rattle.std.proofs.Common.{◌≡◌, ◌≤◌, ◌<◌, ◌+◌, ◌-◌, ℕ, zero, suc, nat_le, true, false, List, [], ◌∷◌, length, get_or, refl, sym, subst, arith, inl, inr}
 use Rattle.std.proofs.lemmas.Bool.{cases_Bool}
 use Rattle.std.proofs.lemmas.Bool.Decides.{nat_tests}
-use Rattle.bandwidth_book.specs.declared.reservation.Motion.{Motion}
-use Rattle.bandwidth_book.specs.declared.reservation.Motion.TheVariants.{Promise, Add, Drop, Withdraw}
+use Rattle.bandwidth_book.specs.declared.reservation.BookOp.{BookOp}
+use Rattle.bandwidth_book.specs.declared.reservation.BookOp.TheVariants.{Promise, Add, Drop, Withdraw}
 use Rattle.bandwidth_book.specs.Reservation.{Reservation, end_in, is_before, most, moved_one, same_held, times, with_one, without_one}
 use Rattle.bandwidth_book.proofs.Counts.{held-le-most, most-le-bound, same_self, times_with_one, times_without_one}
 use Rattle.bandwidth_book.proofs.Order.{not_same_before, same_is}
@@ -37,7 +37,7 @@ covered h x hs bs hold less some all p =
       | inr other ↦ held-le-most k bs p (all k n other) low
     ])
 
-moved_below : (motion : Motion) (h x : Reservation) (hs : List Reservation) (p : ℕ) → 0 < times x hs → is_before h x ≡ true → h.hold ≡ x.hold → most (moved_one motion h hs) p ≡ most hs p
+moved_below : (op : BookOp) (h x : Reservation) (hs : List Reservation) (p : ℕ) → 0 < times x hs → is_before h x ≡ true → h.hold ≡ x.hold → most (moved_one op h hs) p ≡ most hs p
 moved_below Promise h x hs p some before hold = refl
 moved_below Withdraw h x hs p some before hold = refl
 moved_below Add h x hs p some before hold =
@@ -56,9 +56,9 @@ moved_below Drop h x hs p some before hold =
     omega (arith, up, down)
 
 -- the reservation at the place where those begin that come after h
-pub below_next : (motion : Motion) (h x : Reservation) (hs : List Reservation) (n p : ℕ) → n ≡ end_in h hs → n < length hs → x ≡ get_or hs n x → x.hold ≡ h.hold → most (moved_one motion h hs) p ≡ most hs p
-below_next motion h x hs n p end less is hold =
+pub below_next : (op : BookOp) (h x : Reservation) (hs : List Reservation) (n p : ℕ) → n ≡ end_in h hs → n < length hs → x ≡ get_or hs n x → x.hold ≡ h.hold → most (moved_one op h hs) p ≡ most hs p
+below_next op h x hs n p end less is hold =
     let some : 0 < times x hs = subst (λ (r : Reservation). 0 < times r hs) (sym is) (times_at hs n x less) in
     let at : is_before h (get_or hs n x) ≡ true = subst (λ (m : ℕ). is_before h (get_or hs m x) ≡ true) (sym end) (end_is_after h x hs (omega (arith, end, less))) in
     let before : is_before h x ≡ true = subst (λ (r : Reservation). is_before h r ≡ true) (sym is) at in
-    moved_below motion h x hs p some before (sym hold)
+    moved_below op h x hs p some before (sym hold)

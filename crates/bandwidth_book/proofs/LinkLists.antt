@@ -6,7 +6,7 @@ use Rattle.bandwidth_book.specs.Reservation.{Reservation}
 use Rattle.bandwidth_book.specs.declared.link_entries.LinkEntry.{LinkEntry}
 use Rattle.bandwidth_book.specs.Holdings.{Holdings}
 use Rattle.bandwidth_book.specs.Reservation.{most, moved_all, takes_memory}
-use Rattle.bandwidth_book.specs.declared.reservation.Motion.{Motion}
+use Rattle.bandwidth_book.specs.declared.reservation.BookOp.{BookOp}
 use Rattle.bandwidth_book.specs.Entries.{AreRising, IsAt, IsShifted, entry_on, held_in, place_on}
 use Rattle.bandwidth_book.specs.Tunnels.{held_by_links, sum_at, sum_in}
 use Rattle.bandwidth_book.proofs.Moved.{most_moved, shifted_both, shifted_part, unshifted}
@@ -139,23 +139,23 @@ pub next_length : (held : Reservation) (l : ℕ) (xs : List ℕ) (i : ℕ) → i
 next_length held l xs i h = ap (λ (hs : List Reservation). length hs) (next_held held l xs i h) ∙ length-append (if get_or xs i 0 == l then held ∷ [] else []) (held_by_links held l (drop (i + 1) xs))
 
 -- one link is moved, and then the rest
-pub next_moved : (m : Motion) (held : Reservation) (l : ℕ) (xs : List ℕ) (i : ℕ) (o u v : Option Holdings) → i < length xs
+pub next_moved : (m : BookOp) (held : Reservation) (l : ℕ) (xs : List ℕ) (i : ℕ) (o u v : Option Holdings) → i < length xs
     → IsShifted m (if get_or xs i 0 == l then held ∷ [] else []) o u → IsShifted m (held_by_links held l (drop (i + 1) xs)) u v → IsShifted m (held_by_links held l (drop i xs)) o v
 next_moved m held l xs i o u v h one rest = subst (λ (hs : List Reservation). IsShifted m hs o v) (sym (next_held held l xs i h)) (shifted_both m _ _ o u v one rest)
 
 -- if one link's promise is refused, none is made for the rest
-pub last_moved : (m : Motion) (held : Reservation) (l : ℕ) (xs : List ℕ) (i : ℕ) (o u : Option Holdings) → i < length xs → takes_memory m ≡ true
+pub last_moved : (m : BookOp) (held : Reservation) (l : ℕ) (xs : List ℕ) (i : ℕ) (o u : Option Holdings) → i < length xs → takes_memory m ≡ true
     → IsShifted m (if get_or xs i 0 == l then held ∷ [] else []) o u → IsShifted m (held_by_links held l (drop i xs)) o u
 last_moved m held l xs i o u h t one = subst (λ (hs : List Reservation). IsShifted m hs o u) (sym (next_held held l xs i h)) (shifted_part m _ (held_by_links held l (drop (i + 1) xs)) o u t one)
 
 -- another link's entry stays
-pub elsewhere : (m : Motion) (link l : ℕ) (held : Reservation) (o : Option Holdings) → (link == l) ≡ false → IsShifted m (if link == l then held ∷ [] else []) o o
+pub elsewhere : (m : BookOp) (link l : ℕ) (held : Reservation) (o : Option Holdings) → (link == l) ≡ false → IsShifted m (if link == l then held ∷ [] else []) o o
 elsewhere m link l held o other = rw other (unshifted m o)
 
-pub kept_elsewhere : (m : Motion) (link l : ℕ) (held : Reservation) (o u : Option Holdings) → (link == l) ≡ false → IsShifted m (if link == l then held ∷ [] else []) o u → held_in u ≡ held_in o
+pub kept_elsewhere : (m : BookOp) (link l : ℕ) (held : Reservation) (o u : Option Holdings) → (link == l) ≡ false → IsShifted m (if link == l then held ∷ [] else []) o u → held_in u ≡ held_in o
 kept_elsewhere m link l held o u other x = rw other at x.kept
 
 -- adding or dropping one that is below a bound keeps the greatest below the bound
-pub small_moved : (m : Motion) (b : Bool) (h : Reservation) (hs us : List Reservation) (p : ℕ) → us ≡ moved_all m hs (if b then h ∷ [] else []) → h.bandwidth < 2 ^ 48 → most hs p < 2 ^ 48 → most us p < 2 ^ 48
+pub small_moved : (m : BookOp) (b : Bool) (h : Reservation) (hs us : List Reservation) (p : ℕ) → us ≡ moved_all m hs (if b then h ∷ [] else []) → h.bandwidth < 2 ^ 48 → most hs p < 2 ^ 48 → most us p < 2 ^ 48
 small_moved m true h hs us p e one old = let all = most_moved m h hs p in rw e (omega (arith, one, old, all))
 small_moved m false h hs us p e one old = rw e old

@@ -7,8 +7,8 @@ use Rattle.lsp_base.specs.declared.tunnel.Tunnel.{Tunnel}
 use Rattle.bandwidth_book.specs.Entries.{IsMoved}
 use Rattle.bandwidth_book.specs.Reservation.{held_of, promised_after, takes_memory}
 use Rattle.bandwidth_book.specs.Holdings.{Holdings}
-use Rattle.bandwidth_book.specs.declared.reservation.Motion.{Motion}
-use Rattle.bandwidth_book.specs.declared.reservation.Motion.TheVariants.{Withdraw}
+use Rattle.bandwidth_book.specs.declared.reservation.BookOp.{BookOp}
+use Rattle.bandwidth_book.specs.declared.reservation.BookOp.TheVariants.{Withdraw}
 use Rattle.bandwidth_book.specs.Paths.{held_by}
 use Rattle.bandwidth_book.specs.Tunnels.{held_by_path}
 use Rattle.bandwidth_book.proofs.Moved.{moved_both, moved_part}
@@ -31,11 +31,11 @@ next_path l t xs i x less is =
 pub next_long : (l : ℕ) (t : Tunnel) (xs : List Path) (i : ℕ) (x : Path) → i < length xs → x ≡ get_or xs i x → length (held_by l t (drop i xs)) ≡ length (held_by_path x.tunnel (held_of x) l t x.links) + length (held_by l t (drop (i + 1) xs))
 next_long l t xs i x less is = ap (λ hs. length hs) (next_path l t xs i x less is) ∙ length-append (held_by_path x.tunnel (held_of x) l t x.links) (held_by l t (drop (i + 1) xs))
 
-pub path_moved : (m : Motion) (l : ℕ) (t : Tunnel) (xs : List Path) (i : ℕ) (x : Path) (o u v : Option Holdings) → i < length xs → x ≡ get_or xs i x
+pub path_moved : (m : BookOp) (l : ℕ) (t : Tunnel) (xs : List Path) (i : ℕ) (x : Path) (o u v : Option Holdings) → i < length xs → x ≡ get_or xs i x
     → IsMoved m (held_by_path x.tunnel (held_of x) l t x.links) o u → IsMoved m (held_by l t (drop (i + 1) xs)) u v → IsMoved m (held_by l t (drop i xs)) o v
 path_moved m l t xs i x o u v less is one rest = subst (λ hs. IsMoved m hs o v) (sym (next_path l t xs i x less is)) (moved_both m _ _ o u v one rest)
 
-pub path_refused : (m : Motion) (l : ℕ) (t : Tunnel) (xs : List Path) (i : ℕ) (x : Path) (o u : Option Holdings) → i < length xs → x ≡ get_or xs i x → takes_memory m ≡ true
+pub path_refused : (m : BookOp) (l : ℕ) (t : Tunnel) (xs : List Path) (i : ℕ) (x : Path) (o u : Option Holdings) → i < length xs → x ≡ get_or xs i x → takes_memory m ≡ true
     → IsMoved m (held_by_path x.tunnel (held_of x) l t x.links) o u → IsMoved m (held_by l t (drop i xs)) o u
 path_refused m l t xs i x o u less is promise one = subst (λ hs. IsMoved m hs o u) (sym (next_path l t xs i x less is)) (moved_part m _ (held_by l t (drop (i + 1) xs)) o u promise one)
 

@@ -3,7 +3,7 @@ use Rattle.std.specs.Prelude.{⊤, ◌≡◌, ◌<◌, ◌≤◌, ◌==◌, ℕ,
 use Rattle.std.specs.List.{AllByRecursion}
 use Rattle.bandwidth_book.specs.Reservation.{Reservation}
 use Rattle.bandwidth_book.specs.Reservation.{moved_all, promised_after}
-use Rattle.bandwidth_book.specs.declared.reservation.Motion.{Motion}
+use Rattle.bandwidth_book.specs.declared.reservation.BookOp.{BookOp}
 use Rattle.bandwidth_book.specs.declared.link_entries.LinkEntry.{LinkEntry}
 use Rattle.bandwidth_book.specs.Holdings.{Holdings}
 
@@ -21,17 +21,17 @@ promised_in (Some e) = e.promised
 abbrev pub IsBusy : Option Holdings → Type 0
 IsBusy o = is_some o ≡ true → held_in o ≡ [] → 0 < promised_in o
 
--- how an entry that may be missing changes by a motion for each of these reservations; if memory ran out, some may have
+-- how an entry that may be missing changes by a op for each of these reservations; if memory ran out, some may have
 -- been left out
-pub record IsMoved (motion : Motion) (hs : List Reservation) (old new : Option Holdings) : Type 0 where
-  pub kept : held_in new ≡ moved_all motion (held_in old) hs
+pub record IsMoved (op : BookOp) (hs : List Reservation) (old new : Option Holdings) : Type 0 where
+  pub kept : held_in new ≡ moved_all op (held_in old) hs
   pub busy : IsBusy old → IsBusy new
-  pub below : promised_in new ≤ promised_after motion (length hs) (promised_in old)
+  pub below : promised_in new ≤ promised_after op (length hs) (promised_in old)
 
 -- the same, but the new one may be left with nothing
-pub record IsShifted (motion : Motion) (hs : List Reservation) (old new : Option Holdings) : Type 0 where
-  pub kept : held_in new ≡ moved_all motion (held_in old) hs
-  pub below : promised_in new ≤ promised_after motion (length hs) (promised_in old)
+pub record IsShifted (op : BookOp) (hs : List Reservation) (old new : Option Holdings) : Type 0 where
+  pub kept : held_in new ≡ moved_all op (held_in old) hs
+  pub below : promised_in new ≤ promised_after op (length hs) (promised_in old)
 
 -- an entry that may be missing, and another that holds as much and has promised as much room
 pub record IsSame (old new : Option Holdings) : Type 0 where

@@ -2,8 +2,8 @@
 use Rattle.std.specs.Prelude.{⊤, ◌≡◌, ◌<◌, ℕ, zero, suc, ◌+◌, ◌-◌, ◌&&◌, ◌||◌, ◌==◌, nat_le, nat_lt, max, Bool, true, false, List, [], ◌∷◌, ◌++◌, drop, take, if◌then◌else◌, slice_index}
 use Rattle.std.specs.List.{AllByRecursion}
 use Rattle.lsp_base.specs.declared.path.Path.{Path}
-use Rattle.bandwidth_book.specs.declared.reservation.Motion.{Motion}
-use Rattle.bandwidth_book.specs.declared.reservation.Motion.TheVariants.{Promise, Add, Drop, Withdraw}
+use Rattle.bandwidth_book.specs.declared.reservation.BookOp.{BookOp}
+use Rattle.bandwidth_book.specs.declared.reservation.BookOp.TheVariants.{Promise, Add, Drop, Withdraw}
 
 -- a holding priority, and a bandwidth in bytes per second
 pub record Reservation : Type 0 where
@@ -60,27 +60,27 @@ abbrev pub without_all : List Reservation → List Reservation → List Reservat
 without_all hs [] = hs
 without_all hs (x ∷ xs) = without_all (without_one x hs) xs
 
--- what is held after one motion: a promise, and one that is taken back, leave it
-abbrev pub moved_one : Motion → Reservation → List Reservation → List Reservation
+-- what is held after one op: a promise, and one that is taken back, leave it
+abbrev pub moved_one : BookOp → Reservation → List Reservation → List Reservation
 moved_one Promise h hs = hs
 moved_one Add h hs = with_one h hs
 moved_one Drop h hs = without_one h hs
 moved_one Withdraw h hs = hs
 
 -- after one for each of them, in turn
-abbrev pub moved_all : Motion → List Reservation → List Reservation → List Reservation
-moved_all motion hs [] = hs
-moved_all motion hs (x ∷ xs) = moved_all motion (moved_one motion x hs) xs
+abbrev pub moved_all : BookOp → List Reservation → List Reservation → List Reservation
+moved_all op hs [] = hs
+moved_all op hs (x ∷ xs) = moved_all op (moved_one op x hs) xs
 
 -- how many reservations room must have been promised for before
-abbrev pub room_for : Motion → ℕ → ℕ
+abbrev pub room_for : BookOp → ℕ → ℕ
 room_for Promise n = 0
 room_for Add n = n
 room_for Drop n = 0
 room_for Withdraw n = 0
 
 -- how many reservations room is promised for after n of them, if it was promised for p
-abbrev pub promised_after : Motion → ℕ → ℕ → ℕ
+abbrev pub promised_after : BookOp → ℕ → ℕ → ℕ
 promised_after Promise n p = p + n
 promised_after Add n p = p - n
 promised_after Drop n p = p
@@ -88,14 +88,14 @@ promised_after Withdraw zero p = p
 promised_after Withdraw (suc n) p = 0
 
 -- whether it changes what is held
-abbrev pub changes_held : Motion → Bool
+abbrev pub changes_held : BookOp → Bool
 changes_held Promise = false
 changes_held Add = true
 changes_held Drop = true
 changes_held Withdraw = false
 
 -- whether it takes memory
-abbrev pub takes_memory : Motion → Bool
+abbrev pub takes_memory : BookOp → Bool
 takes_memory Promise = true
 takes_memory Add = false
 takes_memory Drop = false

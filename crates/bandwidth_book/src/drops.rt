@@ -1,6 +1,7 @@
 //! In which order the paths of a change go. On a link that many paths of a tunnel share, what they hold is kept in
 //! order. One that goes moves all between it and the one that went before it. So if many paths go in that order, each
-//! one that stays moves once. The greatest goes last, so that the sums of the link move once for each holding priority.
+//! one that stays moves once, and each one that goes is near the one before it, where it is looked for first. The
+//! greatest goes last, so that the sums of the link move once for each holding priority.
 ghost use Rattle.std.specs.Prelude.{◌≡◌, ◌<◌, ℕ, IfOk, option_to_list, slice_get};
 ghost use Rattle.lsp_base.specs.declared.tunnel.Tunnel.{Tunnel};
 ghost use Rattle.bandwidth_book.specs.Ledgers.{count, held_at, promised_on};
@@ -9,7 +10,7 @@ ghost use Rattle.bandwidth_book.specs.Reservation.{Reservation, times, without_a
 
 use crate::ledgers::Ledgers;
 use crate::paths::move_paths;
-use crate::reservation::{Motion, held_of};
+use crate::reservation::{BookOp, held_of};
 use lsp_base::Path;
 use std::alloc::{AllocError, Global};
 use std::slice;
@@ -62,7 +63,7 @@ fn drop_picked(alloc: Global, ledgers: &mut Ledgers, places: &[usize], paths: &[
     ensures promised { (l : ℕ) (t : Tunnel) → l < count ledgers.old → promised_on ledgers.new l t ≡ promised_on ledgers.old l t }
 {
     for place in places {
-        move_paths(alloc, ledgers, Motion::Drop, one_of(paths, *place)).unwrap();
+        move_paths(alloc, ledgers, BookOp::Drop, one_of(paths, *place)).unwrap();
     }
 }
 
@@ -78,5 +79,5 @@ pub(crate) fn drop_paths(alloc: Global, ledgers: &mut Ledgers, paths: &[Path])
             return;
         }
     }
-    move_paths(alloc, ledgers, Motion::Drop, paths).unwrap();
+    move_paths(alloc, ledgers, BookOp::Drop, paths).unwrap();
 }

@@ -1,11 +1,11 @@
 //! What one tunnel holds on one link.
 ghost use Rattle.std.specs.Prelude.{ℕ, ◌≡◌, ◌<◌, ◌≤◌, ◌+◌, ◌^◌, [], length, max, nat_le, slice_index, if◌then◌else◌, false, true, IsTrue, ◌↔◌, IsOk, OnErr, OnOk};
 ghost use Rattle.smallvec.specs.SmallVec.{HasRoomFor};
-ghost use Rattle.bandwidth_book.specs.declared.reservation.Motion.{Motion};
+ghost use Rattle.bandwidth_book.specs.declared.reservation.BookOp.{BookOp};
 ghost use Rattle.bandwidth_book.specs.Reservation.{most, most_below, AreMaxima, AreInOrder, after_all, around, end_in, moved_one, place_in, promised_after, room_for, takes_memory, with_one, without_one};
 
 use crate::gap::{back, close, front, one_at, take_at};
-use crate::reservation::{Motion, Reservation, is_before, is_same_held};
+use crate::reservation::{BookOp, Reservation, is_before, is_same_held};
 use smallvec::SmallVec;
 use std::alloc::{AllocError, Global};
 use std::default::MadeWith;
@@ -72,15 +72,17 @@ fn place_of(held: &[Reservation], one: &Reservation) -> usize
     low
 }
 
-/// Finds where the reservations begin that come after this one in the order.
+/// Finds where the reservations begin that come after this one in the order: at `most` or before.
 #[tactic(auto, using(crate::proofs::Order::end_within))]
-fn end_of(held: &[Reservation], one: &Reservation) -> usize
-    requires { AreInOrder held.now }
+fn end_of(held: &[Reservation], one: &Reservation, most: usize) -> usize
+    requires order { AreInOrder held.now }
+    requires most { end_in one.now held.now ≤ most }
+    requires within { most ≤ length held.now }
     ensures end { result ≡ end_in one.now held.now }
     ensures within { result ≤ length held.now }
 {
     let mut low = 0;
-    let mut high = held.len();
+    let mut high = most;
     while low < high {
         let middle = low + (high - low) / 2;
         if is_before(one, &held[middle]) {
@@ -90,6 +92,41 @@ fn end_of(held: &[Reservation], one: &Reservation) -> usize
         }
     }
     low
+}
+
+/// Tests whether there is a reservation at a place that comes after this one in the order.
+fn is_after_at(held: &[Reservation], one: &Reservation, place: usize) -> bool
+    requires { AreInOrder held.now }
+    ensures within { result ≡ true → place < length held.now }
+    ensures after { result ≡ true → end_in one.now held.now ≤ place }
+    ensures before { result ≡ false → place < length held.now → place < end_in one.now held.now }
+{
+    place < held.len() && is_before(one, &held[place])
+}
+
+/// Tests whether there are reservations, the last of which comes after this one in the order.
+fn ends_after(held: &[Reservation], one: &Reservation) -> bool
+    requires { AreInOrder held.now }
+    ensures after { result ≡ true → end_in one.now held.now < length held.now }
+    ensures before { result ≡ false → length held.now ≤ end_in one.now held.now }
+{
+    let count = held.len();
+    count > 0 && is_after_at(held, one, count - 1)
+}
+
+/// Finds where the reservations begin that come after this one in the order. Looks first at those that come first.
+#[tactic(auto, using(crate::proofs::Order::end_within))]
+fn end_near(held: &[Reservation], one: &Reservation) -> usize
+    requires { AreInOrder held.now }
+    ensures end { result ≡ end_in one.now held.now }
+    ensures within { result ≤ length held.now }
+{
+    for most in [2, 16, 128, 1024] {
+        if is_after_at(held, one, most) {
+            return end_of(held, one, most);
+        }
+    }
+    end_of(held, one, held.len())
 }
 
 /// Counts the reservations that are held at the priority or a better one. If none is, or all are, it needs no search.
@@ -212,23 +249,24 @@ fn maxima_around(items: &[Reservation], gap: usize, gone: usize) -> [u64; 8]
     maxima
 }
 
-/// Finds where the reservations begin that come after this one in the order, before or after a gap.
+/// Finds where the reservations begin that come after this one in the order, before or after a gap. Those next to the
+/// gap are looked at first: if many go in order, each is there.
 fn end_around(items: &[Reservation], gap: usize, gone: usize, one: &Reservation) -> usize
     requires order { AreInOrder (around gap gone items.now) }
     requires fits { gap + gone ≤ length items.now }
     ensures end { result ≡ end_in one.now (around gap gone items.now) }
     ensures within { result + gone ≤ length items.now }
 {
-    let end = end_of(front(items, gap), one);
-    if end < gap {
-        end
+    let before = front(items, gap);
+    if ends_after(before, one) {
+        end_of(before, one, gap)
     } else {
-        gap + end_of(back(items, gap, gone), one)
+        gap + end_near(back(items, gap, gone), one)
     }
 }
 
 /// Inserts one in its order, into reserved room: after those that are equal, so that none of them moves.
-#[tactic(auto, using(crate::proofs::Order::insert_at_end, crate::proofs::Order::order_with_one, crate::proofs::Order::length_with_one))]
+#[tactic(auto, using(crate::proofs::Order::insert_at_end, crate::proofs::Order::order_with_one, crate::proofs::Order::length_with_one, crate::proofs::Order::end_within))]
 fn put_held(list: &mut SmallVec<Reservation, IN_PLACE>, held: Reservation)
     requires room { HasRoomFor list.old 1 }
     requires order { AreInOrder list.old.items }
@@ -236,7 +274,7 @@ fn put_held(list: &mut SmallVec<Reservation, IN_PLACE>, held: Reservation)
     ensures order { AreInOrder list.new.items }
     ensures capacity { list.old.capacity ≤ list.new.capacity }
 {
-    let end = end_of(list.as_slice(), &held);
+    let end = end_of(list.as_slice(), &held, list.len());
     list.insert(end, held).unwrap();
 }
 
@@ -312,7 +350,7 @@ impl Entry {
     /// goes.
     #[tactic(auto, using(crate::proofs::Gaps::length_around))]
     pub fn is_below_another(&self, held: Reservation) -> bool
-        ensures { (motion : Motion) (p : ℕ) → result ≡ true → most (moved_one motion held self.now.held) p ≡ most self.now.held p }
+        ensures { (op : BookOp) (p : ℕ) → result ≡ true → most (moved_one op held self.now.held) p ≡ most self.now.held p }
     {
         let items = self.items.as_slice();
         let gap = self.gap as usize;
@@ -364,18 +402,18 @@ impl Entry {
     /// Promises room for one more, adds one into that room, drops one that is equal (if there is one), or gives the
     /// room up.
     #[tactic(auto, using(crate::proofs::Order::length_with_one, crate::proofs::Sums::length_without_one))]
-    pub fn move_one(&mut self, motion: Motion, held: Reservation) -> Result<(), AllocError>
-        requires { room_for motion 1 ≤ self.old.promised }
-        ensures held { self.new.held ≡ moved_one motion held self.old.held }
-        ensures ok { OnOk result (self.new.promised ≡ promised_after motion 1 self.old.promised) }
-        ensures below { self.new.promised ≤ promised_after motion 1 self.old.promised }
-        ensures sure { takes_memory motion ≡ false → IsOk result }
+    pub fn move_one(&mut self, op: BookOp, held: Reservation) -> Result<(), AllocError>
+        requires { room_for op 1 ≤ self.old.promised }
+        ensures held { self.new.held ≡ moved_one op held self.old.held }
+        ensures ok { OnOk result (self.new.promised ≡ promised_after op 1 self.old.promised) }
+        ensures below { self.new.promised ≤ promised_after op 1 self.old.promised }
+        ensures sure { takes_memory op ≡ false → IsOk result }
     {
-        match motion {
-            Motion::Promise => return self.promise(),
-            Motion::Add => self.add(held),
-            Motion::Drop => take_held(&mut self.items, &mut self.gap, &mut self.gone, held),
-            Motion::Withdraw => self.withdraw(),
+        match op {
+            BookOp::Promise => return self.promise(),
+            BookOp::Add => self.add(held),
+            BookOp::Drop => take_held(&mut self.items, &mut self.gap, &mut self.gone, held),
+            BookOp::Withdraw => self.withdraw(),
         }
         Ok(())
     }

@@ -6,7 +6,7 @@ ghost use Rattle.bandwidth_book.specs.Tunnels.{held_by_links, sum_at};
 
 use crate::entry::Entry;
 use crate::many_links::put_missing;
-use crate::reservation::{Motion, Reservation};
+use crate::reservation::{BookOp, Reservation};
 use smallvec::SmallVec;
 use std::alloc::{AllocError, Global};
 use std::default::MadeWith;
@@ -75,27 +75,27 @@ fn exchange(sums: &mut [u64; 8], before: &[u64; 8], after: &[u64; 8])
 fn move_in(
     entry: &mut Entry,
     sums: &mut [u64; 8],
-    motion: Motion,
+    op: BookOp,
     held: Reservation,
 ) -> Result<(), AllocError>
-    requires room { room_for motion 1 ≤ entry.old.promised }
+    requires room { room_for op 1 ≤ entry.old.promised }
     requires within { (p : ℕ) → p < 8 → most entry.old.held p ≤ slice_index sums.old p }
     requires small { (p : ℕ) → p < 8 → slice_index sums.old p < 2 ^ 63 }
     requires below { held.bandwidth < 2 ^ 48 }
     ensures sums { (p : ℕ) → p < 8 → slice_index sums.new p + most entry.old.held p ≡ slice_index sums.old p + most entry.new.held p }
-    ensures held { entry.new.held ≡ moved_one motion held entry.old.held }
-    ensures ok { OnOk result (entry.new.promised ≡ promised_after motion 1 entry.old.promised) }
-    ensures promised { entry.new.promised ≤ promised_after motion 1 entry.old.promised }
-    ensures sure { takes_memory motion ≡ false → IsOk result }
+    ensures held { entry.new.held ≡ moved_one op held entry.old.held }
+    ensures ok { OnOk result (entry.new.promised ≡ promised_after op 1 entry.old.promised) }
+    ensures promised { entry.new.promised ≤ promised_after op 1 entry.old.promised }
+    ensures sure { takes_memory op ≡ false → IsOk result }
 {
-    if !motion.changes_held() {
-        return entry.move_one(motion, held);
+    if !op.changes_held() {
+        return entry.move_one(op, held);
     }
     if entry.is_below_another(held) {
-        return entry.move_one(motion, held);
+        return entry.move_one(op, held);
     }
     let before = entry.maxima();
-    let moved = entry.move_one(motion, held);
+    let moved = entry.move_one(op, held);
     exchange(sums, &before, &entry.maxima());
     moved
 }
@@ -105,22 +105,22 @@ fn move_and_note(
     entry: &mut Entry,
     sums: &mut [u64; 8],
     may_be_idle: &mut bool,
-    motion: Motion,
+    op: BookOp,
     held: Reservation,
 ) -> Result<(), AllocError>
-    requires room { room_for motion 1 ≤ entry.old.promised }
+    requires room { room_for op 1 ≤ entry.old.promised }
     requires within { (p : ℕ) → p < 8 → most entry.old.held p ≤ slice_index sums.old p }
     requires small { (p : ℕ) → p < 8 → slice_index sums.old p < 2 ^ 63 }
     requires below { held.bandwidth < 2 ^ 48 }
     ensures sums { (p : ℕ) → p < 8 → slice_index sums.new p + most entry.old.held p ≡ slice_index sums.old p + most entry.new.held p }
-    ensures held { entry.new.held ≡ moved_one motion held entry.old.held }
-    ensures ok { OnOk result (entry.new.promised ≡ promised_after motion 1 entry.old.promised) }
-    ensures promised { entry.new.promised ≤ promised_after motion 1 entry.old.promised }
-    ensures sure { takes_memory motion ≡ false → IsOk result }
+    ensures held { entry.new.held ≡ moved_one op held entry.old.held }
+    ensures ok { OnOk result (entry.new.promised ≡ promised_after op 1 entry.old.promised) }
+    ensures promised { entry.new.promised ≤ promised_after op 1 entry.old.promised }
+    ensures sure { takes_memory op ≡ false → IsOk result }
     ensures busy { may_be_idle.new ≡ false → IsBusy (Some entry.new) }
     ensures same { may_be_idle.new ≡ false → may_be_idle.old ≡ false }
 {
-    let moved = move_in(entry, sums, motion, held);
+    let moved = move_in(entry, sums, op, held);
     if entry.is_idle() {
         *may_be_idle = true;
     }
@@ -184,19 +184,19 @@ fn put_entry(
     alloc: Global,
     entries: &mut SmallVec<LinkEntry, 4>,
     link: LinkNumber,
-    motion: Motion,
+    op: BookOp,
     held: Reservation,
 ) -> Result<(), AllocError>
     requires rising { AreRising entries.old.items }
     requires none { entry_on link entries.old.items ≡ None }
-    requires promise { takes_memory motion ≡ true }
+    requires promise { takes_memory op ≡ true }
     ensures rising { AreRising entries.new.items }
-    ensures moved { (l : ℕ) → IsShifted motion (if link == l then held ∷ [] else []) (entry_on l entries.old.items) (entry_on l entries.new.items) }
-    ensures ok { OnOk result ((l : ℕ) → promised_after motion (length (if link == l then held ∷ [] else [])) (promised_to l entries.old.items) ≤ promised_to l entries.new.items) }
+    ensures moved { (l : ℕ) → IsShifted op (if link == l then held ∷ [] else []) (entry_on l entries.old.items) (entry_on l entries.new.items) }
+    ensures ok { OnOk result ((l : ℕ) → promised_after op (length (if link == l then held ∷ [] else [])) (promised_to l entries.old.items) ≤ promised_to l entries.new.items) }
     ensures busy { (l : ℕ) → IsBusy (entry_on l entries.old.items) → IsBusy (entry_on l entries.new.items) }
 {
     let mut entry = Entry::new(alloc);
-    entry.move_one(motion, held)?;
+    entry.move_one(op, held)?;
     let place = place_of(entries.as_slice(), link);
     entries.insert(place, LinkEntry { link, entry })?;
     Ok(())
@@ -210,25 +210,25 @@ fn move_at(
     place: usize,
     sums: &mut [u64; 8],
     link: LinkNumber,
-    motion: Motion,
+    op: BookOp,
     held: Reservation,
 ) -> Result<(), AllocError>
     requires rising { AreRising entries.old.items }
     requires within { place < length entries.old.items }
     requires at { IsAt link entries.old.items place }
-    requires room { room_for motion 1 ≤ promised_to link entries.old.items }
+    requires room { room_for op 1 ≤ promised_to link entries.old.items }
     requires most { (p : ℕ) → p < 8 → most (kept link entries.old.items) p ≤ slice_index sums.old p }
     requires small { (p : ℕ) → p < 8 → slice_index sums.old p < 2 ^ 63 }
     requires below { held.bandwidth < 2 ^ 48 }
     ensures rising { AreRising entries.new.items }
     ensures sums { (p : ℕ) → p < 8 → slice_index sums.new p + most (kept link entries.old.items) p ≡ slice_index sums.old p + most (kept link entries.new.items) p }
-    ensures moved { (l : ℕ) → IsShifted motion (if link == l then held ∷ [] else []) (entry_on l entries.old.items) (entry_on l entries.new.items) }
-    ensures ok { OnOk result ((l : ℕ) → promised_after motion (length (if link == l then held ∷ [] else [])) (promised_to l entries.old.items) ≤ promised_to l entries.new.items) }
-    ensures sure { takes_memory motion ≡ false → IsOk result }
+    ensures moved { (l : ℕ) → IsShifted op (if link == l then held ∷ [] else []) (entry_on l entries.old.items) (entry_on l entries.new.items) }
+    ensures ok { OnOk result ((l : ℕ) → promised_after op (length (if link == l then held ∷ [] else [])) (promised_to l entries.old.items) ≤ promised_to l entries.new.items) }
+    ensures sure { takes_memory op ≡ false → IsOk result }
     ensures busy { (l : ℕ) → may_be_idle.new ≡ false → IsBusy (entry_on l entries.old.items) → IsBusy (entry_on l entries.new.items) }
     ensures same { may_be_idle.new ≡ false → may_be_idle.old ≡ false }
 {
-    move_and_note(&mut entries[place].entry, sums, may_be_idle, motion, held)
+    move_and_note(&mut entries[place].entry, sums, may_be_idle, op, held)
 }
 
 /// Tests whether an entry holds something, or has promised room.
@@ -300,19 +300,19 @@ impl LinkEntries {
         alloc: Global,
         sums: &mut [[u64; 8]],
         link: LinkNumber,
-        motion: Motion,
+        op: BookOp,
         held: Reservation,
     ) -> Result<(), AllocError>
-        requires room { link < length sums.old → room_for motion 1 ≤ promised_to link self.old }
+        requires room { link < length sums.old → room_for op 1 ≤ promised_to link self.old }
         requires within { (l p : ℕ) → l < length sums.old → p < 8 → most (kept l self.old) p ≤ sum_at sums.old l p }
         requires small { (l p : ℕ) → l < length sums.old → p < 8 → sum_at sums.old l p < 2 ^ 63 }
         requires below { held.bandwidth < 2 ^ 48 }
         ensures count { length sums.new ≡ length sums.old }
         ensures sums { (l p : ℕ) → l < length sums.old → p < 8 → sum_at sums.new l p + most (kept l self.old) p ≡ sum_at sums.old l p + most (kept l self.new) p }
-        ensures moved { (l : ℕ) → l < length sums.old → IsShifted motion (if link == l then held ∷ [] else []) (entry_on l self.old) (entry_on l self.new) }
+        ensures moved { (l : ℕ) → l < length sums.old → IsShifted op (if link == l then held ∷ [] else []) (entry_on l self.old) (entry_on l self.new) }
         ensures past { (l : ℕ) → length sums.old ≤ l → kept l self.new ≡ kept l self.old }
-        ensures ok { OnOk result ((l : ℕ) → l < length sums.old → promised_after motion (length (if link == l then held ∷ [] else [])) (promised_to l self.old) ≤ promised_to l self.new) }
-        ensures sure { takes_memory motion ≡ false → IsOk result }
+        ensures ok { OnOk result ((l : ℕ) → l < length sums.old → promised_after op (length (if link == l then held ∷ [] else [])) (promised_to l self.old) ≤ promised_to l self.new) }
+        ensures sure { takes_memory op ≡ false → IsOk result }
     {
         if link >= sums.len() {
             return Ok(());
@@ -324,12 +324,12 @@ impl LinkEntries {
                 place,
                 &mut sums[link],
                 link,
-                motion,
+                op,
                 held,
             );
         }
-        if motion.takes_memory() {
-            return put_entry(alloc, &mut self.entries, link, motion, held);
+        if op.takes_memory() {
+            return put_entry(alloc, &mut self.entries, link, op, held);
         }
         Ok(())
     }
@@ -340,23 +340,23 @@ impl LinkEntries {
         alloc: Global,
         sums: &mut [[u64; 8]],
         links: &[LinkNumber],
-        motion: Motion,
+        op: BookOp,
         held: Reservation,
     ) -> Result<(), AllocError>
-        requires room { (l : ℕ) → l < length sums.old → room_for motion (length (held_by_links held l links.now)) ≤ promised_to l self.old }
+        requires room { (l : ℕ) → l < length sums.old → room_for op (length (held_by_links held l links.now)) ≤ promised_to l self.old }
         requires within { (l p : ℕ) → l < length sums.old → p < 8 → most (kept l self.old) p ≤ sum_at sums.old l p }
         requires small { (l p : ℕ) → l < length sums.old → p < 8 → sum_at sums.old l p < most (kept l self.old) p + (2 ^ 63 - 2 ^ 48) }
         requires least { (l p : ℕ) → l < length sums.old → most (kept l self.old) p < 2 ^ 48 }
         requires below { held.bandwidth < 2 ^ 48 }
         ensures count { length sums.new ≡ length sums.old }
         ensures sums { (l p : ℕ) → l < length sums.old → p < 8 → sum_at sums.new l p + most (kept l self.old) p ≡ sum_at sums.old l p + most (kept l self.new) p }
-        ensures moved { (l : ℕ) → l < length sums.old → IsShifted motion (held_by_links held l links.now) (entry_on l self.old) (entry_on l self.new) }
+        ensures moved { (l : ℕ) → l < length sums.old → IsShifted op (held_by_links held l links.now) (entry_on l self.old) (entry_on l self.new) }
         ensures past { (l : ℕ) → length sums.old ≤ l → kept l self.new ≡ kept l self.old }
-        ensures ok { OnOk result ((l : ℕ) → l < length sums.old → promised_after motion (length (held_by_links held l links.now)) (promised_to l self.old) ≤ promised_to l self.new) }
-        ensures sure { takes_memory motion ≡ false → IsOk result }
+        ensures ok { OnOk result ((l : ℕ) → l < length sums.old → promised_after op (length (held_by_links held l links.now)) (promised_to l self.old) ≤ promised_to l self.new) }
+        ensures sure { takes_memory op ≡ false → IsOk result }
     {
         for link in links {
-            self.move_on(alloc, sums, *link, motion, held)?;
+            self.move_on(alloc, sums, *link, op, held)?;
         }
         Ok(())
     }
@@ -366,12 +366,12 @@ impl LinkEntries {
         &mut self,
         alloc: Global,
         links: &[LinkNumber],
-        motion: Motion,
+        op: BookOp,
     ) -> Result<(), AllocError>
         ensures same { (l : ℕ) → IsSame (entry_on l self.old) (entry_on l self.new) }
-        ensures sure { takes_memory motion ≡ false → IsOk result }
+        ensures sure { takes_memory op ≡ false → IsOk result }
     {
-        if !motion.takes_memory() || links.len() < MANY_LINKS {
+        if !op.takes_memory() || links.len() < MANY_LINKS {
             return Ok(());
         }
         put_missing(alloc, &mut self.entries, &mut self.may_be_idle, links)
@@ -384,23 +384,23 @@ impl LinkEntries {
         alloc: Global,
         sums: &mut [[u64; 8]],
         links: &[LinkNumber],
-        motion: Motion,
+        op: BookOp,
         held: Reservation,
     ) -> Result<(), AllocError>
-        requires room { (l : ℕ) → l < length sums.old → room_for motion (length (held_by_links held l links.now)) ≤ promised_to l self.old }
+        requires room { (l : ℕ) → l < length sums.old → room_for op (length (held_by_links held l links.now)) ≤ promised_to l self.old }
         requires within { (l p : ℕ) → l < length sums.old → p < 8 → most (kept l self.old) p ≤ sum_at sums.old l p }
         requires small { (l p : ℕ) → l < length sums.old → p < 8 → sum_at sums.old l p < most (kept l self.old) p + (2 ^ 63 - 2 ^ 48) }
         requires least { (l p : ℕ) → l < length sums.old → most (kept l self.old) p < 2 ^ 48 }
         requires below { held.bandwidth < 2 ^ 48 }
         ensures count { length sums.new ≡ length sums.old }
         ensures sums { (l p : ℕ) → l < length sums.old → p < 8 → sum_at sums.new l p + most (kept l self.old) p ≡ sum_at sums.old l p + most (kept l self.new) p }
-        ensures moved { (l : ℕ) → l < length sums.old → IsShifted motion (held_by_links held l links.now) (entry_on l self.old) (entry_on l self.new) }
+        ensures moved { (l : ℕ) → l < length sums.old → IsShifted op (held_by_links held l links.now) (entry_on l self.old) (entry_on l self.new) }
         ensures past { (l : ℕ) → length sums.old ≤ l → kept l self.new ≡ kept l self.old }
-        ensures ok { OnOk result ((l : ℕ) → l < length sums.old → promised_after motion (length (held_by_links held l links.now)) (promised_to l self.old) ≤ promised_to l self.new) }
-        ensures sure { takes_memory motion ≡ false → IsOk result }
+        ensures ok { OnOk result ((l : ℕ) → l < length sums.old → promised_after op (length (held_by_links held l links.now)) (promised_to l self.old) ≤ promised_to l self.new) }
+        ensures sure { takes_memory op ≡ false → IsOk result }
     {
-        self.make_entries(alloc, links, motion)?;
-        self.move_each(alloc, sums, links, motion, held)
+        self.make_entries(alloc, links, op)?;
+        self.move_each(alloc, sums, links, op, held)
     }
 
     /// Walks over the links of a path and moves what it holds on each, and the sums of the link. Skips a link that
@@ -411,22 +411,22 @@ impl LinkEntries {
         alloc: Global,
         sums: &mut [[u64; 8]],
         links: &[LinkNumber],
-        motion: Motion,
+        op: BookOp,
         held: Reservation,
     ) -> Result<(), AllocError>
-        requires room { (l : ℕ) → l < length sums.old → room_for motion (length (held_by_links held l links.now)) ≤ promised_to l self.old }
+        requires room { (l : ℕ) → l < length sums.old → room_for op (length (held_by_links held l links.now)) ≤ promised_to l self.old }
         requires within { (l p : ℕ) → l < length sums.old → p < 8 → most (kept l self.old) p ≤ sum_at sums.old l p }
         requires small { (l p : ℕ) → l < length sums.old → p < 8 → sum_at sums.old l p < most (kept l self.old) p + (2 ^ 63 - 2 ^ 48) }
         requires least { (l p : ℕ) → l < length sums.old → most (kept l self.old) p < 2 ^ 48 }
         requires below { held.bandwidth < 2 ^ 48 }
         ensures count { length sums.new ≡ length sums.old }
         ensures sums { (l p : ℕ) → l < length sums.old → p < 8 → sum_at sums.new l p + most (kept l self.old) p ≡ sum_at sums.old l p + most (kept l self.new) p }
-        ensures moved { (l : ℕ) → l < length sums.old → IsMoved motion (held_by_links held l links.now) (entry_on l self.old) (entry_on l self.new) }
+        ensures moved { (l : ℕ) → l < length sums.old → IsMoved op (held_by_links held l links.now) (entry_on l self.old) (entry_on l self.new) }
         ensures past { (l : ℕ) → length sums.old ≤ l → kept l self.new ≡ kept l self.old }
-        ensures ok { OnOk result ((l : ℕ) → l < length sums.old → promised_after motion (length (held_by_links held l links.now)) (promised_to l self.old) ≤ promised_to l self.new) }
-        ensures sure { takes_memory motion ≡ false → IsOk result }
+        ensures ok { OnOk result ((l : ℕ) → l < length sums.old → promised_after op (length (held_by_links held l links.now)) (promised_to l self.old) ≤ promised_to l self.new) }
+        ensures sure { takes_memory op ≡ false → IsOk result }
     {
-        let moved = self.move_all(alloc, sums, links, motion, held);
+        let moved = self.move_all(alloc, sums, links, op, held);
         self.drop_idle();
         moved
     }

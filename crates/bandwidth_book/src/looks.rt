@@ -63,7 +63,7 @@ fn unreserved_at(links: &[Link], ledgers: &Ledgers, link: LinkNumber, priority: 
 }
 
 /// Tests whether a bandwidth fits, given the tunnel's share and how much of the reservable bandwidth is taken.
-fn is_borne(bandwidth: u64, share: u64, reservable: u64, sum: u64) -> bool
+fn has_room(bandwidth: u64, share: u64, reservable: u64, sum: u64) -> bool
     requires bandwidth { bandwidth < 2 ^ 48 }
     requires reservable { reservable < 2 ^ 48 }
     requires sum { sum < 2 ^ 63 - 2 ^ 48 }
@@ -85,7 +85,7 @@ pub(crate) fn reservable_of(links: &[Link], link: LinkNumber) -> u64
 
 /// Tests whether the path fits on a link at a priority at which it is held: its tunnel's share doesn't rise there, or
 /// what it rises by is left.
-fn bears_at(
+fn fits_at(
     links: &[Link],
     ledgers: &Ledgers,
     path: &Path,
@@ -105,16 +105,22 @@ fn bears_at(
     let sum = sums[priority.number() as usize];
     let bandwidth = path.bandwidth.value();
     // if it fits without sharing anything, the tunnel's share isn't looked up
-    if is_borne(bandwidth, 0, reservable, sum) {
+    if has_room(bandwidth, 0, reservable, sum) {
         return true;
     }
     let share = share_at(ledgers, &path.tunnel, link, priority);
-    is_borne(bandwidth, share, reservable, sum)
+    has_room(bandwidth, share, reservable, sum)
 }
 
 /// Tests whether the path fits on a link at each priority from holding to setup.
 #[tactic(auto, using(crate::proofs::Fits::first_priority, crate::proofs::Fits::no_priority))]
-fn bears(links: &[Link], ledgers: &Ledgers, path: &Path, link: LinkNumber, setup: Priority) -> bool
+fn fits_each(
+    links: &[Link],
+    ledgers: &Ledgers,
+    path: &Path,
+    link: LinkNumber,
+    setup: Priority,
+) -> bool
     requires link { link < length links.now }
     requires ledger { link < count ledgers.now }
     requires small { reservable links.now link < 2 ^ 48 }
@@ -123,7 +129,7 @@ fn bears(links: &[Link], ledgers: &Ledgers, path: &Path, link: LinkNumber, setup
         → result ≡ list_all (fits_at links.now paths path.now link) (priorities path.now.hold setup) }
 {
     for number in path.hold.number()..setup.number() + 1 {
-        if !bears_at(links, ledgers, path, link, Priority::capped(number)) {
+        if !fits_at(links, ledgers, path, link, Priority::capped(number)) {
             return false;
         }
     }
@@ -146,7 +152,7 @@ fn fits_on(
         → result ≡ fits links.now paths path.now setup }
 {
     for link in numbers {
-        if *link >= links.len() || !bears(links, ledgers, path, *link, setup) {
+        if *link >= links.len() || !fits_each(links, ledgers, path, *link, setup) {
             return false;
         }
     }

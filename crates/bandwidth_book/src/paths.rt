@@ -11,7 +11,7 @@ ghost use Rattle.bandwidth_book.specs.Ledgers.{count, entry_at, held_at, promise
 
 use crate::drops::drop_paths;
 use crate::ledgers::Ledgers;
-use crate::reservation::{Motion, held_of};
+use crate::reservation::{BookOp, held_of};
 use lsp_base::Path;
 use sequence::Sequence;
 use std::alloc::{AllocError, Global};
@@ -20,24 +20,18 @@ use std::alloc::{AllocError, Global};
 pub(crate) fn move_paths(
     alloc: Global,
     ledgers: &mut Ledgers,
-    motion: Motion,
+    op: BookOp,
     paths: &[Path],
 ) -> Result<(), AllocError>
-    requires room { (l : ℕ) (t : Tunnel) → l < count ledgers.old → room_for motion (length (held_by l t paths.now)) ≤ promised_on ledgers.old l t }
+    requires room { (l : ℕ) (t : Tunnel) → l < count ledgers.old → room_for op (length (held_by l t paths.now)) ≤ promised_on ledgers.old l t }
     ensures count { count ledgers.new ≡ count ledgers.old }
-    ensures moved { (l : ℕ) (t : Tunnel) → l < count ledgers.old → IsMoved motion (held_by l t paths.now) (entry_at ledgers.old l t) (entry_at ledgers.new l t) }
+    ensures moved { (l : ℕ) (t : Tunnel) → l < count ledgers.old → IsMoved op (held_by l t paths.now) (entry_at ledgers.old l t) (entry_at ledgers.new l t) }
     ensures past { (l : ℕ) (t : Tunnel) → count ledgers.old ≤ l → held_at ledgers.new l t ≡ held_at ledgers.old l t }
-    ensures ok { OnOk result ((l : ℕ) (t : Tunnel) → l < count ledgers.old → promised_after motion (length (held_by l t paths.now)) (promised_on ledgers.old l t) ≤ promised_on ledgers.new l t) }
-    ensures sure { takes_memory motion ≡ false → IsOk result }
+    ensures ok { OnOk result ((l : ℕ) (t : Tunnel) → l < count ledgers.old → promised_after op (length (held_by l t paths.now)) (promised_on ledgers.old l t) ≤ promised_on ledgers.new l t) }
+    ensures sure { takes_memory op ≡ false → IsOk result }
 {
     for path in paths {
-        ledgers.move_path(
-            alloc,
-            path.tunnel,
-            path.links.as_slice(),
-            motion,
-            held_of(path),
-        )?;
+        ledgers.move_path(alloc, path.tunnel, path.links.as_slice(), op, held_of(path))?;
     }
     Ok(())
 }
@@ -50,7 +44,7 @@ pub fn promise_paths(alloc: Global, ledgers: &mut Ledgers, paths: &[Path]) -> Re
     ensures kept { (l : ℕ) (t : Tunnel) → held_at ledgers.new l t ≡ held_at ledgers.old l t }
     ensures ok { OnOk result (IsPromised (count ledgers.old) (promised_on ledgers.new) paths.now) }
 {
-    move_paths(alloc, ledgers, Motion::Promise, paths)
+    move_paths(alloc, ledgers, BookOp::Promise, paths)
 }
 
 /// Drops, then adds. An entry goes with the last reservation that it holds, unless room is promised.
@@ -63,7 +57,7 @@ pub fn change_paths(alloc: Global, ledgers: &mut Ledgers, dropped: &[Path], adde
         → IsHeldBy (count ledgers.old) (held_at ledgers.new) (without paths dropped.now ++ added.now) }
 {
     drop_paths(alloc, ledgers, dropped);
-    move_paths(alloc, ledgers, Motion::Add, added).unwrap();
+    move_paths(alloc, ledgers, BookOp::Add, added).unwrap();
 }
 
 /// Gives up the promised room that wasn't used, and forgets for which paths it was.
@@ -74,6 +68,6 @@ pub fn give_up_room(alloc: Global, ledgers: &mut Ledgers, pending: &mut Sequence
     ensures forgotten { pending.new ≡ [] }
     ensures kept { (l : ℕ) (t : Tunnel) → held_at ledgers.new l t ≡ held_at ledgers.old l t }
 {
-    move_paths(alloc, ledgers, Motion::Withdraw, pending.as_slice()).unwrap();
+    move_paths(alloc, ledgers, BookOp::Withdraw, pending.as_slice()).unwrap();
     *pending = Sequence::from_vec(Vec::new(alloc));
 }

@@ -7,7 +7,7 @@ use std::marker::Model;
 
 /// What is done with a path's reservation on each of its links.
 #[derive(Clone, Copy, Debug)]
-pub enum Motion {
+pub enum BookOp {
     /// Room for it is promised. Only this allocates.
     Promise,
     /// It is added, into promised room.
@@ -18,14 +18,14 @@ pub enum Motion {
     Withdraw,
 }
 
-impl Motion {
+impl BookOp {
     /// Tests whether it changes what is held.
     pub fn changes_held(self) -> bool
         ensures { result ≡ changes_held self }
     {
         match self {
-            Motion::Add | Motion::Drop => true,
-            Motion::Promise | Motion::Withdraw => false,
+            BookOp::Add | BookOp::Drop => true,
+            BookOp::Promise | BookOp::Withdraw => false,
         }
     }
 
@@ -34,7 +34,7 @@ impl Motion {
         ensures { result ≡ takes_memory self }
     {
         match self {
-            Motion::Promise => true,
+            BookOp::Promise => true,
             _ => false,
         }
     }

@@ -11,7 +11,7 @@ ghost use Rattle.bandwidth_book.specs.Tunnels.{AreSums, HasNoEmptyList, entries_
 
 use crate::ledgers::Ledgers;
 use crate::link_entries::{LinkEntries, LinkEntry};
-use crate::reservation::{Motion, Reservation};
+use crate::reservation::{BookOp, Reservation};
 use indexmap::IndexMap;
 use lsp_base::Tunnel;
 use std::alloc::{AllocError, Global};
@@ -51,7 +51,7 @@ fn put_tunnel(
     sums: &mut [[u64; 8]],
     tunnel: Tunnel,
     links: &[LinkNumber],
-    motion: Motion,
+    op: BookOp,
     held: Reservation,
 ) -> Result<(), AllocError>
     requires sums { AreSums sums.old tunnels.old.entries }
@@ -60,13 +60,13 @@ fn put_tunnel(
     requires below { held.bandwidth < 2 ^ 48 }
     requires full { HasNoEmptyList tunnels.old.entries }
     requires none { get tunnel_eq tunnels.old tunnel ≡ None }
-    requires promise { takes_memory motion ≡ true }
+    requires promise { takes_memory op ≡ true }
     ensures sums { AreSums sums.new tunnels.new.entries }
     ensures rows { length sums.new ≡ length sums.old }
     ensures few { length tunnels.old.entries ≤ 30000 → length tunnels.new.entries ≤ 30000 }
-    ensures moved { (l : ℕ) (t : Tunnel) → l < length sums.old → IsMoved motion (held_by_path tunnel held l t links.now) (entry_of tunnels.old.entries l t) (entry_of tunnels.new.entries l t) }
+    ensures moved { (l : ℕ) (t : Tunnel) → l < length sums.old → IsMoved op (held_by_path tunnel held l t links.now) (entry_of tunnels.old.entries l t) (entry_of tunnels.new.entries l t) }
     ensures past { (l : ℕ) (t : Tunnel) → length sums.old ≤ l → held_in (entry_of tunnels.new.entries l t) ≡ held_in (entry_of tunnels.old.entries l t) }
-    ensures ok { OnOk result ((l : ℕ) (t : Tunnel) → l < length sums.old → promised_after motion (length (held_by_path tunnel held l t links.now)) (promised_in (entry_of tunnels.old.entries l t)) ≤ promised_in (entry_of tunnels.new.entries l t)) }
+    ensures ok { OnOk result ((l : ℕ) (t : Tunnel) → l < length sums.old → promised_after op (length (held_by_path tunnel held l t links.now)) (promised_in (entry_of tunnels.old.entries l t)) ≤ promised_in (entry_of tunnels.new.entries l t)) }
     ensures full { HasNoEmptyList tunnels.new.entries }
     ensures unique { IsUnique tunnel_eq tunnels.new }
 {
@@ -74,7 +74,7 @@ fn put_tunnel(
         return Err(AllocError);
     }
     let mut entries = LinkEntries::with_room(alloc, links.len())?;
-    entries.move_links(alloc, sums, links, motion, held)?;
+    entries.move_links(alloc, sums, links, op, held)?;
     if !entries.is_empty() {
         insert_tunnel(tunnels, tunnel, entries)?;
     }
@@ -101,7 +101,7 @@ pub fn move_in_tunnel(
     last: &mut usize,
     tunnel: Tunnel,
     links: &[LinkNumber],
-    motion: Motion,
+    op: BookOp,
     held: Reservation,
 ) -> Result<(), AllocError>
     requires sums { AreSums sums.old tunnels.old.entries }
@@ -109,28 +109,28 @@ pub fn move_in_tunnel(
     requires least { (l : ℕ) (t : Tunnel) (p : ℕ) → l < length sums.old → most (held_in (entry_of tunnels.old.entries l t)) p < 2 ^ 48 }
     requires below { held.bandwidth < 2 ^ 48 }
     requires full { HasNoEmptyList tunnels.old.entries }
-    requires room { (l : ℕ) → l < length sums.old → room_for motion (length (held_by_links held l links.now)) ≤ promised_in (entry_of tunnels.old.entries l tunnel) }
+    requires room { (l : ℕ) → l < length sums.old → room_for op (length (held_by_links held l links.now)) ≤ promised_in (entry_of tunnels.old.entries l tunnel) }
     ensures sums { AreSums sums.new tunnels.new.entries }
     ensures rows { length sums.new ≡ length sums.old }
     ensures few { length tunnels.old.entries ≤ 30000 → length tunnels.new.entries ≤ 30000 }
-    ensures moved { (l : ℕ) (t : Tunnel) → l < length sums.old → IsMoved motion (held_by_path tunnel held l t links.now) (entry_of tunnels.old.entries l t) (entry_of tunnels.new.entries l t) }
+    ensures moved { (l : ℕ) (t : Tunnel) → l < length sums.old → IsMoved op (held_by_path tunnel held l t links.now) (entry_of tunnels.old.entries l t) (entry_of tunnels.new.entries l t) }
     ensures past { (l : ℕ) (t : Tunnel) → length sums.old ≤ l → held_in (entry_of tunnels.new.entries l t) ≡ held_in (entry_of tunnels.old.entries l t) }
-    ensures ok { OnOk result ((l : ℕ) (t : Tunnel) → l < length sums.old → promised_after motion (length (held_by_path tunnel held l t links.now)) (promised_in (entry_of tunnels.old.entries l t)) ≤ promised_in (entry_of tunnels.new.entries l t)) }
-    ensures sure { takes_memory motion ≡ false → IsOk result }
+    ensures ok { OnOk result ((l : ℕ) (t : Tunnel) → l < length sums.old → promised_after op (length (held_by_path tunnel held l t links.now)) (promised_in (entry_of tunnels.old.entries l t)) ≤ promised_in (entry_of tunnels.new.entries l t)) }
+    ensures sure { takes_memory op ≡ false → IsOk result }
     ensures full { HasNoEmptyList tunnels.new.entries }
     ensures unique { IsUnique tunnel_eq tunnels.new }
 {
     let place = place_of(tunnels, *last, &tunnel);
     *last = place;
     if let Some(entries) = tunnels.get_index_mut(place) {
-        let moved = entries.move_links(alloc, sums, links, motion, held);
+        let moved = entries.move_links(alloc, sums, links, op, held);
         if entries.is_empty() {
             tunnels.swap_remove_index(place);
         }
         return moved;
     }
-    if motion.takes_memory() {
-        put_tunnel(alloc, tunnels, sums, tunnel, links, motion, held)
+    if op.takes_memory() {
+        put_tunnel(alloc, tunnels, sums, tunnel, links, op, held)
     } else {
         Ok(())
     }
@@ -175,16 +175,16 @@ impl Ledgers {
         alloc: Global,
         tunnel: Tunnel,
         path: &[LinkNumber],
-        motion: Motion,
+        op: BookOp,
         held: Reservation,
     ) -> Result<(), AllocError>
         requires small { held.bandwidth < 2 ^ 48 }
-        requires room { (l : ℕ) (t : Tunnel) → l < count self.old → room_for motion (length (held_by_path tunnel held l t path.now)) ≤ promised_on self.old l t }
+        requires room { (l : ℕ) (t : Tunnel) → l < count self.old → room_for op (length (held_by_path tunnel held l t path.now)) ≤ promised_on self.old l t }
         ensures count { count self.new ≡ count self.old }
-        ensures moved { (l : ℕ) (t : Tunnel) → l < count self.old → IsMoved motion (held_by_path tunnel held l t path.now) (entry_at self.old l t) (entry_at self.new l t) }
+        ensures moved { (l : ℕ) (t : Tunnel) → l < count self.old → IsMoved op (held_by_path tunnel held l t path.now) (entry_at self.old l t) (entry_at self.new l t) }
         ensures past { (l : ℕ) (t : Tunnel) → count self.old ≤ l → held_at self.new l t ≡ held_at self.old l t }
-        ensures ok { OnOk result ((l : ℕ) (t : Tunnel) → l < count self.old → promised_after motion (length (held_by_path tunnel held l t path.now)) (promised_on self.old l t) ≤ promised_on self.new l t) }
-        ensures sure { takes_memory motion ≡ false → IsOk result }
+        ensures ok { OnOk result ((l : ℕ) (t : Tunnel) → l < count self.old → promised_after op (length (held_by_path tunnel held l t path.now)) (promised_on self.old l t) ≤ promised_on self.new l t) }
+        ensures sure { takes_memory op ≡ false → IsOk result }
     {
         move_in_tunnel(
             alloc,
@@ -193,7 +193,7 @@ impl Ledgers {
             &mut self.last,
             tunnel,
             path,
-            motion,
+            op,
             held,
         )
     }

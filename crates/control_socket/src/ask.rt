@@ -93,8 +93,8 @@ fn is_refused(connected: &io::Result<UnixStream>) -> bool
     }
 }
 
-/// Tests whether no server listens at the path.
-fn is_nobody_there<R: Net>(rt: &R, path: &str) -> bool {
+/// Connects to the path, and returns whether no server listens there.
+fn finds_nobody<R: Net>(rt: &R, path: &str) -> bool {
     let connected = UnixStream::connect(rt, path);
     is_refused(&connected)
 }
@@ -102,7 +102,7 @@ fn is_nobody_there<R: Net>(rt: &R, path: &str) -> bool {
 /// Waits until no server listens at the path any more, for a minute at most. Returns whether none does.
 pub fn await_end<R: Net + Clock>(rt: &R, path: &str) -> bool {
     for _look in 0..END_LOOKS {
-        if is_nobody_there(rt, path) {
+        if finds_nobody(rt, path) {
             return true;
         }
         thread::sleep(rt, Duration::from_millis(END_WAIT_MS));

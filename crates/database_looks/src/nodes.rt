@@ -9,12 +9,13 @@ pub fn node_at(alloc: Global, te: &TeBase, number: NodeNumber) -> Result<Node, A
     requires { number < length te.now.nodes }
     ensures { IfOk result (λ node. slice_get te.now.nodes number ≡ Some node) }
 {
-    let Some((name, id)) = te.node(number) else {
+    let Some((name, id, place)) = te.node(number) else {
         unreachable!()
     };
     Ok(Node {
         name: Name::new(alloc, name)?,
         id,
+        place,
     })
 }
 

@@ -25,22 +25,22 @@
 //! }
 //! ```
 //!
-//! The modules, lowest first: `store`, `desk`, `client`, `requests`, `inputs`, `serving`, `lent`.
+//! The modules, lowest first: `store`, `server_store`, `client`, `requests`, `inputs`, `serving`, `lent`.
 #![tactic(auto)]
 
 mod client;
-mod desk;
 mod inputs;
 mod laws;
 mod lent;
 mod requests;
+mod server_store;
 mod serving;
 mod store;
 
 pub use client::Client;
-pub use desk::Desk;
 pub use history_core::{Event, Fault, Reply};
 pub use laws::all_handled;
 pub use lent::{Lent, hang_up_database, serve_database};
+pub use server_store::ServerStore;
 pub use serving::{hang_up, serve};
 pub use store::{Call, Store, last_reply};

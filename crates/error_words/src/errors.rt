@@ -132,8 +132,8 @@ fn instantiation_error(value: u8) -> &'static str
     }
 }
 
-/// What the RFCs call the error of a PCEP-ERROR object, by its Error-Type and Error-value (RFC 5440 section 7.15, RFC 8231
-/// section 8.5, RFC 8281 section 8.5, RFC 8408). For a value that isn't assigned these are the words of its type.
+/// Returns what the RFCs call the error of a PCEP-ERROR object, by its Error-Type and Error-value (RFC 5440 section 7.15, RFC
+/// 8231 section 8.5, RFC 8281 section 8.5, RFC 8408). For a value that isn't assigned these are the words of its type.
 #[tactic(auto, unfolding(crate::specs::Errors::error_words))]
 pub fn error_words(error_type: u8, value: u8) -> &'static str
     ensures { result.now ≡ error_words error_type value }
@@ -158,7 +158,7 @@ pub fn error_words(error_type: u8, value: u8) -> &'static str
     }
 }
 
-/// What RFC 5440 section 7.17 calls the reason of a CLOSE object.
+/// Returns what RFC 5440 section 7.17 calls the reason of a CLOSE object.
 #[tactic(auto, unfolding(crate::specs::Errors::close_words))]
 pub fn close_words(reason: u8) -> &'static str
     ensures { result.now ≡ close_words reason }

@@ -12,7 +12,7 @@ ghost use Rattle.history_core.specs.Briefs.{brief_of, is_grant};
 ghost use Rattle.history_core.specs.Histories.{Replays, IsSound, IsPast, nothing_happened, kept_step, stepped, is_full, steps_of, grants_of, rolled_up, last_step};
 
 use crate::fault::Fault;
-use crate::step::{Brief, Step, shortened};
+use crate::step::{Brief, Step};
 use pcep_word::Priority;
 use sequence::{PlainData, Sequence};
 use std::alloc::{AllocError, Global};
@@ -96,7 +96,7 @@ fn keep(history: &mut Vec<Step>, grants: &mut u64, event: SharedEvent, reply: &R
     ensures kept { history.new.items ≡ history.old.items ++ kept_step event reply.now ∷ [] }
     ensures counted { grants.new ≡ grants.old + (if is_grant (brief_of reply.now) then 1 else 0) }
 {
-    let brief = shortened(reply);
+    let brief = Brief::of(reply);
     if is_grant(brief) {
         *grants += 1;
     }

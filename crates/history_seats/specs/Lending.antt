@@ -2,7 +2,7 @@
 use Rattle.std.specs.Prelude.{Option}
 use Rattle.std.specs.Borrow.{Lends, Fml, RattleType, MutBor}
 use Rattle.std.specs.contracts.option.Option as option
-use Rattle.place_tokens.specs.declared.rule.Room as room
+use Rattle.place_tokens.specs.declared.rule.StepNumbers as room
 use Rattle.step_core.specs.declared.job.Job.{Job}
 use Rattle.step_core.specs.contracts.job.Job as job
 use Rattle.history_seats.specs.declared.brands.Brands as brands

@@ -1,11 +1,11 @@
 //! The names that the seats of one history share.
-use place_tokens::Room;
+use place_tokens::StepNumbers;
 use std::marker::{Brand, PhantomData};
 use std::sync::ledger::Ledger;
 
-/// Names the ledgers in which the steps and the grants of one history are counted. As a `Room` it names the source of
+/// Names the ledgers in which the steps and the grants of one history are counted. As a `StepNumbers` it names the source of
 /// their places, and the history itself. Each ledger has one part for each seat of the room.
-pub trait Brands: Room {
+pub trait Brands: StepNumbers {
     ghost use Rattle.std.specs.Prelude.{ℕ};
 
     ghost steps: { ℕ };

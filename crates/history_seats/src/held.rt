@@ -8,7 +8,7 @@ ghost use Rattle.history_tokens.specs.declared.rule.Happening.TheVariants.{Took,
 ghost use Rattle.history_seats.specs.Past.{database_at, with_seen, stepped_at};
 ghost use Rattle.history_seats.specs.Seeing.{HasSeenOf};
 ghost use Rattle.history_seats.specs.Bytes.{kept_bytes};
-ghost use Rattle.history_seats.specs.Receipts.{IsPlaced, new_seat, tidy, unkept};
+ghost use Rattle.history_seats.specs.Receipts.{IsPlaced, new_seat, after_fold, dropped};
 ghost use Rattle.history_seats.specs.Audits.{AllDistinct, IsAudited, Fails, steps_received, grants_received};
 
 use crate::audit::test_receipts;
@@ -296,7 +296,7 @@ impl<B: Brands> Held<B> {
         ensures reply { IfOk result (λ r. r.0 ≡ (step (database_at B.text self.old).state event).reply) }
         ensures begins { IsPrefix seat.old.seen self.old }
         ensures receipt { IfOk result (λ r. seat.new ≡ stepped_at B.text self.old event r.0 seat.old) }
-        ensures given { IfOk result (λ r. r.1.items ≡ unkept (database_at B.text self.old).rolled seat.old) }
+        ensures given { IfOk result (λ r. r.1.items ≡ dropped (database_at B.text self.old).rolled seat.old) }
         ensures full { (result ≡ Err Fault.HistoryFull) ↔ IsTrue (is_full (database_at B.text self.old)) }
         ensures unchanged_on_fault { OnErr result ((self.new ≡ self.old) × (seat.new ≡ with_seen self.old seat.old)) }
     {
@@ -350,8 +350,8 @@ impl<B: Brands> Held<B> {
     pub fn fold(&mut self, seat: &mut Seat<B>) -> Vec<Receipt>
         ensures same { self.new ≡ self.old }
         ensures begins { IsPrefix seat.old.seen self.old }
-        ensures folded { seat.new ≡ with_seen self.old (tidy (database_at B.text self.old).rolled seat.old) }
-        ensures given { result.items ≡ unkept (database_at B.text self.old).rolled seat.old }
+        ensures folded { seat.new ≡ with_seen self.old (after_fold (database_at B.text self.old).rolled seat.old) }
+        ensures given { result.items ≡ dropped (database_at B.text self.old).rolled seat.old }
     {
         self.history.show(&mut seat.seen);
         let rolled = self.database.rolled();

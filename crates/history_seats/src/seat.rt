@@ -117,7 +117,7 @@ impl<B: Brands> Seat<B> {
 
     /// Lends the job in the seat's hand. It may be taken out, and another put in.
     pub fn hand(&mut self) -> &mut Option<Job>
-        ensures* writes_back { sem 𝓛 (LendsHand B.row B.Brands.own B.Room self.entry result) }
+        ensures* writes_back { sem 𝓛 (LendsHand B.row B.Brands.own B.StepNumbers self.entry result) }
         ensures value { result.now ≡ self.old.hand }
     {
         &mut self.hand

@@ -1,6 +1,6 @@
 //! The fields that objects and messages share.
 
-ghost use Rattle.std.specs.Prelude.{◌≡◌, Some};
+ghost use Rattle.std.specs.Prelude.{◌≡◌, true, Some};
 ghost use Rattle.std.specs.List.{list_all};
 ghost use Rattle.hex.specs.Hex.{encode_lower};
 ghost use Rattle.message_words.specs.Fields.{Adds, bit, word_digits, state_word, flag_words, lsp_field_words, is_plain, name_words, identifier_words, error_code_words, rsvp_error_words, lsp_error_words, protection_words, loose_mark, hop_words, hops_words, named_word, excluded, included_any, included_all, colour_words, capability_words, vector_words};
@@ -116,14 +116,15 @@ pub fn add_name(alloc: Global, name: &[u8], text: &mut String) -> Result<(), All
     add_hex(alloc, name, text)
 }
 
-/// Adds a name of plain bytes. They are UTF-8, so the fault doesn't come.
+/// Adds a name of plain bytes, which are UTF-8.
 fn add_plain(name: &[u8], text: &mut String) -> Result<(), AllocError>
+    requires { list_all is_plain name.now ≡ true }
     ensures { Adds result text.old text.new name.now }
 {
-    match str::from_utf8(name) {
-        Ok(name) => text.push_str(name),
-        Err(_) => Err(AllocError),
-    }
+    let Ok(name) = str::from_utf8(name) else {
+        unreachable!()
+    };
+    text.push_str(name)
 }
 
 /// Adds the fields of IPV4-LSP-IDENTIFIERS, if there are any.

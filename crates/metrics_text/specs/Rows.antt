@@ -36,7 +36,7 @@ abbrev pub samples_of : Sources → Samples → List Sample
 samples_of of (One n) = one n
 samples_of of (Known n) = known n
 samples_of of (Count what) = one (count_of (of.counters).now what)
-samples_of of Build = build (of.around).now
+samples_of of Build = build (of.info).now
 samples_of of (Counts whats) = counts (of.counters).now whats.now
 samples_of of Steps = steps (of.counters).now every_event every_reply
 samples_of of (Errors way) = errors (of.counters).now way every_number every_number

@@ -9,18 +9,19 @@ use Rattle.server_counts.specs.declared.counters.Counters.{Counters}
 use Rattle.server_counts.specs.declared.histogram.Histogram.{Histogram}
 use Rattle.server_counts.specs.declared.kinds.Counted.{Counted}
 use Rattle.server_counts.specs.declared.kinds.Counted.TheVariants as counted
-use Rattle.server_counts.specs.declared.kinds.ReplyKind.{ReplyKind}
+use Rattle.history_core.specs.Briefs.{brief_word}
+use Rattle.history_core.specs.declared.step.Brief.{Brief}
 use Rattle.server_counts.specs.declared.stream.Way.{Way}
 use Rattle.server_counts.specs.declared.stream.Way.TheVariants.{In, Out}
 use Rattle.pce_seen.specs.declared.steps.EventKind.{EventKind}
 use Rattle.pce_view.specs.Fields.{name_at}
 use Rattle.pce_view.specs.Words.{event_word}
-use Rattle.pce_view.specs.declared.question.Surroundings.{Surroundings}
+use Rattle.pce_view.specs.declared.question.ServerInfo.{ServerInfo}
 use Rattle.pce_view.specs.declared.shown_states.ShownState.{ShownState}
 use Rattle.pce_view.specs.declared.states.LspState.{LspState}
 use Rattle.pce_view.specs.declared.states.LspState.TheVariants as state
 use Rattle.metrics_text.specs.Exposition.{Sample, bound_text, sample}
-use Rattle.metrics_text.specs.Words.{reply_word, state_label, word_of}
+use Rattle.metrics_text.specs.Words.{state_label, word_of}
 use Rattle.metrics_text.specs.declared.format.Series.TheVariants.{Own, Bucket, Sum, Count}
 use Rattle.metrics_text.specs.declared.format.Value.TheVariants.{Whole, Signed, Seconds}
 
@@ -40,8 +41,8 @@ abbrev pub if_any : List (List ℕ) → ℕ → List Sample
 if_any labels n = cond (nat_eq n 0) [] (number labels n ∷ [])
 
 -- which program it is
-abbrev pub build : Surroundings → List Sample
-build around = number (around.version.now ∷ around.logic.now ∷ around.commit.now ∷ []) 1 ∷ []
+abbrev pub build : ServerInfo → List Sample
+build info = number (info.version.now ∷ info.logic.now ∷ info.commit.now ∷ []) 1 ∷ []
 
 -- ---- what was counted
 
@@ -53,13 +54,13 @@ unfoldable pub counts : Counters → List Counted → List Sample
 counts c whats = map (count c) whats
 
 -- the steps of an event, by these replies
-abbrev pub step : Counters → EventKind → ReplyKind → List Sample
-step c e r = if_any (event_word e ∷ reply_word r ∷ []) (count_of c (counted.Step e r))
+abbrev pub step : Counters → EventKind → Brief → List Sample
+step c e r = if_any (event_word e ∷ brief_word r ∷ []) (count_of c (counted.Step e r))
 
-unfoldable pub event_steps : Counters → List ReplyKind → EventKind → List Sample
+unfoldable pub event_steps : Counters → List Brief → EventKind → List Sample
 event_steps c rs e = flat_map (step c e) rs
 
-unfoldable pub steps : Counters → List EventKind → List ReplyKind → List Sample
+unfoldable pub steps : Counters → List EventKind → List Brief → List Sample
 steps c es rs = flat_map (event_steps c rs) es
 
 -- a PCErr that came or was sent

@@ -1,21 +1,24 @@
 -- The table of metrics: a line for each.
-use Rattle.std.specs.Prelude.{ℕ, List, [], ◌∷◌, ◌++◌, codes, cond, map, Option, is_none}
+use Rattle.std.specs.Prelude.{ℕ, true, false, List, [], ◌∷◌, ◌++◌, codes, cond, map, Option, Some, None, is_none}
 use Rattle.server_counts.specs.Counts.{count_of}
 use Rattle.server_counts.specs.Times.{bounds}
 use Rattle.server_counts.specs.declared.counters.Counters.{Counters}
 use Rattle.server_counts.specs.declared.kinds.Counted.TheVariants as counted
-use Rattle.server_counts.specs.declared.kinds.EndReason.{EndReason}
-use Rattle.server_counts.specs.declared.kinds.EndReason.TheVariants as end
+use Rattle.end_reasons.specs.declared.reason.LastWords.{LastWords}
+use Rattle.end_reasons.specs.declared.reason.Reason.{Reason}
+use Rattle.end_reasons.specs.declared.reason.Reason.TheVariants as reason
+use Rattle.history_core.specs.declared.fault.Fault.TheVariants.{OutOfMemory}
 use Rattle.server_counts.specs.declared.kinds.MessageKind.{MessageKind}
 use Rattle.server_counts.specs.declared.kinds.MessageKind.TheVariants as message
-use Rattle.server_counts.specs.declared.kinds.ReplyKind.{ReplyKind}
-use Rattle.server_counts.specs.declared.kinds.ReplyKind.TheVariants as reply
+use Rattle.lsp_base.specs.declared.why.Why.TheVariants.{UnknownPeer}
+use Rattle.history_core.specs.declared.step.Brief.{Brief}
+use Rattle.history_core.specs.declared.step.Brief.TheVariants as brief
 use Rattle.server_counts.specs.declared.stream.Way.TheVariants.{In, Out}
 use Rattle.pce_seen.specs.declared.seen.Book.{Book}
 use Rattle.pce_seen.specs.declared.seen.Counts.{Counts}
 use Rattle.pce_seen.specs.declared.steps.EventKind.{EventKind}
 use Rattle.pce_seen.specs.declared.steps.EventKind.TheVariants as event
-use Rattle.pce_view.specs.declared.question.Surroundings.{Surroundings}
+use Rattle.pce_view.specs.declared.question.ServerInfo.{ServerInfo}
 use Rattle.pce_view.specs.declared.shown_states.ShownState.{ShownState}
 use Rattle.pce_view.specs.declared.states.LspState.{LspState}
 use Rattle.pce_view.specs.declared.states.LspState.TheVariants as state
@@ -28,18 +31,26 @@ use Rattle.metrics_text.specs.Samples.{broken_in, build, counts, errors, known, 
 abbrev pub every_event : List EventKind
 every_event = event.Up ∷ event.Report ∷ event.Marker ∷ event.Down ∷ event.Expire ∷ event.Ask ∷ event.Take ∷ event.Commit ∷ event.Drain ∷ event.Refused ∷ event.Return ∷ event.Delete ∷ event.Reload ∷ []
 
-abbrev pub every_reply : List ReplyKind
-every_reply = reply.Done ∷ reply.Booked ∷ reply.BookedWantsPath ∷ reply.Asked ∷ reply.Job ∷ reply.Idle ∷ reply.Granted ∷ reply.Answered ∷ reply.Again ∷ reply.NoPath ∷ reply.GivenUp ∷ reply.Gone ∷ reply.Removing ∷ reply.Out ∷ reply.Refused ∷ []
+abbrev pub every_reply : List Brief
+every_reply = brief.Done ∷ brief.Booked false ∷ brief.Booked true ∷ brief.Asked 0 ∷ brief.Job 0 ∷ brief.Idle ∷ brief.Granted 0 ∷ brief.Answered ∷ brief.Again ∷ brief.NoPath ∷ brief.GivenUp ∷ brief.Gone ∷ brief.Removing 0 ∷ brief.Out 0 ∷ brief.Refused UnknownPeer ∷ []
 
 -- what a search can come to
-abbrev pub every_verdict : List ReplyKind
-every_verdict = reply.Granted ∷ reply.Answered ∷ reply.Again ∷ reply.NoPath ∷ reply.GivenUp ∷ reply.Gone ∷ []
+abbrev pub every_verdict : List Brief
+every_verdict = brief.Granted 0 ∷ brief.Answered ∷ brief.Again ∷ brief.NoPath ∷ brief.GivenUp ∷ brief.Gone ∷ []
 
 abbrev pub every_refusal : List ℕ
 every_refusal = 1 ∷ 2 ∷ 3 ∷ 4 ∷ 5 ∷ 6 ∷ 7 ∷ 8 ∷ 9 ∷ 10 ∷ 11 ∷ 12 ∷ 13 ∷ 14 ∷ 15 ∷ 16 ∷ 17 ∷ 18 ∷ 19 ∷ 20 ∷ []
 
-abbrev pub every_end : List EndReason
-every_end = end.PeerClosed ∷ end.SessionEnded ∷ end.ReadFault ∷ end.WriteFault ∷ end.StoreFault ∷ end.DeadTimer ∷ end.Malformed ∷ end.Closed 0 ∷ end.PlaceTaken ∷ end.RunEnds ∷ end.SecondSession ∷ end.Refused 0 ∷ end.Unheard ∷ []
+-- a session ended with a Close that was sent for this reason
+abbrev pub closed_for : ℕ → Reason
+closed_for number = reason.Session (record { error = None; close = Some number })
+
+abbrev pub without_close : Reason
+without_close = reason.Session (record { error = None; close = None })
+
+-- one for each word
+abbrev pub every_end : List Reason
+every_end = reason.PeerClosed ∷ without_close ∷ reason.ReadFault ∷ reason.WriteFault ∷ reason.StoreFault OutOfMemory ∷ closed_for 2 ∷ closed_for 3 ∷ closed_for 0 ∷ reason.PlaceTaken ∷ reason.RunEnds ∷ reason.Refused 2 ∷ reason.Refused 0 ∷ reason.Unheard ∷ []
 
 abbrev pub every_message : List MessageKind
 every_message = message.Open ∷ message.Keepalive ∷ message.Request ∷ message.Reply ∷ message.Notification ∷ message.Error ∷ message.Close ∷ message.Report ∷ message.Update ∷ message.Initiate ∷ message.Other ∷ []
@@ -61,9 +72,9 @@ abbrev pub if_known : Kind → List ℕ → List ℕ → List (List ℕ) → Opt
 if_known kind name help labels n = cond (is_none n) [] (family kind name help labels (known n) ∷ [])
 
 -- which program it is, and what the system says of the process
-unfoldable pub program : Surroundings → Process → List Family
-program around p =
-    family Gauge (codes "pced_build_info") (codes "The version of the program, the logic of its proofs, and the commit of its sources.") (codes "version" ∷ codes "logic" ∷ codes "commit" ∷ []) (build around)
+unfoldable pub program : ServerInfo → Process → List Family
+program info p =
+    family Gauge (codes "pced_build_info") (codes "The version of the program, the logic of its proofs, and the commit of its sources.") (codes "version" ∷ codes "logic" ∷ codes "commit" ∷ []) (build info)
     ∷ (if_known Gauge (codes "process_resident_memory_bytes") (codes "Memory of the process that is in RAM.") [] p.resident_bytes
     ++ (if_known Gauge (codes "process_open_fds") (codes "File descriptors that are open.") [] p.open_descriptors
     ++ (if_known Gauge (codes "process_max_fds") (codes "File descriptors that may be open.") [] p.descriptor_limit ++ [])))
@@ -105,5 +116,5 @@ seen_families n book states =
     ∷ []
 
 -- all metrics
-unfoldable pub families : Surroundings → Counts → Book → Counters → Process → List ShownState → List Family
-families around n book c process states = program around process ++ (counted_families c ++ seen_families n book states)
+unfoldable pub families : ServerInfo → Counts → Book → Counters → Process → List ShownState → List Family
+families info n book c process states = program info process ++ (counted_families c ++ seen_families n book states)

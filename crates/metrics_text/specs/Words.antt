@@ -1,31 +1,13 @@
 -- Words for what is counted, as labels have them.
 use Rattle.std.specs.Prelude.{ℕ, ◌==◌, List, codes, unwrap_or, if◌then◌else◌}
-use Rattle.server_counts.specs.declared.kinds.ReplyKind.{ReplyKind}
-use Rattle.server_counts.specs.declared.kinds.ReplyKind.TheVariants as reply
+use Rattle.history_core.specs.Briefs.{brief_word}
 use Rattle.server_counts.specs.declared.kinds.MessageKind.{MessageKind}
 use Rattle.server_counts.specs.declared.kinds.MessageKind.TheVariants as message
 use Rattle.server_counts.specs.declared.kinds.Counted.{Counted}
 use Rattle.server_counts.specs.declared.kinds.Counted.TheVariants as counted
-use Rattle.pce_view.specs.CountedWords.{end_word}
+use Rattle.end_reasons.specs.Reasons.{reason_word}
 use Rattle.pce_view.specs.Words.{state_word}
 use Rattle.pce_view.specs.declared.states.LspState.{LspState}
-
-abbrev pub reply_word : ReplyKind → List ℕ
-reply_word reply.Done = codes "done"
-reply_word reply.Booked = codes "booked"
-reply_word reply.BookedWantsPath = codes "booked wants"
-reply_word reply.Asked = codes "asked"
-reply_word reply.Job = codes "job"
-reply_word reply.Idle = codes "idle"
-reply_word reply.Granted = codes "granted"
-reply_word reply.Answered = codes "answered"
-reply_word reply.Again = codes "again"
-reply_word reply.NoPath = codes "nopath"
-reply_word reply.GivenUp = codes "givenup"
-reply_word reply.Gone = codes "gone"
-reply_word reply.Removing = codes "removing"
-reply_word reply.Out = codes "out"
-reply_word reply.Refused = codes "refused"
 
 abbrev pub refusal_word : ℕ → List ℕ
 refusal_word number =
@@ -66,11 +48,11 @@ message_word message.Other = codes "other"
 
 -- the word that tells what is counted from the others of its metric
 abbrev pub word_of : Counted → List ℕ
-word_of (counted.Step e r) = reply_word r
+word_of (counted.Step e r) = brief_word r
 word_of (counted.Refusal number) = refusal_word number
 word_of counted.Accepted = codes ""
 word_of counted.Stranger = codes ""
-word_of (counted.Ended reason) = end_word reason
+word_of (counted.Ended reason) = reason_word reason
 word_of (counted.Received m) = message_word m
 word_of (counted.Sent m) = message_word m
 word_of (counted.ErrorSent kind value) = codes ""

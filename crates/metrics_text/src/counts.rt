@@ -4,10 +4,11 @@ ghost use Rattle.metrics_text.specs.Rows.{labels_of, lines_of};
 ghost use Rattle.metrics_text.specs.Samples.{counts, error, error_of, errors, event_steps, if_any, number, one, step, steps, type_errors};
 
 use crate::format::{LabelText, Metric, Series, Value, put_sample};
-use crate::words::{reply_word, word_of};
+use crate::words::word_of;
+use history_core::Brief;
 use pce_seen::EventKind;
 use pce_view::event_word;
-use server_counts::{Counted, Counters, ReplyKind, Way};
+use server_counts::{Counted, Counters, Way};
 use std::alloc::AllocError;
 
 /// Adds a number with these labels.
@@ -64,14 +65,14 @@ fn put_step(
     metric: &Metric<'_>,
     counters: &Counters,
     event: EventKind,
-    reply: ReplyKind,
+    reply: Brief,
 ) -> Result<(), AllocError>
     ensures { OnOk result (text.new.items ≡ text.old.items
         ++ lines_of metric.now (step counters.now event reply)) }
 {
     let labels = [
         LabelText::Text(event_word(event)),
-        LabelText::Text(reply_word(reply)),
+        LabelText::Text(reply.word()),
     ];
     put_if_any(
         text,
@@ -88,7 +89,7 @@ fn put_event_steps(
     metric: &Metric<'_>,
     counters: &Counters,
     event: EventKind,
-    replies: &[ReplyKind],
+    replies: &[Brief],
 ) -> Result<(), AllocError>
     ensures { OnOk result (text.new.items ≡ text.old.items
         ++ lines_of metric.now (event_steps counters.now replies.now event)) }
@@ -106,7 +107,7 @@ pub(crate) fn put_steps(
     metric: &Metric<'_>,
     counters: &Counters,
     events: &[EventKind],
-    replies: &[ReplyKind],
+    replies: &[Brief],
 ) -> Result<(), AllocError>
     ensures { OnOk result (text.new.items ≡ text.old.items
         ++ lines_of metric.now (steps counters.now events.now replies.now)) }
@@ -117,7 +118,7 @@ pub(crate) fn put_steps(
     Ok(())
 }
 
-/// A PCErr that came or was sent.
+/// Returns how a PCErr that came or was sent is counted.
 fn error_of(way: Way, kind: u8, value: u8) -> Counted
     ensures { result ≡ error_of way kind value }
 {

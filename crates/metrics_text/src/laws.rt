@@ -3,7 +3,7 @@ ghost use Rattle.std.specs.Prelude.{◌≡◌, List, [], true};
 ghost use Rattle.server_counts.specs.declared.counters.Counters.{Counters};
 ghost use Rattle.pce_seen.specs.declared.seen.Book.{Book};
 ghost use Rattle.pce_seen.specs.declared.seen.Counts.{Counts};
-ghost use Rattle.pce_view.specs.declared.question.Surroundings.{Surroundings};
+ghost use Rattle.pce_view.specs.declared.question.ServerInfo.{ServerInfo};
 ghost use Rattle.pce_view.specs.declared.shown_states.ShownState.{ShownState};
 ghost use Rattle.metrics_text.specs.Exposition.{Family};
 ghost use Rattle.metrics_text.specs.Reading.{IsRead, are_named};
@@ -17,7 +17,7 @@ pub fn what_is_written_is_read()
 
 /// It reads the metrics of the table so, whatever was seen and counted.
 pub fn all_metrics_are_read()
-    ensures { (around : Surroundings) (n : Counts) (book : Book) (c : Counters)
+    ensures { (info : ServerInfo) (n : Counts) (book : Book) (c : Counters)
         (process : Process) (states : List ShownState)
-        → IsRead (families around n book c process states) }
+        → IsRead (families info n book c process states) }
 {}

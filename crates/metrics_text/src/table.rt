@@ -9,9 +9,11 @@ use crate::counts::{put_counts, put_errors, put_number, put_steps};
 use crate::database::{broken_in, put_reservable, put_states, put_unreserved};
 use crate::format::{Kind, LabelText, Metric, put_help, put_type};
 use crate::times::put_times;
+use end_reasons::{LastWords, Reason};
+use history_core::{Brief, Fault, Why};
 use pce_seen::{Book, Counts, EventKind};
-use pce_view::{LspState, ShownState, Surroundings};
-use server_counts::{BOUNDS_US, Counted, Counters, EndReason, MessageKind, ReplyKind, Timed, Way};
+use pce_view::{LspState, ServerInfo, ShownState};
+use server_counts::{BOUNDS_US, Counted, Counters, MessageKind, Timed, Way};
 use std::alloc::{AllocError, Global};
 
 /// What the system says of the process.
@@ -28,7 +30,7 @@ pub struct Process {
 /// What the metrics are of.
 #[derive(Clone, Copy)]
 pub(crate) struct Sources<'a> {
-    pub around: &'a Surroundings<'a>,
+    pub info: &'a ServerInfo<'a>,
     pub book: &'a Book,
     pub counters: &'a Counters,
     pub states: &'a [ShownState],
@@ -86,22 +88,22 @@ const EVENTS: [EventKind; 13] = [
     EventKind::Reload,
 ];
 
-const REPLIES: [ReplyKind; 15] = [
-    ReplyKind::Done,
-    ReplyKind::Booked,
-    ReplyKind::BookedWantsPath,
-    ReplyKind::Asked,
-    ReplyKind::Job,
-    ReplyKind::Idle,
-    ReplyKind::Granted,
-    ReplyKind::Answered,
-    ReplyKind::Again,
-    ReplyKind::NoPath,
-    ReplyKind::GivenUp,
-    ReplyKind::Gone,
-    ReplyKind::Removing,
-    ReplyKind::Out,
-    ReplyKind::Refused,
+const REPLIES: [Brief; 15] = [
+    Brief::Done,
+    Brief::Booked { wants_path: false },
+    Brief::Booked { wants_path: true },
+    Brief::Asked(0),
+    Brief::Job(0),
+    Brief::Idle,
+    Brief::Granted(0),
+    Brief::Answered,
+    Brief::Again,
+    Brief::NoPath,
+    Brief::GivenUp,
+    Brief::Gone,
+    Brief::Removing(0),
+    Brief::Out { messages: 0 },
+    Brief::Refused(Why::UnknownPeer),
 ];
 
 const REFUSALS: [Counted; 20] = [
@@ -128,28 +130,46 @@ const REFUSALS: [Counted; 20] = [
 ];
 
 const VERDICTS: [Counted; 6] = [
-    Counted::Step(EventKind::Commit, ReplyKind::Granted),
-    Counted::Step(EventKind::Commit, ReplyKind::Answered),
-    Counted::Step(EventKind::Commit, ReplyKind::Again),
-    Counted::Step(EventKind::Commit, ReplyKind::NoPath),
-    Counted::Step(EventKind::Commit, ReplyKind::GivenUp),
-    Counted::Step(EventKind::Commit, ReplyKind::Gone),
+    Counted::Step(EventKind::Commit, Brief::Granted(0)),
+    Counted::Step(EventKind::Commit, Brief::Answered),
+    Counted::Step(EventKind::Commit, Brief::Again),
+    Counted::Step(EventKind::Commit, Brief::NoPath),
+    Counted::Step(EventKind::Commit, Brief::GivenUp),
+    Counted::Step(EventKind::Commit, Brief::Gone),
 ];
 
+/// A session ended by this Close, sent for the DeadTimer (RFC 5440 section 7.17).
+const DEAD_TIMER: LastWords = LastWords {
+    error: None,
+    close: Some(2),
+};
+
+/// A session ended by this Close, sent for a malformed message.
+const MALFORMED: LastWords = LastWords {
+    error: None,
+    close: Some(3),
+};
+
+/// A session ended by a Close that was sent for another reason.
+const OTHER_CLOSE: LastWords = LastWords {
+    error: None,
+    close: Some(0),
+};
+
 const ENDS: [Counted; 13] = [
-    Counted::Ended(EndReason::PeerClosed),
-    Counted::Ended(EndReason::SessionEnded),
-    Counted::Ended(EndReason::ReadFault),
-    Counted::Ended(EndReason::WriteFault),
-    Counted::Ended(EndReason::StoreFault),
-    Counted::Ended(EndReason::DeadTimer),
-    Counted::Ended(EndReason::Malformed),
-    Counted::Ended(EndReason::Closed(0)),
-    Counted::Ended(EndReason::PlaceTaken),
-    Counted::Ended(EndReason::RunEnds),
-    Counted::Ended(EndReason::SecondSession),
-    Counted::Ended(EndReason::Refused(0)),
-    Counted::Ended(EndReason::Unheard),
+    Counted::Ended(Reason::PeerClosed),
+    Counted::Ended(Reason::Session(LastWords::NOTHING)),
+    Counted::Ended(Reason::ReadFault),
+    Counted::Ended(Reason::WriteFault),
+    Counted::Ended(Reason::StoreFault(Fault::OutOfMemory)),
+    Counted::Ended(Reason::Session(DEAD_TIMER)),
+    Counted::Ended(Reason::Session(MALFORMED)),
+    Counted::Ended(Reason::Session(OTHER_CLOSE)),
+    Counted::Ended(Reason::PlaceTaken),
+    Counted::Ended(Reason::RunEnds),
+    Counted::Ended(Reason::Refused(2)),
+    Counted::Ended(Reason::Refused(0)),
+    Counted::Ended(Reason::Unheard),
 ];
 
 const RECEIVED: [Counted; 11] = [
@@ -200,15 +220,15 @@ const STATES: [LspState; 7] = [
 fn put_build(
     text: &mut Vec<u8>,
     metric: &Metric<'_>,
-    around: &Surroundings<'_>,
+    info: &ServerInfo<'_>,
 ) -> Result<(), AllocError>
     ensures { OnOk result (text.new.items ≡ text.old.items
-        ++ lines_of metric.now (build around.now)) }
+        ++ lines_of metric.now (build info.now)) }
 {
     let labels = [
-        LabelText::Text(around.version),
-        LabelText::Text(around.logic),
-        LabelText::Text(around.commit),
+        LabelText::Text(info.version),
+        LabelText::Text(info.logic),
+        LabelText::Text(info.commit),
     ];
     put_number(text, metric, &labels, 1)
 }
@@ -228,7 +248,7 @@ fn put_samples(
         Samples::One(n) | Samples::Known(Some(n)) => put_number(text, metric, &[], *n),
         Samples::Known(None) => Ok(()),
         Samples::Count(what) => put_number(text, metric, &[], counters.count(*what)),
-        Samples::Build => put_build(text, metric, of.around),
+        Samples::Build => put_build(text, metric, of.info),
         Samples::Counts(whats) => put_counts(text, metric, counters, whats),
         Samples::Steps => put_steps(text, metric, counters, &EVENTS, &REPLIES),
         Samples::Errors(way) => put_errors(text, metric, counters, *way, &NUMBERS, &NUMBERS),
@@ -240,7 +260,7 @@ fn put_samples(
     }
 }
 
-/// Whether these are the samples of a metric whose number isn't known.
+/// Tests whether these are the samples of a metric whose number isn't known.
 fn is_left_out(samples: &Samples<'_>) -> bool
     ensures { result ≡ is_left_out samples.now }
 {
@@ -287,7 +307,7 @@ macro_rules! rows {
 #[tactic(auto, unfolding(crate::specs::Table::program))]
 fn put_program(text: &mut Vec<u8>, of: &Sources<'_>, process: Process) -> Result<(), AllocError>
     ensures { OnOk result (text.new.items ≡ text.old.items
-        ++ exposition (program of.now.around.now process)) }
+        ++ exposition (program of.now.info.now process)) }
 {
     put_families(
         text,
@@ -358,7 +378,7 @@ fn put_seen(text: &mut Vec<u8>, of: &Sources<'_>, counts: &Counts) -> Result<(),
 /// Says what was seen and counted in Prometheus's text format 0.0.4. What the system doesn't say is left out.
 pub fn metrics_text<'x>(
     alloc: Global,
-    around: &'x Surroundings<'x>,
+    info: &'x ServerInfo<'x>,
     counts: &Counts,
     book: &'x Book,
     counters: &'x Counters,
@@ -366,11 +386,11 @@ pub fn metrics_text<'x>(
     states: &'x [ShownState],
 ) -> Result<Vec<u8>, AllocError>
     ensures { IfOk result (λ text. text.items
-        ≡ exposition (families around.now counts.now book.now counters.now process states.now)) }
+        ≡ exposition (families info.now counts.now book.now counters.now process states.now)) }
 {
     let mut text = Vec::new(alloc);
     let of = Sources {
-        around,
+        info,
         book,
         counters,
         states,

@@ -1,32 +1,9 @@
 //! Words for what is counted, as labels have them.
 ghost use Rattle.std.specs.Prelude.{◌≡◌};
-ghost use Rattle.metrics_text.specs.Words.{message_word, refusal_word, reply_word, state_label, word_of};
+ghost use Rattle.metrics_text.specs.Words.{message_word, refusal_word, state_label, word_of};
 
-use pce_view::{LspState, end_word, state_word};
-use server_counts::{Counted, MessageKind, ReplyKind};
-
-/// Names a kind of reply.
-pub(crate) fn reply_word(reply: ReplyKind) -> &'static str
-    ensures { result.now ≡ reply_word reply }
-{
-    match reply {
-        ReplyKind::Done => "done",
-        ReplyKind::Booked => "booked",
-        ReplyKind::BookedWantsPath => "booked wants",
-        ReplyKind::Asked => "asked",
-        ReplyKind::Job => "job",
-        ReplyKind::Idle => "idle",
-        ReplyKind::Granted => "granted",
-        ReplyKind::Answered => "answered",
-        ReplyKind::Again => "again",
-        ReplyKind::NoPath => "nopath",
-        ReplyKind::GivenUp => "givenup",
-        ReplyKind::Gone => "gone",
-        ReplyKind::Removing => "removing",
-        ReplyKind::Out => "out",
-        ReplyKind::Refused => "refused",
-    }
-}
+use pce_view::{LspState, state_word};
+use server_counts::{Counted, MessageKind};
 
 /// Names a refusal by its number.
 fn refusal_word(number: u8) -> &'static str
@@ -81,9 +58,9 @@ pub(crate) fn word_of(what: Counted) -> &'static str
     ensures { result.now ≡ word_of what }
 {
     match what {
-        Counted::Step(_, reply) => reply_word(reply),
+        Counted::Step(_, reply) => reply.word(),
         Counted::Refusal(number) => refusal_word(number),
-        Counted::Ended(reason) => end_word(reason),
+        Counted::Ended(reason) => reason.word(),
         Counted::Received(message) | Counted::Sent(message) => message_word(message),
         Counted::Accepted
         | Counted::Stranger

@@ -27,7 +27,7 @@ fn left_at(snapshot: &Snapshot, link: LinkNumber, priority: u8) -> i64
 }
 
 /// Tests whether enough is left for a bandwidth.
-fn is_borne(left: i64, bandwidth: u64) -> bool
+fn has_room(left: i64, bandwidth: u64) -> bool
     requires { bandwidth < 2 ^ 48 }
     ensures { result ≡ (nat_le bandwidth 0 || int_le (pos (bandwidth - 0)) left) }
 {
@@ -40,7 +40,7 @@ fn is_full_at(snapshot: &Snapshot, wanted: &Constraints, link: LinkNumber, prior
     ensures { result ≡ is_full_at snapshot.now.unreserved wanted.now link priority }
 {
     let left = left_at(snapshot, link, priority);
-    !is_borne(left, wanted.bandwidth.value())
+    !has_room(left, wanted.bandwidth.value())
 }
 
 /// Finds the best of the priorities from holding to setup at which a bandwidth doesn't fit on a link.

@@ -6,7 +6,7 @@
 //!   (`specs/Grants.antt`)
 //! - `gaps`, `places`: where the routes of paths have gaps (`specs/Gaps.antt`)
 //! - `paging`: pages of a list
-//! - `peers`, `steps`: routers with their sessions, kept steps of the history
+//! - `peers`: routers with their sessions; `steps`: kinds of events
 //! - `seen`: the network and its counts
 //! - `origins`: the steps by which the paths of an LSP came
 //! - `moves`: LSPs with what a path search for them reads
@@ -42,13 +42,13 @@ pub use grants::{
     Deletion, GrantPage, GrantSpan, KnownGrant, deletions_of, grant_span, is_grant_asked,
 };
 pub use lsps::{HeldPath, KnownLsp, LinkUse, LspPage, PAGE_LIMIT};
-pub use moves::{Displaced, Movable, TRIED_LIMIT};
+pub use moves::{OutageInput, RerouteInput, TRIED_LIMIT};
 pub use origins::{LspOrigins, Origin, TracedPath};
 pub use over::lsps_over;
 pub use paging::page_from;
 pub use peers::{KnownPeer, LspOwner, SeenPeers};
 pub use places::{PlacedLsp, PlacedPage, gaps_of_each, placed};
 pub use seen::{Book, Counts, Network};
-pub use steps::{EventKind, KnownStep, LastSteps, Outcome};
+pub use steps::EventKind;
 pub use taking::{held_on, lsp_of, page_of, paths_of};
 pub use tunnels::tunnels_on;

@@ -7,7 +7,7 @@ pub const TRIED_LIMIT: usize = 512;
 
 /// LSPs of one moment, what the tunnel of each holds, and what a path search reads.
 #[derive(Drop)]
-pub struct Movable {
+pub struct RerouteInput {
     pub snapshot: Snapshot,
     pub page: LspPage,
     /// What the tunnel of each LSP of the page holds, in their order.
@@ -16,7 +16,7 @@ pub struct Movable {
 
 /// The LSPs over a link, what the tunnel of each holds, and what a path search reads.
 #[derive(Drop)]
-pub struct Displaced {
+pub struct OutageInput {
     pub snapshot: Snapshot,
     /// The LSPs, at most 512, in the order of their paths.
     pub lsps: Vec<KnownLsp>,

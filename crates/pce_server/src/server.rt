@@ -15,7 +15,7 @@ use server_log::{LogLine, LogQueue, is_debug_wanted, write_last, write_log};
 use server_operators::{Operators, control_seats, end_with, hear_controls, hear_operator};
 use server_rules::Orders;
 use server_signals::RunFault;
-use server_talk::{Patient, Plan, bound_accepts};
+use server_talk::{Plan, TimedRead, bound_accepts};
 use server_viewers::{ViewerListener, show_views};
 use server_workers::{keep_time, work};
 use shared_pce::{Audit, Event, Fault, Seat, Shared, Unnamed};
@@ -61,7 +61,7 @@ pub struct Routers<'a> {
 ///
 /// After a fault that ends the run, sessions are closed and no more connections are accepted. If the writer fails, the
 /// run goes on without an operator.
-pub fn serve_run<R, I: Patient, O: Write, P: Plan + Sync>(
+pub fn serve_run<R, I: TimedRead, O: Write, P: Plan + Sync>(
     rt: &R,
     listeners: &Listeners<'_>,
     te: TeBase,
@@ -95,7 +95,7 @@ where
     )
 }
 
-fn seated_run<B: Brands + Send + Sync, R, I: Patient, O: Write, P: Plan + Sync>(
+fn seated_run<B: Brands + Send + Sync, R, I: TimedRead, O: Write, P: Plan + Sync>(
     rt: &R,
     listeners: &Listeners<'_>,
     te: TeBase,
@@ -136,7 +136,7 @@ where
 }
 
 /// Puts the database under its lock, with a pool of all seats, serves until the end, and closes it.
-fn opened_run<B: Brands + Send + Sync, R, I: Patient, O: Write, P: Plan + Sync>(
+fn opened_run<B: Brands + Send + Sync, R, I: TimedRead, O: Write, P: Plan + Sync>(
     rt: &R,
     listeners: &Listeners<'_>,
     te: TeBase,
@@ -185,7 +185,7 @@ where
 }
 
 /// Logs how the run starts, and serves until the end.
-fn logged_run<B: Brands + Send + Sync, R, I: Patient, O: Write, P: Plan + Sync>(
+fn logged_run<B: Brands + Send + Sync, R, I: TimedRead, O: Write, P: Plan + Sync>(
     rt: &R,
     alloc: Global,
     shared: &Shared<B>,
@@ -250,7 +250,7 @@ fn close<R: Net + Log, B: Brands>(
 }
 
 /// Serves all until the end, when all seats rest in the pool.
-fn serve_all<B: Brands + Send + Sync, R, I: Patient, O: Write, P: Plan + Sync>(
+fn serve_all<B: Brands + Send + Sync, R, I: TimedRead, O: Write, P: Plan + Sync>(
     rt: &R,
     alloc: Global,
     shared: &Shared<B>,
@@ -294,7 +294,7 @@ where
         known: routers.known,
         counters: &state.counters,
         waits: &state.waits,
-        presences: &state.presences,
+        peer_states: &state.peer_states,
         marks: &state.marks,
         upkeep: &state.upkeep,
         words: &state.words,
@@ -342,7 +342,7 @@ fn log_all<R: Wait + Clock + Net + Log, B: Brands>(context: &Context<'_, R, B>) 
 /// needed as long as there are connections, and the log last. The slots are those of connections, then of workers, of
 /// the seat that makes room, of the seat that drops a covered grant, of the timer, of the operator, and of those at the
 /// control socket.
-fn run_threads<B: Brands + Send + Sync, R, I: Patient, O: Write, P: Plan + Sync>(
+fn run_threads<B: Brands + Send + Sync, R, I: TimedRead, O: Write, P: Plan + Sync>(
     context: &Context<'_, R, B>,
     routers: &TcpListener,
     control: Option<&UnixListener>,

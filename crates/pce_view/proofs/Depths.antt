@@ -29,12 +29,12 @@ use Rattle.path_looks.specs.declared.full.FullLink.{FullLink}
 use Rattle.path_looks.specs.declared.link_room.LinkRoom.{LinkRoom}
 use Rattle.path_looks.specs.declared.moves.Move.{Move}
 use Rattle.pce_seen.specs.declared.seen.Counts.{Counts}
-use Rattle.pce_seen.specs.declared.steps.KnownStep.{KnownStep}
+use Rattle.pce_view.specs.declared.history.KnownStep.{KnownStep}
 use Rattle.std.specs.Map.{lookup}
-use Rattle.server_counts.specs.declared.kinds.EndReason.{EndReason}
-use Rattle.server_counts.specs.declared.lefts.LeftRow.{LeftRow}
+use Rattle.end_reasons.specs.declared.reason.Reason.{Reason}
+use Rattle.server_counts.specs.declared.residuals.ResidualRow.{ResidualRow}
 use Rattle.server_counts.specs.declared.marks.Mark.{Mark}
-use Rattle.server_counts.specs.declared.presences.Presence.{Presence}
+use Rattle.server_counts.specs.declared.peer_states.PeerState.{PeerState}
 use Rattle.server_rules.specs.declared.path_words.PathWords.{PathWords}
 use Rattle.pce_view.specs.declared.age.Age.{Age}
 use Rattle.pce_view.specs.declared.heard.Heard.{Heard}
@@ -59,7 +59,8 @@ use Rattle.pce_view.specs.Without.{move_items, move_json, run_json}
 use Rattle.pce_view.specs.Status.{status_json}
 use Rattle.pce_view.specs.History.{step_items, step_json, steps_json}
 use Rattle.pce_view.specs.Tickets.{ticket_items, ticket_json, tickets_json}
-use Rattle.pce_view.specs.Words.{cost_in, cost_of_path, link_in, links_in, links_of_path, lsp_error_word, obstacle_of, operational_word, origin_step, origin_ticket, origin_word, outcome_number, purpose_name, purpose_plsp, purpose_request, state_word}
+use Rattle.history_core.specs.Briefs.{brief_number}
+use Rattle.pce_view.specs.Words.{cost_in, cost_of_path, link_in, links_in, links_of_path, lsp_error_word, obstacle_of, operational_word, origin_step, origin_ticket, origin_word, purpose_name, purpose_plsp, purpose_request, state_word}
 
 pub document-of_tokens : (text : List ℕ) (j : Json) → tokens text ≡ json_tokens j → depth j ≤ max_depth → document text ≡ Some j
 document-of_tokens text j is shallow =
@@ -117,7 +118,7 @@ links_shallow nodes n (link ∷ links) (left ∷ lefts) = omega (arith, link_sha
 pub book_shallow : (nodes : List Node) (links : List Link) (lefts : List (List ℤ)) → depth (book_json nodes links lefts) ≤ max_depth
 book_shallow nodes links lefts = omega (arith, nodes_shallow 0 nodes, links_shallow nodes 0 links lefts)
 
-end_shallow : (e : Option EndReason) → depth (end_json e) ≤ 0
+end_shallow : (e : Option Reason) → depth (end_json e) ≤ 0
 end_shallow None = omega arith
 end_shallow (Some reason) = omega arith
 
@@ -125,17 +126,17 @@ peer_shallow : (peer : KnownPeer) (lsps delegated : ℕ) (m : Moments) → depth
 unfolding counted_json
 peer_shallow peer lsps delegated m = omega (arith, whole_or_shallow m.since_ms_ago, whole_or_shallow m.end_ms_ago, end_shallow m.end, whole_or_shallow m.number)
 
-peer_items_shallow : (now_ms : ℕ) (presences : List (ℕ × Presence)) (owners : List LspOwner) (peers : List KnownPeer) → items_depth (peer_items now_ms presences owners peers) ≤ 1
-peer_items_shallow now_ms presences owners [] = omega arith
-peer_items_shallow now_ms presences owners (peer ∷ peers) =
+peer_items_shallow : (now_ms : ℕ) (peer_states : List (ℕ × PeerState)) (owners : List LspOwner) (peers : List KnownPeer) → items_depth (peer_items now_ms peer_states owners peers) ≤ 1
+peer_items_shallow now_ms peer_states owners [] = omega arith
+peer_items_shallow now_ms peer_states owners (peer ∷ peers) =
     omega (
       arith,
-      peer_shallow peer (lsps_of owners peer.peer) (delegated_of owners peer.peer) (moments_of now_ms (lookup (nat_eq peer.peer) presences)),
-      peer_items_shallow now_ms presences owners peers,
+      peer_shallow peer (lsps_of owners peer.peer) (delegated_of owners peer.peer) (moments_of now_ms (lookup (nat_eq peer.peer) peer_states)),
+      peer_items_shallow now_ms peer_states owners peers,
     )
 
-pub peers_shallow : (now_ms : ℕ) (presences : List (ℕ × Presence)) (owners : List LspOwner) (peers : List KnownPeer) → depth (peers_json now_ms presences owners peers) ≤ max_depth
-peers_shallow now_ms presences owners peers = omega (arith, peer_items_shallow now_ms presences owners peers)
+pub peers_shallow : (now_ms : ℕ) (peer_states : List (ℕ × PeerState)) (owners : List LspOwner) (peers : List KnownPeer) → depth (peers_json now_ms peer_states owners peers) ≤ max_depth
+peers_shallow now_ms peer_states owners peers = omega (arith, peer_items_shallow now_ms peer_states owners peers)
 
 path_shallow : (n : PathNotes) (x : Path) → depth (path_json n x) ≤ 2
 unfolding path_json
@@ -244,7 +245,7 @@ tickets_shallow ts = omega (arith, ticket_items_shallow ts)
 
 step_shallow : (place : ℕ) (x : KnownStep) → depth (step_json place x) ≤ 1
 unfolding step_json
-step_shallow place x = omega (arith, address_or_shallow x.peer, whole_or_shallow (outcome_number x.outcome))
+step_shallow place x = omega (arith, address_or_shallow x.peer, whole_or_shallow (brief_number x.reply))
 
 step_items_shallow : (first n : ℕ) (xs : List KnownStep) → items_depth (step_items first n xs) ≤ 1
 step_items_shallow first n [] = omega arith
@@ -272,27 +273,27 @@ left_or_shallow (Some room) = omega arith
 pub path_answer_shallow : (a : PathAnswer) (room : Option LinkRoom) (full : List FullLink) → depth (path_answer_json a room full) ≤ max_depth
 path_answer_shallow a room full = omega (arith, obstacle_shallow (obstacle_of a), whole_or_shallow (cost_in a), wholes_shallow (links_in a), whole_or_shallow (link_in room), left_or_shallow room, full_items_shallow full)
 
-left_row_shallow : (r : LeftRow) → depth (left_row_json r) ≤ 1
+left_row_shallow : (r : ResidualRow) → depth (left_row_json r) ≤ 1
 unfolding left_row_json
 left_row_shallow r = omega arith
 
-left_row_items_shallow : (rs : List LeftRow) → items_depth (left_row_items rs) ≤ 1
+left_row_items_shallow : (rs : List ResidualRow) → items_depth (left_row_items rs) ≤ 1
 left_row_items_shallow [] = omega arith
 left_row_items_shallow (r ∷ rs) = omega (arith, left_row_shallow r, left_row_items_shallow rs)
 
-left_rows_shallow : (rs : List LeftRow) → depth (left_rows_or_null rs) ≤ 2
+left_rows_shallow : (rs : List ResidualRow) → depth (left_rows_or_null rs) ≤ 2
 left_rows_shallow [] = omega arith
 left_rows_shallow (r ∷ rs) = omega (arith, left_row_shallow r, left_row_items_shallow rs)
 
-traced_shallow : (x : TracedPath) (age : Age) (left : List LeftRow) → depth (traced_json x age left) ≤ 3
+traced_shallow : (x : TracedPath) (age : Age) (left : List ResidualRow) → depth (traced_json x age left) ≤ 3
 unfolding traced_json
 traced_shallow x age left = omega (arith, whole_or_shallow age.least_ms, whole_or_shallow age.most_ms, whole_or_shallow (lsp_id (x.path).part), whole_or_shallow (srp_id (x.path).part), wholes_shallow (x.path).links, word_or_shallow (origin_word x.origin), whole_or_shallow (origin_step x.origin), whole_or_shallow (origin_ticket x.origin), left_rows_shallow left)
 
-traced_items_shallow : (now_ms : ℕ) (marks : List Mark) (lefts : List LeftRow) (xs : List TracedPath) → items_depth (traced_items now_ms marks lefts xs) ≤ 3
+traced_items_shallow : (now_ms : ℕ) (marks : List Mark) (lefts : List ResidualRow) (xs : List TracedPath) → items_depth (traced_items now_ms marks lefts xs) ≤ 3
 traced_items_shallow now_ms marks lefts [] = omega arith
 traced_items_shallow now_ms marks lefts (x ∷ xs) = omega (arith, traced_shallow x (age_of now_ms marks (origin_step x.origin)) (left_by (origin_step x.origin) lefts), traced_items_shallow now_ms marks lefts xs)
 
-pub origins_or_shallow : (now_ms : ℕ) (marks : List Mark) (lefts : List LeftRow) (o : Option LspOrigins) → depth (origins_or_null now_ms marks lefts o) ≤ max_depth
+pub origins_or_shallow : (now_ms : ℕ) (marks : List Mark) (lefts : List ResidualRow) (o : Option LspOrigins) → depth (origins_or_null now_ms marks lefts o) ≤ max_depth
 origins_or_shallow now_ms marks lefts None = omega arith
 origins_or_shallow now_ms marks lefts (Some o) = omega (arith, traced_items_shallow now_ms marks lefts o.paths.items)
 

@@ -7,7 +7,7 @@ use Rattle.pce_view.specs.declared.better.BetterLsp.{BetterLsp}
 use Rattle.pce_view.specs.Fields.{address, whole_or_null, wholes}
 use Rattle.pce_view.specs.Json.{whole}
 use Rattle.te_snapshot.specs.Network.{NetworkState, network_of}
-use Rattle.pce_seen.specs.declared.moves.Movable.{Movable}
+use Rattle.pce_seen.specs.declared.moves.RerouteInput.{RerouteInput}
 use Rattle.std.specs.List.Sorted.{IsNonDecreasingBy}
 use Rattle.te_snapshot.specs.declared.own.OwnShare.{OwnShare}
 use Rattle.path_looks.specs.Cheaper.{IsCheaper, IsUnbeaten}
@@ -64,14 +64,14 @@ IsBestBy s None own = Unit {0}
 IsBestBy s (Some lsp) None = Unit {0}
 
 -- the same of the LSP at a place of the page, and of what its tunnel holds
-abbrev pub IsBetterAt : Movable → ℕ → BetterLsp → Type 0
+abbrev pub IsBetterAt : RerouteInput → ℕ → BetterLsp → Type 0
 IsBetterAt m place b = IsBetterBy m.snapshot (slice_get (m.page).lsps.items place) (slice_get m.own.items place) b
 
-abbrev pub IsBestAt : Movable → ℕ → Type 0
+abbrev pub IsBestAt : RerouteInput → ℕ → Type 0
 IsBestAt m place = IsBestBy m.snapshot (slice_get (m.page).lsps.items place) (slice_get m.own.items place)
 
 -- of the first n LSPs of the page those for which there is a cheaper path
-pub data Listed (m : Movable) : ℕ → List BetterLsp → Type 0 where
+pub data Listed (m : RerouteInput) : ℕ → List BetterLsp → Type 0 where
   Begins : Listed m 0 []
   Adds : (n : ℕ) (bs : List BetterLsp) (b : BetterLsp) → Listed m n bs → IsBetterAt m n b → Listed m (n + 1) (bs ++ b ∷ [])
   Passes : (n : ℕ) (bs : List BetterLsp) → Listed m n bs → IsBestAt m n → Listed m (n + 1) bs
@@ -81,25 +81,25 @@ abbrev pub missing_gain : BetterLsp → ℕ
 missing_gain b = 2 ^ 64 - 1 - ((b.cheaper).standing - ((b.cheaper).path).cost)
 
 -- all of them, those that gain most first
-pub record IsListing (m : Movable) (found : List BetterLsp) : Type 0 where
+pub record IsListing (m : RerouteInput) (found : List BetterLsp) : Type 0 where
   pub listed : List BetterLsp
   pub each : Listed m (length (m.page).lsps.items) listed
   pub same : IsPermutation listed found
   pub order : IsNonDecreasingBy missing_gain found
 
 -- the delegated LSPs of the page for which a cheaper path is admissible on what was seen, those that gain most first
-pub record IsBetterText (from : ℕ) (m : Movable) (text : List ℕ) : Type 0 where
+pub record IsBetterText (from : ℕ) (m : RerouteInput) (text : List ℕ) : Type 0 where
   pub found : List BetterLsp
   pub listing : IsListing m found
   pub reads : document text ≡ Some (better_page_json from m.page found)
 
 -- a page of LSPs, what the tunnel of each holds, and what the paths leave of each link
-pub record SeesMovable (peer : Option ℕ) (from : ℕ) (d : Content) (seen : Movable) : Type 0 where
+pub record SeesMovable (peer : Option ℕ) (from : ℕ) (d : Content) (seen : RerouteInput) : Type 0 where
   pub page : IsPage d.state.base peer from seen.page
   pub steps : (seen.page).steps ≡ steps_of d
   pub own : seen.own.items ≡ map (own_of d.state) (seen.page).lsps.items
   pub snapshot : seen.snapshot ≡ state_beside (network_of d.state.te) d.state.base.paths
 
 -- the next page of the same peer, if one follows
-abbrev pub next_better : PeerPage → Movable → Option Ask
+abbrev pub next_better : PeerPage → RerouteInput → Option Ask
 next_better q movable = option_map (λ from. ask.Better (record q { from = from })) (movable.page).next

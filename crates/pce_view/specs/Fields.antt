@@ -15,12 +15,13 @@ use Rattle.pce_view.specs.declared.fields.Field.TheVariants as field
 use Rattle.pce_view.specs.declared.fields.Member.{Member}
 use Rattle.path_looks.specs.declared.answer.Obstacle.{Obstacle}
 use Rattle.path_looks.specs.declared.link_room.LinkRoom.{LinkRoom}
-use Rattle.server_counts.specs.declared.kinds.EndReason.{EndReason}
+use Rattle.end_reasons.specs.declared.reason.Reason.{Reason}
 use Rattle.error_words.specs.Errors.{error_words}
+use Rattle.history_core.specs.Briefs.{brief_number, brief_word}
 use Rattle.server_rules.specs.declared.peer_errors.PcErr.{PcErr}
-use Rattle.pce_view.specs.CountedWords.{end_word}
+use Rattle.end_reasons.specs.Reasons.{reason_word}
 use Rattle.pce_view.specs.Json.{whole, signed}
-use Rattle.pce_view.specs.Words.{cost_in, cost_of_path, event_word, is_found, link_in, links_in, links_of_path, lsp_error_word, obstacle_of, obstacle_word, operational_word, origin_step, origin_ticket, origin_word, outcome_number, outcome_word, purpose_name, purpose_plsp, purpose_request, purpose_word, state_word}
+use Rattle.pce_view.specs.Words.{cost_in, cost_of_path, event_word, is_found, link_in, links_in, links_of_path, lsp_error_word, obstacle_of, obstacle_word, operational_word, origin_step, origin_ticket, origin_word, purpose_name, purpose_plsp, purpose_request, purpose_word, state_word}
 
 abbrev pub amounts : List ℤ → Items
 amounts [] = no_items
@@ -88,9 +89,9 @@ left_or_null None = null
 left_or_null (Some room) = signed room.left
 
 -- why a connection ended, where one did
-abbrev pub end_json : Option EndReason → Json
+abbrev pub end_json : Option Reason → Json
 end_json None = null
-end_json (Some reason) = string (end_word reason)
+end_json (Some reason) = string (reason_word reason)
 
 -- a node's name; empty where there is no such node
 abbrev pub name_or_none : Option Node → List ℕ
@@ -135,8 +136,8 @@ field_json (field.PurposePlsp purpose) = whole_or_null (purpose_plsp purpose.now
 field_json (field.PurposeName purpose) = name_or_null (purpose_name purpose.now)
 field_json (field.PurposeRequest purpose) = whole_or_null (purpose_request purpose.now)
 field_json (field.Event event) = string (event_word event)
-field_json (field.Outcome outcome) = string (outcome_word outcome)
-field_json (field.OutcomeNumber outcome) = whole_or_null (outcome_number outcome)
+field_json (field.Reply reply) = string (brief_word reply)
+field_json (field.ReplyNumber reply) = whole_or_null (brief_number reply)
 field_json (field.IsFound answer) = boolean (is_found answer.now)
 field_json (field.ObstacleOf answer) = obstacle_json (obstacle_of answer.now)
 field_json (field.CostOf answer) = whole_or_null (cost_in answer.now)

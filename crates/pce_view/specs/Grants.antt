@@ -19,7 +19,7 @@ use Rattle.pce_seen.specs.Lsps.{passed}
 use Rattle.asks.specs.declared.ask.Ask.{Ask}
 use Rattle.asks.specs.declared.ask.Ask.TheVariants as ask
 use Rattle.asks.specs.declared.ask.PeerPage.{PeerPage}
-use Rattle.pce_view.specs.declared.question.Surroundings.{Surroundings}
+use Rattle.pce_view.specs.declared.question.ServerInfo.{ServerInfo}
 
 -- a grant that stands, and for how long it is unanswered: the PLSP-ID is 0 and the name is that which the LSP is to have, until a report binds it to the LSP
 unfoldable pub grant_json : Option ℕ → KnownGrant → Json
@@ -82,8 +82,8 @@ pub record SeesGrants (peer : Option ℕ) (from : ℕ) (d : Content) (seen : Gra
   pub steps : seen.steps ≡ steps_of d
 
 -- a reader of JSON reads the text as what was seen, with what routers said of it
-abbrev pub ReadsGrants : PeerPage → Surroundings → Heard → GrantPage → List ℕ → Type 0
-ReadsGrants q around heard page text = document text ≡ Some (grants_json q.from around.uptime_ms heard page)
+abbrev pub ReadsGrants : PeerPage → ServerInfo → Heard → GrantPage → List ℕ → Type 0
+ReadsGrants q info heard page text = document text ≡ Some (grants_json q.from info.uptime_ms heard page)
 
 -- the next page of the same peer, if one follows
 abbrev pub next_grants : PeerPage → GrantPage → Option Ask

@@ -1,20 +1,17 @@
 -- `history N`: the last steps of the kept history.
 use Rattle.std.specs.Prelude.{ℕ, ◌+◌, ◌-◌, ◌^◌, min, List, [], ◌∷◌, codes, Option, Some, None, ◌≡◌, length, map, drop}
 use Rattle.json.specs.Json.{Json, string, array, object, Items, no_items, item, no_members, member, document}
-use Rattle.pce_seen.specs.declared.steps.KnownStep.{KnownStep}
+use Rattle.pce_view.specs.declared.history.KnownStep.{KnownStep}
 use Rattle.pce_view.specs.Fields.{address_or_null, whole_or_null}
 use Rattle.pce_view.specs.Json.{whole}
-use Rattle.pce_view.specs.Words.{event_word, outcome_number, outcome_word}
+use Rattle.pce_view.specs.Words.{event_word}
 use Rattle.step_core.specs.declared.event.Event.{Event}
 use Rattle.step_core.specs.declared.event.Event.TheVariants as event
-use Rattle.history_core.specs.declared.step.Brief.{Brief}
-use Rattle.history_core.specs.declared.step.Brief.TheVariants as brief
+use Rattle.history_core.specs.Briefs.{brief_number, brief_word}
 use Rattle.history_core.specs.declared.step.Step.{Step}
-use Rattle.pce_seen.specs.declared.steps.Outcome.{Outcome}
-use Rattle.pce_seen.specs.declared.steps.Outcome.TheVariants as outcome
 use Rattle.database_looks.specs.Steps.{kind_of}
 use Rattle.history_core.specs.Histories.{Content}
-use Rattle.pce_seen.specs.declared.steps.LastSteps.{LastSteps}
+use Rattle.pce_view.specs.declared.history.LastSteps.{LastSteps}
 
 -- a kept step by its place among all steps
 unfoldable pub step_json : ℕ → KnownStep → Json
@@ -22,8 +19,8 @@ step_json place x = object
     (member (codes "step") (whole place)
     (member (codes "event") (string (event_word x.event))
     (member (codes "peer") (address_or_null x.peer)
-    (member (codes "outcome") (string (outcome_word x.outcome))
-    (member (codes "number") (whole_or_null (outcome_number x.outcome))
+    (member (codes "outcome") (string (brief_word x.reply))
+    (member (codes "number") (whole_or_null (brief_number x.reply))
     no_members)))))
 
 -- each step, counted from the number of the first plus this number
@@ -50,24 +47,8 @@ peer_of_event (event.Return peer plsp) = Some peer
 peer_of_event (event.Delete peer plsp) = Some peer
 peer_of_event (event.Reload links) = None
 
-abbrev pub outcome_of : Brief → Outcome
-outcome_of brief.Done = outcome.Done
-outcome_of (brief.Booked wants) = outcome.Booked wants
-outcome_of (brief.Asked ticket) = outcome.Asked ticket
-outcome_of (brief.Job ticket) = outcome.Job ticket
-outcome_of brief.Idle = outcome.Idle
-outcome_of (brief.Granted srp) = outcome.Granted srp
-outcome_of brief.Answered = outcome.Answered
-outcome_of brief.Again = outcome.Again
-outcome_of brief.NoPath = outcome.NoPath
-outcome_of brief.GivenUp = outcome.GivenUp
-outcome_of brief.Gone = outcome.Gone
-outcome_of (brief.Removing srp) = outcome.Removing srp
-outcome_of (brief.Out messages) = outcome.Out messages
-outcome_of (brief.Refused why) = outcome.Refused why
-
 abbrev pub known_step : Step → KnownStep
-known_step x = record { event = kind_of x.event; peer = peer_of_event x.event; outcome = outcome_of x.brief }
+known_step x = record { event = kind_of x.event; peer = peer_of_event x.event; reply = x.brief }
 
 -- the last of the kept steps, `last` at most
 pub record SeesSteps (last : ℕ) (d : Content) (seen : LastSteps) : Type 0 where

@@ -21,4 +21,3 @@ pub mod Grants
 pub mod Path
 pub mod Tunnels
 pub mod Runs
-pub mod CountedWords

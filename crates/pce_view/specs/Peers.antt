@@ -4,10 +4,9 @@ use Rattle.json.specs.Json.{Json, boolean, array, object, Items, no_items, item,
 use Rattle.pce_seen.specs.declared.peers.KnownPeer.{KnownPeer}
 use Rattle.pce_seen.specs.declared.peers.LspOwner.{LspOwner}
 use Rattle.std.specs.Map.{lookup}
-use Rattle.server_counts.specs.declared.kinds.EndReason.{EndReason}
-use Rattle.server_counts.specs.declared.kinds.EndReason.TheVariants as end
-use Rattle.server_counts.specs.declared.presences.LastEnd.{LastEnd}
-use Rattle.server_counts.specs.declared.presences.Presence.{Presence}
+use Rattle.end_reasons.specs.Reasons.{reason_number}
+use Rattle.server_counts.specs.declared.peer_states.LastEnd.{LastEnd}
+use Rattle.server_counts.specs.declared.peer_states.PeerState.{PeerState}
 use Rattle.pce_view.specs.declared.moments.Moments.{Moments}
 use Rattle.pce_view.specs.Fields.{address, end_json, whole_or_null}
 use Rattle.pce_view.specs.Json.{whole}
@@ -15,7 +14,7 @@ use Rattle.lsp_base.specs.declared.effect.Record.{Record}
 use Rattle.step_core.specs.declared.peer.Peer.{Peer}
 use Rattle.history_core.specs.Histories.{Content}
 use Rattle.pce_seen.specs.declared.peers.SeenPeers.{SeenPeers}
-use Rattle.pce_view.specs.declared.question.Surroundings.{Surroundings}
+use Rattle.pce_view.specs.declared.question.ServerInfo.{ServerInfo}
 
 -- how many LSPs are the peer's, and how many of these are delegated
 abbrev pub lsps_of : List LspOwner → ℕ → ℕ
@@ -24,18 +23,12 @@ lsps_of owners peer = count_by (λ o. o.peer == peer) owners
 abbrev pub delegated_of : List LspOwner → ℕ → ℕ
 delegated_of owners peer = count_by (λ o. o.peer == peer && o.is_delegated) owners
 
--- the number of the refusal or of the Close by which a connection ended
-abbrev pub end_number : EndReason → Option ℕ
-end_number (end.Closed number) = Some number
-end_number (end.Refused number) = Some number
-end_number _ = None
-
 abbrev pub ended_at : ℕ → Option LastEnd → Moments
 ended_at now_ms None = record { since_ms_ago = None; end_ms_ago = None; end = None; number = None }
-ended_at now_ms (Some e) = record { since_ms_ago = None; end_ms_ago = Some (now_ms - e.at_ms); end = Some e.reason; number = end_number e.reason }
+ended_at now_ms (Some e) = record { since_ms_ago = None; end_ms_ago = Some (now_ms - e.at_ms); end = Some e.reason; number = reason_number e.reason }
 
 -- how long ago a peer came up or went down, and how long ago its last connection ended, and why
-abbrev pub moments_of : ℕ → Option Presence → Moments
+abbrev pub moments_of : ℕ → Option PeerState → Moments
 moments_of now_ms None = ended_at now_ms None
 moments_of now_ms (Some v) = record (ended_at now_ms v.last_end) { since_ms_ago = Some (now_ms - v.since_ms) }
 
@@ -57,16 +50,16 @@ counted_json p lsps delegated m = object
     no_members)))))))))))))
 
 -- a peer with its session, and how many LSPs are its own
-abbrev pub peer_json : ℕ → List (ℕ × Presence) → List LspOwner → KnownPeer → Json
-peer_json now_ms presences owners p =
-    counted_json p (lsps_of owners p.peer) (delegated_of owners p.peer) (moments_of now_ms (lookup (nat_eq p.peer) presences))
+abbrev pub peer_json : ℕ → List (ℕ × PeerState) → List LspOwner → KnownPeer → Json
+peer_json now_ms peer_states owners p =
+    counted_json p (lsps_of owners p.peer) (delegated_of owners p.peer) (moments_of now_ms (lookup (nat_eq p.peer) peer_states))
 
-abbrev pub peer_items : ℕ → List (ℕ × Presence) → List LspOwner → List KnownPeer → Items
-peer_items now_ms presences owners [] = no_items
-peer_items now_ms presences owners (peer ∷ peers) = item (peer_json now_ms presences owners peer) (peer_items now_ms presences owners peers)
+abbrev pub peer_items : ℕ → List (ℕ × PeerState) → List LspOwner → List KnownPeer → Items
+peer_items now_ms peer_states owners [] = no_items
+peer_items now_ms peer_states owners (peer ∷ peers) = item (peer_json now_ms peer_states owners peer) (peer_items now_ms peer_states owners peers)
 
-abbrev pub peers_json : ℕ → List (ℕ × Presence) → List LspOwner → List KnownPeer → Json
-peers_json now_ms presences owners peers = object (member (codes "peers") (array (peer_items now_ms presences owners peers)) no_members)
+abbrev pub peers_json : ℕ → List (ℕ × PeerState) → List LspOwner → List KnownPeer → Json
+peers_json now_ms peer_states owners peers = object (member (codes "peers") (array (peer_items now_ms peer_states owners peers)) no_members)
 
 -- a peer with its last session
 abbrev pub known_peer : Peer → KnownPeer
@@ -89,5 +82,5 @@ pub record SeesPeers (d : Content) (seen : SeenPeers) : Type 0 where
   pub lsps : seen.lsps.items ≡ map owner_of_lsp d.state.base.records
 
 -- a reader of JSON reads the text as what was seen
-abbrev pub ReadsPeers : Surroundings → SeenPeers → List ℕ → Type 0
-ReadsPeers around peers text = document text ≡ Some (peers_json around.uptime_ms around.presences.now peers.lsps.items peers.peers.items)
+abbrev pub ReadsPeers : ServerInfo → SeenPeers → List ℕ → Type 0
+ReadsPeers info peers text = document text ≡ Some (peers_json info.uptime_ms info.peer_states.now peers.lsps.items peers.peers.items)

@@ -3,7 +3,7 @@ use Rattle.std.specs.Prelude.{ℕ, List, codes, Some, ◌≡◌}
 use Rattle.json.specs.Json.{Json, string, object, no_members, member, document}
 use Rattle.pce_seen.specs.declared.seen.Counts.{Counts}
 use Rattle.pce_view.specs.Json.{whole}
-use Rattle.pce_view.specs.declared.question.Surroundings.{Surroundings}
+use Rattle.pce_view.specs.declared.question.ServerInfo.{ServerInfo}
 
 -- how much there is of what
 unfoldable pub status_json : List ℕ → ℕ → Counts → Json
@@ -24,5 +24,5 @@ status_json version uptime counts = object
     no_members)))))))))))))
 
 -- a reader of JSON reads the text as what was seen
-abbrev pub ReadsStatus : Surroundings → Counts → List ℕ → Type 0
-ReadsStatus around counts text = document text ≡ Some (status_json around.version.now around.uptime_ms counts)
+abbrev pub ReadsStatus : ServerInfo → Counts → List ℕ → Type 0
+ReadsStatus info counts text = document text ≡ Some (status_json info.version.now info.uptime_ms counts)

@@ -7,7 +7,7 @@ use Rattle.pce_view.specs.Fields.{address, whole_or_null, wholes}
 use Rattle.pce_view.specs.Json.{whole}
 use Rattle.pce_view.specs.Words.{cost_of_path, links_of_path}
 use Rattle.lsp_base.specs.declared.lsp.Constraints.{Constraints}
-use Rattle.pce_seen.specs.declared.moves.Displaced.{Displaced}
+use Rattle.pce_seen.specs.declared.moves.OutageInput.{OutageInput}
 use Rattle.std.specs.List.Sorted.{IsNonDecreasingBy}
 use Rattle.te_snapshot.specs.declared.own.OwnShare.{OwnShare}
 use Rattle.path_looks.specs.Moves.{Tried, without_link}
@@ -56,7 +56,7 @@ movers_of (lsp ∷ lsps) [] = []
 movers_of (lsp ∷ lsps) (own ∷ owns) = mover_of lsp own ∷ movers_of lsps owns
 
 -- each LSP over the link in turn, the best setup priority first, is tried as if the link had nothing left
-pub record IsRun (link : ℕ) (x : Displaced) (moves : List Move) : Type 0 where
+pub record IsRun (link : ℕ) (x : OutageInput) (moves : List Move) : Type 0 where
   pub movers : List Mover
   pub each : IsPermutation (movers_of x.lsps.items x.own.items) movers
   pub order : IsNonDecreasingBy (λ m. ((m.wanted).priorities).setup) movers
@@ -64,22 +64,22 @@ pub record IsRun (link : ℕ) (x : Displaced) (moves : List Move) : Type 0 where
   pub tried : Tried (x.snapshot).network link (without_link link (x.snapshot).unreserved) movers moves left
 
 -- where the LSPs over a link would go if it went away
-pub record IsRunText (link : ℕ) (x : Displaced) (text : List ℕ) : Type 0 where
+pub record IsRunText (link : ℕ) (x : OutageInput) (text : List ℕ) : Type 0 where
   pub moves : List Move
   pub run : IsRun link x moves
   pub reads : document text ≡ Some (run_json link x.rest moves)
 
-abbrev pub IsRunOrNull : ℕ → Option Displaced → List ℕ → Type 0
+abbrev pub IsRunOrNull : ℕ → Option OutageInput → List ℕ → Type 0
 IsRunOrNull link None text = document text ≡ Some null
 IsRunOrNull link (Some x) text = IsRunText link x text
 
 -- the first LSPs over a link, what the tunnel of each holds, and what the paths leave of each link
-pub record IsDisplaced (link : ℕ) (d : Content) (seen : Displaced) : Type 0 where
+pub record IsDisplaced (link : ℕ) (d : Content) (seen : OutageInput) : Type 0 where
   pub lsps : AreOver d.state.base link seen.lsps.items seen.rest
   pub own : seen.own.items ≡ map (own_of d.state) seen.lsps.items
   pub snapshot : seen.snapshot ≡ state_beside (network_of d.state.te) d.state.base.paths
 
 -- the link of a number, if there is such a one
-abbrev pub SeesDisplaced : ℕ → Content → Option Displaced → Type 0
+abbrev pub SeesDisplaced : ℕ → Content → Option OutageInput → Type 0
 SeesDisplaced link d None = length d.state.te.links ≤ link
 SeesDisplaced link d (Some seen) = IsDisplaced link d seen

@@ -1,14 +1,11 @@
 -- Words for what is seen.
 use Rattle.std.specs.Prelude.{ℕ, ◌==◌, Bool, true, false, List, [], codes, Option, Some, None, if◌then◌else◌}
-use Rattle.lsp_base.specs.Whys.{number_of}
 use Rattle.commit_core.specs.declared.ticket.Purpose.{Purpose}
 use Rattle.commit_core.specs.declared.ticket.Purpose.TheVariants.{Update, Initiate, Answer}
 use Rattle.pce_seen.specs.declared.origins.Origin.{Origin}
 use Rattle.pce_seen.specs.declared.origins.Origin.TheVariants as origin
 use Rattle.pce_seen.specs.declared.steps.EventKind.{EventKind}
 use Rattle.pce_seen.specs.declared.steps.EventKind.TheVariants as kind
-use Rattle.pce_seen.specs.declared.steps.Outcome.{Outcome}
-use Rattle.pce_seen.specs.declared.steps.Outcome.TheVariants as outcome
 use Rattle.path_looks.specs.declared.answer.Obstacle.{Obstacle}
 use Rattle.path_looks.specs.declared.answer.Obstacle.TheVariants as obstacle
 use Rattle.path_finder.specs.declared.found.Found.{Found}
@@ -55,43 +52,6 @@ event_word kind.Refused = codes "refused"
 event_word kind.Return = codes "return"
 event_word kind.Delete = codes "delete"
 event_word kind.Reload = codes "reload"
-
-abbrev pub booked_word : Bool → List ℕ
-booked_word false = codes "booked"
-booked_word true = codes "booked wants"
-
-abbrev pub outcome_word : Outcome → List ℕ
-outcome_word outcome.Done = codes "done"
-outcome_word (outcome.Booked wants) = booked_word wants
-outcome_word (outcome.Asked ticket) = codes "asked"
-outcome_word (outcome.Job ticket) = codes "job"
-outcome_word outcome.Idle = codes "idle"
-outcome_word (outcome.Granted srp) = codes "granted"
-outcome_word outcome.Answered = codes "answered"
-outcome_word outcome.Again = codes "again"
-outcome_word outcome.NoPath = codes "nopath"
-outcome_word outcome.GivenUp = codes "givenup"
-outcome_word outcome.Gone = codes "gone"
-outcome_word (outcome.Removing srp) = codes "removing"
-outcome_word (outcome.Out messages) = codes "out"
-outcome_word (outcome.Refused why) = codes "refused"
-
--- the number of a ticket or a request, how many messages there are, or why it was refused
-abbrev pub outcome_number : Outcome → Option ℕ
-outcome_number outcome.Done = None
-outcome_number (outcome.Booked wants) = None
-outcome_number (outcome.Asked ticket) = Some ticket
-outcome_number (outcome.Job ticket) = Some ticket
-outcome_number outcome.Idle = None
-outcome_number (outcome.Granted srp) = Some srp
-outcome_number outcome.Answered = None
-outcome_number outcome.Again = None
-outcome_number outcome.NoPath = None
-outcome_number outcome.GivenUp = None
-outcome_number outcome.Gone = None
-outcome_number (outcome.Removing srp) = Some srp
-outcome_number (outcome.Out messages) = Some messages
-outcome_number (outcome.Refused why) = Some (number_of why)
 
 abbrev pub obstacle_word : Obstacle → List ℕ
 obstacle_word obstacle.Bandwidth = codes "bandwidth"

@@ -11,7 +11,8 @@ pub(crate) struct Age {
     pub most_ms: Option<u64>,
 }
 
-/// By the first mark that counts the step it was taken. Where none does, it may have been taken just now.
+/// Returns how long ago a step was taken at least: it was taken before the first mark that counts it. If none does, it may
+/// have been taken just now.
 fn least_ms(now_ms: u64, mark: Option<Mark>) -> u64
     ensures { result ≡ least_ms now_ms mark }
 {
@@ -21,7 +22,7 @@ fn least_ms(now_ms: u64, mark: Option<Mark>) -> u64
     }
 }
 
-/// It was taken after the last mark that doesn't count it.
+/// Returns how long ago a step was taken at most: it was taken after the last mark that doesn't count it.
 fn most_ms(now_ms: u64, mark: Option<Mark>) -> Option<u64>
     ensures { result ≡ most_ms now_ms mark }
 {

@@ -10,13 +10,13 @@ ghost use Rattle.pce_view.specs.Better.{IsBestAt, IsBestFor, IsBetterAt, IsBette
 use crate::closing::closed;
 use crate::fields::{Field, Member, begin_with, put_object};
 use crate::heard::Heard;
-use crate::question::{Question, Surroundings};
+use crate::question::{Question, ServerInfo};
 use asks::{Ask, PeerPage};
 use database_looks::{Look, page_at, with_own};
 use history_core::Database;
 use json::Writer;
 use path_looks::{Cheaper, cheaper_path};
-use pce_seen::{KnownLsp, LspPage, Movable};
+use pce_seen::{KnownLsp, LspPage, RerouteInput};
 use pcep_objects::Plsp;
 use pcep_word::Ipv4;
 use std::alloc::{AllocError, Global};
@@ -24,11 +24,11 @@ use std::fmt::Write;
 use table_text::add_numbers;
 use te_snapshot::{OwnShares, Snapshot};
 
-fn movable(page: LspPage, seen: (Snapshot, Vec<OwnShares>)) -> Movable
+fn movable(page: LspPage, seen: (Snapshot, Vec<OwnShares>)) -> RerouteInput
     ensures { result ≡ record { snapshot = seen.0; page = page; own = seen.1 } }
 {
     let (snapshot, own) = seen;
-    Movable {
+    RerouteInput {
         snapshot,
         page,
         own,
@@ -68,7 +68,11 @@ fn better_for(
 }
 
 /// Searches for a cheaper path of the LSP at a place.
-fn better_at(alloc: Global, seen: &Movable, place: usize) -> Result<Option<BetterLsp>, AllocError>
+fn better_at(
+    alloc: Global,
+    seen: &RerouteInput,
+    place: usize,
+) -> Result<Option<BetterLsp>, AllocError>
     ensures better { IfOk result (λ found. IfSome found (IsBetterAt seen.now place)) }
     ensures best { IfOk result (λ found. IfNone found (IsBestAt seen.now place)) }
 {
@@ -81,7 +85,7 @@ fn better_at(alloc: Global, seen: &Movable, place: usize) -> Result<Option<Bette
 /// Adds the LSP at a place, where there is a cheaper path for it.
 fn add_better_at(
     alloc: Global,
-    seen: &Movable,
+    seen: &RerouteInput,
     place: usize,
     found: &mut Vec<BetterLsp>,
 ) -> Result<(), AllocError>
@@ -94,7 +98,7 @@ fn add_better_at(
 }
 
 /// Searches for a cheaper path of each LSP.
-fn each_better(alloc: Global, seen: &Movable) -> Result<Vec<BetterLsp>, AllocError>
+fn each_better(alloc: Global, seen: &RerouteInput) -> Result<Vec<BetterLsp>, AllocError>
     ensures { IfOk result (λ found. Listed seen.now (length (seen.now.page).lsps.items) found.items) }
 {
     let mut found = Vec::new(alloc);
@@ -105,7 +109,7 @@ fn each_better(alloc: Global, seen: &Movable) -> Result<Vec<BetterLsp>, AllocErr
 }
 
 /// Lists the delegated LSPs for which a cheaper path is admissible, those that gain most first.
-pub(crate) fn better_of(alloc: Global, seen: &Movable) -> Result<Vec<BetterLsp>, AllocError>
+pub(crate) fn better_of(alloc: Global, seen: &RerouteInput) -> Result<Vec<BetterLsp>, AllocError>
     ensures { IfOk result (λ found. IsListing seen.now found.items) }
 {
     let mut found = each_better(alloc, seen)?;
@@ -208,11 +212,11 @@ pub struct Better(pub PeerPage);
 impl Look for Better {
     ghost use Rattle.pce_view.specs.Better.{SeesMovable};
 
-    type Seen = Movable;
+    type Seen = RerouteInput;
 
     ghost sees = { λ q d seen. SeesMovable q.0.peer q.0.from d seen };
 
-    fn see(&self, alloc: Global, database: &Database) -> Result<Movable, AllocError> {
+    fn see(&self, alloc: Global, database: &Database) -> Result<RerouteInput, AllocError> {
         let page = page_at(alloc, database, self.0.peer, self.0.from)?;
         match with_own(alloc, database, &page.lsps) {
             Ok(seen) => Ok(movable(page, seen)),
@@ -234,9 +238,9 @@ impl Question for Better {
     fn json(
         &self,
         alloc: Global,
-        _around: &Surroundings<'_>,
+        _around: &ServerInfo<'_>,
         _heard: &Heard,
-        seen: &Movable,
+        seen: &RerouteInput,
     ) -> Result<Vec<u8>, AllocError> {
         let found = better_of(alloc, seen)?;
         better_page_text(alloc, self.0.from, &seen.page, &found)
@@ -246,9 +250,9 @@ impl Question for Better {
         &self,
         alloc: Global,
         text: &mut String,
-        _around: &Surroundings<'_>,
+        _around: &ServerInfo<'_>,
         _heard: &Heard,
-        seen: &Movable,
+        seen: &RerouteInput,
     ) -> Result<(), AllocError> {
         if self.0.from == 0 {
             text.push_str("PEER\tPLSP\tCOST\tBETTER\tLINKS\n")?;
@@ -260,7 +264,7 @@ impl Question for Better {
         Ok(())
     }
 
-    fn next(&self, seen: &Movable) -> Option<Ask> {
+    fn next(&self, seen: &RerouteInput) -> Option<Ask> {
         match seen.page.next {
             Some(from) => Some(Ask::Better(PeerPage { from, ..self.0 })),
             None => None,

@@ -7,23 +7,23 @@ ghost use Rattle.json.specs.Token.{end_object};
 ghost use Rattle.pce_view.specs.Words.{lsp_error_word, operational_word, origin_word, purpose_name, state_word};
 ghost use Rattle.pce_view.specs.Fields.{address, address_or_null, amounts, end_json, field_json, is_down, is_granted, left_or_null, lsp_id, members_json, members_then, name_at, name_or_null, obstacle_json, refusal_words, srp_id, text_or_null, whole_or_null, wholes, word_or_null};
 
-use crate::counted_words::end_word;
 use crate::states::LspState;
 use crate::words::{
     cost_in, cost_of_path, event_word, is_found, link_in, links_in, links_of_path, lsp_error_word,
     obstacle_of, obstacle_word, operational_word, origin_step, origin_ticket, origin_word,
-    outcome_number, outcome_word, purpose_plsp, purpose_request, purpose_word, state_word,
+    purpose_plsp, purpose_request, purpose_word, state_word,
 };
 use commit_core::{LspName, Purpose};
+use end_reasons::Reason;
 use error_words::error_words;
+use history_core::Brief;
 use json::Writer;
 use lsp_base::{Part, Path};
 use path_looks::{Found, LinkRoom, Obstacle, PathAnswer};
-use pce_seen::{EventKind, Origin, Outcome};
+use pce_seen::{EventKind, Origin};
 use pcep_objects::Plsp;
 use pcep_word::{Bandwidth, Ipv4, Priorities, Priority};
 use sequence::Sequence;
-use server_counts::EndReason;
 use server_rules::{Operational, PcErr};
 use std::alloc::{AllocError, Global};
 use std::str;
@@ -75,15 +75,15 @@ pub(crate) enum Field<'a> {
     /// The name that an LSP is to have, if it waits for one.
     NameOr(&'a Option<LspName>),
     /// Why a connection ended.
-    EndOf(Option<EndReason>),
+    EndOf(Option<Reason>),
     /// What a ticket asks a path for.
     PurposeWord(&'a Purpose),
     PurposePlsp(&'a Purpose),
     PurposeName(&'a Purpose),
     PurposeRequest(&'a Purpose),
     Event(EventKind),
-    Outcome(Outcome),
-    OutcomeNumber(Outcome),
+    Reply(Brief),
+    ReplyNumber(Brief),
     IsFound(&'a PathAnswer),
     ObstacleOf(&'a PathAnswer),
     CostOf(&'a PathAnswer),
@@ -184,7 +184,7 @@ fn put_peer_or(alloc: Global, writer: &mut Writer, peer: Option<u32>) -> Result<
     }
 }
 
-/// The LSP ID of a path that the peer reported.
+/// Returns the LSP-ID of a path that the peer reported.
 pub(crate) fn lsp_id(part: Part) -> Option<u64>
     ensures { result ≡ lsp_id part }
 {
@@ -194,7 +194,7 @@ pub(crate) fn lsp_id(part: Part) -> Option<u64>
     }
 }
 
-/// The SRP-ID of a path that was granted.
+/// Returns the SRP-ID of a path that was granted.
 pub(crate) fn srp_id(part: Part) -> Option<u64>
     ensures { result ≡ srp_id part }
 {
@@ -221,7 +221,7 @@ pub(crate) fn is_down(paths: &[Path]) -> bool
     paths.iter().all(|path| is_granted(path.part) || path.links.as_slice().is_empty())
 }
 
-/// The name of a node; empty where there is no such node.
+/// Returns the name of a node, which is empty if there is no such node.
 pub fn name_at(nodes: &[Node], number: usize) -> &str
     ensures { result.now ≡ name_at nodes.now number }
 {
@@ -251,12 +251,12 @@ fn put_name_or(writer: &mut Writer, name: &Option<LspName>) -> Result<(), AllocE
     }
 }
 
-fn put_end(writer: &mut Writer, reason: Option<EndReason>) -> Result<(), AllocError>
+fn put_end(writer: &mut Writer, reason: Option<Reason>) -> Result<(), AllocError>
     ensures before { writer.new.before ≡ writer.old.before }
     ensures written { OnOk result (writer.new.tokens ≡ writer.old.tokens ++ json_tokens (end_json reason)) }
 {
     match reason {
-        Some(reason) => writer.string(end_word(reason)),
+        Some(reason) => writer.string(reason.word()),
         None => writer.null(),
     }
 }
@@ -376,8 +376,8 @@ fn put_value(alloc: Global, writer: &mut Writer, value: &Field<'_>) -> Result<()
         Field::PurposeName(purpose) => put_purpose_name(writer, purpose),
         Field::PurposeRequest(purpose) => put_whole_or(writer, purpose_request(purpose)),
         Field::Event(event) => writer.string(event_word(*event)),
-        Field::Outcome(outcome) => writer.string(outcome_word(*outcome)),
-        Field::OutcomeNumber(outcome) => put_whole_or(writer, outcome_number(*outcome)),
+        Field::Reply(reply) => writer.string(reply.word()),
+        Field::ReplyNumber(reply) => put_whole_or(writer, reply.number()),
         Field::IsFound(answer) => writer.boolean(is_found(answer)),
         Field::ObstacleOf(answer) => put_obstacle(writer, obstacle_of(answer)),
         Field::CostOf(answer) => put_whole_or(writer, cost_in(answer)),

@@ -10,7 +10,7 @@ use crate::closing::closed;
 use crate::columns::add_ago;
 use crate::fields::{Field, Member, put_object, put_whole_or, srp_id};
 use crate::heard::{Heard, Said};
-use crate::question::{Question, Surroundings};
+use crate::question::{Question, ServerInfo};
 use crate::unanswered::unanswered_ms;
 use asks::{Ask, PeerPage};
 use commit_core::LspName;
@@ -308,7 +308,7 @@ impl Look for Grants {
 impl Question for Grants {
     ghost use Rattle.pce_view.specs.Grants.{next_grants, ReadsGrants};
 
-    ghost reads = { λ q around heard seen text. ReadsGrants q.0 around heard seen text };
+    ghost reads = { λ q info heard seen text. ReadsGrants q.0 info heard seen text };
 
     ghost followed_by = { λ q seen. next_grants q.0 seen };
 
@@ -322,11 +322,11 @@ impl Question for Grants {
     fn json(
         &self,
         alloc: Global,
-        around: &Surroundings<'_>,
+        info: &ServerInfo<'_>,
         heard: &Heard,
         seen: &GrantPage,
     ) -> Result<Vec<u8>, AllocError> {
-        let now_ms = around.uptime_ms;
+        let now_ms = info.uptime_ms;
         let mut writer = Writer::new(Vec::new(alloc));
         put_page(alloc, &mut writer, self.0.from, now_ms, heard, seen)?;
         Ok(closed(writer))
@@ -336,14 +336,14 @@ impl Question for Grants {
         &self,
         _alloc: Global,
         text: &mut String,
-        around: &Surroundings<'_>,
+        info: &ServerInfo<'_>,
         heard: &Heard,
         seen: &GrantPage,
     ) -> Result<(), AllocError> {
         if self.0.from == 0 {
             text.push_str(GRANT_HEAD)?;
         }
-        let now_ms = around.uptime_ms;
+        let now_ms = info.uptime_ms;
         for (place, grant) in seen.grants.iter().enumerate() {
             let unanswered = unanswered_ms(now_ms, &heard.grants_since_ms, place);
             add_grant_line(text, unanswered, grant)?;

@@ -34,7 +34,7 @@ pub enum Said<'a> {
     Pending(&'a PendingTable),
 }
 
-/// The key of a path that its router reported.
+/// Returns the key of a path that its router reported.
 fn key_of(path: &Path) -> Option<PathKey> {
     match path.part {
         Part::Reported(lsp) => Some(PathKey {
@@ -77,7 +77,7 @@ fn hear_error(
     }
 }
 
-/// When the request of a path was made or last named by a report, if it was granted.
+/// Returns when the request of a path was made or last named by a report, if the path was granted.
 fn since_at(table: &PendingTable, peer: u32, part: Part) -> Option<u64>
     ensures { result ≡ since_at table.now peer part }
 {
@@ -87,7 +87,7 @@ fn since_at(table: &PendingTable, peer: u32, part: Part) -> Option<u64>
     }
 }
 
-/// When each grant was made or last named by a report.
+/// Returns when each grant was made or last named by a report.
 fn grants_since(
     alloc: Global,
     table: &PendingTable,
@@ -102,7 +102,7 @@ fn grants_since(
     Ok(since)
 }
 
-/// When each awaited deletion was made or last named by a report.
+/// Returns when each awaited deletion was made or last named by a report.
 fn deletions_since(
     alloc: Global,
     table: &PendingTable,
@@ -122,7 +122,7 @@ fn deletions_since(
 }
 
 impl Heard {
-    /// Nothing was said. Takes no memory.
+    /// Makes a value for which nothing was said. It takes no memory.
     pub fn nothing(alloc: Global) -> Heard {
         Heard {
             words: PathWords::new(alloc),

@@ -1,7 +1,7 @@
 //! `history N`: the last steps of the kept history.
 ghost use Rattle.std.specs.Prelude.{◌≡◌, ◌-◌, map, IfOk, ◌++◌, Some, OnOk};
 ghost use Rattle.database_looks.specs.Steps.{kind_of};
-ghost use Rattle.pce_view.specs.History.{known_step, outcome_of, peer_of_event};
+ghost use Rattle.pce_view.specs.History.{known_step, peer_of_event};
 ghost use Rattle.pce_view.specs.History.{SeesSteps};
 ghost use Rattle.json.specs.Tree.{json_tokens};
 ghost use Rattle.json.specs.Json.{array};
@@ -10,17 +10,33 @@ ghost use Rattle.pce_view.specs.History.{step_items, step_json, steps_json};
 use crate::closing::closed;
 use crate::fields::{Field, Member, put_object};
 use crate::heard::Heard;
-use crate::question::{Question, Surroundings};
-use crate::words::{event_word, outcome_number, outcome_word};
+use crate::question::{Question, ServerInfo};
+use crate::words::event_word;
 use asks::Ask;
 use database_looks::{Look, kind_of};
 use history_core::{Brief, Database, Step};
 use json::Writer;
-use pce_seen::{KnownStep, LastSteps, Outcome};
+use pce_seen::EventKind;
 use pcep_word::Ipv4;
 use std::alloc::{AllocError, Global};
 use std::fmt::Write;
 use step_core::Event;
+
+/// A kept step: the kind of its event, the peer that the event is of, and its reply.
+#[derive(Clone, Copy)]
+pub struct KnownStep {
+    pub event: EventKind,
+    pub peer: Option<u32>,
+    pub reply: Brief,
+}
+
+/// The last kept steps, oldest first.
+#[derive(Drop)]
+pub struct LastSteps {
+    /// The place of the first of them among all steps that were ever taken.
+    pub first: u64,
+    pub steps: Vec<KnownStep>,
+}
 
 /// Names the peer that the event itself names, if it names one.
 fn peer_of(event: &Event) -> Option<u32>
@@ -41,27 +57,6 @@ fn peer_of(event: &Event) -> Option<u32>
     }
 }
 
-fn outcome_of(brief: Brief) -> Outcome
-    ensures { result ≡ outcome_of brief }
-{
-    match brief {
-        Brief::Done => Outcome::Done,
-        Brief::Booked { wants_path } => Outcome::Booked { wants_path },
-        Brief::Asked(ticket) => Outcome::Asked(ticket),
-        Brief::Job(ticket) => Outcome::Job(ticket),
-        Brief::Idle => Outcome::Idle,
-        Brief::Granted(srp) => Outcome::Granted(srp),
-        Brief::Answered => Outcome::Answered,
-        Brief::Again => Outcome::Again,
-        Brief::NoPath => Outcome::NoPath,
-        Brief::GivenUp => Outcome::GivenUp,
-        Brief::Gone => Outcome::Gone,
-        Brief::Removing(srp) => Outcome::Removing(srp),
-        Brief::Out { messages } => Outcome::Out { messages },
-        Brief::Refused(why) => Outcome::Refused(why),
-    }
-}
-
 fn known_step(step: &Step) -> KnownStep
     ensures { result ≡ known_step step.now }
 {
@@ -69,7 +64,7 @@ fn known_step(step: &Step) -> KnownStep
     KnownStep {
         event: kind_of(event),
         peer: peer_of(event),
-        outcome: outcome_of(step.brief),
+        reply: step.brief,
     }
 }
 
@@ -107,8 +102,8 @@ fn put_step(
             Member("step", Field::Whole(place)),
             Member("event", Field::Event(step.event)),
             Member("peer", Field::PeerOr(step.peer)),
-            Member("outcome", Field::Outcome(step.outcome)),
-            Member("number", Field::OutcomeNumber(step.outcome)),
+            Member("outcome", Field::Reply(step.reply)),
+            Member("number", Field::ReplyNumber(step.reply)),
         ],
     )
 }
@@ -141,7 +136,6 @@ fn put_all(alloc: Global, writer: &mut Writer, seen: &LastSteps) -> Result<(), A
 
 fn add_step(text: &mut String, place: u64, step: &KnownStep) -> Result<(), AllocError> {
     let event = event_word(step.event);
-    let outcome = outcome_word(step.outcome);
     write!(text, "{place}\t{event}\t")?;
     match step.peer {
         Some(peer) => {
@@ -150,8 +144,8 @@ fn add_step(text: &mut String, place: u64, step: &KnownStep) -> Result<(), Alloc
         }
         None => text.push_str("-\t")?,
     }
-    text.push_str(outcome)?;
-    if let Some(number) = outcome_number(step.outcome) {
+    text.push_str(step.reply.word())?;
+    if let Some(number) = step.reply.number() {
         write!(text, " {number}")?;
     }
     text.push('\n')
@@ -186,7 +180,7 @@ impl Question for History {
     fn json(
         &self,
         alloc: Global,
-        _around: &Surroundings<'_>,
+        _around: &ServerInfo<'_>,
         _heard: &Heard,
         seen: &LastSteps,
     ) -> Result<Vec<u8>, AllocError> {
@@ -199,7 +193,7 @@ impl Question for History {
         &self,
         _alloc: Global,
         text: &mut String,
-        _around: &Surroundings<'_>,
+        _around: &ServerInfo<'_>,
         _heard: &Heard,
         seen: &LastSteps,
     ) -> Result<(), AllocError> {

@@ -6,15 +6,15 @@ ghost use Rattle.pce_view.specs.Why.{left_by, left_row_items, left_row_json, lef
 
 use crate::fields::{Field, Member, put_object};
 use json::Writer;
-use server_counts::{LeftRow, rows_of};
+use server_counts::{ResidualRow, rows_of};
 use std::alloc::{AllocError, Global};
 
 /// Copies the rows of the step by which a path came.
 pub(crate) fn left_by(
     alloc: Global,
-    rows: &[LeftRow],
+    rows: &[ResidualRow],
     step: Option<u64>,
-) -> Result<Vec<LeftRow>, AllocError>
+) -> Result<Vec<ResidualRow>, AllocError>
     ensures { IfOk result (λ left. left.items ≡ left_by step rows.now) }
 {
     match step {
@@ -24,7 +24,7 @@ pub(crate) fn left_by(
 }
 
 #[tactic(auto, unfolding(crate::specs::Why::left_row_json))]
-fn put_row(alloc: Global, writer: &mut Writer, row: &LeftRow) -> Result<(), AllocError>
+fn put_row(alloc: Global, writer: &mut Writer, row: &ResidualRow) -> Result<(), AllocError>
     ensures before { writer.new.before ≡ writer.old.before }
     ensures written { OnOk result (writer.new.tokens ≡ writer.old.tokens ++ json_tokens (left_row_json row.now)) }
 {
@@ -40,7 +40,7 @@ fn put_row(alloc: Global, writer: &mut Writer, row: &LeftRow) -> Result<(), Allo
     )
 }
 
-fn put_each_row(alloc: Global, writer: &mut Writer, rows: &[LeftRow]) -> Result<(), AllocError>
+fn put_each_row(alloc: Global, writer: &mut Writer, rows: &[ResidualRow]) -> Result<(), AllocError>
     ensures before { writer.new.before ≡ writer.old.before }
     ensures written { OnOk result (writer.new.tokens ≡ writer.old.tokens ++ json_tokens (array (left_row_items rows.now))) }
 {
@@ -55,7 +55,7 @@ fn put_each_row(alloc: Global, writer: &mut Writer, rows: &[LeftRow]) -> Result<
 pub(crate) fn put_rows_or(
     alloc: Global,
     writer: &mut Writer,
-    rows: &[LeftRow],
+    rows: &[ResidualRow],
 ) -> Result<(), AllocError>
     ensures before { writer.new.before ≡ writer.old.before }
     ensures written { OnOk result (writer.new.tokens ≡ writer.old.tokens ++ json_tokens (left_rows_or_null rows.now)) }

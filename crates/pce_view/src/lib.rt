@@ -12,13 +12,12 @@
 //! - `origins`: by which kept steps the paths of an LSP came (`specs/Origins.antt`)
 //! - `runs`: equal numbers in a row
 //! - `columns`: cells of tables, in the texts of `table_text`
-//! - `counted_words`: words for why connections end
 //! - `shown_states`: what metrics count of LSPs (`metrics_text`)
 //!
 //! ```text
 //! fn status_of(alloc: Global, counts: Counts) -> Result<Vec<u8>, AllocError> {
-//!     let around = Surroundings { version: "1.0", logic: "", commit: "", uptime_ms: 0, presences: &[], marks: &[], lefts: &[] };
-//!     answer_text(alloc, Form::Json, &around, &Heard::nothing(alloc), &Status, &counts)
+//!     let info = ServerInfo { version: "1.0", logic: "", commit: "", uptime_ms: 0, peer_states: &[], marks: &[], residuals: &[] };
+//!     answer_text(alloc, Form::Json, &info, &Heard::nothing(alloc), &Status, &counts)
 //! }
 //! ```
 #![tactic(auto)]
@@ -27,7 +26,6 @@ mod age;
 mod better;
 mod closing;
 mod columns;
-mod counted_words;
 mod fields;
 mod grants;
 mod heard;
@@ -56,11 +54,10 @@ mod without;
 mod words;
 
 pub use better::Better;
-pub use counted_words::end_word;
 pub use fields::name_at;
 pub use grants::Grants;
 pub use heard::{Heard, Said};
-pub use history::History;
+pub use history::{History, KnownStep, LastSteps};
 pub use link::Link;
 pub use link_line::LinkLine;
 pub use links::Links;
@@ -68,7 +65,7 @@ pub use lsp::Lsp;
 pub use lsps::Lsps;
 pub use path::Path;
 pub use peers::Peers;
-pub use question::{Form, Question, Surroundings, answer_text};
+pub use question::{Form, Question, ServerInfo, answer_text};
 pub use shown_states::{ShownState, add_states};
 pub use states::LspState;
 pub use status::Status;

@@ -8,7 +8,7 @@ ghost use Rattle.pce_view.specs.Link.{IsLinkText, IsUseText};
 use crate::closing::{closed, null_text};
 use crate::fields::{Field, Member, begin_with, lsp_id, put_object, srp_id};
 use crate::heard::Heard;
-use crate::question::{Question, Surroundings};
+use crate::question::{Question, ServerInfo};
 use asks::Ask;
 use database_looks::{Look, see_link};
 use history_core::Database;
@@ -182,7 +182,7 @@ impl Question for Link {
     fn json(
         &self,
         alloc: Global,
-        _around: &Surroundings<'_>,
+        _around: &ServerInfo<'_>,
         _heard: &Heard,
         seen: &Option<LinkUse>,
     ) -> Result<Vec<u8>, AllocError> {
@@ -196,7 +196,7 @@ impl Question for Link {
         &self,
         alloc: Global,
         text: &mut String,
-        _around: &Surroundings<'_>,
+        _around: &ServerInfo<'_>,
         _heard: &Heard,
         seen: &Option<LinkUse>,
     ) -> Result<(), AllocError> {

@@ -8,7 +8,7 @@ use crate::closing::closed;
 use crate::fields::{Field, Member, put_object};
 use crate::heard::Heard;
 use crate::links::{LINK_HEAD, add_link};
-use crate::question::{Question, Surroundings};
+use crate::question::{Question, ServerInfo};
 use asks::Ask;
 use database_looks::{Look, see_link};
 use history_core::Database;
@@ -125,7 +125,7 @@ impl Question for LinkLine {
     fn json(
         &self,
         alloc: Global,
-        _around: &Surroundings<'_>,
+        _around: &ServerInfo<'_>,
         _heard: &Heard,
         seen: &Option<LinkUse>,
     ) -> Result<Vec<u8>, AllocError> {
@@ -138,7 +138,7 @@ impl Question for LinkLine {
         &self,
         alloc: Global,
         text: &mut String,
-        _around: &Surroundings<'_>,
+        _around: &ServerInfo<'_>,
         _heard: &Heard,
         seen: &Option<LinkUse>,
     ) -> Result<(), AllocError> {

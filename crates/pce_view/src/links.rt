@@ -8,7 +8,7 @@ use crate::closing::closed;
 use crate::columns::add_ends;
 use crate::fields::{Field, Member, name_at, put_object};
 use crate::heard::Heard;
-use crate::question::{Question, Surroundings};
+use crate::question::{Question, ServerInfo};
 use crate::runs::{Run, runs_of};
 use asks::Ask;
 use database_looks::{Look, see_book};
@@ -173,7 +173,7 @@ pub(crate) fn add_link(
 }
 
 pub(crate) const LINK_HEAD: &str =
-    "LINK\tFROM\tTO\tLOCAL\tREMOTE\tIGP\tTE\tCOLOUR\tRESERVABLE\tPRIORITY\tLEFT\tRESERVED\n";
+    "LINK\tFROM\tTO\tLOCAL\tREMOTE\tIGP\tTE\tCOLOUR\tRESERVABLE\tPRIORITY\tUNRESERVED\tRESERVED\n";
 
 /// The nodes, the links and what is left of each.
 #[derive(Clone, Copy)]
@@ -199,7 +199,7 @@ impl Question for Links {
     fn json(
         &self,
         alloc: Global,
-        _around: &Surroundings<'_>,
+        _around: &ServerInfo<'_>,
         _heard: &Heard,
         seen: &Book,
     ) -> Result<Vec<u8>, AllocError> {
@@ -212,7 +212,7 @@ impl Question for Links {
         &self,
         alloc: Global,
         text: &mut String,
-        _around: &Surroundings<'_>,
+        _around: &ServerInfo<'_>,
         _heard: &Heard,
         seen: &Book,
     ) -> Result<(), AllocError> {

@@ -10,7 +10,7 @@ use crate::columns::add_part;
 use crate::heard::{Heard, Said};
 use crate::lsps::{LSP_HEAD, add_lsp, put_lsp};
 use crate::notes::{LspNotes, PathNotes, gap_at, lsp_notes, path_notes};
-use crate::question::{Question, Surroundings};
+use crate::question::{Question, ServerInfo};
 use crate::states::word_on;
 use crate::words::{lsp_error_word, operational_word};
 use asks::{Ask, LspId};
@@ -159,7 +159,7 @@ impl Question for Lsp {
     fn json(
         &self,
         alloc: Global,
-        _around: &Surroundings<'_>,
+        _around: &ServerInfo<'_>,
         heard: &Heard,
         seen: &Option<PlacedLsp>,
     ) -> Result<Vec<u8>, AllocError> {
@@ -172,7 +172,7 @@ impl Question for Lsp {
         &self,
         _alloc: Global,
         text: &mut String,
-        _around: &Surroundings<'_>,
+        _around: &ServerInfo<'_>,
         heard: &Heard,
         seen: &Option<PlacedLsp>,
     ) -> Result<(), AllocError> {

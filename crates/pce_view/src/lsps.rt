@@ -12,7 +12,7 @@ use crate::columns::{add_end, add_part, add_priorities};
 use crate::fields::{Field, Member, begin_with, lsp_id, put_object, srp_id};
 use crate::heard::{Heard, Said};
 use crate::notes::{LspNotes, PathNotes, gap_at, gaps_at, lsp_notes, path_notes};
-use crate::question::{Question, Surroundings};
+use crate::question::{Question, ServerInfo};
 use crate::states::word_on;
 use crate::words::state_word;
 use asks::{Ask, PeerPage};
@@ -326,7 +326,7 @@ impl Question for Lsps {
     fn json(
         &self,
         alloc: Global,
-        _around: &Surroundings<'_>,
+        _around: &ServerInfo<'_>,
         heard: &Heard,
         seen: &PlacedPage,
     ) -> Result<Vec<u8>, AllocError> {
@@ -339,7 +339,7 @@ impl Question for Lsps {
         &self,
         _alloc: Global,
         text: &mut String,
-        _around: &Surroundings<'_>,
+        _around: &ServerInfo<'_>,
         heard: &Heard,
         seen: &PlacedPage,
     ) -> Result<(), AllocError> {

@@ -100,7 +100,7 @@ fn rsvp_value(error: Option<RsvpError>) -> Option<u64>
     }
 }
 
-/// What is shown of a path of which this is said, and which has this gap.
+/// Returns what is shown of a path of which this is said, and which has this gap.
 pub(crate) fn path_notes(word: Option<PathWord>, gap: Option<Gap>) -> PathNotes
     ensures { result ≡ path_notes word gap }
 {
@@ -153,7 +153,7 @@ fn is_partly_placed(gaps: &[Option<Gap>]) -> bool
     gaps.iter().any(|gap| gap.is_some())
 }
 
-/// What is shown of an LSP whose paths have these gaps.
+/// Returns what is shown of an LSP whose paths have these gaps.
 pub(crate) fn lsp_notes(heard: &Heard, lsp: &KnownLsp, gaps: &[Option<Gap>]) -> LspNotes
     ensures { result ≡ lsp_notes heard.now lsp.now gaps.now }
 {
@@ -168,7 +168,7 @@ pub(crate) fn lsp_notes(heard: &Heard, lsp: &KnownLsp, gaps: &[Option<Gap>]) -> 
     )
 }
 
-/// The gap of the path at a place.
+/// Returns the gap of the path at a place.
 pub(crate) fn gap_at(gaps: &[Option<Gap>], place: usize) -> Option<Gap>
     ensures { result ≡ gap_at gaps.now place }
 {
@@ -178,7 +178,7 @@ pub(crate) fn gap_at(gaps: &[Option<Gap>], place: usize) -> Option<Gap>
     }
 }
 
-/// The gaps of the LSP at a place.
+/// Returns the gaps of the LSP at a place.
 pub(crate) fn gaps_at(gaps: &[Sequence<Option<Gap>>], place: usize) -> &[Option<Gap>]
     ensures { result.now ≡ gaps_at gaps.now place }
 {

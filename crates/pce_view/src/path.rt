@@ -13,7 +13,7 @@ use crate::closing::closed;
 use crate::columns::add_ends;
 use crate::fields::{Field, Member, begin_with, name_at, put_object};
 use crate::heard::Heard;
-use crate::question::{Question, Surroundings};
+use crate::question::{Question, ServerInfo};
 use crate::words::{links_in, obstacle_word};
 use asks::{Ask, PathWanted};
 use database_looks::{Look, nodes_of, snapshot_of};
@@ -282,7 +282,7 @@ impl Question for Path {
     fn json(
         &self,
         alloc: Global,
-        _around: &Surroundings<'_>,
+        _around: &ServerInfo<'_>,
         _heard: &Heard,
         seen: &Network,
     ) -> Result<Vec<u8>, AllocError> {
@@ -293,7 +293,7 @@ impl Question for Path {
         &self,
         alloc: Global,
         text: &mut String,
-        _around: &Surroundings<'_>,
+        _around: &ServerInfo<'_>,
         _heard: &Heard,
         seen: &Network,
     ) -> Result<(), AllocError> {

@@ -7,11 +7,10 @@ ghost use Rattle.pce_view.specs.Peers.{counted_json, delegated_of, lsps_of, peer
 
 use crate::closing::closed;
 use crate::columns::{add_ago, yes};
-use crate::counted_words::end_word;
 use crate::fields::{Field, Member, put_object};
 use crate::heard::Heard;
 use crate::moments::{Moments, moments_of};
-use crate::question::{Question, Surroundings};
+use crate::question::{Question, ServerInfo};
 use asks::Ask;
 use database_looks::Look;
 use history_core::Database;
@@ -19,7 +18,7 @@ use json::Writer;
 use lsp_base::Record;
 use pce_seen::{Counts, KnownPeer, LspOwner, SeenPeers};
 use pcep_word::Ipv4;
-use server_counts::{Presence, presence_in};
+use server_counts::{PeerState, peer_state_in};
 use std::alloc::{AllocError, Global};
 use std::fmt::Write;
 use step_core::Peer;
@@ -123,16 +122,16 @@ fn put_peer(
     alloc: Global,
     writer: &mut Writer,
     now_ms: u64,
-    presences: &[(u32, Presence)],
+    peer_states: &[(u32, PeerState)],
     owners: &[LspOwner],
     peer: &KnownPeer,
 ) -> Result<(), AllocError>
     ensures before { writer.new.before ≡ writer.old.before }
-    ensures written { OnOk result (writer.new.tokens ≡ writer.old.tokens ++ json_tokens (peer_json now_ms presences.now owners.now peer.now)) }
+    ensures written { OnOk result (writer.new.tokens ≡ writer.old.tokens ++ json_tokens (peer_json now_ms peer_states.now owners.now peer.now)) }
 {
     let lsps = lsps_of(owners, peer.peer);
     let delegated = delegated_of(owners, peer.peer);
-    let moments = moments_of(now_ms, presence_in(presences, peer.peer));
+    let moments = moments_of(now_ms, peer_state_in(peer_states, peer.peer));
     put_counted(alloc, writer, peer, lsps, delegated, moments)
 }
 
@@ -140,16 +139,16 @@ fn put_peers(
     alloc: Global,
     writer: &mut Writer,
     now_ms: u64,
-    presences: &[(u32, Presence)],
+    peer_states: &[(u32, PeerState)],
     owners: &[LspOwner],
     peers: &[KnownPeer],
 ) -> Result<(), AllocError>
     ensures before { writer.new.before ≡ writer.old.before }
-    ensures written { OnOk result (writer.new.tokens ≡ writer.old.tokens ++ json_tokens (array (peer_items now_ms presences.now owners.now peers.now))) }
+    ensures written { OnOk result (writer.new.tokens ≡ writer.old.tokens ++ json_tokens (array (peer_items now_ms peer_states.now owners.now peers.now))) }
 {
     writer.begin_array()?;
     for peer in peers {
-        put_peer(alloc, writer, now_ms, presences, owners, peer)?;
+        put_peer(alloc, writer, now_ms, peer_states, owners, peer)?;
     }
     writer.end_array()
 }
@@ -158,15 +157,15 @@ fn put_all(
     alloc: Global,
     writer: &mut Writer,
     now_ms: u64,
-    presences: &[(u32, Presence)],
+    peer_states: &[(u32, PeerState)],
     seen: &SeenPeers,
 ) -> Result<(), AllocError>
     ensures before { writer.new.before ≡ writer.old.before }
-    ensures written { OnOk result (writer.new.tokens ≡ writer.old.tokens ++ json_tokens (peers_json now_ms presences.now seen.now.lsps.items seen.now.peers.items)) }
+    ensures written { OnOk result (writer.new.tokens ≡ writer.old.tokens ++ json_tokens (peers_json now_ms peer_states.now seen.now.lsps.items seen.now.peers.items)) }
 {
     writer.begin_object()?;
     writer.key("peers")?;
-    put_peers(alloc, writer, now_ms, presences, &seen.lsps, &seen.peers)?;
+    put_peers(alloc, writer, now_ms, peer_states, &seen.lsps, &seen.peers)?;
     writer.end_object()
 }
 
@@ -174,7 +173,7 @@ fn put_all(
 fn add_last_end(text: &mut String, moments: Moments) -> Result<(), AllocError> {
     add_ago(text, moments.end_ms_ago)?;
     if let Some(reason) = moments.end {
-        let word = end_word(reason);
+        let word = reason.word();
         write!(text, ": {word}")?;
     }
     if let Some(number) = moments.number {
@@ -186,7 +185,7 @@ fn add_last_end(text: &mut String, moments: Moments) -> Result<(), AllocError> {
 fn add_peer(
     text: &mut String,
     now_ms: u64,
-    presences: &[(u32, Presence)],
+    peer_states: &[(u32, PeerState)],
     owners: &[LspOwner],
     peer: &KnownPeer,
 ) -> Result<(), AllocError> {
@@ -196,7 +195,7 @@ fn add_peer(
     let update = yes(peer.may_update);
     let create = yes(peer.may_create);
     let waiting = peer.waiting_messages;
-    let moments = moments_of(now_ms, presence_in(presences, peer.peer));
+    let moments = moments_of(now_ms, peer_state_in(peer_states, peer.peer));
     let lsps = lsps_of(owners, peer.peer);
     let delegated = delegated_of(owners, peer.peer);
     let session = peer.session;
@@ -232,17 +231,17 @@ impl Look for Peers {
 impl Question for Peers {
     ghost use Rattle.pce_view.specs.Peers.{ReadsPeers};
 
-    ghost reads = { λ _ around _ seen text. ReadsPeers around seen text };
+    ghost reads = { λ _ info _ seen text. ReadsPeers info seen text };
 
     fn json(
         &self,
         alloc: Global,
-        around: &Surroundings<'_>,
+        info: &ServerInfo<'_>,
         _heard: &Heard,
         seen: &SeenPeers,
     ) -> Result<Vec<u8>, AllocError> {
         let mut writer = Writer::new(Vec::new(alloc));
-        put_all(alloc, &mut writer, around.uptime_ms, around.presences, seen)?;
+        put_all(alloc, &mut writer, info.uptime_ms, info.peer_states, seen)?;
         Ok(closed(writer))
     }
 
@@ -250,7 +249,7 @@ impl Question for Peers {
         &self,
         _alloc: Global,
         text: &mut String,
-        around: &Surroundings<'_>,
+        info: &ServerInfo<'_>,
         _heard: &Heard,
         seen: &SeenPeers,
     ) -> Result<(), AllocError> {
@@ -258,7 +257,7 @@ impl Question for Peers {
             "PEER\tSTATE\tSINCE\tSESSION\tSYNCHRONIZING\tUPDATES\tINITIATES\tMESSAGES\tLSPS\tDELEGATED\tLAST END\n",
         )?;
         for peer in &seen.peers {
-            add_peer(text, around.uptime_ms, around.presences, &seen.lsps, peer)?;
+            add_peer(text, info.uptime_ms, info.peer_states, &seen.lsps, peer)?;
         }
         Ok(())
     }

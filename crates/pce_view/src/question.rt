@@ -5,7 +5,7 @@ ghost use Rattle.pce_view.specs.Questions.{AnswersAs};
 use crate::heard::{Heard, Said};
 use asks::Ask;
 use database_looks::Look;
-use server_counts::{LeftRow, Mark, Presence};
+use server_counts::{Mark, PeerState, ResidualRow};
 use std::alloc::{AllocError, Global};
 use table_text::add_aligned;
 
@@ -20,7 +20,7 @@ pub enum Form {
 
 /// What the server knows beside its database.
 #[derive(Clone, Copy)]
-pub struct Surroundings<'a> {
+pub struct ServerInfo<'a> {
     pub version: &'a str,
     /// The toolchain's logic on which the program's proofs rest.
     pub logic: &'a str,
@@ -29,11 +29,11 @@ pub struct Surroundings<'a> {
     /// Since the run began.
     pub uptime_ms: u64,
     /// Since when each peer is up or down, in milliseconds since the run began.
-    pub presences: &'a [(u32, Presence)],
+    pub peer_states: &'a [(u32, PeerState)],
     /// How many steps there were at which moments, in milliseconds since the run began.
     pub marks: &'a [Mark],
     /// What the last steps that brought paths left of their links.
-    pub lefts: &'a [LeftRow],
+    pub residuals: &'a [ResidualRow],
 }
 
 /// A question: a look at a database, and how an operator is shown what it sees. Each has a module under the name of its
@@ -42,10 +42,10 @@ pub trait Question: Look {
     ghost use Rattle.std.specs.Prelude.{◌≡◌, ℕ, List, Option, None, IfOk};
     ghost use Rattle.asks.specs.declared.ask.Ask.{Ask};
     ghost use Rattle.pce_view.specs.declared.heard.Heard.{Heard};
-    ghost use Rattle.pce_view.specs.declared.question.Surroundings.{Surroundings};
+    ghost use Rattle.pce_view.specs.declared.question.ServerInfo.{ServerInfo};
 
     /// A reader of JSON reads the text as what was seen, with what routers said of it.
-    ghost reads: { Self → Surroundings → Heard → Self.Seen → List ℕ → Type 0 };
+    ghost reads: { Self → ServerInfo → Heard → Self.Seen → List ℕ → Type 0 };
 
     /// The ask for the next page, if one follows. Most questions have no pages.
     ghost followed_by: { Self → Self.Seen → Option Ask } = { λ _ _. None };
@@ -64,18 +64,18 @@ pub trait Question: Look {
     fn json(
         &self,
         alloc: Global,
-        around: &Surroundings<'_>,
+        info: &ServerInfo<'_>,
         heard: &Heard,
         seen: &Self::Seen,
     ) -> Result<Vec<u8>, AllocError>
-        ensures { IfOk result (λ text. reads self.now around.now heard.now seen.now text.items) };
+        ensures { IfOk result (λ text. reads self.now info.now heard.now seen.now text.items) };
 
     /// Adds what was seen in rows of cells, for people.
     fn rows(
         &self,
         alloc: Global,
         text: &mut String,
-        around: &Surroundings<'_>,
+        info: &ServerInfo<'_>,
         heard: &Heard,
         seen: &Self::Seen,
     ) -> Result<(), AllocError>;
@@ -88,13 +88,13 @@ pub trait Question: Look {
 /// Writes what was seen in columns.
 fn columns_text<Q: Question>(
     alloc: Global,
-    around: &Surroundings<'_>,
+    info: &ServerInfo<'_>,
     heard: &Heard,
     question: &Q,
     seen: &Q::Seen,
 ) -> Result<Vec<u8>, AllocError> {
     let mut rows = String::new(alloc);
-    question.rows(alloc, &mut rows, around, heard, seen)?;
+    question.rows(alloc, &mut rows, info, heard, seen)?;
     let mut text = String::new(alloc);
     add_aligned(alloc, &mut text, &rows)?;
     Ok(text.into_bytes())
@@ -104,15 +104,15 @@ fn columns_text<Q: Question>(
 pub fn answer_text<Q: Question>(
     alloc: Global,
     form: Form,
-    around: &Surroundings<'_>,
+    info: &ServerInfo<'_>,
     heard: &Heard,
     question: &Q,
     seen: &Q::Seen,
 ) -> Result<Vec<u8>, AllocError>
-    ensures { IfOk result (λ text. AnswersAs (Q.reads question.now) form around.now heard.now seen.now text.items) }
+    ensures { IfOk result (λ text. AnswersAs (Q.reads question.now) form info.now heard.now seen.now text.items) }
 {
     match form {
-        Form::Json => question.json(alloc, around, heard, seen),
-        Form::Table => columns_text(alloc, around, heard, question, seen),
+        Form::Json => question.json(alloc, info, heard, seen),
+        Form::Table => columns_text(alloc, info, heard, question, seen),
     }
 }

@@ -20,7 +20,7 @@ pub enum LspState {
     Unknown,
 }
 
-/// What its router's latest report says of a path.
+/// Returns what the latest report of its router says of a path.
 pub(crate) fn word_on(words: &PathWords, path: &Path) -> Option<PathWord>
     ensures { result ≡ word_on words.now path.now }
 {
@@ -34,7 +34,7 @@ pub(crate) fn word_on(words: &PathWords, path: &Path) -> Option<PathWord>
     }
 }
 
-/// The state in which its router reports a path.
+/// Returns the state in which its router reports a path.
 pub(crate) fn operational_in(word: Option<PathWord>) -> Option<Operational>
     ensures { result ≡ operational_in word }
 {
@@ -44,7 +44,7 @@ pub(crate) fn operational_in(word: Option<PathWord>) -> Option<Operational>
     }
 }
 
-/// The better of two states, as far as they are known.
+/// Returns the better of two states, as far as they are known.
 fn better(a: Option<Operational>, b: Option<Operational>) -> Option<Operational>
     ensures { result ≡ better a b }
 {
@@ -55,14 +55,14 @@ fn better(a: Option<Operational>, b: Option<Operational>) -> Option<Operational>
     }
 }
 
-/// The better of a state and of that in which its router reports a path.
+/// Returns the better of a state and of that in which its router reports a path.
 fn with_path(words: &PathWords, best: Option<Operational>, path: &Path) -> Option<Operational>
     ensures { result ≡ with_path words.now best path.now }
 {
     better(best, operational_in(word_on(words, path)))
 }
 
-/// The best state in which a router reports one of these paths.
+/// Returns the best state in which a router reports one of these paths.
 fn best_of(words: &PathWords, paths: &[Path]) -> Option<Operational>
     ensures { result ≡ best_of words.now paths.now }
 {
@@ -93,7 +93,7 @@ fn state_by(best: Option<Operational>, is_down: bool) -> LspState
     }
 }
 
-/// The state of an LSP with these paths.
+/// Returns the state of an LSP with these paths.
 pub(crate) fn state_of(words: &PathWords, paths: &[Path]) -> LspState
     ensures { result ≡ state_of words.now paths.now }
 {

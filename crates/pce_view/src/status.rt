@@ -6,7 +6,7 @@ ghost use Rattle.pce_view.specs.Status.{status_json};
 use crate::closing::closed;
 use crate::fields::{Field, Member, put_object};
 use crate::heard::Heard;
-use crate::question::{Question, Surroundings};
+use crate::question::{Question, ServerInfo};
 use asks::Ask;
 use database_looks::{Look, see_counts};
 use history_core::Database;
@@ -68,17 +68,17 @@ impl Look for Status {
 impl Question for Status {
     ghost use Rattle.pce_view.specs.Status.{ReadsStatus};
 
-    ghost reads = { λ _ around _ seen text. ReadsStatus around seen text };
+    ghost reads = { λ _ info _ seen text. ReadsStatus info seen text };
 
     fn json(
         &self,
         alloc: Global,
-        around: &Surroundings<'_>,
+        info: &ServerInfo<'_>,
         _heard: &Heard,
         seen: &Counts,
     ) -> Result<Vec<u8>, AllocError> {
         let mut writer = Writer::new(Vec::new(alloc));
-        put_status(alloc, &mut writer, around.version, around.uptime_ms, seen)?;
+        put_status(alloc, &mut writer, info.version, info.uptime_ms, seen)?;
         Ok(closed(writer))
     }
 
@@ -86,13 +86,13 @@ impl Question for Status {
         &self,
         _alloc: Global,
         text: &mut String,
-        around: &Surroundings<'_>,
+        info: &ServerInfo<'_>,
         _heard: &Heard,
         seen: &Counts,
     ) -> Result<(), AllocError> {
-        let version = around.version;
+        let version = info.version;
         write!(text, "version\t{version}\nup\t")?;
-        add_duration(text, around.uptime_ms)?;
+        add_duration(text, info.uptime_ms)?;
         let Counts {
             steps,
             grants,

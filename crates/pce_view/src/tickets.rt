@@ -8,7 +8,7 @@ use crate::closing::closed;
 use crate::columns::{add_end, add_number, add_priorities};
 use crate::fields::{Field, Member, put_object};
 use crate::heard::Heard;
-use crate::question::{Question, Surroundings};
+use crate::question::{Question, ServerInfo};
 use crate::words::{purpose_plsp, purpose_word};
 use asks::Ask;
 use commit_core::{Purpose, Ticket};
@@ -127,7 +127,7 @@ impl Question for Tickets {
     fn json(
         &self,
         alloc: Global,
-        _around: &Surroundings<'_>,
+        _around: &ServerInfo<'_>,
         _heard: &Heard,
         seen: &Vec<Ticket>,
     ) -> Result<Vec<u8>, AllocError> {
@@ -140,7 +140,7 @@ impl Question for Tickets {
         &self,
         _alloc: Global,
         text: &mut String,
-        _around: &Surroundings<'_>,
+        _around: &ServerInfo<'_>,
         _heard: &Heard,
         seen: &Vec<Ticket>,
     ) -> Result<(), AllocError> {

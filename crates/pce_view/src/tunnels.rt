@@ -8,7 +8,7 @@ use crate::closing::closed;
 use crate::columns::{add_end, add_number};
 use crate::fields::{Field, Member, begin_with, put_members, put_object};
 use crate::heard::Heard;
-use crate::question::{Question, Surroundings};
+use crate::question::{Question, ServerInfo};
 use asks::{Ask, PeerPage};
 use database_looks::{Look, own_of_each, page_at};
 use history_core::Database;
@@ -275,7 +275,7 @@ impl Question for Tunnels {
     fn json(
         &self,
         alloc: Global,
-        _around: &Surroundings<'_>,
+        _around: &ServerInfo<'_>,
         _heard: &Heard,
         seen: &SeenTunnels,
     ) -> Result<Vec<u8>, AllocError> {
@@ -288,7 +288,7 @@ impl Question for Tunnels {
         &self,
         _alloc: Global,
         text: &mut String,
-        _around: &Surroundings<'_>,
+        _around: &ServerInfo<'_>,
         _heard: &Heard,
         seen: &SeenTunnels,
     ) -> Result<(), AllocError> {

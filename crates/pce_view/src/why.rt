@@ -12,14 +12,14 @@ use crate::fields::{Field, Member, begin_with, lsp_id, srp_id};
 use crate::heard::Heard;
 use crate::left::{left_by, put_rows_or};
 use crate::origins::see_origins;
-use crate::question::{Question, Surroundings};
+use crate::question::{Question, ServerInfo};
 use crate::words::{origin_step, origin_ticket, origin_word};
 use asks::{Ask, LspId};
 use database_looks::Look;
 use history_core::Database;
 use json::Writer;
 use pce_seen::{LspOrigins, TracedPath};
-use server_counts::{LeftRow, Mark};
+use server_counts::{Mark, ResidualRow};
 use std::alloc::{AllocError, Global};
 use std::fmt::Write;
 use table_text::{add_numbers, add_rate};
@@ -29,7 +29,7 @@ fn put_traced(
     writer: &mut Writer,
     seen: &TracedPath,
     age: Age,
-    left: &[LeftRow],
+    left: &[ResidualRow],
 ) -> Result<(), AllocError>
     ensures before { writer.new.before ≡ writer.old.before }
     ensures written { OnOk result (writer.new.tokens ≡ writer.old.tokens ++ json_tokens (traced_json seen.now age left.now)) }
@@ -60,15 +60,15 @@ fn put_one_traced(
     writer: &mut Writer,
     now_ms: u64,
     marks: &[Mark],
-    lefts: &[LeftRow],
+    residuals: &[ResidualRow],
     seen: &TracedPath,
 ) -> Result<(), AllocError>
     ensures before { writer.new.before ≡ writer.old.before }
     ensures written { OnOk result (writer.new.tokens ≡ writer.old.tokens
-        ++ json_tokens (traced_json seen.now (age_of now_ms marks.now (origin_step seen.now.origin)) (left_by (origin_step seen.now.origin) lefts.now))) }
+        ++ json_tokens (traced_json seen.now (age_of now_ms marks.now (origin_step seen.now.origin)) (left_by (origin_step seen.now.origin) residuals.now))) }
 {
     let step = origin_step(seen.origin);
-    let left = left_by(alloc, lefts, step)?;
+    let left = left_by(alloc, residuals, step)?;
     put_traced(alloc, writer, seen, age_of(now_ms, marks, step), &left)
 }
 
@@ -77,15 +77,15 @@ fn put_each_traced(
     writer: &mut Writer,
     now_ms: u64,
     marks: &[Mark],
-    lefts: &[LeftRow],
+    residuals: &[ResidualRow],
     paths: &[TracedPath],
 ) -> Result<(), AllocError>
     ensures before { writer.new.before ≡ writer.old.before }
-    ensures written { OnOk result (writer.new.tokens ≡ writer.old.tokens ++ json_tokens (array (traced_items now_ms marks.now lefts.now paths.now))) }
+    ensures written { OnOk result (writer.new.tokens ≡ writer.old.tokens ++ json_tokens (array (traced_items now_ms marks.now residuals.now paths.now))) }
 {
     writer.begin_array()?;
     for seen in paths {
-        put_one_traced(alloc, writer, now_ms, marks, lefts, seen)?;
+        put_one_traced(alloc, writer, now_ms, marks, residuals, seen)?;
     }
     writer.end_array()
 }
@@ -95,11 +95,11 @@ fn put_origins(
     writer: &mut Writer,
     now_ms: u64,
     marks: &[Mark],
-    lefts: &[LeftRow],
+    residuals: &[ResidualRow],
     seen: &LspOrigins,
 ) -> Result<(), AllocError>
     ensures before { writer.new.before ≡ writer.old.before }
-    ensures written { OnOk result (writer.new.tokens ≡ writer.old.tokens ++ json_tokens (origins_json now_ms marks.now lefts.now seen.now)) }
+    ensures written { OnOk result (writer.new.tokens ≡ writer.old.tokens ++ json_tokens (origins_json now_ms marks.now residuals.now seen.now)) }
 {
     begin_with(
         alloc,
@@ -112,7 +112,7 @@ fn put_origins(
         ],
         "paths",
     )?;
-    put_each_traced(alloc, writer, now_ms, marks, lefts, &seen.paths)?;
+    put_each_traced(alloc, writer, now_ms, marks, residuals, &seen.paths)?;
     writer.end_object()?;
     Ok(())
 }
@@ -122,20 +122,20 @@ fn put_origins_or(
     writer: &mut Writer,
     now_ms: u64,
     marks: &[Mark],
-    lefts: &[LeftRow],
+    residuals: &[ResidualRow],
     seen: &Option<LspOrigins>,
 ) -> Result<(), AllocError>
     ensures before { writer.new.before ≡ writer.old.before }
-    ensures written { OnOk result (writer.new.tokens ≡ writer.old.tokens ++ json_tokens (origins_or_null now_ms marks.now lefts.now seen.now)) }
+    ensures written { OnOk result (writer.new.tokens ≡ writer.old.tokens ++ json_tokens (origins_or_null now_ms marks.now residuals.now seen.now)) }
 {
     match seen {
-        Some(seen) => put_origins(alloc, writer, now_ms, marks, lefts, seen),
+        Some(seen) => put_origins(alloc, writer, now_ms, marks, residuals, seen),
         None => writer.null(),
     }
 }
 
 /// Adds what a step left of a link, to the line of its path or to a line of its own.
-fn add_left(text: &mut String, is_first: bool, row: &LeftRow) -> Result<(), AllocError> {
+fn add_left(text: &mut String, is_first: bool, row: &ResidualRow) -> Result<(), AllocError> {
     if !is_first {
         text.push_str("\t\t\t\t\t\t")?;
     }
@@ -151,10 +151,10 @@ fn add_left(text: &mut String, is_first: bool, row: &LeftRow) -> Result<(), Allo
 fn add_lefts(
     alloc: Global,
     text: &mut String,
-    lefts: &[LeftRow],
+    residuals: &[ResidualRow],
     step: Option<u64>,
 ) -> Result<(), AllocError> {
-    let rows = left_by(alloc, lefts, step)?;
+    let rows = left_by(alloc, residuals, step)?;
     if rows.is_empty() {
         return text.push_str("-\t-\t-\n");
     }
@@ -216,18 +216,18 @@ impl Look for Why {
 impl Question for Why {
     ghost use Rattle.pce_view.specs.Why.{ReadsWhy};
 
-    ghost reads = { λ _ around _ seen text. ReadsWhy around seen text };
+    ghost reads = { λ _ info _ seen text. ReadsWhy info seen text };
 
     fn json(
         &self,
         alloc: Global,
-        around: &Surroundings<'_>,
+        info: &ServerInfo<'_>,
         _heard: &Heard,
         seen: &Option<LspOrigins>,
     ) -> Result<Vec<u8>, AllocError> {
-        let (now_ms, marks, lefts) = (around.uptime_ms, around.marks, around.lefts);
+        let (now_ms, marks, residuals) = (info.uptime_ms, info.marks, info.residuals);
         let mut writer = Writer::new(Vec::new(alloc));
-        put_origins_or(alloc, &mut writer, now_ms, marks, lefts, seen)?;
+        put_origins_or(alloc, &mut writer, now_ms, marks, residuals, seen)?;
         Ok(closed(writer))
     }
 
@@ -235,18 +235,20 @@ impl Question for Why {
         &self,
         alloc: Global,
         text: &mut String,
-        around: &Surroundings<'_>,
+        info: &ServerInfo<'_>,
         _heard: &Heard,
         seen: &Option<LspOrigins>,
     ) -> Result<(), AllocError> {
         let Some(seen) = seen else {
             return text.push_str("no such LSP\n");
         };
-        text.push_str("PATH\tLINKS\tBY\tSTEP\tTICKET\tAGO\tLINK\tLEFT BEFORE\tLEFT AFTER\n")?;
-        let (now_ms, unknown) = (around.uptime_ms, word_of_unknown(seen));
+        text.push_str(
+            "PATH\tLINKS\tBY\tSTEP\tTICKET\tAGO\tLINK\tUNRESERVED BEFORE\tUNRESERVED AFTER\n",
+        )?;
+        let (now_ms, unknown) = (info.uptime_ms, word_of_unknown(seen));
         for path in &seen.paths {
-            add_traced(text, now_ms, around.marks, unknown, path)?;
-            add_lefts(alloc, text, around.lefts, origin_step(path.origin))?;
+            add_traced(text, now_ms, info.marks, unknown, path)?;
+            add_lefts(alloc, text, info.residuals, origin_step(path.origin))?;
         }
         Ok(())
     }

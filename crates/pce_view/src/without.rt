@@ -12,7 +12,7 @@ use crate::closing::{closed, null_text};
 use crate::columns::add_priorities;
 use crate::fields::{Field, Member, begin_with, put_object};
 use crate::heard::Heard;
-use crate::question::{Question, Surroundings};
+use crate::question::{Question, ServerInfo};
 use crate::words::{cost_of_path, links_of_path};
 use asks::Ask;
 use database_looks::{Look, with_own};
@@ -20,7 +20,7 @@ use history_core::Database;
 use json::Writer;
 use lsp_base::Constraints;
 use path_looks::{Move, Mover, moves_without};
-use pce_seen::{Displaced, KnownLsp, lsps_over};
+use pce_seen::{KnownLsp, OutageInput, lsps_over};
 use pcep_objects::Plsp;
 use pcep_word::{Bandwidth, Ipv4};
 use sequence::PlainData;
@@ -29,11 +29,15 @@ use std::fmt::Write;
 use table_text::{add_numbers, add_rate};
 use te_snapshot::{OwnShares, Snapshot};
 
-fn displaced(lsps: Vec<KnownLsp>, rest: Option<u64>, seen: (Snapshot, Vec<OwnShares>)) -> Displaced
+fn displaced(
+    lsps: Vec<KnownLsp>,
+    rest: Option<u64>,
+    seen: (Snapshot, Vec<OwnShares>),
+) -> OutageInput
     ensures { result ≡ record { snapshot = seen.0; lsps = lsps; own = seen.1; rest = rest } }
 {
     let (snapshot, own) = seen;
-    Displaced {
+    OutageInput {
         snapshot,
         lsps,
         own,
@@ -42,7 +46,7 @@ fn displaced(lsps: Vec<KnownLsp>, rest: Option<u64>, seen: (Snapshot, Vec<OwnSha
 }
 
 /// Sees the LSPs over a link that is there.
-fn see_over(alloc: Global, database: &Database, link: usize) -> Result<Displaced, AllocError>
+fn see_over(alloc: Global, database: &Database, link: usize) -> Result<OutageInput, AllocError>
     ensures { IfOk result (IsDisplaced link database.now) }
 {
     let (lsps, rest) = lsps_over(alloc, database.state().lsps(), link)?;
@@ -55,7 +59,7 @@ fn see_over(alloc: Global, database: &Database, link: usize) -> Result<Displaced
     }
 }
 
-/// One byte per second.
+/// Returns the least bandwidth, one byte per second.
 fn least_bandwidth() -> Bandwidth
     ensures { result ≡ 1 }
 {
@@ -99,8 +103,8 @@ fn movers_of(alloc: Global, lsps: &[KnownLsp], owns: &[OwnShares]) -> Result<Vec
     Ok(movers)
 }
 
-/// The same, those of the best setup priority first.
-fn movers_in_order(alloc: Global, seen: &Displaced) -> Result<Vec<Mover>, AllocError>
+/// Lists the same, those of the best setup priority first.
+fn movers_in_order(alloc: Global, seen: &OutageInput) -> Result<Vec<Mover>, AllocError>
     ensures each { IfOk result (λ movers. IsPermutation (movers_of seen.now.lsps.items seen.now.own.items) movers.items) }
     ensures order { IfOk result (λ movers. IsNonDecreasingBy (λ m. ((m.wanted).priorities).setup) movers.items) }
 {
@@ -110,7 +114,11 @@ fn movers_in_order(alloc: Global, seen: &Displaced) -> Result<Vec<Mover>, AllocE
 }
 
 /// Finds where the LSPs over a link would go if it went away.
-pub(crate) fn moves_of(alloc: Global, link: u64, seen: &Displaced) -> Result<Vec<Move>, AllocError>
+pub(crate) fn moves_of(
+    alloc: Global,
+    link: u64,
+    seen: &OutageInput,
+) -> Result<Vec<Move>, AllocError>
     ensures { IfOk result (λ moves. IsRun link seen.now moves.items) }
 {
     let movers = movers_in_order(alloc, seen)?;
@@ -191,7 +199,7 @@ fn run_text(
 }
 
 /// Finds where the LSPs over a link would go, and writes it.
-fn tried_text(alloc: Global, link: u64, seen: &Displaced) -> Result<Vec<u8>, AllocError>
+fn tried_text(alloc: Global, link: u64, seen: &OutageInput) -> Result<Vec<u8>, AllocError>
     ensures { IfOk result (λ text. IsRunText link seen.now text.items) }
 {
     let moves = moves_of(alloc, link, seen)?;
@@ -206,13 +214,13 @@ fn add_move(text: &mut String, of: &Move) -> Result<(), AllocError> {
     add_rate(text, of.wanted.bandwidth.value() as i64)?;
     match cost_of_path(&of.path) {
         Some(cost) => write!(text, "\t{cost}\t")?,
-        None => text.push_str("\tno place\t")?,
+        None => text.push_str("\tnot rerouted\t")?,
     }
     add_numbers(text, links_of_path(&of.path))?;
     text.push('\n')
 }
 
-/// Adds up the bandwidth of the LSPs that find no place, and counts them.
+/// Adds up the bandwidth of the LSPs that aren't rerouted, and counts them.
 fn unplaced(moves: &[Move]) -> (u64, u64) {
     let mut count = 0u64;
     let mut sum = 0u64;
@@ -225,11 +233,11 @@ fn unplaced(moves: &[Move]) -> (u64, u64) {
     (count, sum)
 }
 
-/// Adds how many LSPs there are, and how many find no place.
+/// Adds how many LSPs there are, and how many aren't rerouted.
 fn add_sums(text: &mut String, rest: Option<u64>, moves: &[Move]) -> Result<(), AllocError> {
     let tried = moves.len();
     let (count, sum) = unplaced(moves);
-    write!(text, "\x0ctried\t{tried}\nno place\t{count}, ")?;
+    write!(text, "\x0ctried\t{tried}\nnot rerouted\t{count}, ")?;
     add_rate(text, sum.min(1 << 62) as i64)?;
     match rest {
         Some(_) => text.push_str("\nothers\tnot tried\n"),
@@ -244,11 +252,11 @@ pub struct Without(pub u64);
 impl Look for Without {
     ghost use Rattle.pce_view.specs.Without.{SeesDisplaced};
 
-    type Seen = Option<Displaced>;
+    type Seen = Option<OutageInput>;
 
     ghost sees = { λ q d seen. SeesDisplaced q.0 d seen };
 
-    fn see(&self, alloc: Global, database: &Database) -> Result<Option<Displaced>, AllocError> {
+    fn see(&self, alloc: Global, database: &Database) -> Result<Option<OutageInput>, AllocError> {
         let number = self.0 as usize;
         match database.te_base().link(number) {
             Some(_) => Ok(Some(see_over(alloc, database, number)?)),
@@ -265,9 +273,9 @@ impl Question for Without {
     fn json(
         &self,
         alloc: Global,
-        _around: &Surroundings<'_>,
+        _around: &ServerInfo<'_>,
         _heard: &Heard,
-        seen: &Option<Displaced>,
+        seen: &Option<OutageInput>,
     ) -> Result<Vec<u8>, AllocError> {
         match seen {
             Some(seen) => tried_text(alloc, self.0, seen),
@@ -279,9 +287,9 @@ impl Question for Without {
         &self,
         alloc: Global,
         text: &mut String,
-        _around: &Surroundings<'_>,
+        _around: &ServerInfo<'_>,
         _heard: &Heard,
-        seen: &Option<Displaced>,
+        seen: &Option<OutageInput>,
     ) -> Result<(), AllocError> {
         let Some(seen) = seen else {
             return text.push_str("no such link\n");
@@ -294,7 +302,7 @@ impl Question for Without {
         add_sums(text, seen.rest, &moves)
     }
 
-    fn next(&self, _seen: &Option<Displaced>) -> Option<Ask> {
+    fn next(&self, _seen: &Option<OutageInput>) -> Option<Ask> {
         None
     }
 }

@@ -1,11 +1,11 @@
 //! Words for what is seen.
 ghost use Rattle.std.specs.Prelude.{◌≡◌, option_map};
-ghost use Rattle.pce_view.specs.Words.{booked_word, cost_in, cost_of_path, event_word, is_found, link_in, links_in, links_of_path, lsp_error_word, obstacle_of, obstacle_word, operational_word, origin_step, origin_ticket, origin_word, outcome_number, outcome_word, purpose_plsp, purpose_request, purpose_word, state_word};
+ghost use Rattle.pce_view.specs.Words.{cost_in, cost_of_path, event_word, is_found, link_in, links_in, links_of_path, lsp_error_word, obstacle_of, obstacle_word, operational_word, origin_step, origin_ticket, origin_word, purpose_plsp, purpose_request, purpose_word, state_word};
 
 use crate::states::LspState;
 use commit_core::Purpose;
 use path_looks::{Found, LinkRoom, Obstacle, PathAnswer};
-use pce_seen::{EventKind, Origin, Outcome};
+use pce_seen::{EventKind, Origin};
 use server_rules::Operational;
 use te_base::LinkNumber;
 
@@ -20,7 +20,7 @@ pub(crate) fn purpose_word(purpose: &Purpose) -> &'static str
     }
 }
 
-/// The PLSP-ID of the LSP that a path is asked for.
+/// Returns the PLSP-ID of the LSP that a path is asked for.
 pub(crate) fn purpose_plsp(purpose: &Purpose) -> Option<u64>
     ensures { result ≡ purpose_plsp purpose.now }
 {
@@ -35,7 +35,7 @@ pub(crate) fn purpose_plsp(purpose: &Purpose) -> Option<u64>
     }
 }
 
-/// The Request-ID of the request that a path answers.
+/// Returns the Request-ID of the request that a path answers.
 pub(crate) fn purpose_request(purpose: &Purpose) -> Option<u64>
     ensures { result ≡ purpose_request purpose.now }
 {
@@ -66,54 +66,6 @@ pub fn event_word(event: EventKind) -> &'static str
     }
 }
 
-fn booked_word(wants_path: bool) -> &'static str
-    ensures { result.now ≡ booked_word wants_path }
-{
-    if wants_path { "booked wants" } else { "booked" }
-}
-
-/// Names what came of a step.
-pub(crate) fn outcome_word(outcome: Outcome) -> &'static str
-    ensures { result.now ≡ outcome_word outcome }
-{
-    match outcome {
-        Outcome::Done => "done",
-        Outcome::Booked { wants_path } => booked_word(wants_path),
-        Outcome::Asked(_) => "asked",
-        Outcome::Job(_) => "job",
-        Outcome::Idle => "idle",
-        Outcome::Granted(_) => "granted",
-        Outcome::Answered => "answered",
-        Outcome::Again => "again",
-        Outcome::NoPath => "nopath",
-        Outcome::GivenUp => "givenup",
-        Outcome::Gone => "gone",
-        Outcome::Removing(_) => "removing",
-        Outcome::Out { .. } => "out",
-        Outcome::Refused(_) => "refused",
-    }
-}
-
-/// The number that goes with what came of a step: of a ticket or a request, of messages, or why it was refused.
-pub(crate) fn outcome_number(outcome: Outcome) -> Option<u64>
-    ensures { result ≡ outcome_number outcome }
-{
-    match outcome {
-        Outcome::Asked(ticket) | Outcome::Job(ticket) => Some(ticket),
-        Outcome::Granted(srp) | Outcome::Removing(srp) => Some(srp as u64),
-        Outcome::Out { messages } => Some(messages),
-        Outcome::Refused(why) => Some(why.number() as u64),
-        Outcome::Done
-        | Outcome::Booked { .. }
-        | Outcome::Idle
-        | Outcome::Answered
-        | Outcome::Again
-        | Outcome::NoPath
-        | Outcome::GivenUp
-        | Outcome::Gone => None,
-    }
-}
-
 /// Names an obstacle.
 pub(crate) fn obstacle_word(by: Obstacle) -> &'static str
     ensures { result.now ≡ obstacle_word by }
@@ -136,7 +88,7 @@ pub(crate) fn is_found(answer: &PathAnswer) -> bool
     }
 }
 
-/// What stands in the way of a path.
+/// Returns what stands in the way of a path.
 pub(crate) fn obstacle_of(answer: &PathAnswer) -> Option<Obstacle>
     ensures { result ≡ obstacle_of answer.now }
 {
@@ -146,7 +98,7 @@ pub(crate) fn obstacle_of(answer: &PathAnswer) -> Option<Obstacle>
     }
 }
 
-/// The cost of the path, or of that which there is without the obstacle.
+/// Returns the cost of the path, or of the one that there is without the obstacle.
 pub(crate) fn cost_in(answer: &PathAnswer) -> Option<u64>
     ensures { result ≡ cost_in answer.now }
 {
@@ -156,7 +108,7 @@ pub(crate) fn cost_in(answer: &PathAnswer) -> Option<u64>
     }
 }
 
-/// The links of the path, or of that which there is without the obstacle.
+/// Returns the links of the path, or of the one that there is without the obstacle.
 pub(crate) fn links_in(answer: &PathAnswer) -> &[LinkNumber]
     ensures { result.now ≡ links_in answer.now }
 {
@@ -168,7 +120,7 @@ pub(crate) fn links_in(answer: &PathAnswer) -> &[LinkNumber]
     }
 }
 
-/// The link that has a number.
+/// Returns the link that has a number.
 pub(crate) fn link_in(room: &Option<LinkRoom>) -> Option<u64>
     ensures { result ≡ link_in room.now }
 {
@@ -189,7 +141,7 @@ pub(crate) fn origin_word(origin: Origin) -> Option<&'static str>
     }
 }
 
-/// The place of the step by which a path came.
+/// Returns the place of the step by which a path came.
 pub(crate) fn origin_step(origin: Origin) -> Option<u64>
     ensures { result ≡ origin_step origin }
 {
@@ -199,7 +151,7 @@ pub(crate) fn origin_step(origin: Origin) -> Option<u64>
     }
 }
 
-/// The ticket to which a path was granted.
+/// Returns the ticket to which a path was granted.
 pub(crate) fn origin_ticket(origin: Origin) -> Option<u64>
     ensures { result ≡ origin_ticket origin }
 {
@@ -209,7 +161,7 @@ pub(crate) fn origin_ticket(origin: Origin) -> Option<u64>
     }
 }
 
-/// The cost of a path, if there is one.
+/// Returns the cost of a path, if there is one.
 pub(crate) fn cost_of_path(path: &Option<Found>) -> Option<u64>
     ensures { result ≡ cost_of_path path.now }
 {
@@ -219,7 +171,7 @@ pub(crate) fn cost_of_path(path: &Option<Found>) -> Option<u64>
     }
 }
 
-/// The links of a path, none where there is no path.
+/// Returns the links of a path, and none if there is no path.
 pub(crate) fn links_of_path(path: &Option<Found>) -> &[LinkNumber]
     ensures { result.now ≡ links_of_path path.now }
 {

@@ -56,10 +56,10 @@ fn refuse<R: Files + Print + Eprint + AllocGlobal>(rt: &R, error: Error) -> io::
     }
 }
 
-/// Tests whether standard error takes a text at once, or is read within a second.
-fn is_error_read<R: AllocGlobal + Net>(rt: &R) -> bool {
+/// Waits until standard error takes a text, a second at most, and returns whether it does.
+fn await_error_reader<R: AllocGlobal + Net>(rt: &R) -> bool {
     match ErrorOutput::new(rt, rt.alloc()) {
-        Ok(mut output) => output.is_ready(Duration::from_secs(1)),
+        Ok(mut output) => output.wait_writable(Duration::from_secs(1)),
         Err(_) => true,
     }
 }
@@ -85,7 +85,7 @@ fn end_serving<R: Eprint + AllocGlobal + Net>(
     let Err(fault) = outcome else {
         return Ok(0);
     };
-    if is_error_read(rt) {
+    if await_error_reader(rt) {
         tell_of_start(rt, told)?;
         eprintln!(rt; "{fault}")?;
     }

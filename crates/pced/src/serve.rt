@@ -24,7 +24,7 @@ use std::str::FromStr;
 use std::sync::Wait;
 use std::thread::Threads;
 use te_base::TeBase;
-use te_places::places_text;
+use te_words::places_text;
 use text_files::read_file;
 
 /// Reads the port of a decimal number below 65,536.
@@ -213,15 +213,12 @@ fn listen_http<R: Net<Listener = TcpListener, Stream = TcpStream>>(
     }
 }
 
-/// Writes where the nodes of a link text are on a map, if that should be shown.
-fn places_in(alloc: Global, text: &[u8], is_shown: bool) -> Result<Vec<u8>, ServeFault> {
+/// Writes where the nodes of a network are on a map, if that should be shown.
+fn places_of(alloc: Global, base: &TeBase, is_shown: bool) -> Result<Vec<u8>, ServeFault> {
     if !is_shown {
         return Ok(Vec::new(alloc));
     }
-    let Ok(text) = str::from_utf8(text) else {
-        return Err(ServeFault::Te(TeFault::NotToml));
-    };
-    match places_text(alloc, text) {
+    match places_text(alloc, base) {
         Ok(places) => Ok(places),
         Err(_) => Err(ServeFault::Run(RunFault::Store(Fault::OutOfMemory))),
     }
@@ -334,7 +331,7 @@ pub fn serve<
     let known = known_in(rt.alloc(), told, &text, words.only_known)?;
     let listener = listen(rt, told, place)?;
     let http = listen_http(rt, told, http_place)?;
-    let places = places_in(rt.alloc(), &text, http_place.is_some())?;
+    let places = places_of(rt.alloc(), &second, http_place.is_some())?;
     let keys = viewer_keys(files, told, http.is_some())?;
     let is_terminal = files.reader().is_terminal();
     let mut input = rt.reader();

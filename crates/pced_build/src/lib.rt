@@ -23,7 +23,7 @@ pub const LOGIC: &str = "dac8208d650f15bf";
 /// Where a release has the commit, from the folder that the program is in.
 const BUILD: &str = "../share/pced/BUILD";
 
-/// The hash that the first line is. Empty if it is anything else.
+/// Returns the hash that the first line is. It is empty if the line is anything else.
 fn hash_in(text: &str) -> &str {
     let line = text.lines().next().unwrap_or("");
     if line.len() <= 64 && line.bytes().all(|byte| byte.is_ascii_hexdigit()) {
@@ -33,7 +33,7 @@ fn hash_in(text: &str) -> &str {
     }
 }
 
-/// The path of BUILD, if the system says where the program is.
+/// Returns the path of BUILD, if the system says where the program is.
 fn build_beside<R: Files + AllocGlobal>(rt: &R, program: &Path<'_>) -> io::Result<PathBuf> {
     let Some(folder) = program.parent() else {
         return Err(io::ErrorKind::NotFound.into());
@@ -60,7 +60,7 @@ fn read_commit<R: Files + AllocGlobal>(rt: &R) -> io::Result<String> {
     Ok(hash_of(rt, &text)?)
 }
 
-/// The hash of the commit. Empty if no release has brought it.
+/// Returns the hash of the commit. It is empty if no release has brought it.
 pub fn commit<R: Files + AllocGlobal>(rt: &R) -> String {
     match read_commit(rt) {
         Ok(hash) => hash,

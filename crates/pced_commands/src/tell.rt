@@ -21,10 +21,10 @@ pub enum TellFault {
     #[error("bad argument")]
     BadArgument,
     /// No server listens at the path.
-    #[error("nobody listens")]
+    #[error("cannot connect")]
     Nobody,
     /// The answer breaks off, or doesn't come.
-    #[error("answer broken off")]
+    #[error("incomplete answer")]
     BrokenOff,
     /// Standard input or standard output fails.
     #[error("device fault")]

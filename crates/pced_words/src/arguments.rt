@@ -348,7 +348,7 @@ fn sessions_in(matches: &ArgMatches<'_>) -> Sessions {
     Sessions::Count(matches.get_one::<u64>("sessions").unwrap_or(1))
 }
 
-/// The addresses of these words, or the first that is none.
+/// Reads the addresses of these words, or returns the first that is none.
 fn addresses_in<'a>(
     alloc: Global,
     words: &[&'a str],
@@ -408,7 +408,7 @@ fn tell_words<'a>(alloc: Global, matches: &ArgMatches<'a>) -> Result<TellWords<'
     })
 }
 
-/// What the words ask for, the first of them being the program's name.
+/// Reads what the words ask for. The first of them is the program's name.
 pub fn parse<'a>(alloc: Global, words: &'a [String]) -> Result<Task<'a>, Error> {
     let matches = command(alloc)?.try_get_matches_from(words)?;
     if let Some(matches) = matches.subcommand_matches("serve") {

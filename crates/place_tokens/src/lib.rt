@@ -6,11 +6,11 @@
 //!
 //! The layer above may rely on `draw` for each number. With the tokens of all seats in hand it may also rely on
 //! `learn`: it lends what each token knows to the source in turn (`lend`), the source learns that the lists have each
-//! number once, and gives them back (`give_back`). The type says that two seats have the same source: a `Room` names
+//! number once, and gives them back (`give_back`). The type says that two seats have the same source: a `StepNumbers` names
 //! the source and says how many seats it has, as a `Ledger` does for sums.
 //!
 //! ```text
-//! fn in_turn<B: Room>(source: &mut Source<B>, first: &mut Drawn<B>, second: &mut Drawn<B>)
+//! fn in_turn<B: StepNumbers>(source: &mut Source<B>, first: &mut Drawn<B>, second: &mut Drawn<B>)
 //!     ensures first { first.new ≡ first.old ++ source.old ∷ [] }
 //!     ensures second { second.new ≡ second.old ++ (source.old + 1) ∷ [] }
 //! {
@@ -23,5 +23,5 @@
 mod rule;
 mod source;
 
-pub use rule::{Room, View};
+pub use rule::{StepNumbers, View};
 pub use source::{Drawn, PlaceTable, Source, Token, Unopened, give_back, learn, lend};

@@ -3,8 +3,8 @@ ghost use Rattle.std.specs.Prelude.{◌≡◌, ◌+◌, ◌-◌, ◌<◌, ◌^�
 ghost use Rattle.place_tokens.specs.Drawing.{keeping, holding, emptied, times, once_below, older_of, newest_of};
 
 use crate::rule::{
-    Compares, DrawnOnce, Draws, Everything, Given, Learns, Newest, Part, Room, Stacks, TakesIn,
-    View,
+    Compares, DrawnOnce, Draws, Everything, Given, Learns, Newest, Part, Stacks, StepNumbers,
+    TakesIn, View,
 };
 use atomic_table::{Seat, Table};
 use std::alloc::{AllocError, Global};
@@ -18,13 +18,13 @@ pub type Token = Seat<(), View>;
 
 /// Draws places in order from 0. A contract sees how many were drawn.
 #[derive(Drop)]
-pub struct Source<B: Room> {
+pub struct Source<B: StepNumbers> {
     pub table: PlaceTable,
     pub keeper: Token,
     pub room: PhantomData<B>,
 }
 
-impl<B: Room> Model for Source<B> {
+impl<B: StepNumbers> Model for Source<B> {
     ghost use Rattle.std.specs.Prelude.{◌≡◌, ◌+◌, ℕ, []};
     ghost use Rattle.place_tokens.specs.Drawing.{keeping};
 
@@ -40,12 +40,12 @@ impl<B: Room> Model for Source<B> {
 
 /// The places that one seat ever got, oldest first. They rise. It has no bytes.
 #[derive(Drop)]
-pub struct Drawn<B: Room> {
+pub struct Drawn<B: StepNumbers> {
     pub token: Token,
     pub room: PhantomData<B>,
 }
 
-impl<B: Room> Model for Drawn<B> {
+impl<B: StepNumbers> Model for Drawn<B> {
     ghost use Rattle.std.specs.Prelude.{◌≡◌, ℕ, List};
     ghost use Rattle.place_tokens.specs.Drawing.{holding, RiseFrom};
 
@@ -94,7 +94,10 @@ impl Unopened {
     }
 
     /// Gives the source its name, and returns it with the tokens of its seats. Drops everything if memory runs out.
-    pub fn open<B: Room>(self, alloc: Global) -> Result<(Source<B>, Vec<Drawn<B>>), AllocError>
+    pub fn open<B: StepNumbers>(
+        self,
+        alloc: Global,
+    ) -> Result<(Source<B>, Vec<Drawn<B>>), AllocError>
         requires table { self.table ≡ B.table }
         requires seats { self.seats ≡ B.seats }
         ensures none_drawn { IfOk result (λ opened. opened.0 ≡ 0) }
@@ -191,7 +194,7 @@ fn compare(table: &PlaceTable, keeper: &mut Token, token: &mut Token)
     give_back(table, keeper, token);
 }
 
-impl<B: Room> Source<B> {
+impl<B: StepNumbers> Source<B> {
     /// Draws the next place for this seat, whose places keep rising. It neither waits nor fails.
     pub fn draw(&mut self, seat: &mut Drawn<B>)
         ensures seat { seat.new ≡ seat.old ++ self.old ∷ [] }

@@ -14,7 +14,7 @@ pub const DEVICE: u8 = 3;
 /// There is no room: memory, or the history is full.
 pub const MEMORY: u8 = 5;
 
-/// The exit status of a run that the fault ended.
+/// Returns the exit status of a run that the fault ended.
 pub fn status(fault: ScriptFault) -> u8
     ensures { result ≡ status_of fault }
 {
@@ -27,8 +27,8 @@ pub fn status(fault: ScriptFault) -> u8
     }
 }
 
-/// How a script ended: the text of a fault goes to standard error, and the status is given. Where there is no
-/// fault, nothing is written, and nothing fails.
+/// Writes the text of a fault to standard error, and returns the exit status of the script. If there is no fault, nothing is
+/// written, and nothing fails.
 pub fn end<R: Eprint>(rt: &R, outcome: Result<(), ScriptFault>) -> io::Result<u8>
     ensures status { IfOk result (λ given. given ≡ ended_status outcome) }
     ensures nothing_to_write { IsOk outcome → IsOk result }
@@ -42,7 +42,7 @@ pub fn end<R: Eprint>(rt: &R, outcome: Result<(), ScriptFault>) -> io::Result<u8
     }
 }
 
-/// The fault of a run whose words could not be read, or whose text on standard error not written.
+/// Returns the fault of a run whose words couldn't be read, or whose text couldn't be written to standard error.
 fn failed(error: &io::Error) -> ScriptFault
     ensures { result ≡ failed_fault (error_kind error.now) }
 {
@@ -52,7 +52,7 @@ fn failed(error: &io::Error) -> ScriptFault
     }
 }
 
-/// The exit status of a run that could not speak with its system. The text goes to standard error, if that takes it.
+/// Returns the exit status of a run to which the system refused something. The text goes to standard error, if that takes it.
 pub fn fail<R: Eprint>(rt: &R, error: &io::Error) -> u8
     ensures { result ≡ status_of (failed_fault (error_kind error.now)) }
 {

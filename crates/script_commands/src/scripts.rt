@@ -22,7 +22,7 @@ fn explain_printed<R: Runtime<A = Global>>(rt: &R, printed: &mut Vec<u8>) -> io:
     end(rt, outcome)
 }
 
-/// The same, with its messages in words.
+/// Runs the script of standard input, and prints its messages in words.
 pub fn explain_script<R: Runtime<A = Global>>(rt: &R) -> io::Result<u8> {
     explain_printed(rt, &mut Vec::new(rt.alloc()))
 }

@@ -7,14 +7,15 @@ use Rattle.step_core.specs.declared.event.Reply.TheVariants as reply
 use Rattle.step_core.specs.declared.job.Job.{Job}
 use Rattle.history_core.specs.Histories.{Content}
 use Rattle.step_core.specs.Searches.{MayAnswerTo}
-use Rattle.script_lines.specs.Texts.{reply_text, job_text, answer_text}
+use Rattle.history_core.specs.declared.step.Brief.TheVariants as brief
+use Rattle.script_lines.specs.Texts.{brief_text, reply_text, answer_text}
 use Rattle.script_lines.specs.Submits.{submitted}
 use Rattle.script_lines.specs.LineAnswer.{LineAnswer, line_answer, ◌>>=◌, Fails}
 use Rattle.script_lines.specs.declared.fault.CommandFault.{CommandFault}
 
 -- the line of a job, if its search answers this
 abbrev pub job_line : Job → Option (List ℕ) → List ℕ
-job_line job answer = job_text (job.ticket).id ++ codes " " ++ answer_text answer
+job_line job answer = brief_text (brief.Job (job.ticket).id) ++ codes " " ++ answer_text answer
 
 -- the text of the reply to Take
 abbrev pub taken_text : Option (List ℕ) → Reply → List ℕ

@@ -1,80 +1,36 @@
 -- What a line prints.
-use Rattle.std.specs.Prelude.{ℕ, ◌+◌, Bool, true, false, List, [], ◌∷◌, ◌++◌, length, codes, Option, Some, None}
+use Rattle.std.specs.Prelude.{ℕ, ◌+◌, List, [], ◌∷◌, ◌++◌, codes, Option, Some, None}
 use Rattle.std.specs.Fmt.{decimal}
-use Rattle.lsp_base.specs.Whys.{number_of}
-use Rattle.lsp_base.specs.declared.why.Why.{Why}
 use Rattle.step_core.specs.declared.event.Event.{Event}
 use Rattle.step_core.specs.declared.event.Event.TheVariants as event
 use Rattle.step_core.specs.declared.event.Reply.{Reply}
-use Rattle.step_core.specs.declared.event.Reply.TheVariants as reply
+use Rattle.history_core.specs.Briefs.{brief_number, brief_of, brief_word}
 use Rattle.history_core.specs.Histories.{Content}
 use Rattle.history_core.specs.declared.step.Brief.{Brief}
-use Rattle.history_core.specs.declared.step.Brief.TheVariants as brief
 use Rattle.history_core.specs.declared.step.Step.{Step}
 
 -- the longest word of a reply's text before a number, in bytes
 abbrev pub word_bound : ℕ
 word_bound = 20
 
--- how many bytes of a reply's text are added without asking for memory
+-- the room, in bytes, in which a word and a number are added without asking for memory
+abbrev pub number_room : ℕ
+number_room = 40
+
+-- the room, in bytes, in which the text of a reply is added without asking for memory
 abbrev pub reply_room : ℕ
 reply_room = 64
 
-abbrev pub booked_text : Bool → List ℕ
-booked_text false = codes "booked"
-booked_text true = codes "booked wants"
-
--- n messages were handed out to be sent
-abbrev pub out_text : ℕ → List ℕ
-out_text messages = codes "out " ++ decimal messages
-
-abbrev pub refused_text : Why → List ℕ
-refused_text why = codes "refused " ++ decimal (number_of why)
-
--- the texts for: a ticket asks for a path, a ticket was taken, a grant or a removal has an SRP-ID
-abbrev pub asked_text : ℕ → List ℕ
-asked_text ticket = codes "asked " ++ decimal ticket
-
-abbrev pub job_text : ℕ → List ℕ
-job_text ticket = codes "job " ++ decimal ticket
-
-abbrev pub granted_text : ℕ → List ℕ
-granted_text srp = codes "granted " ++ decimal srp
-
-abbrev pub removing_text : ℕ → List ℕ
-removing_text srp = codes "removing " ++ decimal srp
-
-abbrev pub reply_text : Reply → List ℕ
-reply_text reply.Done = codes "done"
-reply_text (reply.Booked wants) = booked_text wants
-reply_text (reply.Asked ticket) = asked_text ticket
-reply_text (reply.Job job) = job_text (job.ticket).id
-reply_text reply.Idle = codes "idle"
-reply_text (reply.Granted srp) = granted_text srp
-reply_text reply.Answered = codes "answered"
-reply_text reply.Again = codes "again"
-reply_text reply.NoPath = codes "nopath"
-reply_text reply.GivenUp = codes "givenup"
-reply_text reply.Gone = codes "gone"
-reply_text (reply.Removing srp) = removing_text srp
-reply_text (reply.Out messages) = out_text (length messages)
-reply_text (reply.Refused why) = refused_text why
+-- the word of a reply, and its number if it has one
+abbrev pub numbered : List ℕ → Option ℕ → List ℕ
+numbered word None = word
+numbered word (Some number) = word ++ (codes " " ++ decimal number)
 
 abbrev pub brief_text : Brief → List ℕ
-brief_text brief.Done = codes "done"
-brief_text (brief.Booked wants) = booked_text wants
-brief_text (brief.Asked ticket) = asked_text ticket
-brief_text (brief.Job ticket) = job_text ticket
-brief_text brief.Idle = codes "idle"
-brief_text (brief.Granted srp) = granted_text srp
-brief_text brief.Answered = codes "answered"
-brief_text brief.Again = codes "again"
-brief_text brief.NoPath = codes "nopath"
-brief_text brief.GivenUp = codes "givenup"
-brief_text brief.Gone = codes "gone"
-brief_text (brief.Removing srp) = removing_text srp
-brief_text (brief.Out messages) = out_text messages
-brief_text (brief.Refused why) = refused_text why
+brief_text b = numbered (brief_word b) (brief_number b)
+
+abbrev pub reply_text : Reply → List ℕ
+reply_text r = brief_text (brief_of r)
 
 abbrev pub event_text : Event → List ℕ
 event_text (event.Up peer capabilities) = codes "up"

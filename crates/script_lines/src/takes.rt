@@ -6,8 +6,8 @@ ghost use Rattle.script_lines.specs.Takes.{job_line, taken_text, AnswersTaken};
 
 use crate::fault::CommandFault;
 use crate::submits::submit;
-use crate::texts::{add_answer, add_number, add_reply};
-use history_core::{Database, Event, Job, Reply};
+use crate::texts::{add_answer, add_brief, add_reply};
+use history_core::{Brief, Database, Event, Job, Reply};
 use std::alloc::{AllocError, Global};
 
 /// Searches for the path of a job, and adds its line.
@@ -15,7 +15,7 @@ fn add_job(alloc: Global, text: &mut String, job: &Job) -> Result<(), AllocError
     ensures { OnOk result ((answer : Option (List ℕ)) × MayAnswer job.now answer × (string_bytes text.new ≡ string_bytes text.old ++ job_line job.now answer)) }
 {
     let answer = job.search(alloc)?;
-    add_number(text, "job ", job.ticket.id)?;
+    add_brief(text, Brief::Job(job.ticket.id))?;
     text.push_str(" ")?;
     match &answer {
         Some(links) => add_answer(text, Some(links.as_slice())),

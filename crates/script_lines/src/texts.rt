@@ -1,44 +1,24 @@
 //! What lines print.
 
 ghost use Rattle.std.specs.Prelude.{option_map, ◌≡◌, ◌++◌, ◌+◌, ◌^◌, ◌<◌, ◌≤◌, IfOk, OnOk, IsOk, length, decimal, string_bytes, string_len, string_capacity};
-ghost use Rattle.script_lines.specs.Texts.{more_links, path_text, answer_text, word_bound, reply_room, booked_text, out_text, refused_text, reply_text, brief_text, event_text, step_line, steps_from, history_text};
+ghost use Rattle.script_lines.specs.Texts.{more_links, path_text, answer_text, word_bound, number_room, reply_room, reply_text, brief_text, event_text, step_line, steps_from, history_text};
 
-use history_core::{Brief, Database, Event, Reply, Step, Why};
+use history_core::{Brief, Database, Event, Reply, Step};
 use itoa::Buffer;
 use std::alloc::{AllocError, Global};
 use std::fmt::Write;
 use te_base::LinkNumber;
 
-fn booked_word(wants_path: bool) -> &'static str
-    ensures { result.now ≡ booked_text wants_path }
-{
-    if wants_path { "booked wants" } else { "booked" }
-}
-
 /// Adds a word of a reply, and a number.
 pub(crate) fn add_number(text: &mut String, word: &str, number: u64) -> Result<(), AllocError>
     requires { length word.now ≤ word_bound }
     ensures text { OnOk result (string_bytes text.new ≡ string_bytes text.old ++ (word.now ++ decimal number)) }
-    ensures succeeds { string_len text.old + reply_room ≤ string_capacity text.old → IsOk result }
+    ensures succeeds { string_len text.old + number_room ≤ string_capacity text.old → IsOk result }
 {
     let mut buffer = Buffer::new();
     let digits = buffer.format(number);
     text.push_str(word)?;
     text.push_str(digits)
-}
-
-fn add_out(text: &mut String, messages: u64) -> Result<(), AllocError>
-    ensures text { OnOk result (string_bytes text.new ≡ string_bytes text.old ++ out_text messages) }
-    ensures succeeds { string_len text.old + reply_room ≤ string_capacity text.old → IsOk result }
-{
-    add_number(text, "out ", messages)
-}
-
-fn add_refusal(text: &mut String, why: Why) -> Result<(), AllocError>
-    ensures text { OnOk result (string_bytes text.new ≡ string_bytes text.old ++ refused_text why) }
-    ensures succeeds { string_len text.old + reply_room ≤ string_capacity text.old → IsOk result }
-{
-    add_number(text, "refused ", u64::from(why.number()))
 }
 
 fn add_more_links(text: &mut String, links: &[LinkNumber]) -> Result<(), AllocError>
@@ -75,48 +55,24 @@ pub(crate) fn add_answer(text: &mut String, answer: Option<&[LinkNumber]>) -> Re
 /// How many bytes of a reply's text are added without asking for memory.
 pub const REPLY_ROOM: usize = 64;
 
+/// Adds the word of a reply, and its number if it has one.
+pub(crate) fn add_brief(text: &mut String, brief: Brief) -> Result<(), AllocError>
+    ensures succeeds { string_len text.old + reply_room ≤ string_capacity text.old → IsOk result }
+    ensures text { OnOk result (string_bytes text.new ≡ string_bytes text.old ++ brief_text brief) }
+{
+    text.push_str(brief.word())?;
+    match brief.number() {
+        None => Ok(()),
+        Some(number) => add_number(text, " ", number),
+    }
+}
+
 /// Adds a reply, without a line break.
 pub fn add_reply(text: &mut String, reply: &Reply) -> Result<(), AllocError>
     ensures succeeds { string_len text.old + reply_room ≤ string_capacity text.old → IsOk result }
     ensures text { OnOk result (string_bytes text.new ≡ string_bytes text.old ++ reply_text reply.now) }
 {
-    match reply {
-        Reply::Done => text.push_str("done"),
-        Reply::Booked { wants_path } => text.push_str(booked_word(*wants_path)),
-        Reply::Asked(ticket) => add_number(text, "asked ", *ticket),
-        Reply::Job(job) => add_number(text, "job ", job.ticket.id),
-        Reply::Idle => text.push_str("idle"),
-        Reply::Granted(srp) => add_number(text, "granted ", u64::from(*srp)),
-        Reply::Answered => text.push_str("answered"),
-        Reply::Again => text.push_str("again"),
-        Reply::NoPath => text.push_str("nopath"),
-        Reply::GivenUp => text.push_str("givenup"),
-        Reply::Gone => text.push_str("gone"),
-        Reply::Removing(srp) => add_number(text, "removing ", u64::from(*srp)),
-        Reply::Out(messages) => add_out(text, messages.as_slice().len() as u64),
-        Reply::Refused(why) => add_refusal(text, *why),
-    }
-}
-
-fn add_brief(text: &mut String, brief: Brief) -> Result<(), AllocError>
-    ensures { OnOk result (string_bytes text.new ≡ string_bytes text.old ++ brief_text brief) }
-{
-    match brief {
-        Brief::Done => text.push_str("done"),
-        Brief::Booked { wants_path } => text.push_str(booked_word(wants_path)),
-        Brief::Asked(ticket) => add_number(text, "asked ", ticket),
-        Brief::Job(ticket) => add_number(text, "job ", ticket),
-        Brief::Idle => text.push_str("idle"),
-        Brief::Granted(srp) => add_number(text, "granted ", u64::from(srp)),
-        Brief::Answered => text.push_str("answered"),
-        Brief::Again => text.push_str("again"),
-        Brief::NoPath => text.push_str("nopath"),
-        Brief::GivenUp => text.push_str("givenup"),
-        Brief::Gone => text.push_str("gone"),
-        Brief::Removing(srp) => add_number(text, "removing ", u64::from(srp)),
-        Brief::Out { messages } => add_out(text, messages),
-        Brief::Refused(why) => add_refusal(text, why),
-    }
+    add_brief(text, Brief::of(reply))
 }
 
 fn event_word(event: &Event) -> &'static str

@@ -5,7 +5,7 @@ use mathlib.Core.List.{IsPrefix}
 use Rattle.te_base.specs.Ted.{Ted}
 use Rattle.history_core.specs.Histories.{is_full}
 use Rattle.history_seats.specs.Past.{database_at, with_seen}
-use Rattle.history_seats.specs.Receipts.{SeatContent, tidy}
+use Rattle.history_seats.specs.Receipts.{SeatContent, after_fold}
 use Rattle.shared_pce.specs.Turns.{Received, SeesMore, RolledUp}
 use Rattle.engine_core.specs.Deeds.{Deed, Called, Shown, calls_of}
 use Rattle.engine_core.specs.declared.store.Call.{Call}
@@ -32,7 +32,7 @@ pub record SeatedRolls (text : Ted) (old : MutBor SeatContent) (listed : List Ca
 
 -- the seat after it may have dropped its receipts of rolled places
 abbrev pub IsFolded : Ted → SeatContent → SeatContent → Type 0
-IsFolded text old new = IsPrefix old.seen new.seen × (new ≡ with_seen new.seen (tidy (database_at text new.seen).rolled old))
+IsFolded text old new = IsPrefix old.seen new.seen × (new ≡ with_seen new.seen (after_fold (database_at text new.seen).rolled old))
 
 -- the same loan of the same seat, which may have dropped its receipts of rolled places
 pub record SameSeat (text : Ted) (old new : MutBor SeatContent) : Type 0 where

@@ -5,7 +5,7 @@ ghost use Rattle.te_snapshot.specs.Left.{all_left};
 ghost use Rattle.history_seats.specs.Past.{database_at};
 ghost use Rattle.seated_store.specs.Seating.{SeatedMoves};
 
-use engine_core::{Call, Desk, Store};
+use engine_core::{Call, ServerStore, Store};
 use history_seats::{Brands, Receipt, receipt_bytes};
 use pcep_messages::Message;
 use pcep_objects::Open;
@@ -155,7 +155,7 @@ impl<'a, R: Wait, B: Brands> Store for Seated<'a, R, B> {
     }
 }
 
-impl<'a, R: Wait, B: Brands> Desk for Seated<'a, R, B> {
+impl<'a, R: Wait, B: Brands> ServerStore for Seated<'a, R, B> {
     ghost use Rattle.std.specs.Prelude.{◌≡◌};
     ghost use Rattle.history_seats.specs.Past.{database_at};
     ghost use Rattle.step_core.specs.States.{is_queued};

@@ -3,8 +3,8 @@
 //! `observer` has those who are shown it: a front, or an operator's seat.
 //!
 //! ```text
-//! fn status_text(outlook: &Outlook<'_, R, B>, front: &mut Front<Event, B>, around: &Surroundings<'_>) -> Result<Vec<u8>, AllocError> {
-//!     Ok(page_of(outlook, front, Form::Json, around, &Ask::Status)?.text)
+//! fn status_text(run_view: &RunView<'_, R, B>, front: &mut Front<Event, B>, info: &ServerInfo<'_>) -> Result<Vec<u8>, AllocError> {
+//!     Ok(page_of(run_view, front, Form::Json, info, &Ask::Status)?.text)
 //! }
 //! ```
 #![tactic(auto)]

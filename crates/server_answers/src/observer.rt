@@ -1,7 +1,7 @@
 //! Those who are shown what a look sees.
 use history_seats::Brands;
 use seated_store::Seated;
-use server_base::Outlook;
+use server_base::RunView;
 use shared_pce::{Event, Front, Look};
 use std::alloc::AllocError;
 use std::sync::Wait;
@@ -21,7 +21,7 @@ pub trait Observer<R: Wait + Clock, B: Brands> {
     /// Looks at the database, shows the observer what has happened until then, and counts for how long that held the lock.
     fn look<L: Look>(
         &mut self,
-        outlook: &Outlook<'_, R, B>,
+        run_view: &RunView<'_, R, B>,
         look: &L,
     ) -> Result<L::Seen, AllocError>
         ensures sees { IfOk result (L.sees look.now (database self.new)) }
@@ -38,10 +38,10 @@ impl<R: Wait + Clock, B: Brands> Observer<R, B> for Front<Event, B> {
 
     fn look<L: Look>(
         &mut self,
-        outlook: &Outlook<'_, R, B>,
+        run_view: &RunView<'_, R, B>,
         look: &L,
     ) -> Result<L::Seen, AllocError> {
-        outlook.look(self, look)
+        run_view.look(self, look)
     }
 }
 
@@ -56,12 +56,12 @@ impl<'s, R: Wait + Clock, B: Brands> Observer<R, B> for Seated<'s, R, B> {
 
     fn look<L: Look>(
         &mut self,
-        outlook: &Outlook<'_, R, B>,
+        run_view: &RunView<'_, R, B>,
         look: &L,
     ) -> Result<L::Seen, AllocError> {
-        let timed = outlook.timed(look);
+        let timed = run_view.timed(look);
         let seen = Seated::look(self, &timed);
-        outlook.count_look(&timed);
+        run_view.count_look(&timed);
         seen
     }
 }

@@ -3,19 +3,20 @@ ghost use Rattle.std.specs.Prelude.{◌≡◌, ◌≤◌, ◌-◌, ◌^◌, min}
 ghost use Rattle.std.specs.Duration.{as_nanos};
 ghost use Rattle.server_base.specs.Moments.{HasRun};
 
-use crate::counting::{count_step, end_reason};
+use crate::counting::count_step;
 use crate::expiry::{Peers, Settled};
 use crate::link_ends::LinkEnds;
-use crate::outlook::Outlook;
+use crate::run_view::RunView;
 use crate::seat_pool::SeatPool;
 use crate::ticket_share::ShareLook;
 use crate::upkeep::Upkeep;
+use end_reasons::Reason;
 use engine_core::{Call, Reply};
 use history_seats::Brands;
 use pce_seen::EventKind;
 use pcep_word::Ipv4;
-use server_counts::{Counted, Counters, Marks, Presences, Timed, Waits};
-use server_log::{LogLine, LogQueue, Reason};
+use server_counts::{Counted, Counters, Marks, PeerStates, Timed, Waits};
+use server_log::{LogLine, LogQueue};
 use server_rules::{PathHappening, PathWords, PcErrHappening, PeerErrors, Settling};
 use server_signals::{GrantGate, Run, RunFault, Wakers};
 use server_talk::Watch;
@@ -100,7 +101,7 @@ pub struct RunState {
     pub strangers: AtomicU64,
     pub counters: Mutex<Counters>,
     pub waits: Mutex<Waits>,
-    pub presences: Mutex<Presences>,
+    pub peer_states: Mutex<PeerStates>,
     pub marks: Mutex<Marks>,
     pub words: Mutex<PathWords>,
     pub errors: Mutex<PeerErrors>,
@@ -130,7 +131,7 @@ impl RunState {
             strangers: AtomicU64::new(0),
             counters: Mutex::new(Counters::new()),
             waits: Mutex::new(Waits::new()),
-            presences: Mutex::new(Presences::new(alloc)),
+            peer_states: Mutex::new(PeerStates::new(alloc)),
             marks: Mutex::new(Marks::new(alloc)),
             words: Mutex::new(PathWords::new(alloc)),
             errors: Mutex::new(PeerErrors::new(alloc)),
@@ -159,7 +160,7 @@ pub struct Context<'a, R: Clock, B: Brands> {
     /// When paths were asked for.
     pub waits: &'a Mutex<Waits>,
     /// Since when each peer is up or down.
-    pub presences: &'a Mutex<Presences>,
+    pub peer_states: &'a Mutex<PeerStates>,
     /// How many steps there were at which moments.
     pub marks: &'a Mutex<Marks>,
     /// What reports say about paths that the state doesn't keep.
@@ -200,14 +201,14 @@ impl<'a, R: Clock, B: Brands> Context<'a, R, B> {
     }
 
     /// Returns what viewers and operators see of the run.
-    pub fn outlook(&self) -> Outlook<'a, R, B> {
-        Outlook {
+    pub fn run_view(&self) -> RunView<'a, R, B> {
+        RunView {
             rt: self.rt,
             alloc: self.alloc,
             shared: self.shared,
             moments: self.moments(),
             counters: self.counters,
-            presences: self.presences,
+            peer_states: self.peer_states,
             marks: self.marks,
             words: self.words,
             errors: self.errors,
@@ -273,9 +274,8 @@ impl<'a, R: Clock, B: Brands> Context<'a, R, B> {
         }
     }
 
-    /// Tests whether the peer has fewer tickets than are free, so that others find some. If memory runs out for that,
-    /// the answer is yes.
-    pub fn has_share(&self, front: &mut Front<Event, B>, peer: u32) -> bool
+    /// Looks whether the peer has fewer tickets than are free, so that others find some. If there is no memory to look, it has.
+    pub fn look_for_share(&self, front: &mut Front<Event, B>, peer: u32) -> bool
     where
         R: Wait,
     {
@@ -298,10 +298,11 @@ impl<'a, R: Clock, B: Brands> Context<'a, R, B> {
     where
         R: Wait,
     {
-        let end = end_reason(reason);
-        self.count(Counted::Ended(end));
+        self.count(Counted::Ended(reason));
         let now_ms = self.moments().now_ms();
-        self.presences.lock(self.rt).ended(peer, slot, now_ms, end);
+        self.peer_states
+            .lock(self.rt)
+            .ended(peer, slot, now_ms, reason);
     }
 
     /// Makes room for a session of the peer that comes up, if the peer isn't known and there is no room for one more.
@@ -333,7 +334,7 @@ impl<'a, R: Clock, B: Brands> Context<'a, R, B> {
         match settled {
             Settled::Nothing | Settled::WentDown(_) => {}
             Settled::Forgotten(peer) => {
-                self.presences.lock(self.rt).forgotten(peer);
+                self.peer_states.lock(self.rt).forgotten(peer);
                 self.forget_words(peer);
                 self.say(LogLine::Forgotten { peer });
             }

@@ -11,7 +11,7 @@
 //! - `routers`, `grant_of`, `upkeep`: grants and deletions that their routers don't settle (`specs/Routers`)
 //! - `replaced`: forgets a path when another of its LSP replaces it
 //! - `linkless`, `down_paths`, `retries`, `retrying`: LSPs that are down, and are asked for again (`specs/Linkless`, `specs/DownPaths`)
-//! - `timed_look`, `outlook`: what viewers and operators see of a run
+//! - `timed_look`, `run_view`: what viewers and operators see of a run
 //! - `context`: what each thread is lent
 #![tactic(auto)]
 
@@ -23,11 +23,11 @@ mod grant_of;
 mod holders;
 mod link_ends;
 mod linkless;
-mod outlook;
 mod replaced;
 mod retries;
 mod retrying;
 mod routers;
+mod run_view;
 mod seat_pool;
 mod standing;
 mod ticket_share;
@@ -39,7 +39,7 @@ pub use counting::{count_worked, forget_counted};
 pub use expiry::{Peers, Settled};
 pub use link_ends::{LinkEnds, ends_of};
 pub use linkless::StandsLook;
-pub use outlook::Outlook;
+pub use run_view::RunView;
 pub use seat_pool::SeatPool;
 pub use standing::Standing;
 pub use timed_look::TimedLook;

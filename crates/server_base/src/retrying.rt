@@ -4,11 +4,12 @@ use crate::down_paths::{DownPaths, ReportedPath};
 use crate::linkless::{LinklessLook, SeenLinkless, StandsLook};
 use crate::retries::Retries;
 use crate::routers::{RoutersLook, SeenRouter, find};
+use history_core::Brief;
 use history_seats::Brands;
 use indexmap::IndexMap;
 use lsp_words::Plsp;
 use pce_seen::EventKind;
-use server_counts::{Counted, ReplyKind};
+use server_counts::Counted;
 use server_rules::{LspSight, RetryHappening, RouterLsp};
 use server_talk::Watch;
 use shared_pce::{Event, Fault, Seat};
@@ -148,7 +149,7 @@ fn note_routers<R: Wait>(
 impl<'a, R: Wait + Clock, B: Brands> Context<'a, R, B> {
     /// Returns how many reloads were done.
     fn reloads(&self) -> u64 {
-        let reload = Counted::Step(EventKind::Reload, ReplyKind::Done);
+        let reload = Counted::Step(EventKind::Reload, Brief::Done);
         acquire(self.rt, self.counters).count(reload)
     }
 

@@ -7,11 +7,12 @@ use crate::retrying::SeenRetries;
 use crate::routers::{RoutersLook, SeenRouter, find};
 use database_looks::{SeenGrant, UpkeepLook};
 use engine_core::{Call, Reply};
+use history_core::Brief;
 use history_seats::Brands;
 use indexmap::IndexMap;
 use lsp_words::Plsp;
 use pce_seen::{Deletion, EventKind};
-use server_counts::{Counted, ReplyKind};
+use server_counts::Counted;
 use server_log::LogLine;
 use server_rules::{Pending, PendingDue, PendingEnd, PendingHappening, PendingTable};
 use server_talk::Watch;
@@ -279,8 +280,8 @@ impl<'a, R: Wait + Clock, B: Brands> Context<'a, R, B> {
     /// Returns how many grants and deletions were ever made.
     fn made(&self) -> u64 {
         let counters = acquire(self.rt, self.counters);
-        let granted = counters.count(Counted::Step(EventKind::Commit, ReplyKind::Granted));
-        let removing = counters.count(Counted::Step(EventKind::Delete, ReplyKind::Removing));
+        let granted = counters.count(Counted::Step(EventKind::Commit, Brief::Granted(0)));
+        let removing = counters.count(Counted::Step(EventKind::Delete, Brief::Removing(0)));
         granted.saturating_add(removing)
     }
 

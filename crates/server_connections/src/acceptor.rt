@@ -3,10 +3,11 @@ ghost use Rattle.std.specs.Prelude.{◌≡◌};
 ghost use Rattle.server_rules.specs.Ranges.{one_fewer};
 
 use crate::connection::attend;
+use end_reasons::Reason;
 use history_seats::Brands;
 use server_base::Context;
 use server_counts::Counted;
-use server_log::{LogLine, Reason};
+use server_log::LogLine;
 use server_rules::{FailedAccept, Sessions, failed_accept};
 use server_signals::RunFault;
 use server_talk::peer_of;

@@ -1,15 +1,16 @@
 //! The thread of one connection.
-use crate::noted::Noted;
 use crate::notes::Notes;
-use crate::overheard::{Heard, Said};
+use crate::observed_store::ObservedStore;
+use crate::overheard::{TappedReader, TappedWriter};
 use crate::reading::Reading;
+use end_reasons::Reason;
 use engine_core::Store;
 use history_seats::Brands;
 use seated_store::Seated;
 use server_base::{Context, Standing};
-use server_log::{ConnectionEnd, LogLine, PeerTimers, Reason};
+use server_log::{EndFacts, LogLine, PeerTimers};
 use server_rules::{ConnectionNotes, ReadPause};
-use server_talk::{Departure, Ended, PolledSocket, Watch, connection, part, prepare};
+use server_talk::{ConnectionEnd, Ended, PolledSocket, Watch, connection, linger_close, prepare};
 use shared_pce::Seat;
 use std::io;
 use std::net::{Net, TcpListener, TcpStream};
@@ -34,10 +35,10 @@ struct Left {
 fn reason_of<R: Wait + Clock, B: Brands>(
     context: &Context<'_, R, B>,
     slot: usize,
-    departure: Departure,
+    departure: ConnectionEnd,
     refused: Option<u8>,
 ) -> Reason {
-    let end = ConnectionEnd {
+    let end = EndFacts {
         ended: departure.ended,
         session: departure.reason,
         refused,
@@ -59,7 +60,7 @@ fn receive<R: Wait + Clock, B: Brands>(
 ) -> Left {
     let moments = context.moments_at(slot);
     let reading = Reading::new(moments.now_ms());
-    let mut heard = Heard::new(
+    let mut heard = TappedReader::new(
         context.rt,
         context.counters,
         socket,
@@ -68,8 +69,8 @@ fn receive<R: Wait + Clock, B: Brands>(
         &moments,
         &reading,
     );
-    let mut said = Said::new(context.rt, context.counters, stream);
-    let mut store = Noted {
+    let mut said = TappedWriter::new(context.rt, context.counters, stream);
+    let mut store = ObservedStore {
         notes: Notes {
             context,
             slot,
@@ -112,14 +113,14 @@ fn connected<'a, R: Wait + Clock + Net<Listener = TcpListener, Stream = TcpStrea
     Ok(socket)
 }
 
-/// Asks whether the end of the session should reach the peer, which means waiting for the peer to close.
-fn may_part<R: Wait + Clock, B: Brands>(
+/// Lets a connection wait for its peer to close, so that the end of the session reaches it, and returns whether it may.
+fn try_linger<R: Wait + Clock, B: Brands>(
     context: &Context<'_, R, B>,
     ended: Ended,
     slot: usize,
 ) -> bool {
     ended == Ended::SessionEnded
-        && (context.run.is_closing() || context.wakers.may_part(context.rt, slot))
+        && (context.run.is_closing() || context.wakers.try_linger(context.rt, slot))
 }
 
 /// Notes that a connection is closed without being served.
@@ -150,8 +151,8 @@ fn serve<R: Wait + Clock, B: Brands>(
     let left = receive(context, socket, stream, peer, slot, seat, trials);
     context.peers.ended(context.rt, peer, left.standing);
     context.note_end(peer, slot, left.reason);
-    if may_part(context, left.ended, slot) {
-        part(stream, &context.moments());
+    if try_linger(context, left.ended, slot) {
+        linger_close(stream, &context.moments());
     }
     left.reason
 }

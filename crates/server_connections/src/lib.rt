@@ -6,7 +6,7 @@
 //! - `sayings`: what a call says about a session, and about its router's paths and LSPs (`specs/Sayings`)
 //! - `asked`: the LSP of a request that its router refuses (`specs/Asked`)
 //! - `notes`: what a connection's thread notes and logs about its session
-//! - `noted`: a store that notes what happens to its peer's session
+//! - `observed_store`: a store that notes what happens to its peer's session
 //! - `connection`: a connection's thread
 //! - `acceptor`: the thread that accepts them
 #![tactic(auto)]
@@ -14,8 +14,8 @@
 mod acceptor;
 mod asked;
 mod connection;
-mod noted;
 mod notes;
+mod observed_store;
 mod overheard;
 mod reading;
 mod sayings;

@@ -70,7 +70,7 @@ impl<'a, 'c, 't, R: Wait + Clock, B: Brands> Notes<'a, 'c, 't, R, B> {
         for _pause in 0..SHARE_PAUSES {
             if !self.session.may_pause()
                 || context.run.is_closing()
-                || context.has_share(&mut self.front, self.peer)
+                || context.look_for_share(&mut self.front, self.peer)
             {
                 return;
             }
@@ -90,7 +90,7 @@ impl<'a, 'c, 't, R: Wait + Clock, B: Brands> Notes<'a, 'c, 't, R, B> {
         let up_ms = self.session.up_ms();
         context.note_earlier_grants(&mut self.front, self.peer, up_ms);
         let noted = context
-            .presences
+            .peer_states
             .lock(context.rt)
             .came_up(self.peer, self.slot, up_ms);
         if noted.is_err() {

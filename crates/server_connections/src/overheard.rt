@@ -4,7 +4,7 @@ ghost use Rattle.std.specs.Io.{ReadsAtMost};
 use crate::reading::Reading;
 use server_counts::{Counters, MessageStream, Way};
 use server_signals::Wakers;
-use server_talk::{Patient, PolledSocket, Watch};
+use server_talk::{PolledSocket, TimedRead, Watch};
 use short_lock::acquire;
 use std::io;
 use std::io::{ErrorKind, Read, Write};
@@ -31,7 +31,7 @@ impl<'a, R: Wait> MessageCount<'a, R> {
 
 /// What a peer sends.
 #[derive(Drop)]
-pub(crate) struct Heard<'a, R, W> {
+pub(crate) struct TappedReader<'a, R, W> {
     messages: MessageCount<'a, R>,
     socket: PolledSocket<'a>,
     /// Ends a wait of the socket; the connection has this slot there.
@@ -41,7 +41,7 @@ pub(crate) struct Heard<'a, R, W> {
     reading: &'a Reading,
 }
 
-impl<'a, R: Wait, W: Watch> Heard<'a, R, W> {
+impl<'a, R: Wait, W: Watch> TappedReader<'a, R, W> {
     pub fn new(
         rt: &'a R,
         counters: &'a Mutex<Counters>,
@@ -50,8 +50,8 @@ impl<'a, R: Wait, W: Watch> Heard<'a, R, W> {
         slot: usize,
         watch: &'a W,
         reading: &'a Reading,
-    ) -> Heard<'a, R, W> {
-        Heard {
+    ) -> TappedReader<'a, R, W> {
+        TappedReader {
             messages: MessageCount {
                 rt,
                 counters,
@@ -89,7 +89,7 @@ impl<'a, R: Wait, W: Watch> Heard<'a, R, W> {
     }
 }
 
-impl<'a, R: Wait, W: Watch> Read for Heard<'a, R, W> {
+impl<'a, R: Wait, W: Watch> Read for TappedReader<'a, R, W> {
     fn read(&mut self, buf: &mut [u8]) -> io::Result<usize> {
         match self.reading.pause_ms(self.watch.now_ms()) {
             0 => self.read_now(buf),
@@ -98,22 +98,26 @@ impl<'a, R: Wait, W: Watch> Read for Heard<'a, R, W> {
     }
 }
 
-impl<'a, R: Wait, W: Watch> Patient for Heard<'a, R, W> {
-    fn set_patience(&mut self, most_ms: u64) {
-        self.socket.set_patience(most_ms);
+impl<'a, R: Wait, W: Watch> TimedRead for TappedReader<'a, R, W> {
+    fn set_timeout(&mut self, most_ms: u64) {
+        self.socket.set_timeout(most_ms);
     }
 }
 
 /// What is sent to a peer.
 #[derive(Drop)]
-pub(crate) struct Said<'a, R> {
+pub(crate) struct TappedWriter<'a, R> {
     messages: MessageCount<'a, R>,
     stream: &'a TcpStream,
 }
 
-impl<'a, R: Wait> Said<'a, R> {
-    pub fn new(rt: &'a R, counters: &'a Mutex<Counters>, stream: &'a TcpStream) -> Said<'a, R> {
-        Said {
+impl<'a, R: Wait> TappedWriter<'a, R> {
+    pub fn new(
+        rt: &'a R,
+        counters: &'a Mutex<Counters>,
+        stream: &'a TcpStream,
+    ) -> TappedWriter<'a, R> {
+        TappedWriter {
             messages: MessageCount {
                 rt,
                 counters,
@@ -125,7 +129,7 @@ impl<'a, R: Wait> Said<'a, R> {
     }
 }
 
-impl<'a, R: Wait> Write for Said<'a, R> {
+impl<'a, R: Wait> Write for TappedWriter<'a, R> {
     fn write(&mut self, buf: &[u8]) -> io::Result<usize> {
         let mut stream = self.stream;
         let count = stream.write(buf)?;

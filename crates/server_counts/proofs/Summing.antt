@@ -1,5 +1,5 @@
 -- The counts of steps add up to the number of steps.
-use Rattle.std.proofs.Common.{◌≡◌, ◌<◌, ◌≤◌, ◌+◌, ◌-◌, ◌*◌, ◌^◌, ℕ, List, [], ◌∷◌, length, take, set, get_or, replicate, min, cond, refl, ap, sym, ◌∙◌, arith}
+use Rattle.std.proofs.Common.{◌≡◌, ◌<◌, ◌≤◌, ◌+◌, ◌-◌, ◌*◌, ◌^◌, ℕ, true, false, List, [], ◌∷◌, length, take, set, get_or, replicate, min, cond, refl, ap, sym, ◌∙◌, arith}
 use Rattle.std.specs.List.{sum, sum_by, count_by}
 use Rattle.std.proofs.Math.Seq.{take-set-lt}
 use Rattle.std.proofs.lemmas.List.{get_or-take, length-replicate, length-set, length-take-le, take-replicate, take-set-le}
@@ -7,8 +7,8 @@ use Rattle.std.proofs.lemmas.List.Folds.{sum_by-replicate}
 use Rattle.std.proofs.lemmas.List.Sums.{count_by-le-length, get_or-le-sum_by, sum_by-cons, sum_by-set}
 use Rattle.pce_seen.specs.declared.steps.EventKind.{EventKind}
 use Rattle.pce_seen.specs.declared.steps.EventKind.TheVariants as event
-use Rattle.server_counts.specs.declared.kinds.ReplyKind.{ReplyKind}
-use Rattle.server_counts.specs.declared.kinds.ReplyKind.TheVariants as reply
+use Rattle.history_core.specs.declared.step.Brief.{Brief}
+use Rattle.history_core.specs.declared.step.Brief.TheVariants as brief
 use Rattle.server_counts.specs.declared.kinds.Counted.{Counted}
 use Rattle.server_counts.specs.declared.kinds.Counted.TheVariants as of
 use Rattle.server_counts.specs.Counts.{all_added, is_step, steps_of}
@@ -29,24 +29,24 @@ event_low event.Return = omega arith
 event_low event.Delete = omega arith
 event_low event.Reload = omega arith
 
-reply_low : (r : ReplyKind) → reply_number r < 15
-reply_low reply.Done = omega arith
-reply_low reply.Booked = omega arith
-reply_low reply.BookedWantsPath = omega arith
-reply_low reply.Asked = omega arith
-reply_low reply.Job = omega arith
-reply_low reply.Idle = omega arith
-reply_low reply.Granted = omega arith
-reply_low reply.Answered = omega arith
-reply_low reply.Again = omega arith
-reply_low reply.NoPath = omega arith
-reply_low reply.GivenUp = omega arith
-reply_low reply.Gone = omega arith
-reply_low reply.Removing = omega arith
-reply_low reply.Out = omega arith
-reply_low reply.Refused = omega arith
+reply_low : (r : Brief) → reply_number r < 15
+reply_low brief.Done = omega arith
+reply_low (brief.Booked false) = omega arith
+reply_low (brief.Booked true) = omega arith
+reply_low (brief.Asked ticket) = omega arith
+reply_low (brief.Job ticket) = omega arith
+reply_low brief.Idle = omega arith
+reply_low (brief.Granted srp) = omega arith
+reply_low brief.Answered = omega arith
+reply_low brief.Again = omega arith
+reply_low brief.NoPath = omega arith
+reply_low brief.GivenUp = omega arith
+reply_low brief.Gone = omega arith
+reply_low (brief.Removing srp) = omega arith
+reply_low (brief.Out messages) = omega arith
+reply_low (brief.Refused why) = omega arith
 
-step_low : (e : EventKind) (r : ReplyKind) → place (of.Step e r) < 195
+step_low : (e : EventKind) (r : Brief) → place (of.Step e r) < 195
 step_low e r = omega (arith, event_low e, reply_low r)
 
 -- one of the first numbers is replaced
@@ -83,11 +83,11 @@ passed what before high = ap sum (take-set-le 195 ((all_added before).numbers) (
 other : (what : Counted) (before : List Counted) → Counts before → 195 ≤ place what → count_by is_step (what ∷ before) ≡ count_by is_step before → Counts (what ∷ before)
 other what before c high none = record { long = numbered what before c.long; same = passed what before high ∙ c.same ∙ sym none }
 
-counted_more : (e : EventKind) (r : ReplyKind) (before : List Counted) → count_by is_step before + 1 ≡ count_by is_step (of.Step e r ∷ before)
+counted_more : (e : EventKind) (r : Brief) (before : List Counted) → count_by is_step before + 1 ≡ count_by is_step (of.Step e r ∷ before)
 counted_more e r before =
     let cons : count_by is_step (of.Step e r ∷ before) ≡ 1 + count_by is_step before = sum_by-cons (λ (x : Counted). cond (is_step x) 1 0) (of.Step e r) before in omega (arith, cons)
 
-step : (e : EventKind) (r : ReplyKind) (before : List Counted) → Counts before → length before + 1 < 2 ^ 64 → Counts (of.Step e r ∷ before)
+step : (e : EventKind) (r : Brief) (before : List Counted) → Counts before → length before + 1 < 2 ^ 64 → Counts (of.Step e r ∷ before)
 step e r before c few =
     let numbers = (all_added before).numbers in
     let less : sum (take 195 numbers) < 2 ^ 64 - 1 = omega (arith, c.same, count_by-le-length is_step before, few) in

@@ -1,8 +1,8 @@
 pub mod Places
 pub mod Counts
-pub mod Presences
+pub mod PeerStates
 pub mod Times
 pub mod Streams
 pub mod Waits
 pub mod Marks
-pub mod Lefts
+pub mod Residuals

@@ -1,13 +1,13 @@
 -- The place of each number in the table.
-use Rattle.std.specs.Prelude.{ℕ, ◌+◌, ◌*◌, min}
+use Rattle.std.specs.Prelude.{ℕ, ◌==◌, ◌+◌, ◌*◌, true, false, min, Option, Some, None, if◌then◌else◌}
 use Rattle.pce_seen.specs.declared.steps.EventKind.{EventKind}
 use Rattle.pce_seen.specs.declared.steps.EventKind.TheVariants as event
-use Rattle.server_counts.specs.declared.kinds.ReplyKind.{ReplyKind}
-use Rattle.server_counts.specs.declared.kinds.ReplyKind.TheVariants as reply
+use Rattle.history_core.specs.declared.step.Brief.{Brief}
+use Rattle.history_core.specs.declared.step.Brief.TheVariants as brief
 use Rattle.server_counts.specs.declared.kinds.MessageKind.{MessageKind}
 use Rattle.server_counts.specs.declared.kinds.MessageKind.TheVariants as message
-use Rattle.server_counts.specs.declared.kinds.EndReason.{EndReason}
-use Rattle.server_counts.specs.declared.kinds.EndReason.TheVariants as end
+use Rattle.end_reasons.specs.declared.reason.Reason.{Reason}
+use Rattle.end_reasons.specs.declared.reason.Reason.TheVariants as reason
 use Rattle.server_counts.specs.declared.kinds.Counted.{Counted}
 use Rattle.server_counts.specs.declared.kinds.Counted.TheVariants as counted
 
@@ -26,22 +26,22 @@ event_number event.Return = 10
 event_number event.Delete = 11
 event_number event.Reload = 12
 
-abbrev pub reply_number : ReplyKind → ℕ
-reply_number reply.Done = 0
-reply_number reply.Booked = 1
-reply_number reply.BookedWantsPath = 2
-reply_number reply.Asked = 3
-reply_number reply.Job = 4
-reply_number reply.Idle = 5
-reply_number reply.Granted = 6
-reply_number reply.Answered = 7
-reply_number reply.Again = 8
-reply_number reply.NoPath = 9
-reply_number reply.GivenUp = 10
-reply_number reply.Gone = 11
-reply_number reply.Removing = 12
-reply_number reply.Out = 13
-reply_number reply.Refused = 14
+abbrev pub reply_number : Brief → ℕ
+reply_number brief.Done = 0
+reply_number (brief.Booked false) = 1
+reply_number (brief.Booked true) = 2
+reply_number (brief.Asked ticket) = 3
+reply_number (brief.Job ticket) = 4
+reply_number brief.Idle = 5
+reply_number (brief.Granted srp) = 6
+reply_number brief.Answered = 7
+reply_number brief.Again = 8
+reply_number brief.NoPath = 9
+reply_number brief.GivenUp = 10
+reply_number brief.Gone = 11
+reply_number (brief.Removing srp) = 12
+reply_number (brief.Out messages) = 13
+reply_number (brief.Refused why) = 14
 
 abbrev pub message_number : MessageKind → ℕ
 message_number message.Open = 0
@@ -56,20 +56,24 @@ message_number message.Update = 8
 message_number message.Initiate = 9
 message_number message.Other = 10
 
-abbrev pub end_number : EndReason → ℕ
-end_number end.PeerClosed = 0
-end_number end.SessionEnded = 1
-end_number end.ReadFault = 2
-end_number end.WriteFault = 3
-end_number end.StoreFault = 4
-end_number end.DeadTimer = 5
-end_number end.Malformed = 6
-end_number (end.Closed reason) = 7
-end_number end.PlaceTaken = 8
-end_number end.RunEnds = 9
-end_number end.SecondSession = 10
-end_number (end.Refused number) = 11
-end_number end.Unheard = 12
+-- a session ends with a Close of reason 2 for the DeadTimer, and one of reason 3 for a malformed message (RFC 5440
+-- section 7.17)
+abbrev pub closing_number : Option ℕ → ℕ
+closing_number None = 1
+closing_number (Some number) = if number == 2 then 5 else (if number == 3 then 6 else 7)
+
+-- the refusal with number 2 says that the peer is up
+abbrev pub end_number : Reason → ℕ
+end_number reason.PeerClosed = 0
+end_number (reason.PeerClose number) = 0
+end_number (reason.Session said) = closing_number said.close
+end_number reason.ReadFault = 2
+end_number reason.WriteFault = 3
+end_number (reason.StoreFault fault) = 4
+end_number reason.PlaceTaken = 8
+end_number reason.RunEnds = 9
+end_number (reason.Refused number) = if number == 2 then 10 else 11
+end_number reason.Unheard = 12
 
 -- the place of a type and value of PCErr among all of them; the values from 31 on share one place
 abbrev pub error_place : ℕ → ℕ → ℕ

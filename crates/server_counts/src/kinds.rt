@@ -1,28 +1,10 @@
 //! What is counted.
 ghost use Rattle.std.specs.Prelude.{◌≡◌, ◌<◌, ◌+◌, ◌*◌};
-ghost use Rattle.server_counts.specs.Places.{end_number, error_place, event_number, message_number, place, reply_number};
+ghost use Rattle.server_counts.specs.Places.{closing_number, end_number, error_place, event_number, message_number, place, reply_number};
 
+use end_reasons::Reason;
+use history_core::Brief;
 use pce_seen::EventKind;
-
-/// The kind of reply that a step gave.
-#[derive(Clone, Copy, PartialEq, Eq, Debug)]
-pub enum ReplyKind {
-    Done,
-    Booked,
-    BookedWantsPath,
-    Asked,
-    Job,
-    Idle,
-    Granted,
-    Answered,
-    Again,
-    NoPath,
-    GivenUp,
-    Gone,
-    Removing,
-    Out,
-    Refused,
-}
 
 /// A type of messages (RFC 5440 section 6.1, RFC 8231 section 6, RFC 8281 section 5.1).
 #[derive(Clone, Copy, PartialEq, Eq, Debug)]
@@ -40,50 +22,19 @@ pub enum MessageKind {
     Other,
 }
 
-/// Why a connection ended.
-#[derive(Clone, Copy, PartialEq, Eq, Debug)]
-pub enum EndReason {
-    /// The peer closed the connection or its session.
-    PeerClosed,
-    /// Its session ended by itself.
-    SessionEnded,
-    /// Nothing more could be read.
-    ReadFault,
-    /// What was written wasn't taken.
-    WriteFault,
-    /// The database had no memory or no room.
-    StoreFault,
-    /// Nothing came until the DeadTimer ran out (RFC 5440 section 7.17).
-    DeadTimer,
-    /// A message was malformed.
-    Malformed,
-    /// The server sent a Close with this other reason.
-    Closed(u8),
-    /// It gave its place to another connection.
-    PlaceTaken,
-    /// The run ends.
-    RunEnds,
-    /// The peer's session was up on another connection.
-    SecondSession,
-    /// The session was refused, with this number.
-    Refused(u8),
-    /// It was closed without being served.
-    Unheard,
-}
-
 /// What is counted.
 #[derive(Clone, Copy)]
 pub enum Counted {
-    /// A step.
-    Step(EventKind, ReplyKind),
+    /// A step, by its event and the word of its reply. The number in the reply makes no difference.
+    Step(EventKind, Brief),
     /// A refusal, by its number.
     Refusal(u8),
     /// A connection came, and its address may be served.
     Accepted,
     /// A connection came from an address that no node owns.
     Stranger,
-    /// A connection ended.
-    Ended(EndReason),
+    /// A connection ended. A number in its reason makes a difference only if it has a word of its own.
+    Ended(Reason),
     /// A message came.
     Received(MessageKind),
     /// A message was sent.
@@ -117,26 +68,26 @@ fn event_number(event: EventKind) -> usize
     }
 }
 
-fn reply_number(reply: ReplyKind) -> usize
+fn reply_number(reply: Brief) -> usize
     ensures number { result ≡ reply_number reply }
     ensures few { result < 15 }
 {
     match reply {
-        ReplyKind::Done => 0,
-        ReplyKind::Booked => 1,
-        ReplyKind::BookedWantsPath => 2,
-        ReplyKind::Asked => 3,
-        ReplyKind::Job => 4,
-        ReplyKind::Idle => 5,
-        ReplyKind::Granted => 6,
-        ReplyKind::Answered => 7,
-        ReplyKind::Again => 8,
-        ReplyKind::NoPath => 9,
-        ReplyKind::GivenUp => 10,
-        ReplyKind::Gone => 11,
-        ReplyKind::Removing => 12,
-        ReplyKind::Out => 13,
-        ReplyKind::Refused => 14,
+        Brief::Done => 0,
+        Brief::Booked { wants_path: false } => 1,
+        Brief::Booked { wants_path: true } => 2,
+        Brief::Asked(_) => 3,
+        Brief::Job(_) => 4,
+        Brief::Idle => 5,
+        Brief::Granted(_) => 6,
+        Brief::Answered => 7,
+        Brief::Again => 8,
+        Brief::NoPath => 9,
+        Brief::GivenUp => 10,
+        Brief::Gone => 11,
+        Brief::Removing(_) => 12,
+        Brief::Out { .. } => 13,
+        Brief::Refused(_) => 14,
     }
 }
 
@@ -159,29 +110,39 @@ fn message_number(message: MessageKind) -> usize
     }
 }
 
-fn end_number(reason: EndReason) -> usize
+/// Returns the place of the ends by a Close that this side sent for this reason, or for none (RFC 5440 section 7.17).
+fn closing_number(close: Option<u8>) -> usize
+    ensures number { result ≡ closing_number close }
+    ensures few { result < 13 }
+{
+    match close {
+        None => 1,
+        Some(2) => 5,
+        Some(3) => 6,
+        Some(_) => 7,
+    }
+}
+
+fn end_number(reason: Reason) -> usize
     ensures number { result ≡ end_number reason }
     ensures few { result < 13 }
 {
     match reason {
-        EndReason::PeerClosed => 0,
-        EndReason::SessionEnded => 1,
-        EndReason::ReadFault => 2,
-        EndReason::WriteFault => 3,
-        EndReason::StoreFault => 4,
-        EndReason::DeadTimer => 5,
-        EndReason::Malformed => 6,
-        EndReason::Closed(_) => 7,
-        EndReason::PlaceTaken => 8,
-        EndReason::RunEnds => 9,
-        EndReason::SecondSession => 10,
-        EndReason::Refused(_) => 11,
-        EndReason::Unheard => 12,
+        Reason::PeerClosed | Reason::PeerClose(_) => 0,
+        Reason::Session(said) => closing_number(said.close),
+        Reason::ReadFault => 2,
+        Reason::WriteFault => 3,
+        Reason::StoreFault(_) => 4,
+        Reason::PlaceTaken => 8,
+        Reason::RunEnds => 9,
+        Reason::Refused(2) => 10,
+        Reason::Refused(_) => 11,
+        Reason::Unheard => 12,
     }
 }
 
 /// Returns the place of the number of steps of this kind.
-fn step_place(event: EventKind, reply: ReplyKind) -> usize
+fn step_place(event: EventKind, reply: Brief) -> usize
     ensures number { result ≡ event_number event * 15 + reply_number reply }
     ensures few { result < 195 }
 {

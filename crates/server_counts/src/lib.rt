@@ -7,9 +7,9 @@
 //! - `laws`: as many steps are counted as there were
 //! - `histogram`: times, by how long they were
 //! - `marks`: how many steps there were at which moments
-//! - `lefts`: what steps left of links
+//! - `residuals`: what steps left of links
 //! - `stream`: messages counted in a stream of bytes
-//! - `presences`: since when each peer is up or down, and how its last connection ended
+//! - `peer_states`: since when each peer is up or down, and how its last connection ended
 //! - `waits`: when paths were asked for, and when their tickets were settled
 //!
 //! ```
@@ -23,18 +23,18 @@ mod counters;
 mod histogram;
 mod kinds;
 mod laws;
-mod lefts;
 mod marks;
-mod presences;
+mod peer_states;
+mod residuals;
 mod stream;
 mod waits;
 
 pub use counters::{Counters, Timed};
 pub use histogram::{BOUNDS_US, Histogram};
-pub use kinds::{Counted, EndReason, MessageKind, ReplyKind};
+pub use kinds::{Counted, MessageKind};
 pub use laws::steps_are_counted;
-pub use lefts::{LeftRow, rows_of};
 pub use marks::{Mark, Marks, mark_before, mark_behind};
-pub use presences::{LastEnd, Presence, Presences, presence_in};
+pub use peer_states::{LastEnd, PeerState, PeerStates, peer_state_in};
+pub use residuals::{ResidualRow, rows_of};
 pub use stream::{MessageStream, Way};
 pub use waits::{Moment, Waits};

@@ -9,7 +9,7 @@ use Rattle.pcep_word.specs.Address.{text_of}
 use Rattle.server_rules.specs.declared.peer_errors.PcErr.{PcErr}
 use Rattle.server_log.specs.LogLines.{capability_words, subject}
 use Rattle.server_log.specs.Names.{name_text}
-use Rattle.server_log.specs.Reasons.{code_text}
+use Rattle.end_reasons.specs.Reasons.{code_text}
 use Rattle.server_log.specs.declared.log_lines.LogLine.{LogLine}
 use Rattle.server_log.specs.declared.log_lines.LogLine.TheVariants as line
 
@@ -35,16 +35,16 @@ line_text (line.Rolled steps) = codes "rolled " +> decimal steps
 line_text line.AcceptFailed = codes "accept failed"
 line_text line.MemoryRefused = codes "memory refused"
 line_text (line.WorkerFault fault) = codes "worker: " +> fault_text fault
-line_text line.OperatorGone = codes "operator gone"
-line_text line.ControlGone = codes "control socket gone"
-line_text line.ViewersGone = codes "viewers gone"
+line_text line.OperatorGone = codes "stdin closed"
+line_text line.ControlGone = codes "control socket stopped"
+line_text line.ViewersGone = codes "http stopped"
 line_text (line.Refused peer number) = codes "refused " +> decimal number +> codes " " +> text_of peer
 line_text line.Settled = codes "settled"
-line_text (line.Stranger address count) = codes "stranger " +> text_of address +> codes " count=" +> decimal count
+line_text (line.Stranger address count) = codes "unknown router " +> text_of address +> codes " count=" +> decimal count
 line_text (line.BelowZero link local remote worst) =
     codes "below zero link=" +> decimal link +> codes " local=" +> text_of local +> codes " remote=" +> text_of remote
     +> codes " worst=" +> signed_decimal worst
-line_text (line.FewDescriptors limit) = codes "few descriptors " +> decimal limit
+line_text (line.FewDescriptors limit) = codes "LimitNOFILE=" +> decimal limit +> codes " is low"
 line_text (line.Audited steps grants) = codes "audited steps=" +> decimal steps +> codes " grants=" +> decimal grants
 line_text (line.Withheld kind lines) = codes "withheld " +> decimal lines +> codes " lines: " +> subject kind
 line_text (line.Lost lines) = codes "lost " +> decimal lines +> codes " lines"

@@ -24,5 +24,5 @@ pub use kinds::Kind;
 pub use log_lines::{LogLine, PeerTimers, is_debug_wanted};
 pub use log_queue::LogQueue;
 pub use log_writer::{ErrorOutput, write_last, write_log};
-pub use reason::{ConnectionEnd, LastWords, Reason};
+pub use reason::EndFacts;
 pub use shown_name::ShownName;

@@ -3,8 +3,8 @@ ghost use Rattle.std.specs.Prelude.{◌≡◌};
 ghost use Rattle.server_log.specs.LogLines.{kind_of, level_of, router_of};
 
 use crate::kinds::Kind;
-use crate::reason::Reason;
 use crate::shown_name::ShownName;
+use end_reasons::Reason;
 use history_core::Fault;
 use log::{Level, Log, info, log, log_enabled};
 use pcep_objects::Capabilities;

@@ -34,8 +34,9 @@ fn poll_of<R: Net>(rt: &R) -> io::Result<Poll> {
     Ok(poll)
 }
 
-/// Whether standard error takes a line within this time. It is noted anew, so that room that there was is found.
-fn is_found(poll: &mut Poll, found: &mut Events, most: Duration) -> io::Result<bool> {
+/// Waits until standard error takes a line, so long at most, and returns whether it does. It is noted anew, so that room
+/// that there was is found.
+fn await_room(poll: &mut Poll, found: &mut Events, most: Duration) -> io::Result<bool> {
     let registry = poll.registry();
     registry.reregister(&mut SourceFd(&STANDARD_ERROR), Token(0), Interest::WRITABLE)?;
     poll.poll(found, Some(most))?;
@@ -50,11 +51,11 @@ impl ErrorOutput {
         })
     }
 
-    /// Whether a line can be written within this time without waiting for a reader.
-    pub fn is_ready(&mut self, most: Duration) -> bool {
+    /// Waits until a line can be written without waiting for a reader, so long at most, and returns whether it can.
+    pub fn wait_writable(&mut self, most: Duration) -> bool {
         match &mut self.poll {
             None => true,
-            Some(poll) => is_found(poll, &mut self.found, most).unwrap_or(false),
+            Some(poll) => await_room(poll, &mut self.found, most).unwrap_or(false),
         }
     }
 }
@@ -62,7 +63,7 @@ impl ErrorOutput {
 /// Waits for standard error. False where the log is over meanwhile.
 fn await_ready<R: Wait + Clock>(rt: &R, log: &LogQueue, output: &mut ErrorOutput) -> bool {
     for _ in rt.forever() {
-        if output.is_ready(Duration::from_millis(READY_WAIT_MS)) {
+        if output.wait_writable(Duration::from_millis(READY_WAIT_MS)) {
             return true;
         }
         if log.is_over(rt) {
@@ -134,7 +135,7 @@ pub fn write_last<R: Net + Log>(rt: &R, alloc: Global, line: LogLine) {
     let Ok(mut output) = ErrorOutput::new(rt, alloc) else {
         return;
     };
-    if output.is_ready(Duration::from_millis(READY_WAIT_MS)) {
+    if output.wait_writable(Duration::from_millis(READY_WAIT_MS)) {
         write_line(rt, line);
     }
 }

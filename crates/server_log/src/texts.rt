@@ -4,7 +4,7 @@ ghost use Rattle.server_log.specs.LogLines.{capability_words};
 ghost use Rattle.server_log.specs.Texts.{line_text, opening_text, refusal_text};
 
 use crate::log_lines::LogLine;
-use crate::reason::Numbers;
+use end_reasons::ErrorNumbers;
 use error_words::error_words;
 use pcep_objects::Capabilities;
 use pcep_word::Ipv4;
@@ -61,7 +61,7 @@ impl fmt::Display for Refusal {
 
     fn fmt<W: fmt::Write>(&self, f: &mut fmt::Formatter<W>) -> fmt::Result {
         let error = self.0;
-        let (numbers, words) = (Numbers(error), error_words(error.kind, error.value));
+        let (numbers, words) = (ErrorNumbers(error), error_words(error.kind, error.value));
         write!(f, "{numbers} {words}")
     }
 }
@@ -117,9 +117,9 @@ impl fmt::Display for LogLine {
             LogLine::AcceptFailed => f.write_str("accept failed"),
             LogLine::MemoryRefused => f.write_str("memory refused"),
             LogLine::WorkerFault(fault) => write!(f, "worker: {fault}"),
-            LogLine::OperatorGone => f.write_str("operator gone"),
-            LogLine::ControlGone => f.write_str("control socket gone"),
-            LogLine::ViewersGone => f.write_str("viewers gone"),
+            LogLine::OperatorGone => f.write_str("stdin closed"),
+            LogLine::ControlGone => f.write_str("control socket stopped"),
+            LogLine::ViewersGone => f.write_str("http stopped"),
             LogLine::Refused { peer, number } => {
                 let peer = Ipv4(peer);
                 write!(f, "refused {number} {peer}")
@@ -127,7 +127,7 @@ impl fmt::Display for LogLine {
             LogLine::Settled => f.write_str("settled"),
             LogLine::Stranger { address, count } => {
                 let address = Ipv4(address);
-                write!(f, "stranger {address} count={count}")
+                write!(f, "unknown router {address} count={count}")
             }
             LogLine::BelowZero {
                 link,
@@ -141,7 +141,7 @@ impl fmt::Display for LogLine {
                     "below zero link={link} local={local} remote={remote} worst={worst}"
                 )
             }
-            LogLine::FewDescriptors { limit } => write!(f, "few descriptors {limit}"),
+            LogLine::FewDescriptors { limit } => write!(f, "LimitNOFILE={limit} is low"),
             LogLine::Audited { steps, grants } => {
                 write!(f, "audited steps={steps} grants={grants}")
             }

@@ -1,10 +1,10 @@
 //! An operator's lines, answered from a seat.
-use crate::reload_notes::ReloadNoted;
+use crate::reload_log::ReloadLog;
 use history_seats::Brands;
 use seated_store::Seated;
 use server_base::Context;
 use server_signals::Run;
-use server_talk::{OperatorEnd, Patient, Plan, operate};
+use server_talk::{OperatorEnd, Plan, TimedRead, operate};
 use shared_pce::Seat;
 use std::alloc::AllocError;
 use std::io;
@@ -36,14 +36,14 @@ impl<'a, O: Write> Write for OperatorOutput<'a, O> {
 /// Answers an operator's lines from this seat, and returns why no more are heard. What a line is shown is shown to the
 /// seat too, and what a seat has seen only grows, so answers come in the order of the history. Links that a reload
 /// leaves below zero are logged.
-pub(crate) fn answer_operator<R: Wait + Clock, B: Brands, I: Patient, O: Write, P: Plan>(
+pub(crate) fn answer_operator<R: Wait + Clock, B: Brands, I: TimedRead, O: Write, P: Plan>(
     context: &Context<'_, R, B>,
     plan: &P,
     seat: &mut Seat<B>,
     reader: &mut I,
     writer: &mut O,
 ) -> Result<OperatorEnd, AllocError> {
-    let mut store = ReloadNoted {
+    let mut store = ReloadLog {
         context,
         front: context.shared.front(context.rt),
         store: Seated::new(context.rt, context.alloc, context.shared, seat),

@@ -8,7 +8,7 @@ use history_seats::Brands;
 use server_base::Context;
 use server_log::LogLine;
 use server_signals::Run;
-use server_talk::{OperatorEnd, Patient, Plan};
+use server_talk::{OperatorEnd, Plan, TimedRead};
 use shared_pce::Seat;
 use std::io;
 use std::io::{Read, Write};
@@ -51,8 +51,8 @@ impl<'a, I: Read> Read for ControlLines<'a, I> {
     }
 }
 
-impl<'a, I: Read> Patient for ControlLines<'a, I> {
-    fn set_patience(&mut self, _most_ms: u64) {}
+impl<'a, I: Read> TimedRead for ControlLines<'a, I> {
+    fn set_timeout(&mut self, _most_ms: u64) {}
 }
 
 /// Operators who connect, and the first slot of their seats.

@@ -2,7 +2,7 @@
 //! what their lines mean and how they are answered; `specs/Shows` says what they are shown.
 //!
 //! - `plan`: the file of the link text
-//! - `reload_notes`: a store that notes which links a reload leaves below zero
+//! - `reload_log`: a store that notes which links a reload leaves below zero
 //! - `links_look`: a look at all links
 //! - `shown`: what an operator is shown, from its own seat
 //! - `answering`: an operator's lines
@@ -15,7 +15,7 @@ mod control;
 mod links_look;
 mod operator;
 mod plan;
-mod reload_notes;
+mod reload_log;
 mod shown;
 
 pub use control::{Operators, control_seats, hear_controls};

@@ -8,7 +8,7 @@ use server_base::Context;
 use server_log::LogLine;
 use server_rules::Sessions;
 use server_signals::RunFault;
-use server_talk::{OperatorEnd, Patient, Plan};
+use server_talk::{OperatorEnd, Plan, TimedRead};
 use std::io::Write;
 use std::sync::Wait;
 use std::time::Clock;
@@ -63,7 +63,7 @@ pub fn end_with<B: Brands, R: Wait + Clock>(
 }
 
 /// Answers the operator's lines from the seat of this slot, and returns why no more are heard.
-pub fn hear_operator<B: Brands, R: Wait + Clock, I: Patient, O: Write, P: Plan>(
+pub fn hear_operator<B: Brands, R: Wait + Clock, I: TimedRead, O: Write, P: Plan>(
     context: &Context<'_, R, B>,
     at: usize,
     reader: &mut I,

@@ -2,20 +2,20 @@
 //! the operator's own seat, so later looks have seen all that earlier ones had, and all that the operator's lines did.
 ghost use Rattle.std.specs.Prelude.{◌≡◌, ◌++◌, [], All, IfOk, OnOk};
 ghost use Rattle.seated_store.specs.Seating.{SeatedMoves};
-ghost use Rattle.shared_pce.specs.Lefts.{WasLeft};
+ghost use Rattle.shared_pce.specs.Residuals.{WasLeft};
 ghost use Rattle.server_operators.specs.Shows.{bounded, form_of, line_end, AddsPage, IsShown};
 
 use crate::links_look::LinksLook;
-use crate::reload_notes::ReloadNoted;
+use crate::reload_log::ReloadLog;
 use asks::Ask;
 use history_seats::Brands;
-use pce_view::{Form, Surroundings};
+use pce_view::{Form, ServerInfo};
 use pced_build::{LOGIC, VERSION};
 use script_lines::ViewLine;
 use seated_store::Seated;
 use server_answers::page_of;
-use server_base::Outlook;
-use server_counts::{LeftRow, Mark, Presence};
+use server_base::RunView;
+use server_counts::{Mark, PeerState, ResidualRow};
 use server_talk::{Show, Watch};
 use shared_pce::{Event, Front};
 use std::alloc::{AllocError, Global};
@@ -63,17 +63,17 @@ fn add_text(form: Form, page: Vec<u8>, text: &mut Vec<u8>) -> Result<(), AllocEr
 
 /// Adds what one look shows, and returns what the next one asks for.
 fn add_page<R: Wait + Clock, B: Brands>(
-    outlook: &Outlook<'_, R, B>,
+    run_view: &RunView<'_, R, B>,
     store: &mut Seated<'_, R, B>,
     form: Form,
-    around: &Surroundings<'_>,
+    info: &ServerInfo<'_>,
     ask: &Ask,
     text: &mut Vec<u8>,
 ) -> Result<Option<Ask>, AllocError>
-    ensures page { IfOk result (λ next. AddsPage B.text form around.now ask.now next store.old.seat.now.seen text.old.items store.new.seat.now.seen text.new.items) }
+    ensures page { IfOk result (λ next. AddsPage B.text form info.now ask.now next store.old.seat.now.seen text.old.items store.new.seat.now.seen text.new.items) }
     ensures same { SeatedMoves B.text store.old.seat store.old.calls.items [] store.new.seat store.new.calls.items }
 {
-    let page = page_of(outlook, store, form, around, ask)?;
+    let page = page_of(run_view, store, form, info, ask)?;
     let next = page.next;
     add_text(form, page.text, text)?;
     Ok(next)
@@ -82,19 +82,19 @@ fn add_page<R: Wait + Clock, B: Brands>(
 /// Shows an ask and its further pages, up to the last. Each page comes from a look that saw no less than the one
 /// before.
 fn show_pages<R: Wait + Clock, B: Brands>(
-    outlook: &Outlook<'_, R, B>,
+    run_view: &RunView<'_, R, B>,
     store: &mut Seated<'_, R, B>,
     form: Form,
-    around: &Surroundings<'_>,
+    info: &ServerInfo<'_>,
     first: Ask,
 ) -> Result<Vec<u8>, AllocError>
-    ensures shown { IfOk result (λ text. IsShown B.text form around.now store.old.seat.now.seen first text.items store.new.seat.now.seen) }
+    ensures shown { IfOk result (λ text. IsShown B.text form info.now store.old.seat.now.seen first text.items store.new.seat.now.seen) }
     ensures same { SeatedMoves B.text store.old.seat store.old.calls.items [] store.new.seat store.new.calls.items }
 {
-    let mut text = Vec::new(outlook.alloc);
+    let mut text = Vec::new(run_view.alloc);
     let mut ask = first;
     for _page in 0..u64::MAX {
-        match add_page(outlook, store, form, around, &ask, &mut text)? {
+        match add_page(run_view, store, form, info, &ask, &mut text)? {
             Some(next) => ask = next,
             None => return Ok(text),
         }
@@ -104,30 +104,30 @@ fn show_pages<R: Wait + Clock, B: Brands>(
 
 /// Shows what a line asks to see. If memory runs out, the history is rolled for that, and it is tried once more.
 fn sure_pages<R: Wait + Clock, B: Brands>(
-    outlook: &Outlook<'_, R, B>,
+    run_view: &RunView<'_, R, B>,
     store: &mut Seated<'_, R, B>,
-    around: &Surroundings<'_>,
+    info: &ServerInfo<'_>,
     line: &ViewLine,
 ) -> Result<Vec<u8>, AllocError>
-    ensures shown { IfOk result (λ text. IsShown B.text (form_of line.now.is_json) around.now store.old.seat.now.seen (bounded line.now.ask) text.items store.new.seat.now.seen) }
+    ensures shown { IfOk result (λ text. IsShown B.text (form_of line.now.is_json) info.now store.old.seat.now.seen (bounded line.now.ask) text.items store.new.seat.now.seen) }
     ensures same { SeatedMoves B.text store.old.seat store.old.calls.items [] store.new.seat store.new.calls.items }
 {
     let shown = show_pages(
-        outlook,
+        run_view,
         store,
         form_of(line.is_json),
-        around,
+        info,
         bounded(line.ask),
     );
     match shown {
         Ok(text) => Ok(text),
         Err(AllocError) => {
-            outlook.await_memory();
+            run_view.await_memory();
             show_pages(
-                outlook,
+                run_view,
                 store,
                 form_of(line.is_json),
-                around,
+                info,
                 bounded(line.ask),
             )
         }
@@ -136,81 +136,81 @@ fn sure_pages<R: Wait + Clock, B: Brands>(
 
 /// Returns how many steps there were at which moments, if the question needs that.
 fn marks_for<R: Wait + Clock, B: Brands>(
-    outlook: &Outlook<'_, R, B>,
+    run_view: &RunView<'_, R, B>,
     front: &mut Front<Event, B>,
     ask: &Ask,
 ) -> Result<Vec<Mark>, AllocError> {
     match ask {
-        Ask::Why(_) => outlook.all_marks(front),
-        _ => Ok(Vec::new(outlook.alloc)),
+        Ask::Why(_) => run_view.all_marks(front),
+        _ => Ok(Vec::new(run_view.alloc)),
     }
 }
 
 /// Returns what the last steps that added paths left of their links, if the question needs that.
 fn lefts_for<R: Wait + Clock, B: Brands>(
-    outlook: &Outlook<'_, R, B>,
+    run_view: &RunView<'_, R, B>,
     ask: &Ask,
-) -> Result<Vec<LeftRow>, AllocError>
+) -> Result<Vec<ResidualRow>, AllocError>
     ensures { IfOk result (λ rows. All WasLeft rows.items) }
 {
     match ask {
-        Ask::Why(_) => outlook.shared.lefts(outlook.rt),
-        _ => Ok(Vec::new(outlook.alloc)),
+        Ask::Why(_) => run_view.shared.residuals(run_view.rt),
+        _ => Ok(Vec::new(run_view.alloc)),
     }
 }
 
 /// What the server noted apart from the steps.
 #[derive(Drop)]
 struct ServerNotes {
-    presences: Vec<(u32, Presence)>,
+    peer_states: Vec<(u32, PeerState)>,
     marks: Vec<Mark>,
-    lefts: Vec<LeftRow>,
+    residuals: Vec<ResidualRow>,
 }
 
 /// Returns what the server noted that a question needs.
 fn notes_for<R: Wait + Clock, B: Brands>(
-    outlook: &Outlook<'_, R, B>,
+    run_view: &RunView<'_, R, B>,
     front: &mut Front<Event, B>,
     ask: &Ask,
 ) -> Result<ServerNotes, AllocError>
-    ensures { IfOk result (λ notes. All WasLeft notes.lefts.items) }
+    ensures { IfOk result (λ notes. All WasLeft notes.residuals.items) }
 {
     Ok(ServerNotes {
-        presences: outlook.all_presences()?,
-        marks: marks_for(outlook, front, ask)?,
-        lefts: lefts_for(outlook, ask)?,
+        peer_states: run_view.all_peer_states()?,
+        marks: marks_for(run_view, front, ask)?,
+        residuals: lefts_for(run_view, ask)?,
     })
 }
 
-impl<'a, 'c, 's, R: Wait + Clock, B: Brands> Show for ReloadNoted<'a, 'c, R, B, Seated<'s, R, B>> {
+impl<'a, 'c, 's, R: Wait + Clock, B: Brands> Show for ReloadLog<'a, 'c, R, B, Seated<'s, R, B>> {
     ghost use Rattle.std.specs.Prelude.{◌≡◌, All};
     ghost use Rattle.history_seats.specs.Past.{database_at};
-    ghost use Rattle.pce_view.specs.declared.question.Surroundings.{Surroundings};
+    ghost use Rattle.pce_view.specs.declared.question.ServerInfo.{ServerInfo};
     ghost use Rattle.server_operators.specs.Shows.{bounded, form_of, IsShown};
-    ghost use Rattle.shared_pce.specs.Lefts.{WasLeft};
+    ghost use Rattle.shared_pce.specs.Residuals.{WasLeft};
     ghost use Rattle.te_base.specs.Values.{values_in};
     ghost use Rattle.te_snapshot.specs.Left.{all_left};
 
     ghost has_links = { λ s values left. let d = database_at B.text s.store.seat.now.seen in (values ≡ values_in d.state.te) × (left ≡ all_left d.state.te.links d.state.base.paths) };
 
-    ghost shows = { λ old line text new. (around : Surroundings) × All WasLeft around.lefts.now × IsShown B.text (form_of line.is_json) around old.store.seat.now.seen (bounded line.ask) text new.store.seat.now.seen };
+    ghost shows = { λ old line text new. (info : ServerInfo) × All WasLeft info.residuals.now × IsShown B.text (form_of line.is_json) info old.store.seat.now.seen (bounded line.ask) text new.store.seat.now.seen };
 
     fn links(&mut self) -> Result<(Vec<LinkValues>, Vec<[i64; 8]>), AllocError> {
         self.store.look(&LinksLook)
     }
 
     fn show(&mut self, _alloc: Global, line: &ViewLine) -> Result<Vec<u8>, AllocError> {
-        let outlook = self.context.outlook();
-        let notes = notes_for(&outlook, &mut self.front, &line.ask)?;
-        let around = Surroundings {
+        let run_view = self.context.run_view();
+        let notes = notes_for(&run_view, &mut self.front, &line.ask)?;
+        let info = ServerInfo {
             version: VERSION,
             logic: LOGIC,
             commit: "",
-            uptime_ms: outlook.moments.now_ms(),
-            presences: &notes.presences,
+            uptime_ms: run_view.moments.now_ms(),
+            peer_states: &notes.peer_states,
             marks: &notes.marks,
-            lefts: &notes.lefts,
+            residuals: &notes.residuals,
         };
-        sure_pages(&outlook, &mut self.store, &around, line)
+        sure_pages(&run_view, &mut self.store, &info, line)
     }
 }

@@ -11,7 +11,7 @@
 //! since when each is unanswered (`specs/Pendings`). `RetryTable` says which LSPs without a path should be asked for
 //! again (`specs/Retries`), and `ReadPause` how long reading pauses for a router that reports LSPs as DOWN again and
 //! again (`specs/Pauses`). `PathWords` keeps what routers say about paths that the state doesn't keep
-//! (`specs/PathWords`), and `PeerErrors` the last error that a router sent for each LSP (`specs/PcErrs`). `Unrung`
+//! (`specs/PathWords`), and `PeerErrors` the last error that a router sent for each LSP (`specs/PcErrs`). `PendingWakes`
 //! keeps whose connections a worker has yet to wake, and `SeatStates` which seats are free (`specs/Seats`).
 //! `WakerSlots` says which connections can be woken and which were (`specs/Wakings`), `ConnectionNotes` is what a
 //! connection notes about its session (`specs/Notes`), `FaultsInARow` says when a worker gives up (`specs/Faults`), and
@@ -43,6 +43,7 @@ mod pausing;
 mod peer_errors;
 mod pending;
 mod pending_table;
+mod pending_wakes;
 mod places;
 mod read_pause;
 mod retry;
@@ -50,7 +51,6 @@ mod retry_table;
 mod run_state;
 mod seats;
 mod settling;
-mod unrung;
 mod waker_slots;
 
 pub use connection_notes::{ConnectionNotes, SessionHappening};
@@ -68,6 +68,7 @@ pub use pausing::PauseHappening;
 pub use peer_errors::{PcErr, PcErrHappening, PeerErrors};
 pub use pending::{Pending, PendingEnd, PendingHappening};
 pub use pending_table::{PendingDue, PendingTable};
+pub use pending_wakes::PendingWakes;
 pub use places::{Admission, PlaceTable};
 pub use read_pause::ReadPause;
 pub use retry::{LspSight, RetryHappening, RouterLsp};
@@ -75,5 +76,4 @@ pub use retry_table::{RETRIES_AT_ONCE, RetryTable};
 pub use run_state::{RunHappening, RunState};
 pub use seats::{SeatState, SeatStates};
 pub use settling::Settling;
-pub use unrung::Unrung;
 pub use waker_slots::{SlotHappening, SlotState, WakerSlots};

@@ -173,7 +173,7 @@ impl PlaceTable {
 
     /// Has the connection of this slot give up its place, to wait for its peer to close. Returns false if it has none,
     /// if more than half as many as there are places already wait like this, or if memory runs out.
-    pub fn part(&mut self, slot: usize) -> bool
+    pub fn linger(&mut self, slot: usize) -> bool
         ensures parts { result ≡ true → Parts slot self.old self.new }
         ensures unchanged { result ≡ false → self.new ≡ self.old }
     {

@@ -170,10 +170,10 @@ impl Wakers {
         !acquire(rt, &self.table).places.has_place(slot)
     }
 
-    /// Asks whether the connection that has this slot may wait for its peer to close. If so, it gives up its place for
-    /// that. Half as many as there are places may do so at once.
-    pub fn may_part<R: Wait>(&self, rt: &R, slot: usize) -> bool {
-        acquire(rt, &self.table).places.part(slot)
+    /// Lets the connection that has this slot wait for its peer to close, and returns whether it may. It gives its place up
+    /// for that, and half as many as there are places may do so at once.
+    pub fn try_linger<R: Wait>(&self, rt: &R, slot: usize) -> bool {
+        acquire(rt, &self.table).places.linger(slot)
     }
 
     /// Returns the number of connections that have a place.

@@ -12,7 +12,7 @@ use Rattle.engine_core.specs.Engine.{new_client, client_with, ending, served}
 use Rattle.engine_core.specs.Joining.{joined_after}
 use Rattle.engine_core.specs.Plans.{Plan, Returns, Reaches, LeadsTo}
 use Rattle.engine_core.specs.declared.client.Client.{Client}
-use Rattle.server_talk.specs.declared.talk.Departure.{Departure}
+use Rattle.server_talk.specs.declared.talk.ConnectionEnd.{ConnectionEnd}
 use Rattle.server_talk.specs.declared.talk.Ended.{Ended}
 use Rattle.server_talk.specs.declared.talk.Ended.TheVariants.{PeerClosed, SessionEnded, ReadFault, WriteFault, StoreFault}
 use Rattle.server_talk.specs.Goings.{Goes, Ways}
@@ -129,7 +129,7 @@ Lasts ended w peer joined new last = IsDown peer joined last × (w.calls new ≡
 -- A whole connection, and the reported reason of its end. Its deeds are those of its session and the last ones. The
 -- peer is left joined only if its Down could not be submitted. The reason is that of the session as it then was, if it
 -- had ended.
-pub record IsServed {S : Type 0} (w : Ways S) (watch : WatchNow) (peer : ℕ) (start : S) (unread blank : Option (List ℕ)) (left_by : Departure) (now : S) (left written : Option (List ℕ)) : Type 0 where
+pub record IsServed {S : Type 0} (w : Ways S) (watch : WatchNow) (peer : ℕ) (start : S) (unread blank : Option (List ℕ)) (left_by : ConnectionEnd) (now : S) (left written : Option (List ℕ)) : Type 0 where
   pub heard : List ℕ
   pub said : List ℕ
   pub deeds : List Deed
@@ -147,5 +147,5 @@ pub record IsServed {S : Type 0} (w : Ways S) (watch : WatchNow) (peer : ℕ) (s
   pub ends_so : EndsSo left_by.ended left client
 
 -- there was no memory for a session, and nothing was done
-abbrev pub IsUnserved : {S I O : Type 0} → Departure → S → S → I → I → O → O → Type 0
+abbrev pub IsUnserved : {S I O : Type 0} → ConnectionEnd → S → S → I → I → O → O → Type 0
 IsUnserved left_by old new was left blank written = (left_by ≡ record { ended = SessionEnded; reason = None }) × (new ≡ old) × (left ≡ was) × (written ≡ blank)

@@ -1,6 +1,6 @@
 //! Standard input, and the waits for it.
 use crate::terminal::is_in_front;
-use crate::traits::Patient;
+use crate::traits::TimedRead;
 use mio::unix::SourceFd;
 use mio::{Events, Interest, Poll, Token};
 use std::alloc::Global;
@@ -77,8 +77,8 @@ impl<'a, I: Read, F: Files + AllocGlobal> PolledInput<'a, I, F> {
         registry.register(&mut SourceFd(&STANDARD_INPUT), INPUT, Interest::READABLE)
     }
 
-    /// Waits, and returns whether there is something to read, or the end.
-    fn is_ready(&mut self) -> io::Result<bool> {
+    /// Waits until there is something to read, or the end, and returns whether there is in time.
+    fn wait_readable(&mut self) -> io::Result<bool> {
         if self.is_terminal && !is_in_front(self.files) {
             let _was_noted = self
                 .poll
@@ -95,7 +95,7 @@ impl<'a, I: Read, F: Files + AllocGlobal> PolledInput<'a, I, F> {
 
 impl<'a, I: Read, F: Files + AllocGlobal> Read for PolledInput<'a, I, F> {
     fn read(&mut self, buf: &mut [u8]) -> io::Result<usize> {
-        if self.can_wait && !self.is_ready()? {
+        if self.can_wait && !self.wait_readable()? {
             return Err(io::Error::from(ErrorKind::WouldBlock));
         }
         let read = self.reader.read(buf);
@@ -106,12 +106,12 @@ impl<'a, I: Read, F: Files + AllocGlobal> Read for PolledInput<'a, I, F> {
     }
 }
 
-impl<'a, I: Read, F: Files + AllocGlobal> Patient for PolledInput<'a, I, F> {
+impl<'a, I: Read, F: Files + AllocGlobal> TimedRead for PolledInput<'a, I, F> {
     ghost use Rattle.std.specs.Prelude.{◌≡◌};
 
     ghost may_wait = { λ s ms. s.most_ms ≡ ms };
 
-    fn set_patience(&mut self, most_ms: u64) {
+    fn set_timeout(&mut self, most_ms: u64) {
         self.most_ms = most_ms;
     }
 }

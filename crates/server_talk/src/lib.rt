@@ -10,7 +10,7 @@
 //! output. Only tests show that they deliver.
 //!
 //! ```text
-//! fn ends_by_line<R: Wait, D: Show, I: Patient, O: Write, W: Watch, P: Plan>(rt: &R, alloc: Global, reader: &mut I, writer: &mut O, watch: &W, plan: &P, store: &mut D) -> bool
+//! fn ends_by_line<R: Wait, D: Show, I: TimedRead, O: Write, W: Watch, P: Plan>(rt: &R, alloc: Global, reader: &mut I, writer: &mut O, watch: &W, plan: &P, store: &mut D) -> bool
 //! {
 //!     operate(rt, alloc, reader, writer, watch, plan, store) == Ok(OperatorEnd::EndAsked)
 //! }
@@ -41,6 +41,6 @@ pub use output::PolledOutput;
 pub use plan::{Plan, PlanFault};
 pub use requests::LINE_LIMIT;
 pub use show::Show;
-pub use socket::{ACCEPT_WAIT_MS, PolledSocket, bound_accepts, part, peer_of, prepare};
-pub use talk::{Departure, Ended, TAKEN_WITHIN_MS, connection};
-pub use traits::{Patient, Watch};
+pub use socket::{ACCEPT_WAIT_MS, PolledSocket, bound_accepts, linger_close, peer_of, prepare};
+pub use talk::{ConnectionEnd, Ended, TAKEN_WITHIN_MS, connection};
+pub use traits::{TimedRead, Watch};

@@ -17,7 +17,7 @@ use crate::plan::{Plan, PlanFault};
 use crate::requests::LINE_LIMIT;
 use crate::show::Show;
 use crate::talk::{INTERRUPTS, write_once};
-use crate::traits::{Patient, Watch};
+use crate::traits::{TimedRead, Watch};
 use engine_core::Fault;
 use itoa::Buffer;
 use script_lines::CommandFault;
@@ -250,7 +250,7 @@ fn after_fault<W: Watch>(kind: ErrorKind, watch: &W) -> Option<OperatorEnd>
 }
 
 /// Reads once, and answers the whole lines that came. Returns the end, if it has come.
-fn turn<D: Show, I: Patient, O: Write, W: Watch, P: Plan>(
+fn turn<D: Show, I: TimedRead, O: Write, W: Watch, P: Plan>(
     alloc: Global,
     pending: &mut OpenLine,
     piece: &mut [u8],
@@ -288,7 +288,7 @@ fn turn<D: Show, I: Patient, O: Write, W: Watch, P: Plan>(
 /// `out of memory`; then the next line is read. Bytes without a line break after them do nothing, since they may be
 /// half of another line. If the run should end, what was read last is left. The only fault is that memory runs out
 /// before the first read.
-pub fn operate<R: Wait, D: Show, I: Patient, O: Write, W: Watch, P: Plan>(
+pub fn operate<R: Wait, D: Show, I: TimedRead, O: Write, W: Watch, P: Plan>(
     rt: &R,
     alloc: Global,
     reader: &mut I,
@@ -309,7 +309,7 @@ pub fn operate<R: Wait, D: Show, I: Patient, O: Write, W: Watch, P: Plan>(
         is_long: false,
     };
     let mut piece = [0u8; PIECE];
-    reader.set_patience(PATIENCE_MS);
+    reader.set_timeout(PATIENCE_MS);
     for _ in rt.forever() {
         match turn(
             alloc,

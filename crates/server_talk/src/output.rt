@@ -38,9 +38,9 @@ fn poll_of<R: Net>(rt: &R) -> io::Result<Poll> {
     Ok(poll)
 }
 
-/// Waits, within the time of a write, until standard output takes a piece, and returns whether it does. Registers it
-/// again, so that room that was there before is found.
-fn is_ready(poll: &mut Poll, found: &mut Events) -> io::Result<bool> {
+/// Waits until standard output takes a piece, and returns whether it does within the time of a write. It is noted anew, so
+/// that room that there was is found.
+fn wait_writable(poll: &mut Poll, found: &mut Events) -> io::Result<bool> {
     let registry = poll.registry();
     registry.reregister(
         &mut SourceFd(&STANDARD_OUTPUT),
@@ -70,7 +70,7 @@ impl<'a, O: Write> PolledOutput<'a, O> {
 impl<'a, O: Write> Write for PolledOutput<'a, O> {
     fn write(&mut self, buf: &[u8]) -> io::Result<usize> {
         if let Some(poll) = &mut self.poll {
-            if !is_ready(poll, &mut self.found)? {
+            if !wait_writable(poll, &mut self.found)? {
                 return Ok(0);
             }
         }

@@ -1,12 +1,12 @@
 //! What a server shows an operator about itself.
-use engine_core::Desk;
+use engine_core::ServerStore;
 use script_lines::ViewLine;
 use std::alloc::{AllocError, Global};
 use te_base::LinkValues;
 
 /// A store that shows what it stands for. Showing something makes no call, but the store has then seen more. So what is
 /// shown later is of a store that has seen all that was shown before.
-pub trait Show: Desk {
+pub trait Show: ServerStore {
     ghost use Rattle.std.specs.Prelude.{ℕ, ℤ, List, [], IfOk, ⊤};
     ghost use Rattle.te_base.specs.Values.{Values};
     ghost use Rattle.script_lines.specs.declared.views.ViewLine.{ViewLine};

@@ -1,6 +1,6 @@
 //! A peer's socket, the waits for it, and its end.
 use crate::talk::TAKEN_WITHIN_MS;
-use crate::traits::{Patient, Watch};
+use crate::traits::{TimedRead, Watch};
 use mio::unix::SourceFd;
 use mio::{Events, Interest, Poll, Token, Waker};
 use std::alloc::Global;
@@ -22,10 +22,10 @@ pub const ACCEPT_WAIT_MS: u64 = 100;
 const WRITE_WAIT_MS: u64 = TAKEN_WITHIN_MS + 20;
 
 /// How long to read what a peer still sends after the end, in milliseconds.
-const PART_MS: u64 = 1000;
+const LINGER_MS: u64 = 1000;
 
 /// The most reads after the end.
-const PART_READS: u32 = 64;
+const LINGER_READS: u32 = 64;
 
 /// The token of the socket among what a wait finds, and that of a ring.
 const SOCKET: Token = Token(0);
@@ -81,9 +81,9 @@ impl<'a> PolledSocket<'a> {
         waited
     }
 
-    /// Waits, and returns whether bytes came, or the end. The socket is registered again, so that what came before the
-    /// wait is found too.
-    fn is_spoken_to(&mut self) -> io::Result<bool> {
+    /// Waits until bytes come, or the end, and returns whether they did in time. The socket is noted anew, so that what
+    /// came before the wait is found too.
+    fn wait_readable(&mut self) -> io::Result<bool> {
         let registry = self.poll.registry();
         registry.reregister(&mut SourceFd(&self.descriptor), SOCKET, Interest::READABLE)?;
         let most = Duration::from_millis(self.most_ms);
@@ -94,7 +94,7 @@ impl<'a> PolledSocket<'a> {
 
 impl<'a> Read for PolledSocket<'a> {
     fn read(&mut self, buf: &mut [u8]) -> io::Result<usize> {
-        if !self.is_spoken_to()? {
+        if !self.wait_readable()? {
             return Err(io::Error::from(ErrorKind::WouldBlock));
         }
         let mut stream = self.stream;
@@ -102,12 +102,12 @@ impl<'a> Read for PolledSocket<'a> {
     }
 }
 
-impl<'a> Patient for PolledSocket<'a> {
+impl<'a> TimedRead for PolledSocket<'a> {
     ghost use Rattle.std.specs.Prelude.{◌≡◌};
 
     ghost may_wait = { λ s ms. s.most_ms ≡ ms };
 
-    fn set_patience(&mut self, most_ms: u64) {
+    fn set_timeout(&mut self, most_ms: u64) {
         self.most_ms = most_ms;
     }
 }
@@ -133,8 +133,8 @@ pub fn bound_accepts(listener: &TcpListener) -> io::Result<()> {
     handle.set_read_timeout(Some(Duration::from_millis(ACCEPT_WAIT_MS)))
 }
 
-/// Reads once, and returns whether the peer may still send. It doesn't after it has closed, or a read failed.
-fn may_send(stream: &TcpStream, buffer: &mut [u8]) -> bool {
+/// Reads once, and returns whether the peer may send more: it doesn't once it has closed, or a read fails.
+fn drain_once(stream: &TcpStream, buffer: &mut [u8]) -> bool {
     let mut reader = stream;
     match reader.read(buffer) {
         Ok(count) => count > 0,
@@ -144,14 +144,16 @@ fn may_send(stream: &TcpStream, buffer: &mut [u8]) -> bool {
 
 /// Tells the peer that no more comes, and reads for a while what it still sends. A socket that is closed over unread
 /// bytes is reset, and the peer may then lose the last bytes that were sent to it.
-pub fn part<W: Watch>(stream: &TcpStream, watch: &W) {
+pub fn linger_close<W: Watch>(stream: &TcpStream, watch: &W) {
     if stream.shutdown(Shutdown::Write).is_err() {
         return;
     }
     let mut buffer = [0u8; 1024];
     let start_ms = watch.now_ms();
-    for _read in 0..PART_READS {
-        if !may_send(stream, &mut buffer) || watch.now_ms().saturating_sub(start_ms) >= PART_MS {
+    for _read in 0..LINGER_READS {
+        if !drain_once(stream, &mut buffer)
+            || watch.now_ms().saturating_sub(start_ms) >= LINGER_MS
+        {
             return;
         }
     }

@@ -11,8 +11,8 @@ ghost use Rattle.server_talk.specs.Heard.{IsWithin, Hears, IsDue, WaitsUntilDue,
 ghost use Rattle.server_talk.specs.Watches.{watch_of};
 ghost use Rattle.server_talk.specs.Connections.{SoFar, TakesAll, GoesOut, MayEndSo, IsUnexplained, spoken, Leaves, owes_down, IsServed, IsUnserved};
 
-use crate::traits::{Patient, Watch};
-use engine_core::{Client, Desk, Fault, hang_up, serve};
+use crate::traits::{TimedRead, Watch};
+use engine_core::{Client, Fault, ServerStore, hang_up, serve};
 use pcep_session::EndReason;
 use std::alloc::Global;
 use std::io::{ErrorKind, Write};
@@ -53,7 +53,7 @@ pub enum Ended {
 
 /// How a connection ended, and why its session had ended by then.
 #[derive(Clone, Copy, PartialEq, Eq, Debug)]
-pub struct Departure {
+pub struct ConnectionEnd {
     pub ended: Ended,
     /// Why the session itself ended, before the end of the connection ended it. `None` if it hadn't ended, or there was
     /// no memory for it.
@@ -82,7 +82,7 @@ struct Talk {
 /// if the peer wasn't joined. The store is shown the peer's Open and each message that the session delivers. All that
 /// the session sends goes to the writer. If there is no memory for a session, nothing is done, and the result is
 /// `SessionEnded`.
-pub fn connection<R: Wait, I: Patient, O: Write, W: Watch, D: Desk>(
+pub fn connection<R: Wait, I: TimedRead, O: Write, W: Watch, D: ServerStore>(
     rt: &R,
     alloc: Global,
     peer: u32,
@@ -90,14 +90,14 @@ pub fn connection<R: Wait, I: Patient, O: Write, W: Watch, D: Desk>(
     writer: &mut O,
     watch: &W,
     store: &mut D,
-) -> Departure
+) -> ConnectionEnd
     ensures down { (deeds : List Deed) × Goes D.Store store.old deeds store.new × (joined_after false (calls_of deeds) ≡ owes_down result.ended) }
     ensures is_served { IsUnserved result store.old store.new reader.old reader.new writer.old writer.new
         ⊎ IsServed D.Store (watch_of W.Watch watch.now) peer store.old (I.remaining reader.old) (O.contents writer.old) result store.new (I.remaining reader.new) (O.contents writer.new) }
 {
     let served_ms = watch.now_ms();
     let Ok(client) = Client::new(alloc, served_ms) else {
-        return Departure {
+        return ConnectionEnd {
             ended: Ended::SessionEnded,
             reason: None,
         };
@@ -110,8 +110,8 @@ pub fn connection<R: Wait, I: Patient, O: Write, W: Watch, D: Desk>(
     let ended = talk_on(rt, &mut talk, reader, writer, watch, store);
     let reason = talk.client.session.end_reason();
     match leave(&mut talk, store) {
-        Ok(()) => Departure { ended, reason },
-        Err(fault) => Departure {
+        Ok(()) => ConnectionEnd { ended, reason },
+        Err(fault) => ConnectionEnd {
             ended: Ended::StoreFault(fault),
             reason,
         },
@@ -120,14 +120,14 @@ pub fn connection<R: Wait, I: Patient, O: Write, W: Watch, D: Desk>(
 
 /// Makes room after a fault, so that the next call finds some: a full history is rolled, unless another thread has
 /// rolled it. If it isn't full, memory ran out; the store is asked anyway, since it may know who can make room.
-pub(crate) fn make_room<D: Desk>(store: &mut D)
+pub(crate) fn make_room<D: ServerStore>(store: &mut D)
     ensures { (start : D) (deeds : List Deed) → Goes D.Store start deeds store.old → Goes D.Store start deeds store.new }
 {
     let _rolled = store.roll_if_full();
 }
 
 /// Hangs up, and again after a fault. The list of the store then has only the calls of that.
-fn leave<D: Desk>(talk: &mut Talk, store: &mut D) -> Result<(), Fault>
+fn leave<D: ServerStore>(talk: &mut Talk, store: &mut D) -> Result<(), Fault>
     ensures { (start : D) (deeds : List Deed) → Goes D.Store start deeds store.old
         → Leaves result D.Store talk.old.peer talk.old.client.joined start deeds store.new }
 {
@@ -145,7 +145,7 @@ fn leave<D: Desk>(talk: &mut Talk, store: &mut D) -> Result<(), Fault>
     Err(last)
 }
 
-fn talk_on<R: Wait, I: Patient, O: Write, W: Watch, D: Desk>(
+fn talk_on<R: Wait, I: TimedRead, O: Write, W: Watch, D: ServerStore>(
     rt: &R,
     talk: &mut Talk,
     reader: &mut I,
@@ -173,7 +173,7 @@ fn talk_on<R: Wait, I: Patient, O: Write, W: Watch, D: Desk>(
 
 /// Reads once, serves what came, and writes what the session has to send. Returns the end, if it has come. If nothing
 /// came and nothing is due, the store's list is emptied once more, by which a seat drops its receipts of rolled steps.
-fn turn<I: Patient, O: Write, W: Watch, D: Desk>(
+fn turn<I: TimedRead, O: Write, W: Watch, D: ServerStore>(
     talk: &mut Talk,
     buffer: &mut [u8],
     reader: &mut I,
@@ -200,7 +200,7 @@ fn turn<I: Patient, O: Write, W: Watch, D: Desk>(
         Heard::Ended(ended) => Some(ended),
         Heard::Bytes(count) => answer(talk, &buffer[..count], writer, watch, store),
         Heard::Nothing => {
-            if is_due(talk, watch, store) {
+            if look_if_due(talk, watch, store) {
                 return answer_due(talk, reader, writer, watch, store);
             }
             store.forget();
@@ -211,7 +211,7 @@ fn turn<I: Patient, O: Write, W: Watch, D: Desk>(
 
 /// Serves the session because something is due: messages wait for the peer, or a timer is due. What can be read is
 /// served first, since the wait may have been interrupted: a timer acts only if nothing came.
-fn answer_due<I: Patient, O: Write, W: Watch, D: Desk>(
+fn answer_due<I: TimedRead, O: Write, W: Watch, D: ServerStore>(
     talk: &mut Talk,
     reader: &mut I,
     writer: &mut O,
@@ -235,13 +235,13 @@ fn answer_due<I: Patient, O: Write, W: Watch, D: Desk>(
 }
 
 /// Sets the reader to wait until the session's next timer is due, and no longer.
-fn wait_for_timer<I: Patient, W: Watch>(talk: &Talk, reader: &mut I, watch: &W)
+fn wait_for_timer<I: TimedRead, W: Watch>(talk: &Talk, reader: &mut I, watch: &W)
     ensures kept { Keeps (I.remaining reader.old) (I.remaining reader.new) }
     ensures waits { WaitsUntilDue (I.may_wait reader.new) (W.may_show watch.now) talk.now.client.session }
 {
     let next = talk.client.session.next_due_ms();
     let now_ms = watch.now_ms();
-    reader.set_patience(wait_until(next, now_ms));
+    reader.set_timeout(wait_until(next, now_ms));
 }
 
 /// Returns how long the session may wait for bytes, in milliseconds, if its next timer is due at a moment.
@@ -264,8 +264,8 @@ fn is_timer_due(talk: &Talk, now_ms: u64) -> bool
     }
 }
 
-/// Tests whether the session should be served without bytes: messages wait for the peer, or a timer is due.
-fn is_due<W: Watch, D: Desk>(talk: &Talk, watch: &W, store: &mut D) -> bool
+/// Looks whether the session is to be served though no bytes came: messages wait for the peer, or a timer is due.
+fn look_if_due<W: Watch, D: ServerStore>(talk: &Talk, watch: &W, store: &mut D) -> bool
     ensures due { IsDue (D.queues store.new talk.now.peer) (W.may_show watch.now) talk.now.client.session result }
     ensures same { D.moves store.old [] store.new }
 {
@@ -287,7 +287,7 @@ fn heard_of_fault(kind: ErrorKind) -> Heard
 }
 
 /// Reads once. What came is at the front of the buffer.
-fn hear<I: Patient>(reader: &mut I, buffer: &mut [u8]) -> Heard
+fn hear<I: TimedRead>(reader: &mut I, buffer: &mut [u8]) -> Heard
     requires room { 0 < length buffer.old }
     ensures within { IsWithin result buffer.new }
     ensures heard { Hears result (I.remaining reader.old) (I.remaining reader.new) buffer.new }
@@ -300,12 +300,12 @@ fn hear<I: Patient>(reader: &mut I, buffer: &mut [u8]) -> Heard
 }
 
 /// Reads what is there, without waiting.
-fn hear_at_once<I: Patient>(reader: &mut I, buffer: &mut [u8]) -> Heard
+fn hear_at_once<I: TimedRead>(reader: &mut I, buffer: &mut [u8]) -> Heard
     requires room { 0 < length buffer.old }
     ensures within { IsWithin result buffer.new }
     ensures heard { Hears result (I.remaining reader.old) (I.remaining reader.new) buffer.new }
 {
-    reader.set_patience(0);
+    reader.set_timeout(0);
     hear(reader, buffer)
 }
 
@@ -323,7 +323,7 @@ fn moment_ms<W: Watch>(talk: &Talk, watch: &W) -> u64
 }
 
 /// Serves a piece at the present moment.
-fn serve_piece<W: Watch, D: Desk>(talk: &mut Talk, piece: &[u8], watch: &W, store: &mut D)
+fn serve_piece<W: Watch, D: ServerStore>(talk: &mut Talk, piece: &[u8], watch: &W, store: &mut D)
     ensures peer { talk.new.peer ≡ talk.old.peer }
     ensures served { (start : D) (unread blank left read written : Option (List ℕ))
         → SoFar D.Store (watch_of W.Watch watch.now) talk.old.peer start unread blank None store.old left written talk.old.served_ms talk.old.client → Consumes left read piece.now
@@ -339,7 +339,7 @@ fn serve_piece<W: Watch, D: Desk>(talk: &mut Talk, piece: &[u8], watch: &W, stor
 }
 
 /// Serves a piece, and writes what the session has to send in one call.
-fn answer<O: Write, W: Watch, D: Desk>(
+fn answer<O: Write, W: Watch, D: ServerStore>(
     talk: &mut Talk,
     piece: &[u8],
     writer: &mut O,
@@ -367,7 +367,7 @@ fn say<O: Write, W: Watch>(talk: &mut Talk, writer: &mut O, watch: &W) -> Option
     ensures open { result ≡ None → is_closed talk.new.client.session.state ≡ false }
 {
     let output = talk.client.session.take_output();
-    if !is_taken(writer, watch, &output) {
+    if !write_in_time(writer, watch, &output) {
         return Some(Ended::WriteFault);
     }
     if talk.client.session.state().is_closed() {
@@ -398,9 +398,9 @@ pub(crate) fn write_once<O: Write>(writer: &mut O, bytes: &[u8]) -> Option<usize
     }
 }
 
-/// Writes bytes, in one call unless a write takes only a part of them. Returns whether the peer took all of them in
-/// time. A write that waited for its whole time has used it up, even if a part was taken meanwhile.
-fn is_taken<O: Write, W: Watch>(writer: &mut O, watch: &W, bytes: &[u8]) -> bool
+/// Writes bytes, in one call unless a write takes only a part of them, and returns whether the peer took all of them
+/// in time. A write that waited for its time has used it up, though a part was taken meanwhile.
+fn write_in_time<O: Write, W: Watch>(writer: &mut O, watch: &W, bytes: &[u8]) -> bool
     ensures { TakesAll result (O.contents writer.old) (O.contents writer.new) bytes.now }
 {
     if bytes.is_empty() {

@@ -6,14 +6,14 @@ use std::io::Read;
 
 /// A reader that waits for bytes, but no longer than it is told, and only until somebody rings for it. If none came, it
 /// answers `WouldBlock` or `TimedOut`.
-pub trait Patient: Read {
+pub trait TimedRead: Read {
     ghost use Rattle.std.specs.Prelude.{ℕ, ⊤};
 
     /// Its reads wait for this many milliseconds at most.
     ghost may_wait: { Self → ℕ → Type 0 } = { λ _ _. ⊤ };
 
     /// Sets that reads from now on wait for this many milliseconds at most. What they give stays the same.
-    fn set_patience(&mut self, most_ms: u64)
+    fn set_timeout(&mut self, most_ms: u64)
         ensures kept { Keeps (Self.remaining self.old) (Self.remaining self.new) }
         ensures waits { may_wait self.new most_ms };
 }

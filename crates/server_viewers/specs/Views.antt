@@ -11,7 +11,7 @@ use Rattle.database_looks.specs.Looks.{counts_in, SeesBook}
 use Rattle.metrics_text.specs.Exposition.{exposition}
 use Rattle.metrics_text.specs.Table.{families}
 use Rattle.pce_view.specs.declared.question.Form.TheVariants.{Json}
-use Rattle.pce_view.specs.declared.question.Surroundings.{Surroundings}
+use Rattle.pce_view.specs.declared.question.ServerInfo.{ServerInfo}
 use Rattle.metrics_text.specs.declared.table.Process.{Process}
 use Rattle.pce_view.specs.declared.shown_states.ShownState.{ShownState}
 use Rattle.server_answers.specs.Pages.{IsPageOf}
@@ -21,18 +21,18 @@ use Rattle.server_viewers.specs.States.{AreStates}
 -- a document of JSON: what one look saw of the database to which this past led from the network of the link text, with what
 -- routers said
 pub record IsDocument (text : Ted) (past : List (Happening Event)) (a : Ask) (document : List ℕ) : Type 0 where
-  pub around : Surroundings
+  pub info : ServerInfo
   pub next : Option Ask
-  pub page : IsPageOf Json around (database_at text past) a next document
+  pub page : IsPageOf Json info (database_at text past) a next document
 
 -- metrics with these states of LSPs: what one look saw of the database to which this past led, and some counts
 pub record IsNumbers (text : Ted) (past : List (Happening Event)) (states : List ShownState) (document : List ℕ) : Type 0 where
-  pub around : Surroundings
+  pub info : ServerInfo
   pub book : Book
   pub counters : Counters
   pub process : Process
   pub sees : SeesBook (database_at text past) book
-  pub says : document ≡ exposition (families around (counts_in (database_at text past)) book counters process states)
+  pub says : document ≡ exposition (families info (counts_in (database_at text past)) book counters process states)
 
 -- The metrics: the states of all LSPs, and then what one look saw of the database to which this past led. Each look saw all that the
 -- looks before it had seen, and what had been seen when they began.

@@ -13,11 +13,11 @@ use history_seats::Brands;
 use http_server::Response;
 use http_views::{PAGE, ViewService, ViewSource, give_document, give_metrics, serve_views};
 use metrics_text::{Process, metrics_text};
-use pce_view::{Form, ShownState, Surroundings};
+use pce_view::{Form, ServerInfo, ShownState};
 use pced_build::{LOGIC, VERSION, commit};
 use server_answers::page_of;
-use server_base::{Context, Outlook};
-use server_counts::{Counters, Presence};
+use server_base::{Context, RunView};
+use server_counts::{Counters, PeerState};
 use server_log::LogLine;
 use server_talk::Watch;
 use shared_pce::{Event, Front};
@@ -43,41 +43,41 @@ pub struct ViewerListener<'a> {
 
 /// Writes the JSON document of what one look sees.
 fn document_text<R: Wait + Clock, B: Brands>(
-    outlook: &Outlook<'_, R, B>,
+    run_view: &RunView<'_, R, B>,
     front: &mut Front<Event, B>,
-    around: &Surroundings<'_>,
+    info: &ServerInfo<'_>,
     ask: &Ask,
 ) -> Result<Vec<u8>, AllocError>
     ensures begins { IsPrefix front.old front.new }
     ensures text { IfOk result (λ text. IsDocument B.text front.new ask.now text.items) }
 {
-    Ok(page_of(outlook, front, Form::Json, around, ask)?.text)
+    Ok(page_of(run_view, front, Form::Json, info, ask)?.text)
 }
 
 /// Writes the same. If memory runs out, the history is rolled for that, and it is tried once more.
 fn sure_text<R: Wait + Clock, B: Brands>(
-    outlook: &Outlook<'_, R, B>,
+    run_view: &RunView<'_, R, B>,
     front: &mut Front<Event, B>,
-    around: &Surroundings<'_>,
+    info: &ServerInfo<'_>,
     ask: &Ask,
 ) -> Result<Vec<u8>, AllocError>
     ensures begins { IsPrefix front.old front.new }
     ensures text { IfOk result (λ text. IsDocument B.text front.new ask.now text.items) }
 {
-    match document_text(outlook, front, around, ask) {
+    match document_text(run_view, front, info, ask) {
         Ok(text) => Ok(text),
         Err(AllocError) => {
-            outlook.await_memory();
-            document_text(outlook, front, around, ask)
+            run_view.await_memory();
+            document_text(run_view, front, info, ask)
         }
     }
 }
 
 /// Writes the metrics of what one look sees, of what was counted, and of the states in which LSPs are shown.
 fn counted_text<R: Wait + Clock, B: Brands>(
-    outlook: &Outlook<'_, R, B>,
+    run_view: &RunView<'_, R, B>,
     front: &mut Front<Event, B>,
-    around: &Surroundings<'_>,
+    info: &ServerInfo<'_>,
     counters: &Counters,
     process: Process,
     states: &[ShownState],
@@ -85,11 +85,11 @@ fn counted_text<R: Wait + Clock, B: Brands>(
     ensures begins { IsPrefix front.old front.new }
     ensures text { IfOk result (λ text. IsNumbers B.text front.new states.now text.items) }
 {
-    let seen = outlook.look(front, &NumbersLook)?;
+    let seen = run_view.look(front, &NumbersLook)?;
     let counts = seen.0;
     metrics_text(
-        outlook.alloc,
-        around,
+        run_view.alloc,
+        info,
         &counts,
         &seen.1,
         counters,
@@ -100,24 +100,24 @@ fn counted_text<R: Wait + Clock, B: Brands>(
 
 /// Writes the metrics: the states in which all LSPs are shown, and then the rest from one look.
 fn numbers_text<R: Wait + Clock, B: Brands>(
-    outlook: &Outlook<'_, R, B>,
+    run_view: &RunView<'_, R, B>,
     front: &mut Front<Event, B>,
-    around: &Surroundings<'_>,
+    info: &ServerInfo<'_>,
     counters: &Counters,
     process: Process,
 ) -> Result<Vec<u8>, AllocError>
     ensures begins { IsPrefix front.old front.new }
     ensures text { IfOk result (λ text. IsMetrics B.text front.old front.new text.items) }
 {
-    let states = all_states(outlook, front)?;
-    counted_text(outlook, front, around, counters, process, &states)
+    let states = all_states(run_view, front)?;
+    counted_text(run_view, front, info, counters, process, &states)
 }
 
 /// Answers with the document of one look.
 fn answer_document<R: Wait + Clock, B: Brands>(
-    outlook: &Outlook<'_, R, B>,
+    run_view: &RunView<'_, R, B>,
     front: &mut Front<Event, B>,
-    presences: &[(u32, Presence)],
+    peer_states: &[(u32, PeerState)],
     ask: &Ask,
     response: &mut Response,
 ) -> Result<(), AllocError>
@@ -125,22 +125,22 @@ fn answer_document<R: Wait + Clock, B: Brands>(
     ensures begins { IsPrefix front.old front.new }
     ensures answer { OnOk result ((text : List ℕ) × IsDocument B.text front.new ask.now text × IsResponse 200 (text_fields json_kind) text response.new) }
 {
-    let around = Surroundings {
+    let info = ServerInfo {
         version: VERSION,
         logic: LOGIC,
         commit: "",
-        uptime_ms: outlook.moments.now_ms(),
-        presences,
+        uptime_ms: run_view.moments.now_ms(),
+        peer_states,
         marks: &[],
-        lefts: &[],
+        residuals: &[],
     };
-    let text = sure_text(outlook, front, &around, ask)?;
+    let text = sure_text(run_view, front, &info, ask)?;
     give_document(response, text)
 }
 
 /// Answers with the metrics.
 fn answer_metrics<R: Wait + Clock, B: Brands>(
-    outlook: &Outlook<'_, R, B>,
+    run_view: &RunView<'_, R, B>,
     front: &mut Front<Event, B>,
     files: &HostRuntime,
     response: &mut Response,
@@ -150,18 +150,18 @@ fn answer_metrics<R: Wait + Clock, B: Brands>(
     ensures answer { OnOk result ((text : List ℕ) × IsMetrics B.text front.old front.new text × IsResponse 200 (text_fields metrics_kind) text response.new) }
 {
     let commit = commit(files);
-    let around = Surroundings {
+    let info = ServerInfo {
         version: VERSION,
         logic: LOGIC,
         commit: &commit,
-        uptime_ms: outlook.moments.now_ms(),
-        presences: &[],
+        uptime_ms: run_view.moments.now_ms(),
+        peer_states: &[],
         marks: &[],
-        lefts: &[],
+        residuals: &[],
     };
-    let counters = *outlook.counters.lock(outlook.rt);
+    let counters = *run_view.counters.lock(run_view.rt);
     let process = process_of(files);
-    let text = numbers_text(outlook, front, &around, &counters, process)?;
+    let text = numbers_text(run_view, front, &info, &counters, process)?;
     give_metrics(response, text)
 }
 
@@ -170,7 +170,7 @@ fn answer_metrics<R: Wait + Clock, B: Brands>(
 /// answer that runs out of memory shows nothing.
 #[derive(Drop)]
 pub(crate) struct Views<'a, 'c, 'f, R: Clock, B: Brands> {
-    outlook: &'a Outlook<'c, R, B>,
+    run_view: &'a RunView<'c, R, B>,
     files: &'f HostRuntime,
     front: Front<Event, B>,
     shown: Snapshot<Front<Event, B>>,
@@ -191,11 +191,11 @@ impl<'a, 'c, 'f, R: Clock, B: Brands> Model for Views<'a, 'c, 'f, R, B> {
 
 impl<'a, 'c, 'f, R: Wait + Clock, B: Brands> Views<'a, 'c, 'f, R, B> {
     /// Makes the views of what is seen from now on.
-    fn new(outlook: &'a Outlook<'c, R, B>, files: &'f HostRuntime) -> Views<'a, 'c, 'f, R, B> {
-        let front = outlook.front();
+    fn new(run_view: &'a RunView<'c, R, B>, files: &'f HostRuntime) -> Views<'a, 'c, 'f, R, B> {
+        let front = run_view.front();
         let shown = Snapshot::of(&front);
         Views {
-            outlook,
+            run_view,
             files,
             front,
             shown,
@@ -212,14 +212,14 @@ impl<'a, 'c, 'f, R: Wait + Clock, B: Brands> ViewSource for Views<'a, 'c, 'f, R,
     ghost is_metrics = { λ old text new. IsPrefix old new × IsMetrics B.text old new text };
 
     fn document(&mut self, ask: &Ask, response: &mut Response) -> Result<(), AllocError> {
-        let presences = self.outlook.all_presences()?;
-        answer_document(self.outlook, &mut self.front, &presences, ask, response)?;
+        let peer_states = self.run_view.all_peer_states()?;
+        answer_document(self.run_view, &mut self.front, &peer_states, ask, response)?;
         self.shown = Snapshot::of(&self.front);
         Ok(())
     }
 
     fn metrics(&mut self, response: &mut Response) -> Result<(), AllocError> {
-        answer_metrics(self.outlook, &mut self.front, self.files, response)?;
+        answer_metrics(self.run_view, &mut self.front, self.files, response)?;
         self.shown = Snapshot::of(&self.front);
         Ok(())
     }
@@ -228,16 +228,16 @@ impl<'a, 'c, 'f, R: Wait + Clock, B: Brands> ViewSource for Views<'a, 'c, 'f, R,
 /// Tells until when viewers are served.
 #[derive(Drop)]
 struct Serving<'a, 'c, R: Clock, B: Brands> {
-    outlook: &'a Outlook<'c, R, B>,
+    run_view: &'a RunView<'c, R, B>,
 }
 
 impl<'a, 'c, R: Wait + Clock, B: Brands> http_views::Watch for Serving<'a, 'c, R, B> {
     fn now_ms(&self) -> u64 {
-        self.outlook.moments.now_ms()
+        self.run_view.moments.now_ms()
     }
 
     fn is_over(&self) -> bool {
-        self.outlook.shared.is_over()
+        self.run_view.shared.is_over()
     }
 }
 
@@ -246,10 +246,10 @@ pub fn show_views<R: Wait + Clock + Net<Listener = TcpListener, Stream = TcpStre
     context: &Context<'_, R, B>,
     at: &ViewerListener<'_>,
 ) {
-    let outlook = context.outlook();
+    let run_view = context.run_view();
     let mut service = ViewService {
         alloc: context.alloc,
-        source: Views::new(&outlook, at.files),
+        source: Views::new(&run_view, at.files),
         page: PAGE,
         places: at.places,
     };
@@ -259,7 +259,9 @@ pub fn show_views<R: Wait + Clock + Net<Listener = TcpListener, Stream = TcpStre
         at.keys,
         at.listener,
         &mut service,
-        &Serving { outlook: &outlook },
+        &Serving {
+            run_view: &run_view,
+        },
     );
     if served.is_err() {
         context.say(LogLine::ViewersGone);

@@ -6,7 +6,7 @@ use Rattle.server_counts.specs.Counts.{added, timed}
 use Rattle.server_counts.specs.declared.counters.Counters.{Counters}
 use Rattle.server_counts.specs.declared.counters.Timed.TheVariants.{Search, Wait}
 use Rattle.server_counts.specs.declared.kinds.Counted.TheVariants.{Step}
-use Rattle.server_counts.specs.declared.kinds.ReplyKind.TheVariants as kind
+use Rattle.history_core.specs.declared.step.Brief.TheVariants as brief
 use Rattle.server_workers.specs.declared.workers.TurnTimes.{TurnTimes}
 use Rattle.shared_pce.specs.declared.work.Worked.{Worked}
 
@@ -23,7 +23,7 @@ times_counted (Some times) c = wait_counted times.wait_us (timed Search times.se
 -- counts the ticket whose job is in the hand
 abbrev pub hand_counted : Bool → Counters → Counters
 hand_counted false c = c
-hand_counted true c = added (Step event.Take kind.Job) c
+hand_counted true c = added (Step event.Take (brief.Job 0)) c
 
 -- counts all of a turn that began and ended with a job in the hand or without one
 abbrev pub all_of_turn : Bool → Bool → Worked → Option TurnTimes → Counters → Counters

@@ -6,12 +6,13 @@ ghost use Rattle.server_workers.specs.Rings.{peer_of_turn};
 ghost use Rattle.server_workers.specs.Faults.{after_turn, turn};
 ghost use Rattle.server_workers.specs.Turns.{times_counted, hand_counted, all_of_turn};
 
+use history_core::Brief;
 use history_seats::Brands;
 use pce_seen::EventKind;
 use server_base::{Context, Moments, Seen, Settled, count_worked};
-use server_counts::{Counted, Counters, ReplyKind, Timed};
+use server_counts::{Counted, Counters, Timed};
 use server_log::LogLine;
-use server_rules::{AfterFault, FaultsInARow, Unrung};
+use server_rules::{AfterFault, FaultsInARow, PendingWakes};
 use server_signals::{GrantGateLook, RunFault};
 use server_talk::Watch;
 use shared_pce::{Event, Fault, Front, Gate, Reply, SPARE_AT, Seat, Worked};
@@ -60,12 +61,15 @@ fn make_room<R: Wait + Clock, B: Brands>(context: &Context<'_, R, B>, seat: &mut
 fn spare<R: Wait + Clock, B: Brands>(context: &Context<'_, R, B>, seat: &mut Seat<B>) {
     let rolled = context.shared.roll_if(context.rt, seat, SPARE_AT);
     let _is_rolled = note_rolled(context, rolled);
-    rest(context, seat);
+    fold_idle(context, seat);
 }
 
 /// Rolls the history if it is nearly full, or takes as much memory as the receipts of rolled steps leave it. A step
 /// does so too; this is for the time in which no step would have to wait for it.
-fn tend<R: Wait + Clock, B: Brands>(context: &Context<'_, R, B>, seat: &mut Seat<B>) {
+fn roll_if_nearly_full<R: Wait + Clock, B: Brands>(
+    context: &Context<'_, R, B>,
+    seat: &mut Seat<B>,
+) {
     let _is_rolled = note_rolled(context, context.shared.roll_if_due(context.rt, seat));
 }
 
@@ -78,20 +82,20 @@ fn spare_others<R: Wait + Clock, B: Brands>(context: &Context<'_, R, B>, seat: &
 }
 
 /// Drops the receipts of rolled steps of a seat whose thread has nothing to do, if the seat keeps any.
-fn rest<R: Wait + Clock, B: Brands>(context: &Context<'_, R, B>, seat: &mut Seat<B>) {
+fn fold_idle<R: Wait + Clock, B: Brands>(context: &Context<'_, R, B>, seat: &mut Seat<B>) {
     if !seat.receipts().is_empty() {
         context.shared.fold(context.rt, seat);
     }
 }
 
 /// Wakes the connections of these routers, so that they look for messages to send.
-fn ring<R: Wait + Clock, B: Brands>(context: &Context<'_, R, B>, unrung: &mut Unrung)
-    ensures { unrung.new ≡ [] }
+fn ring<R: Wait + Clock, B: Brands>(context: &Context<'_, R, B>, pending_wakes: &mut PendingWakes)
+    ensures { pending_wakes.new ≡ [] }
 {
-    for peer in unrung.peers() {
+    for peer in pending_wakes.peers() {
         context.wakers.ring(context.rt, *peer);
     }
-    *unrung = Unrung::none();
+    *pending_wakes = PendingWakes::none();
 }
 
 /// Wakes the connection of the router for which a path was searched for, so that it looks for messages to send. If no
@@ -99,25 +103,25 @@ fn ring<R: Wait + Clock, B: Brands>(context: &Context<'_, R, B>, unrung: &mut Un
 /// messages when it is woken.
 fn ring_for<R: Wait + Clock, B: Brands>(
     context: &Context<'_, R, B>,
-    unrung: &mut Unrung,
+    pending_wakes: &mut PendingWakes,
     worked: &Worked,
     has_job: bool,
 )
-    ensures rung { has_job ≡ false → unrung.new ≡ [] }
-    ensures few { length unrung.new < 16 }
-    ensures noted { has_job ≡ true → length unrung.old < 15 → unrung.new ≡ unrung.old ++ peer_of_turn worked.now }
+    ensures rung { has_job ≡ false → pending_wakes.new ≡ [] }
+    ensures few { length pending_wakes.new < 16 }
+    ensures noted { has_job ≡ true → length pending_wakes.old < 15 → pending_wakes.new ≡ pending_wakes.old ++ peer_of_turn worked.now }
 {
     if let Worked::Done { job, .. } = worked {
-        unrung.note(job.ticket.peer);
+        pending_wakes.note(job.ticket.peer);
     }
-    if !has_job || unrung.is_full() {
-        ring(context, unrung);
+    if !has_job || pending_wakes.is_full() {
+        ring(context, pending_wakes);
     }
 }
 
-/// Asks whether tickets may be taken: they may if what routers hold is known by now, or the time is up. If they may
-/// not, waits a while.
-fn may_grant<R: Wait + Clock, B: Brands>(context: &Context<'_, R, B>) -> bool {
+/// Waits a while if tickets may not be taken yet, and returns whether they may: what routers hold is known by now, or time
+/// is up.
+fn wait_for_gate<R: Wait + Clock, B: Brands>(context: &Context<'_, R, B>) -> bool {
     match context.grants.look(context.rt, context.moments().now_ms()) {
         GrantGateLook::Open => true,
         GrantGateLook::Opened => {
@@ -194,7 +198,7 @@ fn count_taken(counters: &mut Counters, has_job: bool)
     ensures { counters.new ≡ hand_counted has_job counters.old }
 {
     if has_job {
-        counters.add(Counted::Step(EventKind::Take, ReplyKind::Job));
+        counters.add(Counted::Step(EventKind::Take, Brief::Job(0)));
     }
 }
 
@@ -218,13 +222,13 @@ fn count_turn(
 /// Wakes connections, and counts a worker's turn.
 fn note_worked<R: Wait + Clock, B: Brands>(
     context: &Context<'_, R, B>,
-    unrung: &mut Unrung,
+    pending_wakes: &mut PendingWakes,
     worked: &Worked,
     since_us: u64,
     had_job: bool,
     has_job: bool,
 ) {
-    ring_for(context, unrung, worked, has_job);
+    ring_for(context, pending_wakes, worked, has_job);
     let times = times_of(context, worked, since_us);
     let mut counters = acquire(context.rt, context.counters);
     count_turn(&mut counters, worked, times, had_job, has_job);
@@ -234,13 +238,20 @@ fn note_worked<R: Wait + Clock, B: Brands>(
 fn work_once<R: Wait + Clock, B: Brands>(
     context: &Context<'_, R, B>,
     seat: &mut Seat<B>,
-    unrung: &mut Unrung,
+    pending_wakes: &mut PendingWakes,
     had_job: bool,
 ) -> Result<(), Fault> {
     let mut timer = SearchTimer::new(context);
     let worked = context.shared.work_one(context.rt, seat, &mut timer)?;
     let has_job = seat.hand().is_some();
-    note_worked(context, unrung, &worked, timer.since_us, had_job, has_job);
+    note_worked(
+        context,
+        pending_wakes,
+        &worked,
+        timer.since_us,
+        had_job,
+        has_job,
+    );
     Ok(())
 }
 
@@ -265,23 +276,23 @@ fn worker_turn<R: Wait + Clock, B: Brands>(
     context: &Context<'_, R, B>,
     seat: &mut Seat<B>,
     front: &mut Front<Event, B>,
-    unrung: &mut Unrung,
+    pending_wakes: &mut PendingWakes,
 ) -> Option<Fault> {
     let rt = context.rt;
     let most = Duration::from_millis(WORK_WAIT_MS);
-    if !may_grant(context) {
+    if !wait_for_gate(context) {
         return None;
     }
     let had_job = seat.hand().is_some();
     if !had_job && !context.shared.await_work(rt, front, most) {
-        tend(context, seat);
-        rest(context, seat);
+        roll_if_nearly_full(context, seat);
+        fold_idle(context, seat);
         return None;
     }
-    let Err(fault) = work_once(context, seat, unrung, had_job) else {
+    let Err(fault) = work_once(context, seat, pending_wakes, had_job) else {
         return None;
     };
-    ring(context, unrung);
+    ring(context, pending_wakes);
     if !had_job {
         count_taken(&mut acquire(rt, context.counters), seat.hand().is_some());
     }
@@ -326,14 +337,14 @@ fn work_until_the_end<R: Wait + Clock, B: Brands>(
     context: &Context<'_, R, B>,
     seat: &mut Seat<B>,
     front: &mut Front<Event, B>,
-    unrung: &mut Unrung,
+    pending_wakes: &mut PendingWakes,
 ) {
     let mut faults = FaultsInARow::none();
     for _ in context.rt.forever() {
         if context.shared.is_over() {
             return;
         }
-        let fault = worker_turn(context, seat, front, unrung);
+        let fault = worker_turn(context, seat, front, pending_wakes);
         if !goes_on(context, &mut faults, fault) {
             return;
         }
@@ -342,10 +353,10 @@ fn work_until_the_end<R: Wait + Clock, B: Brands>(
 
 /// Works until the end, and wakes the connections that are still to be woken.
 fn work_on<R: Wait + Clock, B: Brands>(context: &Context<'_, R, B>, seat: &mut Seat<B>) {
-    let mut unrung = Unrung::none();
+    let mut pending_wakes = PendingWakes::none();
     let mut front = context.shared.front(context.rt);
-    work_until_the_end(context, seat, &mut front, &mut unrung);
-    ring(context, &mut unrung);
+    work_until_the_end(context, seat, &mut front, &mut pending_wakes);
+    ring(context, &mut pending_wakes);
 }
 
 /// Runs a worker's thread.
@@ -364,7 +375,7 @@ fn note_settled<R: Wait + Clock, B: Brands>(context: &Context<'_, R, B>, settled
 }
 
 /// Submits what is due for a peer that is kept for this time. If nothing is due, or memory runs out, waits a while.
-fn settle<R: Wait + Clock, B: Brands>(
+fn expire_one<R: Wait + Clock, B: Brands>(
     context: &Context<'_, R, B>,
     seat: &mut Seat<B>,
     keep_ms: u64,
@@ -387,7 +398,7 @@ fn settle<R: Wait + Clock, B: Brands>(
         }
     };
     if !is_on {
-        rest(context, seat);
+        fold_idle(context, seat);
         thread::sleep(context.rt, Duration::from_millis(KEEPER_WAIT_MS));
     }
 }
@@ -398,7 +409,7 @@ fn settle_last<R: Wait + Clock, B: Brands>(context: &Context<'_, R, B>, seat: &m
         if !context.peers.owes_a_down(context.rt) {
             return;
         }
-        settle(context, seat, u64::MAX);
+        expire_one(context, seat, u64::MAX);
     }
 }
 
@@ -412,7 +423,7 @@ fn mark_steps<R: Wait + Clock, B: Brands>(
     if now_ms < due_ms {
         return due_ms;
     }
-    context.outlook().mark_steps(front);
+    context.run_view().mark_steps(front);
     now_ms.saturating_add(MARK_EVERY_MS)
 }
 
@@ -455,7 +466,7 @@ fn keep_up<R: Wait + Clock, B: Brands>(
 }
 
 /// Submits what is due, until the end. Looks at the history in between, since workers that have tickets don't.
-fn keep_on<R: Wait + Clock, B: Brands>(context: &Context<'_, R, B>, seat: &mut Seat<B>) {
+fn run_timer<R: Wait + Clock, B: Brands>(context: &Context<'_, R, B>, seat: &mut Seat<B>) {
     let mut front = context.shared.front(context.rt);
     let mut due_ms = 0u64;
     let mut folded = 0u64;
@@ -466,11 +477,11 @@ fn keep_on<R: Wait + Clock, B: Brands>(context: &Context<'_, R, B>, seat: &mut S
             return;
         }
         spare_others(context, seat);
-        tend(context, seat);
+        roll_if_nearly_full(context, seat);
         folded = fold_all(context, seat, folded);
         due_ms = mark_steps(context, &mut front, due_ms);
         upkeep_ms = keep_up(context, seat, &mut seen, upkeep_ms);
-        settle(context, seat, context.keep_ms);
+        expire_one(context, seat, context.keep_ms);
     }
 }
 
@@ -479,7 +490,7 @@ pub fn keep_time<R: Wait + Clock, B: Brands>(context: &Context<'_, R, B>, at: us
     let Some(mut seat) = context.pool.take(context.rt, at) else {
         return;
     };
-    keep_on(context, &mut seat);
+    run_timer(context, &mut seat);
     settle_last(context, &mut seat);
     context.pool.put(context.rt, at, seat);
 }

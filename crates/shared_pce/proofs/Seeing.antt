@@ -10,7 +10,7 @@ use Rattle.history_core.specs.Histories.{Content, steps_of}
 use Rattle.history_tokens.specs.declared.rule.Happening.{Happening}
 use Rattle.history_tokens.specs.declared.rule.Happening.TheVariants.{Took, Rolled}
 use Rattle.history_seats.specs.Past.{database_at, with_seen, stepped_at}
-use Rattle.history_seats.specs.Receipts.{SeatContent, received, folded, tidy, are_past}
+use Rattle.history_seats.specs.Receipts.{SeatContent, received, folded, after_fold, are_past}
 use Rattle.shared_pce.specs.Turns.{Received, RollsIf, SeesMore}
 
 prefix_trans : (a b c : List (Happening Event)) → IsPrefix a b → IsPrefix b c → IsPrefix a c
@@ -62,6 +62,6 @@ tidied_by : (seen after : List (Happening Event)) (s : SeatContent) (b : Bool) �
 tidied_by seen after s true = refl
 tidied_by seen after s false = refl
 
-pub tidied_on : (rolled : ℕ) (a b c : SeatContent) → SeesMore a b → c ≡ with_seen c.seen (tidy rolled b) → c ≡ with_seen c.seen (tidy rolled a)
+pub tidied_on : (rolled : ℕ) (a b c : SeatContent) → SeesMore a b → c ≡ with_seen c.seen (after_fold rolled b) → c ≡ with_seen c.seen (after_fold rolled a)
 tidied_on rolled a b c h is =
-    is ∙ ap (λ (s : SeatContent). with_seen c.seen (tidy rolled s)) h.same ∙ tidied_by b.seen c.seen a (are_past a.floor rolled a.receipts)
+    is ∙ ap (λ (s : SeatContent). with_seen c.seen (after_fold rolled s)) h.same ∙ tidied_by b.seen c.seen a (are_past a.floor rolled a.receipts)

@@ -3,14 +3,14 @@ ghost use Rattle.std.specs.Prelude.{ℕ, ◌≡◌, true, [], All, None, length,
 ghost use Rattle.delegate_rules.specs.Reports.{hops_of};
 ghost use Rattle.history_core.specs.Histories.{Content, Replays};
 ghost use Rattle.step_core.specs.Steps.{step};
-ghost use Rattle.shared_pce.specs.Lefts.{brings, is_long, links_in, row_after, row_before, IsBefore, IsLookedAt, WasLeft};
+ghost use Rattle.shared_pce.specs.Residuals.{adds_path, is_long, links_in, row_after, row_before, IsBefore, IsLookedAt, WasLeft};
 
 use delegate_rules::report_links;
 use history_core::{Database, Event, Reply};
 use pcep_messages::StateReport;
 use pcep_word::Priority;
 use sequence::PlainData;
-use server_counts::LeftRow;
+use server_counts::ResidualRow;
 use std::alloc::{AllocError, Global};
 use te_base::{LinkNumber, TeBase};
 
@@ -56,11 +56,11 @@ fn links_in(alloc: Global, te: &TeBase, event: &Event) -> Result<Vec<LinkNumber>
 }
 
 /// Reads what is left of a link. `None` if there is no such link.
-fn row_before(database: &Database, link: LinkNumber, priority: Priority) -> Option<LeftRow>
+fn row_before(database: &Database, link: LinkNumber, priority: Priority) -> Option<ResidualRow>
     ensures { IfSome result (λ row. row ≡ row_before database.now priority link) }
 {
     let left = database.unreserved(link, priority)?;
-    Some(LeftRow {
+    Some(ResidualRow {
         step: database.steps(),
         link,
         priority,
@@ -75,7 +75,7 @@ fn rows_before(
     database: &Database,
     links: &[LinkNumber],
     priority: Priority,
-) -> Option<Vec<LeftRow>>
+) -> Option<Vec<ResidualRow>>
     ensures { IfSome result (λ rows. rows.items ≡ map (row_before database.now priority) links.now) }
 {
     if links.len() > LINK_LIMIT {
@@ -94,7 +94,7 @@ fn rows_of_event(
     database: &Database,
     event: &Event,
     priority: Priority,
-) -> Option<Vec<LeftRow>>
+) -> Option<Vec<ResidualRow>>
     ensures rows { IfSome result (λ rows. rows.items ≡ map (row_before database.now priority) (links_in database.now.state.te event.now)) }
     ensures long { is_long event.now ≡ true → result ≡ None }
 {
@@ -111,7 +111,7 @@ pub(crate) fn see_before(
     database: &Database,
     event: &Event,
     priority: Priority,
-) -> Vec<LeftRow>
+) -> Vec<ResidualRow>
     ensures before { All (IsBefore database.now event.now priority) result.items }
     ensures long { is_long event.now ≡ true → result.items ≡ [] }
 {
@@ -122,15 +122,19 @@ pub(crate) fn see_before(
 }
 
 /// Reads what is left of a row's link after the step. `None` if there is no such link.
-fn row_after(database: &Database, row: &LeftRow) -> Option<LeftRow>
+fn row_after(database: &Database, row: &ResidualRow) -> Option<ResidualRow>
     ensures { IfSome result (λ after. after ≡ row_after database.now.state row.now) }
 {
     let after = database.unreserved(row.link, row.priority)?;
-    Some(LeftRow { after, ..*row })
+    Some(ResidualRow { after, ..*row })
 }
 
 /// Reads what is left of each row's link after the step. `None` if one doesn't exist, or memory runs out.
-fn rows_after(alloc: Global, database: &Database, before: &[LeftRow]) -> Option<Vec<LeftRow>>
+fn rows_after(
+    alloc: Global,
+    database: &Database,
+    before: &[ResidualRow],
+) -> Option<Vec<ResidualRow>>
     ensures { IfSome result (λ rows. rows.items ≡ map (row_after database.now.state) before.now) }
 {
     let mut rows = Vec::with_capacity(alloc, before.len()).ok()?;
@@ -141,8 +145,8 @@ fn rows_after(alloc: Global, database: &Database, before: &[LeftRow]) -> Option<
 }
 
 /// Tests whether a path was booked or granted.
-fn brings(reply: &Reply) -> bool
-    ensures { result ≡ brings reply.now }
+fn adds_path(reply: &Reply) -> bool
+    ensures { result ≡ adds_path reply.now }
 {
     matches!(reply, Reply::Booked { .. } | Reply::Granted(_))
 }
@@ -152,12 +156,12 @@ pub(crate) fn see_after(
     alloc: Global,
     database: &Database,
     reply: &Reply,
-    before: &[LeftRow],
-) -> Vec<LeftRow>
+    before: &[ResidualRow],
+) -> Vec<ResidualRow>
     ensures { (d : Content) (e : Event) (priority : ℕ) → Replays d → IsLookedAt e priority → All (IsBefore d e priority) before.now
         → reply.now ≡ (step d.state e).reply → database.now.state ≡ (step d.state e).state → All WasLeft result.items }
 {
-    if !brings(reply) {
+    if !adds_path(reply) {
         return Vec::new(alloc);
     }
     match rows_after(alloc, database, before) {

@@ -11,14 +11,14 @@ ghost use Rattle.history_seats.specs.Past.{database_at};
 ghost use Rattle.history_seats.specs.Seeing.{HasSeenOf};
 ghost use Rattle.history_seats.specs.Receipts.{new_seat};
 ghost use Rattle.history_seats.specs.Audits.{IsAudited, Fails};
-ghost use Rattle.shared_pce.specs.Lefts.{WasLeft};
+ghost use Rattle.shared_pce.specs.Residuals.{WasLeft};
 ghost use Rattle.shared_pce.specs.Turns.{Received, SeesMore};
 
 use crate::audit::{Audit, AuditRefused};
 use crate::bell::Bell;
 use crate::due::RollAt;
-use crate::left_table::LeftTable;
 use crate::looks::{links_of, lsp_count};
+use crate::residual_log::ResidualLog;
 use crate::stepped::{Stepped, priority_of};
 use crate::unfolded::Unfolded;
 use database_looks::{LeftLook, Look};
@@ -26,7 +26,7 @@ use history_core::{Database, Event, Fault, Reply, SharedEvent};
 use history_seats::{Brands, Front, Held, Seat, Unnamed};
 use place_tokens::Unopened;
 use sequence::PlainData;
-use server_counts::LeftRow;
+use server_counts::ResidualRow;
 use short_lock::acquire;
 use std::alloc::{AllocError, Global};
 use std::sync::ledger::Blank;
@@ -43,7 +43,7 @@ pub struct Shared<B: Brands> {
     held: Mutex<Held<B>>,
     bell: Bell,
     /// What steps left of links. Its lock is taken only while that of the database is free.
-    lefts: Mutex<LeftTable>,
+    residuals: Mutex<ResidualLog>,
     /// What the receipts of rolled steps take. Its lock is taken under that of the database, or while no other is held.
     unfolded: Mutex<Unfolded>,
     /// When the history is rolled before a step, if no receipts of rolled steps are left.
@@ -57,13 +57,13 @@ impl<B: Brands> Drop for Shared<B> {
             alloc: _,
             held,
             bell,
-            lefts,
+            residuals,
             unfolded,
             roll_at: _,
         } = self;
         drop(held);
         drop(bell);
-        drop(lefts);
+        drop(residuals);
         drop(unfolded);
     }
 }
@@ -95,7 +95,7 @@ impl<B: Brands> Shared<B> {
             alloc,
             held: Mutex::new(held),
             bell: Bell::new(),
-            lefts: Mutex::new(LeftTable::new(alloc)),
+            residuals: Mutex::new(ResidualLog::new(alloc)),
             unfolded: Mutex::new(Unfolded::new()),
             roll_at,
         };
@@ -183,23 +183,23 @@ impl<B: Brands> Shared<B> {
     {
         let Stepped {
             reply,
-            unkept,
+            dropped,
             rows,
         } = stepped;
         if !rows.is_empty() {
-            let _noted = acquire(rt, &self.lefts).note(&rows);
+            let _noted = acquire(rt, &self.residuals).note(&rows);
         }
         drop(rows);
-        self.drop_folded(rt, unkept);
+        self.drop_folded(rt, dropped);
         reply
     }
 
     /// Copies what the last steps that added paths left of their links: fewer than 65,600 rows. What a step left is
     /// kept after the lock of the database is freed, so the step may be in the history earlier.
-    pub fn lefts<R: Wait>(&self, rt: &R) -> Result<Vec<LeftRow>, AllocError>
+    pub fn residuals<R: Wait>(&self, rt: &R) -> Result<Vec<ResidualRow>, AllocError>
         ensures { IfOk result (λ rows. All WasLeft rows.items) }
     {
-        acquire(rt, &self.lefts).copies(self.alloc)
+        acquire(rt, &self.residuals).copies(self.alloc)
     }
 
     /// Makes a front that has seen all that has happened until now. It has no bytes.
@@ -351,7 +351,7 @@ impl<B: Brands> Shared<B> {
             alloc,
             held,
             bell,
-            lefts,
+            residuals,
             unfolded,
             roll_at,
         } = self;
@@ -363,7 +363,7 @@ impl<B: Brands> Shared<B> {
                     alloc,
                     held: Mutex::new(held),
                     bell,
-                    lefts,
+                    residuals,
                     unfolded,
                     roll_at,
                 },

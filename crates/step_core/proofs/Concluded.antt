@@ -99,6 +99,36 @@ grant_is_possible s t offer path p is some verdict_is =
 pub answer_is_possible : (s : State) (t : Ticket) (offer : Option (List ℕ)) (path : Option Path) (p : Path) → path ≡ option_map (path_of s t) offer → path ≡ Some p → verdict_on s t offer ≡ Answer → length p.links ≤ 64
 answer_is_possible s t offer path p is some verdict_is = answer_is_short t p s.base s.te (view_of s t.peer) (offer_is s t offer path p Answer is some verdict_is)
 
+-- ---- without an offer nothing is granted, and nothing answered
+
+no_grant_by : (gone same low : Bool) → (if gone then Gone else (if same then NoPath else (if low then Again else NoPath))) ≡ Grant → ⊥
+no_grant_by true same low is = cc
+no_grant_by false true low is = cc
+no_grant_by false false true is = cc
+no_grant_by false false false is = cc
+
+no_answer_by : (gone same low : Bool) → (if gone then Gone else (if same then NoPath else (if low then Again else NoPath))) ≡ Answer → ⊥
+no_answer_by true same low is = cc
+no_answer_by false true low is = cc
+no_answer_by false false true is = cc
+no_answer_by false false false is = cc
+
+no_grant : (t : Ticket) (lsps : Lsps) (te : Ted) (v : PeerView) → verdict t None lsps te v ≡ Grant → ⊥
+unfolding verdict
+no_grant t lsps te v is = no_grant_by (is_gone lsps t v) (v.changes == t.seen) (nat_lt t.tries 4) is
+
+no_answer : (t : Ticket) (lsps : Lsps) (te : Ted) (v : PeerView) → verdict t None lsps te v ≡ Answer → ⊥
+unfolding verdict
+no_answer t lsps te v is = no_answer_by (is_gone lsps t v) (v.changes == t.seen) (nat_lt t.tries 4) is
+
+pub grant_has_path : (s : State) (t : Ticket) (offer : Option (List ℕ)) (path : Option Path) → path ≡ option_map (path_of s t) offer → path ≡ None → verdict_on s t offer ≡ Grant → ⊥
+grant_has_path s t None path is none verdict_is = no_grant t s.base s.te (view_of s t.peer) verdict_is
+grant_has_path s t (Some links) path is none verdict_is = absurd (cc (is, none))
+
+pub answer_has_path : (s : State) (t : Ticket) (offer : Option (List ℕ)) (path : Option Path) → path ≡ option_map (path_of s t) offer → path ≡ None → verdict_on s t offer ≡ Answer → ⊥
+answer_has_path s t None path is none verdict_is = no_answer t s.base s.te (view_of s t.peer) verdict_is
+answer_has_path s t (Some links) path is none verdict_is = absurd (cc (is, none))
+
 -- ---- a ticket that waits again may be tried again
 
 again_by : (request cannot : Bool) → (if request then Answer else (if cannot then GivenUp else Grant)) ≡ Again → ⊥

@@ -114,7 +114,7 @@ pub(crate) fn queue_for_peer(
     ensures unchanged { OnErr result (peers.new ≡ peers.old) }
 {
     let Some(place) = peers.place_of(number) else {
-        return Err(AllocError);
+        unreachable!()
     };
     let peer = &mut peers.items[place];
     peer.outgoing.push(message)?;

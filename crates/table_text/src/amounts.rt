@@ -14,7 +14,7 @@ enum Unit {
     Gigabit,
 }
 
-/// How many bits per second it has.
+/// Returns how many bits per second the unit has.
 fn size(unit: Unit) -> u128
     ensures size { result ≡ size unit }
     ensures positive { 0 < result }
@@ -70,7 +70,7 @@ fn unit_of(bits: u128) -> Unit
     }
 }
 
-/// Nothing has no sign.
+/// Returns the sign of an amount. What is shown as 0 has none.
 fn sign(bytes: i64, tenths: u128) -> &'static str
     ensures { result.now ≡ sign_words bytes tenths }
 {

@@ -9,7 +9,7 @@ use std::alloc::AllocError;
 use std::fmt::Write;
 use ucd_category::GeneralCategory;
 
-/// Whether characters of this category steer a terminal or the direction of a text, and show nothing.
+/// Tests whether characters of this category steer a terminal or the direction of a text, and show nothing.
 fn steers(category: GeneralCategory) -> bool
     ensures { result ≡ steers category }
 {
@@ -34,7 +34,7 @@ fn are_shown(name: &str) -> bool
     name.chars().all(is_shown)
 }
 
-/// Whether the byte is a printed character of ASCII or a space, and no backslash.
+/// Tests whether the byte is a printed character of ASCII or a space, and no backslash.
 fn is_plain_byte(byte: u8) -> bool
     ensures { result ≡ is_plain_byte byte }
 {

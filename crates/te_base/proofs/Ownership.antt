@@ -1,23 +1,26 @@
 -- An address has the owner that nodes and links give it.
-use Rattle.std.proofs.Common.{◌≡◌, ℕ, codes, suc, ◌+◌, ◌==◌, ◌&&◌, ◌||◌, Bool, true, false, List, [], ◌∷◌, ◌++◌, length, Option, Some, None, is_some, Ok, Err, IfOk, IsTrue, ◌↔◌, option_map, find, refl, sym, ap, subst, ◌∙◌, arith, zero-add, add-zero, if◌then◌else◌}
+use Rattle.std.proofs.Common.{◌≡◌, ℕ, suc, ◌+◌, ◌==◌, ◌&&◌, ◌||◌, Bool, true, false, List, [], ◌∷◌, ◌++◌, length, Option, Some, None, Ok, IfOk, IsTrue, ◌↔◌, option_map, find, refl, sym, ap, subst, ◌∙◌, arith, zero-add, add-zero, if◌then◌else◌}
 use Rattle.std.proofs.lemmas.List.Folds.{list_any-append}
 use Rattle.std.proofs.lemmas.Result.{IfOk-at_ok}
 use Rattle.std.specs.List.{list_any, enumerate_from}
 use Rattle.std.specs.Option.{option_or}
 use Rattle.toml.specs.Data.{Members}
-use Rattle.toml.specs.Parse.{parse_document}
-use Rattle.te_base.specs.declared.fault.TeFault.TheVariants.{NotToml, AddressTwice, NameTwice}
+use Rattle.te_base.specs.declared.fault.FaultPlace.{FaultPlace}
+use Rattle.te_base.specs.declared.fault.TeFault.TheVariants.{AddressTwice}
+use Rattle.te_base.specs.declared.keys.Key.{Key}
+use Rattle.te_base.specs.declared.keys.Key.TheVariants.{Id, Local, Remote}
+use Rattle.te_base.specs.declared.keys.TableKind.TheVariants.{Nodes, Links}
 use Rattle.te_base.specs.declared.network.Node.{Node}
 use Rattle.te_base.specs.declared.network.Link.{Link}
 use Rattle.te_base.specs.declared.network.Owner.{Owner}
-use Rattle.te_base.specs.Faults.{some_or}
+use Rattle.te_base.specs.Places.{fault_with}
 use Rattle.te_base.specs.Ted.{Ted, empty_ted}
 use Rattle.te_base.specs.Owners.{owner_of, with_owner, owned, is_id_of, is_local_of, is_remote_of, owns, is_node, AreOwners}
 use Rattle.te_base.specs.Fields.{node_text, link_text, tables_at}
 use Rattle.te_base.specs.Ranges.{node_value, link_addresses, link_values}
-use Rattle.te_base.specs.LinkText.{node_named, with_node, ends_of, link_of, with_link, with_nodes, with_links, few_enough, base_of_tree, base_of}
+use Rattle.te_base.specs.LinkText.{node_named, next_node, next_link, unnamed, with_node, ends_of, link_of, with_link, with_nodes, with_links, few_enough, base_of_tree}
 use Rattle.te_base.proofs.Found.{same_number, equal_numbers}
-use Rattle.te_base.proofs.Steps.{bind, after, when, behind}
+use Rattle.te_base.proofs.Steps.{bind, after, when}
 
 -- ---- tests
 
@@ -87,17 +90,17 @@ kept_cases owners address node x m true e h =
     rw found (twice (node == m))
 kept_cases owners address node x m false e h = absorbed (is_node (owner_of owners x) m) (node == m)
 
-with_owner_adds : (owners : List Owner) (address node : ℕ) (o : Option ℕ) → owner_of owners address ≡ o → IfOk (with_owner owners address node o) (AddsOwner owners address node)
+with_owner_adds : (at : FaultPlace) (key : Key) (owners : List Owner) (address node : ℕ) (o : Option ℕ) → owner_of owners address ≡ o → IfOk (with_owner at key owners address node o) (AddsOwner owners address node)
 unfolding AddsOwner one_more
-with_owner_adds owners address node None e = λ x m.
+with_owner_adds at key owners address node None e = λ x m.
     ap (λ o. is_node o m) (owner_of-append owners address node x) ∙ new_cases owners address node x m (owner_of owners x) (address == x) e refl refl
-with_owner_adds owners address node (Some other) e =
-    when (other == node) owners AddressTwice (AddsOwner owners address node) (λ is x m.
+with_owner_adds at key owners address node (Some other) e =
+    when (other == node) owners (fault_with at key AddressTwice other) (AddsOwner owners address node) (λ is x m.
     let same : other ≡ node = same_number other node is in
     kept_cases owners address node x m (address == x) (rw (← same) e) refl)
 
-owned_adds : (owners : List Owner) (address node : ℕ) → IfOk (owned owners address node) (AddsOwner owners address node)
-owned_adds owners address node = with_owner_adds owners address node (owner_of owners address) refl
+owned_adds : (at : FaultPlace) (key : Key) (owners : List Owner) (address node : ℕ) → IfOk (owned at key owners address node) (AddsOwner owners address node)
+owned_adds at key owners address node = with_owner_adds at key owners address node (owner_of owners address) refl
 
 -- ---- one more node or link
 
@@ -120,25 +123,25 @@ Owned base = AreOwners base.nodes base.links base.owners
 with_node_owned : (base : Ted) (t : Members) → Owned base → IfOk (with_node base t) Owned
 unfolding with_node Owned AddsOwner
 with_node_owned base t are =
-    after (node_text t) _ Owned (λ fields.
-    after (node_value fields) _ Owned (λ node.
-    bind (if is_some (node_named base.nodes node.name) then Err NameTwice else owned base.owners node.id (length base.nodes)) _ (AddsOwner base.owners node.id (length base.nodes)) Owned
-    (behind (is_some (node_named base.nodes node.name)) (owned base.owners node.id (length base.nodes)) NameTwice (AddsOwner base.owners node.id (length base.nodes)) (owned_adds base.owners node.id (length base.nodes)))
+    after (node_text (next_node base) t) _ Owned (λ fields.
+    after (node_value (next_node base) fields) _ Owned (λ node.
+    after (unnamed (next_node base) (node_named base.nodes node.name)) _ Owned (λ new.
+    bind (owned (next_node base) Id base.owners node.id (length base.nodes)) _ (AddsOwner base.owners node.id (length base.nodes)) Owned (owned_adds (next_node base) Id base.owners node.id (length base.nodes))
     (λ owners adds x m.
     adds x m
     ∙ ap (λ b. b || (length base.nodes == m && node.id == x)) (are x m)
     ∙ first_more (is_id_of base.nodes m x) (is_local_of base.links m x) (is_remote_of base.links m x) (length base.nodes == m && node.id == x)
-    ∙ ap (λ b. (b || is_local_of base.links m x) || is_remote_of base.links m x) (sym (is_id_of-append base.nodes node m x)))))
+    ∙ ap (λ b. (b || is_local_of base.links m x) || is_remote_of base.links m x) (sym (is_id_of-append base.nodes node m x))))))
 
 with_link_owned : (base : Ted) (t : Members) → Owned base → IfOk (with_link base t) Owned
 unfolding with_link Owned AddsOwner
 with_link_owned base t are =
-    after (link_text t) _ Owned (λ fields.
-    after (link_addresses fields) _ Owned (λ addresses.
-    after (link_values fields) _ Owned (λ values.
+    after (link_text (next_link base) t) _ Owned (λ fields.
+    after (link_addresses (next_link base) fields) _ Owned (λ addresses.
+    after (link_values (next_link base) fields) _ Owned (λ values.
     after (ends_of base fields) _ Owned (λ ends.
-    bind (owned base.owners addresses.0 ends.0) _ (AddsOwner base.owners addresses.0 ends.0) Owned (owned_adds base.owners addresses.0 ends.0) (λ near near_adds.
-    bind (owned near addresses.1 ends.1) _ (AddsOwner near addresses.1 ends.1) Owned (owned_adds near addresses.1 ends.1) (λ owners adds x m.
+    bind (owned (next_link base) Local base.owners addresses.0 ends.0) _ (AddsOwner base.owners addresses.0 ends.0) Owned (owned_adds (next_link base) Local base.owners addresses.0 ends.0) (λ near near_adds.
+    bind (owned (next_link base) Remote near addresses.1 ends.1) _ (AddsOwner near addresses.1 ends.1) Owned (owned_adds (next_link base) Remote near addresses.1 ends.1) (λ owners adds x m.
     let read : Link = link_of ends addresses values in
     let leaves : Link → Bool = λ l. l.from == m && l.local == x in
     let reaches : Link → Bool = λ l. l.to == m && l.remote == x in
@@ -158,7 +161,7 @@ with_links_owned : (ts : List Members) (base : Ted) → Owned base → IfOk (wit
 with_links_owned [] base are = are
 with_links_owned (t ∷ ts) base are = bind (with_link base t) _ Owned Owned (with_link_owned base t are) (λ next are'. with_links_owned ts next are')
 
--- ---- the whole text
+-- ---- the whole document
 
 nothing_owned : Owned empty_ted
 unfolding Owned
@@ -167,15 +170,15 @@ nothing_owned = λ x m. refl
 tree_owned : (t : Members) → IfOk (base_of_tree t) Owned
 unfolding base_of_tree
 tree_owned t =
-    after (tables_at (codes "node") t) _ Owned (λ nodes.
-    after (tables_at (codes "link") t) _ Owned (λ links.
+    after (tables_at Nodes t) _ Owned (λ nodes.
+    after (tables_at Links t) _ Owned (λ links.
     after (few_enough (length nodes) (length links)) _ Owned (λ _.
     bind (with_nodes nodes empty_ted) _ Owned Owned (with_nodes_owned nodes empty_ted nothing_owned) (λ base are.
     with_links_owned links base are))))
 
-pub base_of-owned : (text : List ℕ) (base : Ted) → base_of text ≡ Ok base → AreOwners base.nodes base.links base.owners
+pub base_of_tree-owned : (t : Members) (base : Ted) → base_of_tree t ≡ Ok base → AreOwners base.nodes base.links base.owners
 unfolding Owned
-base_of-owned text base is = IfOk-at_ok Owned is (after (some_or NotToml (parse_document text)) base_of_tree Owned tree_owned)
+base_of_tree-owned t base is = IfOk-at_ok Owned is (tree_owned t)
 
 is_node-iff : (o : Option ℕ) (node : ℕ) → (o ≡ Some node) ↔ IsTrue (is_node o node)
 is_node-iff None node = (λ e. absurd cc, λ e. absurd cc)

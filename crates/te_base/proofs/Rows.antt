@@ -1,10 +1,14 @@
 -- Worked rows: a network of four routers, read from its text, and routes through it.
-use Rattle.std.proofs.Common.{◌≡◌, ℕ, codes, false, true, List, [], ◌∷◌, Ok, Err, refl}
+use Rattle.std.proofs.Common.{◌≡◌, ℕ, codes, false, true, List, [], ◌∷◌, None, Some, Ok, Err, pos, negsuc, refl}
 use Rattle.toml.proofs.OnLiterals.{toml_on_literals}
 use Rattle.pcep_word.specs.Address.{address_of, octet_of, cut}
 use Rattle.lsp_words.specs.declared.object.Hop.{Hop}
 use Rattle.lsp_words.specs.declared.object.Hop.TheVariants.{Host, Other}
-use Rattle.te_base.specs.declared.fault.TeFault.TheVariants.{AddressTwice, NameTwice, OtherLinks}
+use Rattle.te_base.specs.declared.fault.TeFault.TheVariants.{MissingField, AddressTwice, NameTwice, OtherLinks}
+use Rattle.te_base.specs.declared.fault.FaultPlace.TheVariants.{InTable}
+use Rattle.te_base.specs.declared.keys.Key.TheVariants.{Id, Reservable}
+use Rattle.te_base.specs.declared.keys.TableKind.TheVariants.{Nodes, Links}
+use Rattle.te_base.specs.Places.{fault_at, fault_with}
 use Rattle.te_base.specs.declared.network.Node.{Node}
 use Rattle.te_base.specs.declared.network.Link.{Link}
 use Rattle.te_base.specs.declared.network.Owner.{Owner}
@@ -14,11 +18,11 @@ use Rattle.te_base.specs.Fields.{node_text, link_text}
 use Rattle.te_base.specs.Ranges.{node_value, link_addresses, link_values}
 use Rattle.te_base.specs.Values.{checked_values, with_link_values}
 use Rattle.te_base.specs.Reload.{reloaded}
-use Rattle.te_base.specs.LinkText.{with_node, ends_of, with_link, base_of_tree, base_of}
+use Rattle.te_base.specs.LinkText.{with_node, ends_of, with_link, base_of_tree, placed_base, base_of}
 use Rattle.te_base.specs.Walk.{walk}
 
 abbrev node : List ℕ → ℕ → Node
-node name id = record { name = name; id = id }
+node name id = record { name = name; id = id; place = None }
 
 abbrev link : (from to near far metric : ℕ) → Link
 link from to near far metric = record { from = from; to = to; local = near; remote = far; igp = metric; te = metric; colour = 0; reservable = 1000000 }
@@ -69,10 +73,20 @@ read : base_of (codes "node = [{name=\"A\",id=\"10.0.0.1\"},{name=\"B\",id=\"10.
 unfolding toml_on_literals address_of octet_of cut node_text link_text node_value link_addresses link_values checked_values with_node ends_of with_link base_of_tree
 read = refl
 
--- an address of another node, and a link from a node to itself
-taken : base_of (codes "node = [{name=\"A\",id=\"10.0.0.1\"},{name=\"B\",id=\"10.0.0.1\"}]") ≡ Err AddressTwice
+-- an address of another node: the table and its key, and the node that owns it
+taken : placed_base (codes "node = [{name=\"A\",id=\"10.0.0.1\"},{name=\"B\",id=\"10.0.0.1\"}]") ≡ Err (fault_with (InTable Nodes 1) Id AddressTwice 0)
 unfolding toml_on_literals address_of octet_of cut node_text node_value with_node base_of_tree
 taken = refl
+
+-- a link that lacks its last key
+lacks : placed_base (codes "link = [{from=\"A\",to=\"B\",local=\"10.1.0.1\",remote=\"10.1.0.2\",igp=10,te=10,colour=0}]") ≡ Err (fault_at (InTable Links 0) Reservable MissingField)
+unfolding toml_on_literals link_text with_link base_of_tree
+lacks = refl
+
+-- a node with its place
+drawn : base_of (codes "node = [{name=\"A\",id=\"10.0.0.1\",x=3,y=-4}]") ≡ Ok (record { nodes = record { name = codes "A"; id = 0x0a000001; place = Some (record { x = pos 3; y = negsuc 3 }) } ∷ []; links = []; owners = owner 0x0a000001 0 ∷ [] })
+unfolding toml_on_literals address_of octet_of cut node_text node_value with_node base_of_tree
+drawn = refl
 
 -- two routers and a link from one to the other
 abbrev pair : ℕ → Ted

@@ -1,52 +1,55 @@
--- Each base that a link text says is sound.
-use Rattle.std.proofs.Common.{◌≡◌, ◌≢◌, ℕ, codes, ◌+◌, ◌<◌, ◌≤◌, ◌==◌, ◌&&◌, nat_le, Bool, true, false, List, [], ◌∷◌, length, Option, Some, None, is_some, Ok, Err, IfOk, IfSome, All, option_map, find, refl, sym, subst, arith, length-append, if◌then◌else◌}
+-- Each base that a document says is sound.
+use Rattle.std.proofs.Common.{◌≡◌, ◌≢◌, ℕ, ℤ, pos, negsuc, ◌+◌, ◌<◌, ◌≤◌, ◌==◌, ◌&&◌, nat_le, true, false, List, [], ◌∷◌, length, Option, Some, None, Ok, IfOk, IfSome, All, option_map, find, refl, sym, subst, arith, length-append, if◌then◌else◌}
 use Rattle.std.proofs.lemmas.List.Elements.{All-nil, All-push, All-weaker, All-head, All-tail}
 use Rattle.std.proofs.lemmas.Bool.Decides.{nat_tests}
 use Rattle.std.proofs.lemmas.Grind.{common_steps}
-use Rattle.std.proofs.lemmas.Option.{same_Some}
 use Rattle.std.proofs.lemmas.Result.{IfOk-weaker, IfOk-at_ok}
 use Rattle.std.specs.Str.{bytes_eq}
 use Rattle.toml.specs.Data.{Members}
-use Rattle.toml.specs.Parse.{parse_document}
-use Rattle.te_base.specs.declared.fault.TeFault.TheVariants.{NotToml, OutOfRange, UnknownNode, AddressTwice, NameTwice, SelfLoop, TooMany}
+use Rattle.te_base.specs.declared.fault.FaultPlace.{FaultPlace}
+use Rattle.te_base.specs.declared.fault.FaultPlace.TheVariants.{InText}
+use Rattle.te_base.specs.declared.fault.TeFault.TheVariants.{OutOfRange, UnknownNode, AddressTwice, SelfLoop, TooMany}
+use Rattle.te_base.specs.declared.fault.PlacedFault.{PlacedFault}
+use Rattle.te_base.specs.declared.keys.Key.{Key}
+use Rattle.te_base.specs.declared.keys.Key.TheVariants.{Id, From, To, Local, Remote, Igp, Te, Colour, Reservable}
+use Rattle.te_base.specs.declared.keys.TableKind.TheVariants.{Nodes, Links}
 use Rattle.te_base.specs.declared.network.Node.{Node}
 use Rattle.te_base.specs.declared.network.Link.{Link}
 use Rattle.te_base.specs.declared.network.Owner.{Owner}
 use Rattle.te_base.specs.Faults.{some_or}
-use Rattle.te_base.proofs.Steps.{bind, after, when, unless, behind, some_or_is}
+use Rattle.te_base.specs.Keys.{is_within}
+use Rattle.te_base.specs.Places.{fault_at, fault_in, fault_with}
+use Rattle.te_base.proofs.Steps.{bind, after, when, unless, some_or_is}
 use Rattle.te_base.proofs.Found.{position_within}
-use Rattle.te_base.proofs.Ownership.{base_of-owned}
+use Rattle.te_base.proofs.Ownership.{base_of_tree-owned}
 use Rattle.te_base.specs.Ted.{Ted, empty_ted, IsLinkAmong, IsSound}
 use Rattle.te_base.specs.Owners.{owner_of, with_owner, owned}
 use Rattle.te_base.specs.Fields.{LinkText, node_text, link_text, tables_at}
-use Rattle.te_base.specs.Ranges.{natural, node_value, link_addresses, link_values}
-use Rattle.te_base.specs.Values.{Values, AreInRange, checked_values, is_metric}
-use Rattle.te_base.specs.LinkText.{node_named, with_node, ends_of, link_of, with_link, with_nodes, with_links, few_enough, base_of_tree, base_of}
+use Rattle.te_base.specs.Ranges.{number_in, node_value, link_addresses, link_values}
+use Rattle.te_base.specs.Values.{AreInRange}
+use Rattle.te_base.specs.LinkText.{node_named, next_node, next_link, unnamed, with_node, ends_of, link_of, with_link, with_nodes, with_links, few_enough, base_of_tree}
 
 -- ---- values in range
 
-metrics_test : (igp te colour reservable : ℕ) → (is_metric igp && is_metric te && nat_le colour 4294967295 && nat_le reservable 281474976710655) ≡ true → AreInRange (record { igp = igp; te = te; colour = colour; reservable = reservable })
-metrics_test igp te colour reservable = grind (arith, nat_tests, common_steps)
+IsWithin : Key → ℕ → Type 0
+IsWithin key n = is_within key n ≡ true
 
-tested : (test : Bool) (numbers v : Values) → (test ≡ true → AreInRange numbers) → (if test then Some numbers else None) ≡ Some v → AreInRange v
-tested true numbers v holds is = subst AreInRange (same_Some numbers v is) (holds refl)
-tested false numbers v holds is = absurd cc
+within : (at : FaultPlace) (key : Key) (z : ℤ) → IfOk (number_in at key z) (IsWithin key)
+unfolding IsWithin
+within at key (pos n) = when (is_within key n) n (fault_at at key OutOfRange) (IsWithin key) (λ is. is)
+within at key (negsuc n) = tt
 
-checked : (igp te colour reservable : ℕ) (v : Values) → checked_values igp te colour reservable ≡ Some v → AreInRange v
-unfolding checked_values
-checked igp te colour reservable v is =
-    let test : Bool = is_metric igp && is_metric te && nat_le colour 4294967295 && nat_le reservable 281474976710655 in
-    let numbers : Values = record { igp = igp; te = te; colour = colour; reservable = reservable } in
-    tested test numbers v (metrics_test igp te colour reservable) is
+ranges : (igp te colour reservable : ℕ) → is_within Igp igp ≡ true → is_within Te te ≡ true → is_within Reservable reservable ≡ true → AreInRange (record { igp = igp; te = te; colour = colour; reservable = reservable })
+ranges igp te colour reservable = grind (arith, nat_tests, common_steps)
 
-link_values_range : (t : LinkText) → IfOk (link_values t) AreInRange
-unfolding link_values
-link_values_range t =
-    after (natural t.igp) _ AreInRange (λ igp.
-    after (natural t.te) _ AreInRange (λ te.
-    after (natural t.colour) _ AreInRange (λ colour.
-    after (natural t.reservable) _ AreInRange (λ reservable.
-    some_or_is OutOfRange (checked_values igp te colour reservable) AreInRange (checked igp te colour reservable)))))
+link_values_range : (at : FaultPlace) (t : LinkText) → IfOk (link_values at t) AreInRange
+unfolding link_values IsWithin
+link_values_range at t =
+    bind (number_in at Igp t.igp) _ (IsWithin Igp) AreInRange (within at Igp t.igp) (λ igp igp_in.
+    bind (number_in at Te t.te) _ (IsWithin Te) AreInRange (within at Te t.te) (λ te te_in.
+    after (number_in at Colour t.colour) _ AreInRange (λ colour.
+    bind (number_in at Reservable t.reservable) _ (IsWithin Reservable) AreInRange (within at Reservable t.reservable) (λ reservable reservable_in.
+    ranges igp te colour reservable igp_in te_in reservable_in))))
 
 -- ---- ends and owners
 
@@ -65,18 +68,19 @@ ends_within : (base : Ted) (t : LinkText) → IfOk (ends_of base t) (AreEnds (le
 unfolding ends_of
 ends_within base t =
     let Within : ℕ → Type 0 = λ n. n < length base.nodes in
-    let found : (name : List ℕ) → IfOk (some_or UnknownNode (node_named base.nodes name)) Within = λ name. some_or_is UnknownNode (node_named base.nodes name) Within (node_named_within base.nodes name) in
-    bind (some_or UnknownNode (node_named base.nodes t.from)) _ Within (AreEnds (length base.nodes)) (found t.from) (λ from from_in.
-    bind (some_or UnknownNode (node_named base.nodes t.to)) _ Within (AreEnds (length base.nodes)) (found t.to) (λ to to_in.
-    unless (from == to) (from, to) SelfLoop (AreEnds (length base.nodes)) (λ other. record { from = from_in; to = to_in; apart = differ from to other })))
+    let unknown : Key → PlacedFault = λ key. fault_at (next_link base) key UnknownNode in
+    let found : (key : Key) (name : List ℕ) → IfOk (some_or (unknown key) (node_named base.nodes name)) Within = λ key name. some_or_is (unknown key) (node_named base.nodes name) Within (node_named_within base.nodes name) in
+    bind (some_or (unknown From) (node_named base.nodes t.from)) _ Within (AreEnds (length base.nodes)) (found From t.from) (λ from from_in.
+    bind (some_or (unknown To) (node_named base.nodes t.to)) _ Within (AreEnds (length base.nodes)) (found To t.to) (λ to to_in.
+    unless (from == to) (from, to) (fault_in (next_link base) SelfLoop) (AreEnds (length base.nodes)) (λ other. record { from = from_in; to = to_in; apart = differ from to other })))
 
 AreNodes : ℕ → List Owner → Type 0
 AreNodes nodes owners = All (λ o. o.node < nodes) owners
 
-with_owner_within : (nodes : ℕ) (owners : List Owner) (address node : ℕ) (o : Option ℕ) → AreNodes nodes owners → node < nodes → IfOk (with_owner owners address node o) (AreNodes nodes)
+with_owner_within : (nodes : ℕ) (at : FaultPlace) (key : Key) (owners : List Owner) (address node : ℕ) (o : Option ℕ) → AreNodes nodes owners → node < nodes → IfOk (with_owner at key owners address node o) (AreNodes nodes)
 unfolding AreNodes
-with_owner_within nodes owners address node None all lt = All-push (λ o. o.node < nodes) owners (record { address = address; node = node }) all lt
-with_owner_within nodes owners address node (Some other) all lt = when (other == node) owners AddressTwice (AreNodes nodes) (λ _. all)
+with_owner_within nodes at key owners address node None all lt = All-push (λ o. o.node < nodes) owners (record { address = address; node = node }) all lt
+with_owner_within nodes at key owners address node (Some other) all lt = when (other == node) owners (fault_with at key AddressTwice other) (AreNodes nodes) (λ _. all)
 
 -- ---- one table after the other
 
@@ -109,29 +113,29 @@ unfolding with_node AreNodes
 with_node_joined base t n k j =
     let number : length base.nodes < n + 1 = omega arith in
     let before : All (λ o. o.node < n + 1) base.owners = All-weaker (λ o. o.node < n) (λ o. o.node < n + 1) (λ o lt. omega arith) base.owners j.owned in
-    after (node_text t) _ (Joined (n + 1) k) (λ fields.
-    after (node_value fields) _ (Joined (n + 1) k) (λ node.
-    bind (if is_some (node_named base.nodes node.name) then Err NameTwice else owned base.owners node.id (length base.nodes)) _ (AreNodes (n + 1)) (Joined (n + 1) k)
-    (behind (is_some (node_named base.nodes node.name)) (owned base.owners node.id (length base.nodes)) NameTwice (AreNodes (n + 1))
-    (with_owner_within (n + 1) base.owners node.id (length base.nodes) (owner_of base.owners node.id) before number))
+    after (node_text (next_node base) t) _ (Joined (n + 1) k) (λ fields.
+    after (node_value (next_node base) fields) _ (Joined (n + 1) k) (λ node.
+    after (unnamed (next_node base) (node_named base.nodes node.name)) _ (Joined (n + 1) k) (λ new.
+    bind (owned (next_node base) Id base.owners node.id (length base.nodes)) _ (AreNodes (n + 1)) (Joined (n + 1) k)
+    (with_owner_within (n + 1) (next_node base) Id base.owners node.id (length base.nodes) (owner_of base.owners node.id) before number)
     (λ owners owners_in. record {
       nodes_are = omega (arith, length-append base.nodes (node ∷ []));
       links_are = j.links_are;
       joined = All-weaker (IsLinkAmong n) (IsLinkAmong (n + 1)) (link_of_more n) base.links j.joined;
       owned = owners_in;
-    })))
+    }))))
 
 with_link_joined : (base : Ted) (t : Members) (n k : ℕ) → Joined n k base → IfOk (with_link base t) (Joined n (k + 1))
 unfolding with_link AreNodes
 with_link_joined base t n k j =
-    after (link_text t) _ (Joined n (k + 1)) (λ fields.
-    after (link_addresses fields) _ (Joined n (k + 1)) (λ addresses.
-    bind (link_values fields) _ AreInRange (Joined n (k + 1)) (link_values_range fields) (λ values range.
+    after (link_text (next_link base) t) _ (Joined n (k + 1)) (λ fields.
+    after (link_addresses (next_link base) fields) _ (Joined n (k + 1)) (λ addresses.
+    bind (link_values (next_link base) fields) _ AreInRange (Joined n (k + 1)) (link_values_range (next_link base) fields) (λ values range.
     bind (ends_of base fields) _ (AreEnds (length base.nodes)) (Joined n (k + 1)) (ends_within base fields) (λ ends are.
     let from : ends.0 < n = omega arith in
     let to : ends.1 < n = omega arith in
-    bind (owned base.owners addresses.0 ends.0) _ (AreNodes n) (Joined n (k + 1)) (with_owner_within n base.owners addresses.0 ends.0 (owner_of base.owners addresses.0) j.owned from) (λ near near_in.
-    bind (owned near addresses.1 ends.1) _ (AreNodes n) (Joined n (k + 1)) (with_owner_within n near addresses.1 ends.1 (owner_of near addresses.1) near_in to) (λ owners owners_in.
+    bind (owned (next_link base) Local base.owners addresses.0 ends.0) _ (AreNodes n) (Joined n (k + 1)) (with_owner_within n (next_link base) Local base.owners addresses.0 ends.0 (owner_of base.owners addresses.0) j.owned from) (λ near near_in.
+    bind (owned (next_link base) Remote near addresses.1 ends.1) _ (AreNodes n) (Joined n (k + 1)) (with_owner_within n (next_link base) Remote near addresses.1 ends.1 (owner_of near addresses.1) near_in to) (λ owners owners_in.
     let read : Link = link_of ends addresses values in
     let is : IsLinkAmong n read = record { from = from; to = to; apart = are.apart; igp_positive = range.igp_positive; igp_small = range.igp_small; te_positive = range.te_positive; te_small = range.te_small; reservable_small = range.reservable_small } in
     record {
@@ -157,7 +161,7 @@ few_test : (nodes links : ℕ) → (nat_le nodes 1024 && nat_le links 4096) ≡ 
 few_test nodes links = grind (arith, nat_tests, common_steps)
 
 few : (nodes links : ℕ) → IfOk (few_enough nodes links) (λ _. (nodes ≤ 1024) × (links ≤ 4096))
-few nodes links = when (nat_le nodes 1024 && nat_le links 4096) tt TooMany (λ _. (nodes ≤ 1024) × (links ≤ 4096)) (few_test nodes links)
+few nodes links = when (nat_le nodes 1024 && nat_le links 4096) tt (fault_in InText TooMany) (λ _. (nodes ≤ 1024) × (links ≤ 4096)) (few_test nodes links)
 
 nothing_joined : Joined 0 0 empty_ted
 unfolding AreNodes
@@ -181,18 +185,18 @@ joined_bounded n k base few_nodes few_links j = record {
 tree_bounded : (t : Members) → IfOk (base_of_tree t) IsBounded
 unfolding base_of_tree
 tree_bounded t =
-    after (tables_at (codes "node") t) _ IsBounded (λ nodes.
-    after (tables_at (codes "link") t) _ IsBounded (λ links.
+    after (tables_at Nodes t) _ IsBounded (λ nodes.
+    after (tables_at Links t) _ IsBounded (λ links.
     bind (few_enough (length nodes) (length links)) _ (λ _. (length nodes ≤ 1024) × (length links ≤ 4096)) IsBounded (few (length nodes) (length links)) (λ _ limits.
     bind (with_nodes nodes empty_ted) _ (Joined (length nodes) 0) IsBounded (with_nodes_joined nodes empty_ted 0 (length nodes) 0 (omega arith) nothing_joined) (λ base j.
     IfOk-weaker (with_links links base) (Joined (length nodes) (length links)) IsBounded (λ b j'. joined_bounded (length nodes) (length links) b limits.0 limits.1 j')
     (with_links_joined links base (length nodes) 0 (length links) (omega arith) j)))))
 
--- Each base that a link text says is sound.
-pub base_of-sound : (text : List ℕ) (base : Ted) → base_of text ≡ Ok base → IsSound base
-base_of-sound text base is =
-    let b : IsBounded base = IfOk-at_ok IsBounded is (after (some_or NotToml (parse_document text)) base_of_tree IsBounded tree_bounded) in
-    record { few_nodes = b.few_nodes; few_links = b.few_links; links = b.links; owners = b.owners; owned = base_of-owned text base is }
+-- Each base that a document says is sound.
+pub base_of_tree-sound : (t : Members) (base : Ted) → base_of_tree t ≡ Ok base → IsSound base
+base_of_tree-sound t base is =
+    let b : IsBounded base = IfOk-at_ok IsBounded is (tree_bounded t) in
+    record { few_nodes = b.few_nodes; few_links = b.few_links; links = b.links; owners = b.owners; owned = base_of_tree-owned t base is }
 
 -- an owner is a node where all owners are
 pub owner_within : (nodes : ℕ) (owners : List Owner) (address : ℕ) → All (λ o. o.node < nodes) owners → IfSome (owner_of owners address) (λ n. n < nodes)

@@ -18,26 +18,21 @@ fault_number OtherLinks = 10
 
 -- one step after the other, up to the first fault
 infixl 10 ◌>>=◌
-abbrev pub ◌>>=◌ : {A B : Type 0} → Result A TeFault → (A → Result B TeFault) → Result B TeFault
+abbrev pub ◌>>=◌ : {A B E : Type 0} → Result A E → (A → Result B E) → Result B E
 (Ok x) >>= f = f x
 (Err e) >>= f = Err e
 
 -- a value that must be there
-abbrev pub some_or : {A : Type 0} → TeFault → Option A → Result A TeFault
-some_or fault None = Err fault
-some_or fault (Some x) = Ok x
+abbrev pub some_or : {A E : Type 0} → E → Option A → Result A E
+some_or e None = Err e
+some_or e (Some x) = Ok x
 
 -- What a function answered, seen by view, is what a definition gives. Only running out of memory is no part of a
 -- definition. It may come in place of any answer.
-abbrev pub Fails : {Y : Type 0} → TeFault → Result Y TeFault → Type 0
-Fails OutOfMemory given = Unit {0}
-Fails fault given = given ≡ Err fault
+abbrev pub Fails : {Y E : Type 0} → TeFault → E → Result Y E → Type 0
+Fails OutOfMemory e given = Unit {0}
+Fails fault e given = given ≡ Err e
 
 abbrev pub Gives : {X Y : Type 0} → (X → Y) → Result X TeFault → Result Y TeFault → Type 0
 Gives view (Ok x) given = given ≡ Ok (view x)
-Gives view (Err e) given = Fails e given
-
--- the same for a function that changes a value: if it succeeds, the definition gives the value after it
-abbrev pub Leaves : {X Y : Type 0} → Result X TeFault → Result Y TeFault → Y → Type 0
-Leaves (Ok x) given new = given ≡ Ok new
-Leaves (Err e) given new = Fails e given
+Gives view (Err e) given = Fails e e given

@@ -1,4 +1,5 @@
 pub mod Faults
+pub mod Keys
 pub mod Ted
 pub mod Owners
 pub mod Values

@@ -1,23 +1,26 @@
 -- Who owns an address.
 use Rattle.std.specs.Prelude.{ℕ, ◌≡◌, ◌==◌, ◌&&◌, ◌||◌, Bool, false, List, [], ◌∷◌, ◌++◌, Option, Some, None, Result, Ok, Err, if◌then◌else◌, option_map, find}
 use Rattle.std.specs.List.{list_any, enumerate_from}
-use Rattle.te_base.specs.declared.fault.TeFault.{TeFault}
+use Rattle.te_base.specs.declared.fault.FaultPlace.{FaultPlace}
+use Rattle.te_base.specs.declared.fault.PlacedFault.{PlacedFault}
 use Rattle.te_base.specs.declared.fault.TeFault.TheVariants.{AddressTwice}
+use Rattle.te_base.specs.declared.keys.Key.{Key}
 use Rattle.te_base.specs.declared.network.Node.{Node}
 use Rattle.te_base.specs.declared.network.Link.{Link}
 use Rattle.te_base.specs.declared.network.Owner.{Owner}
+use Rattle.te_base.specs.Places.{fault_with}
 
 -- the node that owns an address
 abbrev pub owner_of : List Owner → ℕ → Option ℕ
 owner_of owners address = option_map (λ o. o.node) (find (λ o. o.address == address) owners)
 
-abbrev pub with_owner : List Owner → ℕ → ℕ → Option ℕ → Result (List Owner) TeFault
-with_owner owners address node None = Ok (owners ++ record { address = address; node = node } ∷ [])
-with_owner owners address node (Some other) = if other == node then Ok owners else Err AddressTwice
+abbrev pub with_owner : FaultPlace → Key → List Owner → ℕ → ℕ → Option ℕ → Result (List Owner) PlacedFault
+with_owner at key owners address node None = Ok (owners ++ record { address = address; node = node } ∷ [])
+with_owner at key owners address node (Some other) = if other == node then Ok owners else Err (fault_with at key AddressTwice other)
 
--- the owners, with one more address; the address may be there already if the same node owns it
-abbrev pub owned : List Owner → ℕ → ℕ → Result (List Owner) TeFault
-owned owners address node = with_owner owners address node (owner_of owners address)
+-- The owners, with the address at this key. It may be there already if the same node owns it.
+abbrev pub owned : FaultPlace → Key → List Owner → ℕ → ℕ → Result (List Owner) PlacedFault
+owned at key owners address node = with_owner at key owners address node (owner_of owners address)
 
 -- A node owns its own address, the local addresses of the links that leave it and the remote addresses
 -- of the links that reach it, and no other.

@@ -11,7 +11,7 @@ use Rattle.te_base.specs.Ted.{Ted}
 use Rattle.te_base.specs.Values.{Values, values_in}
 use Rattle.te_base.specs.LinkText.{base_of}
 
--- one name and one id
+-- one name and one id; the place may be another
 abbrev pub same_node : Node → Node → Bool
 same_node n m = bytes_eq n.name m.name && n.id == m.id
 

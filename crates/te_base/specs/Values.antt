@@ -1,7 +1,9 @@
 -- The values of a link that may change while its network stays the same: its metrics, its colours and how much may be
 -- reserved.
-use Rattle.std.specs.Prelude.{ℕ, zero, suc, ◌≡◌, ◌<◌, ◌^◌, ◌&&◌, Bool, nat_le, List, [], ◌∷◌, Option, Some, None, if◌then◌else◌, map}
+use Rattle.std.specs.Prelude.{ℕ, zero, suc, ◌≡◌, ◌<◌, ◌^◌, ◌&&◌, List, [], ◌∷◌, Option, Some, None, if◌then◌else◌, map}
+use Rattle.te_base.specs.declared.keys.Key.TheVariants.{Igp, Te, Colour, Reservable}
 use Rattle.te_base.specs.declared.network.Link.{Link}
+use Rattle.te_base.specs.Keys.{is_within}
 use Rattle.te_base.specs.Ted.{Ted}
 
 pub record Values : Type 0 where
@@ -18,13 +20,10 @@ pub record AreInRange (v : Values) : Type 0 where
   pub te_small : v.te < 2 ^ 24
   pub reservable_small : v.reservable < 2 ^ 48
 
-abbrev pub is_metric : ℕ → Bool
-is_metric n = nat_le 1 n && nat_le n 16777215
-
 -- these numbers as values of a link; none if one is out of its range
 unfoldable pub checked_values : (igp te colour reservable : ℕ) → Option Values
 checked_values igp te colour reservable =
-    if is_metric igp && is_metric te && nat_le colour 4294967295 && nat_le reservable 281474976710655
+    if is_within Igp igp && is_within Te te && is_within Colour colour && is_within Reservable reservable
     then Some (record { igp = igp; te = te; colour = colour; reservable = reservable })
     else None
 

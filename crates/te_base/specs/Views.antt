@@ -6,7 +6,7 @@ use Rattle.te_base.specs.Ted.{Ted}
 use Rattle.te_base.specs.Fields.{NodeText, LinkText}
 
 abbrev pub node_texts : NodeFields → NodeText
-node_texts f = record { name = f.name.now; id = f.id.now }
+node_texts f = record { name = f.name.now; id = f.id.now; place = f.place }
 
 abbrev pub link_texts : LinkFields → LinkText
 link_texts f = record { from = f.from.now; to = f.to.now; local = f.local.now; remote = f.remote.now; igp = f.igp; te = f.te; colour = f.colour; reservable = f.reservable }

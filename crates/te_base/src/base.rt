@@ -2,10 +2,8 @@
 ghost use Rattle.std.specs.Prelude.{◌≡◌, ◌≢◌, ◌<◌, ◌≤◌, ◌↔◌, ℕ, IsTrue, IfOk, IfSome, IsSome, All, AllPairs, map, option_map, slice_get, length, if◌then◌else◌};
 ghost use Rattle.te_base.specs.Ted.{IsLinkAmong, empty_ted};
 ghost use Rattle.te_base.specs.Faults.{Gives};
-ghost use Rattle.te_base.specs.Fields.{tables_at};
-ghost use Rattle.te_base.specs.LinkText.{base_of};
-ghost use Rattle.te_base.specs.Places.{GivesAt, placed, placed_tables, placed_tree, placed_base};
-ghost use Rattle.te_base.specs.declared.fault.FaultPlace.TheVariants.{InText};
+ghost use Rattle.te_base.specs.LinkText.{base_of, base_of_tree, placed_base, with_tables};
+ghost use Rattle.te_base.specs.Places.{GivesAt};
 ghost use Rattle.te_base.specs.declared.fault.TeFault.TheVariants.{OutOfMemory, NotToml};
 ghost use Rattle.te_base.specs.Owners.{owner_of, owns};
 ghost use Rattle.te_base.specs.Walk.{walk};
@@ -16,8 +14,9 @@ ghost use Rattle.toml.specs.View.{table_view};
 
 use crate::fault::{FaultPlace, PlacedFault, TeFault};
 use crate::fields::tables;
+use crate::keys::TableKind;
 use crate::link_values::LinkValues;
-use crate::network::{Link, LinkNumber, NodeNumber, Parts};
+use crate::network::{Link, LinkNumber, NodeNumber, NodePlace, Parts};
 use crate::nodes::NodeTable;
 use crate::owners::OwnerTable;
 use crate::reload::{all_values, is_same, set_listed_values};
@@ -29,6 +28,12 @@ use pcep_word::Ipv4;
 use std::alloc::{AllocError, Global};
 use std::marker::Model;
 use toml::Table;
+
+/// How many nodes a link text may have.
+pub const NODE_LIMIT: usize = 1024;
+
+/// How many links a link text may have.
+pub const LINK_LIMIT: usize = 4096;
 
 /// The TED: the nodes, links and owners of a link text. The values of links may change. A contract sees it as a `Ted`
 /// of lists, which is sound.
@@ -58,7 +63,7 @@ impl Model for TeBase {
 
 /// Reads the nodes and links of these tables.
 fn parts_of(alloc: Global, nodes: &[&Table], links: &[&Table]) -> Result<Parts, PlacedFault>
-    ensures { GivesAt base_in result (placed_tables (map (λ t. table_view t.now) nodes.now) (map (λ t. table_view t.now) links.now) empty_ted) }
+    ensures { GivesAt base_in result (with_tables (map (λ t. table_view t.now) nodes.now) (map (λ t. table_view t.now) links.now) empty_ted) }
 {
     let mut parts = Parts {
         nodes: NodeTable::new(alloc),
@@ -69,29 +74,14 @@ fn parts_of(alloc: Global, nodes: &[&Table], links: &[&Table]) -> Result<Parts, 
     Ok(parts)
 }
 
-fn tables_in_text<'a>(
-    alloc: Global,
-    document: &'a Table,
-    key: &str,
-) -> Result<Vec<&'a Table>, PlacedFault>
-    ensures { GivesAt (λ v. map (λ t. table_view t.now) v.items) result (placed InText (tables_at key.now (table_view document.now))) }
-{
-    let place = FaultPlace::InText;
-    match tables(alloc, document, key) {
-        Ok(tables) => Ok(tables),
-        Err(fault) => Err(PlacedFault { fault, place }),
-    }
-}
-
-#[tactic(auto, unfolding(crate::specs::Places::placed_tree))]
+#[tactic(auto, unfolding(crate::specs::LinkText::base_of_tree))]
 fn read_tree(alloc: Global, document: &Table) -> Result<Parts, PlacedFault>
-    ensures { GivesAt base_in result (placed_tree (table_view document.now)) }
+    ensures { GivesAt base_in result (base_of_tree (table_view document.now)) }
 {
-    let nodes = tables_in_text(alloc, document, "node")?;
-    let links = tables_in_text(alloc, document, "link")?;
-    if nodes.len() > 1024 || links.len() > 4096 {
-        let (fault, place) = (TeFault::TooMany, FaultPlace::InText);
-        return Err(PlacedFault { fault, place });
+    let nodes = tables(alloc, document, TableKind::Nodes)?;
+    let links = tables(alloc, document, TableKind::Links)?;
+    if nodes.len() > NODE_LIMIT || links.len() > LINK_LIMIT {
+        return Err(PlacedFault::in_part(FaultPlace::InText, TeFault::TooMany));
     }
     parts_of(alloc, &nodes, &links)
 }
@@ -107,18 +97,6 @@ fn parse_fault(is_memory: bool) -> TeFault
     }
 }
 
-fn read_parts(alloc: Global, text: &str) -> Result<Parts, PlacedFault>
-    ensures { GivesAt base_in result (placed_base text.now) }
-{
-    match toml::table_from_str(alloc, text) {
-        Ok(document) => read_tree(alloc, &document),
-        Err(e) => {
-            let (fault, place) = (parse_fault(e.is_memory()), FaultPlace::InText);
-            Err(PlacedFault { fault, place })
-        }
-    }
-}
-
 impl TeBase {
     /// Reads a link text, or returns its first fault in the order of `TeFault`. Nodes and links are numbered from 0 in
     /// the order of the text.
@@ -131,11 +109,23 @@ impl TeBase {
         }
     }
 
-    /// Reads a link text as `read` does, and says also where its first fault is.
-    pub fn read_placed(alloc: Global, text: &str) -> Result<TeBase, PlacedFault>
+    fn read_placed(alloc: Global, text: &str) -> Result<TeBase, PlacedFault>
         ensures { GivesAt (λ b. b) result (placed_base text.now) }
     {
-        let parts = read_parts(alloc, text)?;
+        match toml::table_from_str(alloc, text) {
+            Ok(document) => TeBase::read_document(alloc, &document),
+            Err(e) => {
+                let fault = parse_fault(e.is_memory());
+                Err(PlacedFault::in_part(FaultPlace::InText, fault))
+            }
+        }
+    }
+
+    /// Reads the document of a link text as `read` does, and says also where its first fault is.
+    pub fn read_document(alloc: Global, document: &Table) -> Result<TeBase, PlacedFault>
+        ensures { GivesAt (λ b. b) result (base_of_tree (table_view document.now)) }
+    {
+        let parts = read_tree(alloc, document)?;
         Ok(TeBase { parts })
     }
 
@@ -163,9 +153,9 @@ impl TeBase {
         self.parts.nodes.len()
     }
 
-    /// Looks up the name and the id of a node. None past the last.
-    pub fn node(&self, number: NodeNumber) -> Option<(&str, Ipv4)>
-        ensures node { option_map (λ n. record { name = n.0.now; id = n.1 }) result ≡ slice_get self.now.nodes number }
+    /// Looks up the name, the id and the place of a node. None past the last.
+    pub fn node(&self, number: NodeNumber) -> Option<(&str, Ipv4, Option<NodePlace>)>
+        ensures node { option_map (λ n. record { name = n.0.now; id = n.1; place = n.2 }) result ≡ slice_get self.now.nodes number }
         ensures found { IsSome result ↔ (number < length self.now.nodes) }
     {
         self.parts.nodes.get(number)

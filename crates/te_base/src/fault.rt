@@ -1,8 +1,10 @@
 //! Why a link text was refused.
 ghost use Rattle.std.specs.Prelude.{◌≡◌};
 ghost use Rattle.te_base.specs.declared.fault.TeFault.TheVariants.{OutOfMemory};
+ghost use Rattle.te_base.specs.Places.{fault_at, fault_in, fault_with};
 
-use crate::network::{LinkNumber, NodeNumber};
+use crate::keys::{Key, TableKind};
+use crate::network::NodeNumber;
 use std::alloc::{AllocError, AllocFailed};
 use thiserror::Error;
 
@@ -49,21 +51,84 @@ pub enum TeFault {
 /// A part of a link text.
 #[derive(Clone, Copy, Debug, PartialEq, Eq)]
 pub enum FaultPlace {
-    /// The text as a whole: its TOML, the arrays of tables, how many tables there are.
+    /// The text as a whole: its TOML, how many tables there are.
     InText,
-    /// The node's table of this number, from 0.
-    InNode(NodeNumber),
-    /// The link's table of this number, from 0.
-    InLink(LinkNumber),
+    /// The array of all tables of a kind.
+    InArray(TableKind),
+    /// The table of this number, from 0, in the array.
+    InTable(TableKind, usize),
 }
 
-/// A fault and its place.
+/// A fault and where it is.
 #[derive(Clone, Copy, Debug, PartialEq, Eq)]
 pub struct PlacedFault {
     /// The fault.
     pub fault: TeFault,
-    /// The part that has the fault. If memory ran out, the place means nothing.
+    /// The part that has the fault. If memory ran out, the rest means nothing.
     pub place: FaultPlace,
+    /// The key at fault. None if the part as a whole is.
+    pub key: Option<Key>,
+    /// The node that already has the name or owns the address.
+    pub other: Option<NodeNumber>,
+}
+
+impl PlacedFault {
+    /// Makes the fault of a part as a whole.
+    pub fn in_part(place: FaultPlace, fault: TeFault) -> PlacedFault
+        ensures { result ≡ fault_in place fault }
+    {
+        PlacedFault {
+            fault,
+            place,
+            key: None,
+            other: None,
+        }
+    }
+
+    /// Makes the fault of a key.
+    pub(crate) fn at_key(place: FaultPlace, key: Key, fault: TeFault) -> PlacedFault
+        ensures { result ≡ fault_at place key fault }
+    {
+        PlacedFault {
+            fault,
+            place,
+            key: Some(key),
+            other: None,
+        }
+    }
+
+    /// Makes the fault of a key whose value another node has.
+    pub(crate) fn with_node(
+        place: FaultPlace,
+        key: Key,
+        fault: TeFault,
+        node: NodeNumber,
+    ) -> PlacedFault
+        ensures { result ≡ fault_with place key fault node }
+    {
+        PlacedFault {
+            fault,
+            place,
+            key: Some(key),
+            other: Some(node),
+        }
+    }
+}
+
+impl From<AllocError> for PlacedFault {
+    ghost from_gives = { λ _ e. e.fault ≡ OutOfMemory };
+
+    fn from(_e: AllocError) -> PlacedFault {
+        PlacedFault::in_part(FaultPlace::InText, TeFault::OutOfMemory)
+    }
+}
+
+impl<T: Drop> From<AllocFailed<T>> for PlacedFault {
+    ghost from_gives = { λ _ e. e.fault ≡ OutOfMemory };
+
+    fn from(_e: AllocFailed<T>) -> PlacedFault {
+        PlacedFault::in_part(FaultPlace::InText, TeFault::OutOfMemory)
+    }
 }
 
 impl From<AllocError> for TeFault {

@@ -2,11 +2,13 @@
 ghost use Rattle.std.specs.Prelude.{◌≡◌, map, option_map};
 ghost use Rattle.toml.specs.View.{view, table_view, array_view};
 ghost use Rattle.toml.specs.Data.{get_member};
-ghost use Rattle.te_base.specs.Faults.{Gives};
-ghost use Rattle.te_base.specs.Fields.{text_at, number_at, node_text, link_text, tables_at, tables_of};
+ghost use Rattle.te_base.specs.Fields.{integer_at, text_at, number_at, drawn_at, node_text, link_text, tables_at, tables_of};
+ghost use Rattle.te_base.specs.Places.{GivesAt};
 ghost use Rattle.te_base.specs.Views.{node_texts, link_texts};
 
-use crate::fault::TeFault;
+use crate::fault::{FaultPlace, PlacedFault, TeFault};
+use crate::keys::{Key, TableKind};
+use crate::network::NodePlace;
 use std::alloc::Global;
 use toml::value::Array;
 use toml::{Table, Value};
@@ -16,6 +18,7 @@ use toml::{Table, Value};
 pub(crate) struct NodeFields<'a> {
     pub name: &'a str,
     pub id: &'a str,
+    pub place: Option<NodePlace>,
 }
 
 /// A link's fields.
@@ -38,51 +41,68 @@ fn field<'a>(table: &'a Table, key: &str) -> Option<&'a Value>
     table.get(key)
 }
 
-fn text<'a>(table: &'a Table, key: &str) -> Result<&'a str, TeFault>
-    ensures { Gives (λ s. s.now) result (text_at key.now (table_view table.now)) }
+fn integer(table: &Table, key: &str) -> Option<i64>
+    ensures { result ≡ integer_at key.now (table_view table.now) }
 {
     match field(table, key) {
-        Some(value) => match value.as_str() {
-            Some(text) => Ok(text),
-            None => Err(TeFault::MissingField),
-        },
-        None => Err(TeFault::MissingField),
+        Some(value) => value.as_integer(),
+        None => None,
     }
 }
 
-fn number(table: &Table, key: &str) -> Result<i64, TeFault>
-    ensures { Gives (λ n. n) result (number_at key.now (table_view table.now)) }
+fn text<'a>(table: &'a Table, place: FaultPlace, key: Key) -> Result<&'a str, PlacedFault>
+    ensures { GivesAt (λ s. s.now) result (text_at place key (table_view table.now)) }
 {
-    match field(table, key) {
-        Some(value) => match value.as_integer() {
-            Some(number) => Ok(number),
-            None => Err(TeFault::MissingField),
+    match field(table, key.word()) {
+        Some(value) => match value.as_str() {
+            Some(text) => Ok(text),
+            None => Err(PlacedFault::at_key(place, key, TeFault::MissingField)),
         },
-        None => Err(TeFault::MissingField),
+        None => Err(PlacedFault::at_key(place, key, TeFault::MissingField)),
+    }
+}
+
+fn number(table: &Table, place: FaultPlace, key: Key) -> Result<i64, PlacedFault>
+    ensures { GivesAt (λ n. n) result (number_at place key (table_view table.now)) }
+{
+    match integer(table, key.word()) {
+        Some(number) => Ok(number),
+        None => Err(PlacedFault::at_key(place, key, TeFault::MissingField)),
+    }
+}
+
+/// Reads the node's place on a map, if its table has one.
+fn drawn_at(table: &Table) -> Option<NodePlace>
+    ensures { result ≡ drawn_at (table_view table.now) }
+{
+    match (integer(table, "x"), integer(table, "y")) {
+        (Some(x), Some(y)) => Some(NodePlace { x, y }),
+        _ => None,
     }
 }
 
 #[tactic(auto, unfolding(crate::specs::Fields::node_text))]
-pub(crate) fn node_fields(table: &Table) -> Result<NodeFields<'_>, TeFault>
-    ensures { Gives node_texts result (node_text (table_view table.now)) }
+pub(crate) fn node_fields(table: &Table, at: FaultPlace) -> Result<NodeFields<'_>, PlacedFault>
+    ensures { GivesAt node_texts result (node_text at (table_view table.now)) }
 {
-    let name = text(table, "name")?;
-    let id = text(table, "id")?;
-    Ok(NodeFields { name, id })
+    let name = text(table, at, Key::Name)?;
+    let id = text(table, at, Key::Id)?;
+    let place = drawn_at(table);
+    Ok(NodeFields { name, id, place })
 }
 
 #[tactic(auto, unfolding(crate::specs::Fields::link_text))]
-pub(crate) fn link_fields(table: &Table) -> Result<LinkFields<'_>, TeFault>
-    ensures { Gives link_texts result (link_text (table_view table.now)) }
+pub(crate) fn link_fields(table: &Table, at: FaultPlace) -> Result<LinkFields<'_>, PlacedFault>
+    ensures { GivesAt link_texts result (link_text at (table_view table.now)) }
 {
-    let from = text(table, "from")?;
-    let to = text(table, "to")?;
-    let local = text(table, "local")?;
-    let remote = text(table, "remote")?;
-    let igp = number(table, "igp")?;
-    let te = number(table, "te")?;
-    let colour = number(table, "colour")?;
-    let reservable = number(table, "reservable")?;
+    let from = text(table, at, Key::From)?;
+    let to = text(table, at, Key::To)?;
+    let local = text(table, at, Key::Local)?;
+    let remote = text(table, at, Key::Remote)?;
+    let igp = number(table, at, Key::Igp)?;
+    let te = number(table, at, Key::Te)?;
+    let colour = number(table, at, Key::Colour)?;
+    let reservable = number(table, at, Key::Reservable)?;
     Ok(LinkFields {
         from,
         to,
@@ -95,32 +115,38 @@ pub(crate) fn link_fields(table: &Table) -> Result<LinkFields<'_>, TeFault>
     })
 }
 
-fn all_tables(alloc: Global, array: &Array) -> Result<Vec<&Table>, TeFault>
-    ensures { Gives (λ v. map (λ t. table_view t.now) v.items) result (tables_of (array_view array.now)) }
+fn all_tables(alloc: Global, array: &Array, kind: TableKind) -> Result<Vec<&Table>, PlacedFault>
+    ensures { GivesAt (λ v. map (λ t. table_view t.now) v.items) result (tables_of kind 0 (array_view array.now)) }
 {
     let mut tables = Vec::new(alloc);
-    for value in array {
+    for (number, value) in array.iter().enumerate() {
         match value.as_table() {
             Some(table) => tables.push(table)?,
-            None => return Err(TeFault::MissingField),
+            None => {
+                let place = FaultPlace::InTable(kind, number);
+                return Err(PlacedFault::in_part(place, TeFault::MissingField));
+            }
         }
     }
     Ok(tables)
 }
 
-/// Lists the tables of the array at a key. None if the key is absent.
-pub(crate) fn tables<'a>(
+/// Lists the tables of a kind. None if the document has no array of them.
+pub(crate) fn tables(
     alloc: Global,
-    document: &'a Table,
-    key: &str,
-) -> Result<Vec<&'a Table>, TeFault>
-    ensures { Gives (λ v. map (λ t. table_view t.now) v.items) result (tables_at key.now (table_view document.now)) }
+    document: &Table,
+    kind: TableKind,
+) -> Result<Vec<&Table>, PlacedFault>
+    ensures { GivesAt (λ v. map (λ t. table_view t.now) v.items) result (tables_at kind (table_view document.now)) }
 {
-    match field(document, key) {
+    match field(document, kind.word()) {
         None => Ok(Vec::new(alloc)),
         Some(value) => match value.as_array() {
-            Some(array) => all_tables(alloc, array),
-            None => Err(TeFault::MissingField),
+            Some(array) => all_tables(alloc, array, kind),
+            None => {
+                let place = FaultPlace::InArray(kind);
+                Err(PlacedFault::in_part(place, TeFault::MissingField))
+            }
         },
     }
 }

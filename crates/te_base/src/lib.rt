@@ -7,13 +7,13 @@
 //! as its end of a link, and by no other. `TeBase::walk` gives the links that a route of RFC 3209 uses. Each of them
 //! exists and none comes twice. They are the links on which a path with that route reserves.
 //!
-//! The definitions are in `specs/`. `LinkText` says what the text means and which faults come first, over `Fields`,
-//! `Ranges` and `Owners`; `Places` says where the first fault is. `Ted` has the lists and `IsSound`, `Values` the
+//! The definitions are in `specs/`. `LinkText` says what the text means and which fault comes first, in which table and at
+//! which key, over `Fields`, `Ranges` and `Owners`; `Keys` has the keys with their ranges, `Places` the faults. `Ted` has the lists and `IsSound`, `Values` the
 //! values of links and what stays when they change, `Reload` the text read again, `Walk` the walk, and `Faults` the
 //! words in which a clause says "this value, or this fault first". Names and addresses are looked up in an `IndexMap`,
 //! the links that leave a node in a `KeyedList`.
 //!
-//! - `network`, `link_values`, `name`, `fault`: plain data, and the faults of a link text
+//! - `network`, `link_values`, `name`, `keys`, `fault`: plain data, the keys of a link text and its faults
 //! - `fields`, `ranges`: a table's fields, and their values
 //! - `nodes`, `owners`, `links`: what is found by name, by address and by node
 //! - `tables`: nodes and links read from their tables
@@ -36,6 +36,7 @@
 mod base;
 mod fault;
 mod fields;
+mod keys;
 mod link_values;
 mod links;
 mod name;
@@ -47,10 +48,11 @@ mod reload;
 mod tables;
 mod walk;
 
-pub use base::TeBase;
+pub use base::{LINK_LIMIT, NODE_LIMIT, TeBase};
 pub use fault::{FaultPlace, PlacedFault, TeFault};
+pub use keys::{Key, TableKind};
 pub use link_values::LinkValues;
 pub use name::Name;
-pub use network::{Link, LinkNumber, Node, NodeNumber, Owner};
+pub use network::{Link, LinkNumber, Node, NodeNumber, NodePlace, Owner};
 pub use owners::OwnerTable;
 pub use reload::set_values;

@@ -1,7 +1,8 @@
 //! The values of a link that may change while its network stays the same.
 ghost use Rattle.std.specs.Prelude.{◌≡◌, ◌<◌, ◌^◌};
-ghost use Rattle.te_base.specs.Values.{AreInRange, checked_values, is_metric, values_of, with_values};
+ghost use Rattle.te_base.specs.Values.{AreInRange, checked_values, values_of, with_values};
 
+use crate::keys::Key;
 use crate::network::Link;
 use sequence::PlainData;
 use std::alloc::AllocError;
@@ -28,24 +29,16 @@ impl Model for LinkValues {
     ghost inverse = { λ v. record { igp = v.igp; te = v.te; colour = v.colour; reservable = v.reservable } };
 }
 
-/// Tests whether a number is a metric.
-fn is_metric(number: u64) -> bool
-    ensures { result ≡ is_metric number }
-{
-    number >= 1 && number <= 0xff_ffff
-}
-
 impl LinkValues {
-    /// Makes the values of these numbers. Returns None if a metric is not 1 to 16,777,215, the colour is above
-    /// 4,294,967,295, or the bandwidth is 2^48 or more.
+    /// Makes the values of these numbers. Returns None if one is out of the range of its key.
     #[tactic(auto, unfolding(crate::specs::Values::checked_values))]
     pub fn new(igp: u64, te: u64, colour: u64, reservable: u64) -> Option<LinkValues>
         ensures { result ≡ checked_values igp te colour reservable }
     {
-        if is_metric(igp)
-            && is_metric(te)
-            && colour <= 0xffff_ffff
-            && reservable <= 0xffff_ffff_ffff
+        if Key::Igp.is_within(igp)
+            && Key::Te.is_within(te)
+            && Key::Colour.is_within(colour)
+            && Key::Reservable.is_within(reservable)
         {
             Some(LinkValues {
                 igp: igp as u32,

@@ -13,6 +13,15 @@ pub type NodeNumber = usize;
 /// The place of a link in the link text, from 0.
 pub type LinkNumber = usize;
 
+/// Where a node is drawn on a map, in any unit. The TED doesn't use it.
+#[derive(Clone, Copy, Debug, PartialEq, Eq)]
+pub struct NodePlace {
+    /// To the east.
+    pub x: i64,
+    /// To the north.
+    pub y: i64,
+}
+
 /// A router.
 #[derive(Debug, Drop)]
 pub struct Node {
@@ -20,12 +29,14 @@ pub struct Node {
     pub name: Name,
     /// Its own address, which is its router ID (RFC 3630 section 2.4.1).
     pub id: Ipv4,
+    /// Where it is drawn, if its table says so.
+    pub place: Option<NodePlace>,
 }
 
 impl PlainData for Node {
     fn copy(&self) -> Result<Node, AllocError> {
         let name = self.name.copy()?;
-        Ok(Node { name, id: self.id })
+        Ok(Node { name, ..*self })
     }
 }
 

@@ -1,13 +1,14 @@
 //! The nodes of the TED, by number and by name.
-ghost use Rattle.std.specs.Prelude.{◌≡◌, ◌++◌, ◌∷◌, ℕ, [], Some, None, length, map, option_map, slice_get, OnOk};
+ghost use Rattle.std.specs.Prelude.{◌≡◌, ◌++◌, ◌∷◌, ℕ, [], Option, Some, None, length, map, option_map, slice_get, OnOk};
 ghost use Rattle.std.specs.declared.alloc.Global.{Global};
 ghost use Rattle.std.specs.declared.string.String.{String};
 ghost use Rattle.std.specs.Cmp.Lexicographic.{pointwise};
+ghost use Rattle.te_base.specs.declared.network.NodePlace.{NodePlace};
 ghost use Rattle.te_base.specs.Entries.{node_under};
 ghost use Rattle.te_base.specs.LinkText.{node_named};
 ghost use Rattle.te_base.specs.Reload.{same_node};
 
-use crate::network::{Node, NodeNumber};
+use crate::network::{Node, NodeNumber, NodePlace};
 use indexmap::IndexMap;
 use pcep_word::Ipv4;
 use std::alloc::{AllocError, Global};
@@ -15,20 +16,25 @@ use std::marker::Model;
 
 /// Tests whether both tables have a node of the same name and id at the number.
 fn same_at(
-    ids: &IndexMap<String, Ipv4>,
-    others: &IndexMap<String, Ipv4>,
+    ids: &IndexMap<String, (Ipv4, Option<NodePlace>)>,
+    others: &IndexMap<String, (Ipv4, Option<NodePlace>)>,
     number: NodeNumber,
 ) -> bool
-    ensures { (e f : String Global × ℕ) → slice_get ids.now.entries number ≡ Some e → slice_get others.now.entries number ≡ Some f
+    ensures { (e f : String Global × (ℕ × Option NodePlace)) → slice_get ids.now.entries number ≡ Some e → slice_get others.now.entries number ≡ Some f
         → result ≡ same_node (node_under e) (node_under f) }
 {
     match (ids.get_index(number), others.get_index(number)) {
-        (Some((name, id)), Some((other, other_id))) => name == other && id == other_id,
+        (Some((name, rest)), Some((other, other_rest))) => {
+            name == other && rest.0 == other_rest.0
+        }
         _ => false,
     }
 }
 
-fn same_entries(ids: &IndexMap<String, Ipv4>, others: &IndexMap<String, Ipv4>) -> bool
+fn same_entries(
+    ids: &IndexMap<String, (Ipv4, Option<NodePlace>)>,
+    others: &IndexMap<String, (Ipv4, Option<NodePlace>)>,
+) -> bool
     ensures { result ≡ pointwise same_node (map node_under ids.now.entries) (map node_under others.now.entries) }
 {
     if ids.len() != others.len() {
@@ -45,7 +51,7 @@ fn same_entries(ids: &IndexMap<String, Ipv4>, others: &IndexMap<String, Ipv4>) -
 /// Nodes by number, found by name. A contract sees the list of them.
 #[derive(Debug, Drop)]
 pub(crate) struct NodeTable {
-    ids: IndexMap<String, Ipv4>,
+    ids: IndexMap<String, (Ipv4, Option<NodePlace>)>,
 }
 
 impl Model for NodeTable {
@@ -75,12 +81,12 @@ impl NodeTable {
         self.ids.len()
     }
 
-    /// Looks up the name and the id of a node. None past the last.
-    pub fn get(&self, number: NodeNumber) -> Option<(&str, Ipv4)>
-        ensures { option_map (λ n. record { name = n.0.now; id = n.1 }) result ≡ slice_get self.now number }
+    /// Looks up the name, the id and the place of a node. None past the last.
+    pub fn get(&self, number: NodeNumber) -> Option<(&str, Ipv4, Option<NodePlace>)>
+        ensures { option_map (λ n. record { name = n.0.now; id = n.1; place = n.2 }) result ≡ slice_get self.now number }
     {
-        let (name, id) = self.ids.get_index(number)?;
-        Some((name.as_str(), *id))
+        let (name, rest) = self.ids.get_index(number)?;
+        Some((name.as_str(), rest.0, rest.1))
     }
 
     /// Finds the number of the node with this name.
@@ -102,8 +108,8 @@ impl NodeTable {
         requires new { node_named self.old node.name ≡ None }
         ensures pushed { OnOk result (self.new ≡ self.old ++ node ∷ []) }
     {
-        let Node { name, id } = node;
-        self.ids.insert(name.into_text(), id)?;
+        let Node { name, id, place } = node;
+        self.ids.insert(name.into_text(), (id, place))?;
         Ok(())
     }
 }

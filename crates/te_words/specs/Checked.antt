@@ -3,8 +3,9 @@ use Rattle.std.specs.Prelude.{ℕ, ◌≡◌, codes, List, [], ◌++◌, Option,
 use Rattle.std.specs.Fmt.{decimal}
 use Rattle.te_base.specs.Ted.{Ted}
 use Rattle.te_base.specs.Faults.{fault_number}
+use Rattle.te_base.specs.Keys.{kind_word}
 use Rattle.te_base.specs.declared.fault.FaultPlace.{FaultPlace}
-use Rattle.te_base.specs.declared.fault.FaultPlace.TheVariants.{InText, InNode, InLink}
+use Rattle.te_base.specs.declared.fault.FaultPlace.TheVariants.{InText, InArray, InTable}
 use Rattle.te_base.specs.declared.fault.PlacedFault.{PlacedFault}
 
 -- None: the text has no fault. A fault is the first one of the text, at its place.
@@ -15,8 +16,8 @@ IsFound (Some found) read = read ≡ Err found
 -- the table that has a fault
 abbrev pub place_text : FaultPlace → List ℕ
 place_text InText = []
-place_text (InNode number) = codes "node " ++ decimal number
-place_text (InLink number) = codes "link " ++ decimal number
+place_text (InArray kind) = kind_word kind
+place_text (InTable kind number) = kind_word kind ++ codes " " ++ decimal number
 
 -- how the words of a fault begin
 abbrev pub head_text : PlacedFault → List ℕ

@@ -6,7 +6,7 @@ use te_base::{Link, LinkNumber, NodeNumber, TeBase};
 
 fn name_of(base: &TeBase, node: NodeNumber) -> &str {
     match base.node(node) {
-        Some((name, _)) => name,
+        Some((name, _, _)) => name,
         None => "",
     }
 }

@@ -17,7 +17,7 @@ use std::alloc::AllocError;
 use std::fmt;
 use std::sync::Arc;
 use step_core::{Base, Peer, State};
-use te_base::{LinkNumber, LinkValues, Name, Node};
+use te_base::{LinkNumber, LinkValues, Name, Node, NodePlace};
 use te_snapshot::Topology;
 
 fn is_written<T: fmt::Debug>(alloc: Global, value: &T, text: &str) -> Result<bool, AllocError> {
@@ -286,6 +286,7 @@ fn node(alloc: Global) -> Result<Node, AllocError> {
     Ok(Node {
         name,
         id: Ipv4(0x0a00_0001),
+        place: Some(NodePlace { x: 3, y: -4 }),
     })
 }
 

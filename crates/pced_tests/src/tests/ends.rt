@@ -4,7 +4,7 @@ use super::*;
 use engine_core::Fault;
 use pcep_messages::Notice;
 use pcep_session::{EndReason, Notices};
-use server_talk::{Departure, Ended, connection};
+use server_talk::{ConnectionEnd, Ended, connection};
 use std::cell::Cell;
 use std::collections::VecDeque;
 use std::process::Abort;
@@ -196,7 +196,7 @@ fn a_closing_run_closes_its_sessions(rt: HostRuntime) -> Result<(), Fail> {
         let watch = Noon { is_closing: true };
         let mut store = done(alloc);
         let left = connection(&rt, alloc, 7, &mut reader, &mut writer, &watch, &mut store);
-        let want = Departure {
+        let want = ConnectionEnd {
             ended: Ended::SessionEnded,
             reason: Some(EndReason::Caller(None, Some(1))),
         };

@@ -1,11 +1,11 @@
 //! Readers, writers, watches and stores that do what a test wants.
-use engine_core::{Call, Desk, Event, Fault, Reply, Store};
+use engine_core::{Call, Event, Fault, Reply, ServerStore, Store};
 use history_core::{LinkReload, SharedEvent};
 use pcep_messages::Message;
 use pcep_objects::Open;
 use script_lines::ViewLine;
 use sequence::Sequence;
-use server_talk::{Patient, Plan, PlanFault, Show, TAKEN_WITHIN_MS, Watch};
+use server_talk::{Plan, PlanFault, Show, TAKEN_WITHIN_MS, TimedRead, Watch};
 use std::alloc::{AllocError, Global};
 use std::cell::Cell;
 use std::collections::VecDeque;
@@ -42,8 +42,8 @@ impl Read for Beats {
     }
 }
 
-impl Patient for Beats {
-    fn set_patience(&mut self, _most_ms: u64) {}
+impl TimedRead for Beats {
+    fn set_timeout(&mut self, _most_ms: u64) {}
 }
 
 /// A reader of bytes that are there.
@@ -58,8 +58,8 @@ impl<'a> Read for Given<'a> {
     }
 }
 
-impl<'a> Patient for Given<'a> {
-    fn set_patience(&mut self, _most_ms: u64) {}
+impl<'a> TimedRead for Given<'a> {
+    fn set_timeout(&mut self, _most_ms: u64) {}
 }
 
 /// A link text that gives two links values, or has a fault. The first link gets the values that it has, the second
@@ -252,7 +252,7 @@ impl Store for Faulty {
     }
 }
 
-impl Desk for Faulty {
+impl ServerStore for Faulty {
     ghost use Rattle.std.specs.Prelude.{⊤};
 
     ghost is_left = { λ _ table. ⊤ };

@@ -2,7 +2,7 @@
 use super::fakes::{Beat, Beats, Failing, Faulty, Given, Noon, Tap, Text};
 use super::*;
 use engine_core::Fault;
-use server_talk::{LINE_LIMIT, OperatorEnd, Patient, PlanFault, operate};
+use server_talk::{LINE_LIMIT, OperatorEnd, PlanFault, TimedRead, operate};
 use std::alloc::AllocError;
 use std::collections::VecDeque;
 use std::sync::Wait;
@@ -24,7 +24,7 @@ fn store_in(alloc: Global) -> Faulty {
 type End = Result<OperatorEnd, AllocError>;
 
 /// Returns what a reader's lines are answered, by a writer that takes this number of writes.
-fn answered_to<R: Wait, I: Patient>(
+fn answered_to<R: Wait, I: TimedRead>(
     rt: &R,
     alloc: Global,
     reader: &mut I,

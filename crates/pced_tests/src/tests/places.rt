@@ -1,7 +1,7 @@
 //! Two seats that draw the numbers of their steps in turn.
 ghost use Rattle.std.specs.Prelude.{◌≡◌};
 
-use place_tokens::{Room, Unopened};
+use place_tokens::{StepNumbers, Unopened};
 use std::alloc::Global;
 use std::marker::Brand;
 use std::process::Abort;
@@ -13,7 +13,7 @@ fn two_seats_draw(rt: HostRuntime) -> Result<(), Fail> {
     run::<Brand, _>(&rt, rt.alloc(), room)
 }
 
-fn run<B: Room, R: Abort>(rt: &R, alloc: Global, room: Unopened) -> Result<(), Fail>
+fn run<B: StepNumbers, R: Abort>(rt: &R, alloc: Global, room: Unopened) -> Result<(), Fail>
     requires { (room.table ≡ B.table) × (room.seats ≡ B.seats) }
 {
     let (mut source, mut seats) = room.open::<B>(alloc)?;

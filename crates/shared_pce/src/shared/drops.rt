@@ -42,9 +42,9 @@ impl<B: Brands> Shared<B> {
             held.show_seat(seat);
             return Ok(None);
         }
-        let (reply, unkept) = held.step_and_fold(seat, event)?;
+        let (reply, dropped) = held.step_and_fold(seat, event)?;
         drop(held);
-        self.drop_folded(rt, unkept);
+        self.drop_folded(rt, dropped);
         Ok(Some(reply))
     }
 }

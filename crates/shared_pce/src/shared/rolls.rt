@@ -4,9 +4,9 @@ ghost use Rattle.std.specs.Prelude.{ℕ, ◌≡◌, true, All, IfOk, OnErr};
 ghost use mathlib.Core.List.{IsPrefix};
 ghost use Rattle.history_core.specs.Histories.{is_full};
 ghost use Rattle.history_seats.specs.Past.{database_at, with_seen};
-ghost use Rattle.history_seats.specs.Receipts.{tidy};
+ghost use Rattle.history_seats.specs.Receipts.{after_fold};
 ghost use Rattle.shared_pce.specs.Rolls.{beside, is_due, of_seat};
-ghost use Rattle.shared_pce.specs.Lefts.{IsLookedAt, WasLeft};
+ghost use Rattle.shared_pce.specs.Residuals.{IsLookedAt, WasLeft};
 ghost use Rattle.shared_pce.specs.Turns.{IsRolledIf, Received, SeesMore, RolledUp, RollsIf};
 
 use super::Shared;
@@ -34,8 +34,8 @@ fn roll_due<B: Brands>(
     if !is_due(held, at) {
         return Ok(None);
     }
-    let unkept = held.take_rolled(seat)?;
-    Ok(Some(unkept))
+    let dropped = held.take_rolled(seat)?;
+    Ok(Some(dropped))
 }
 
 /// Tests whether it was due, and was rolled.
@@ -52,11 +52,11 @@ impl<B: Brands> Shared<B> {
     {
         let mut held = acquire(rt, &self.held);
         let bytes = held.kept_bytes();
-        let unkept = held.take_rolled(seat)?;
+        let dropped = held.take_rolled(seat)?;
         let steps = held.database().rolled();
         self.note_roll(rt, bytes);
         drop(held);
-        drop(unkept);
+        drop(dropped);
         Ok(steps)
     }
 
@@ -78,11 +78,11 @@ impl<B: Brands> Shared<B> {
             return Ok(None);
         }
         let bytes = held.kept_bytes();
-        let unkept = held.take_rolled(seat)?;
+        let dropped = held.take_rolled(seat)?;
         let steps = held.database().rolled();
         self.note_roll(rt, bytes);
         drop(held);
-        drop(unkept);
+        drop(dropped);
         Ok(Some(steps))
     }
 
@@ -95,9 +95,9 @@ impl<B: Brands> Shared<B> {
         let at = self.due_at(rt);
         let bytes = held.kept_bytes();
         match roll_due(held, seat, at) {
-            Ok(Some(unkept)) => {
+            Ok(Some(dropped)) => {
                 self.note_roll(rt, bytes);
-                Some(unkept)
+                Some(dropped)
             }
             _ => None,
         }
@@ -153,11 +153,11 @@ impl<B: Brands> Shared<B> {
             return Ok(None);
         }
         let bytes = held.kept_bytes();
-        let unkept = held.take_rolled(seat)?;
+        let dropped = held.take_rolled(seat)?;
         let steps = held.database().rolled();
         self.note_roll(rt, bytes);
         drop(held);
-        drop(unkept);
+        drop(dropped);
         Ok(Some(steps))
     }
 
@@ -182,12 +182,12 @@ impl<B: Brands> Shared<B> {
     /// Lets a waiting seat drop its receipts of rolled places. They stay counted. This is no step.
     pub fn fold<R: Wait>(&self, rt: &R, seat: &mut Seat<B>)
         ensures begins { IsPrefix seat.old.seen seat.new.seen }
-        ensures folded { seat.new ≡ with_seen seat.new.seen (tidy (database_at B.text seat.new.seen).rolled seat.old) }
+        ensures folded { seat.new ≡ with_seen seat.new.seen (after_fold (database_at B.text seat.new.seen).rolled seat.old) }
     {
         let mut held = acquire(rt, &self.held);
-        let unkept = held.fold(seat);
+        let dropped = held.fold(seat);
         drop(held);
-        self.drop_folded(rt, unkept);
+        self.drop_folded(rt, dropped);
     }
 
     /// Returns how many bytes the steps of a seat may take before its thread calls `roll_and_fold`.
@@ -201,7 +201,7 @@ impl<B: Brands> Shared<B> {
     /// places, so that it doesn't wait with more of them. If memory runs out nothing is rolled.
     pub fn roll_and_fold<R: Wait>(&self, rt: &R, seat: &mut Seat<B>)
         ensures begins { IsPrefix seat.old.seen seat.new.seen }
-        ensures folded { seat.new ≡ with_seen seat.new.seen (tidy (database_at B.text seat.new.seen).rolled seat.old) }
+        ensures folded { seat.new ≡ with_seen seat.new.seen (after_fold (database_at B.text seat.new.seen).rolled seat.old) }
     {
         let _rolled = self.roll_if(rt, seat, self.roll_at.of_seat());
         self.fold(rt, seat);

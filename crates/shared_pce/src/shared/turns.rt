@@ -5,7 +5,7 @@ ghost use mathlib.Core.List.{IsPrefix};
 ghost use Rattle.history_core.specs.Histories.{is_full};
 ghost use Rattle.history_seats.specs.Past.{database_at};
 ghost use Rattle.history_seats.specs.Receipts.{SeatContent};
-ghost use Rattle.shared_pce.specs.Lefts.{IsLookedAt};
+ghost use Rattle.shared_pce.specs.Residuals.{IsLookedAt};
 ghost use Rattle.shared_pce.specs.Turns.{Takes, TakesNext, MayTake, Received, SeesMore, Commits, Works};
 
 use super::Shared;

@@ -85,7 +85,7 @@ fn grant_path(
     ensures same_peers { OnErr result (peers.new ≡ peers.old) }
 {
     let Some(place) = peers.place_of(peer) else {
-        return Err(AllocError);
+        unreachable!()
     };
     let known = &mut peers.items[place];
     network.grant(peer, path, name, &mut known.outgoing, message)?;
@@ -236,7 +236,8 @@ impl Tables {
         match (verdict, path) {
             (Verdict::Grant, Some(path)) => self.grant(ticket, path),
             (Verdict::Answer, Some(path)) => self.answer(ticket, path.links.as_slice()),
-            (Verdict::Grant | Verdict::Answer, None) => Err(AllocError),
+            (Verdict::Grant, None) => unreachable!(),
+            (Verdict::Answer, None) => unreachable!(),
             (Verdict::Again, _) => {
                 self.tickets.put_back(ticket.id);
                 Ok(Reply::Again)

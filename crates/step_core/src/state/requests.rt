@@ -100,7 +100,7 @@ pub(super) fn ask_peer(
     ensures same_peers { OnErr result (peers.new ≡ peers.old) }
 {
     let Some(place) = peers.place_of(peer) else {
-        return Err(AllocError);
+        unreachable!()
     };
     let moves_paths = moves_a_path(&effect);
     let known = &mut peers.items[place];

@@ -14,5 +14,5 @@ pub loop-low-preserved : goal.loop-low-preserved
 loop-low-preserved c =
     let middle = c.loop-low.low + (c.loop-low.high - c.loop-low.low) / 2 in
     let below : middle < length c.args.held.now = grind arith in
-    let last : middle < end_in c.args.one.now c.args.held.now = after_end c.args.one.now c.index-held-middle.result c.args.held.now middle c.requires below (subst (λ (h : Reservation). is_before c.args.one.now h ≡ false) c.index-held-middle.is (sym c.if-is_before.ensures)) in
+    let last : middle < end_in c.args.one.now c.args.held.now = after_end c.args.one.now c.index-held-middle.result c.args.held.now middle c.requires.order below (subst (λ (h : Reservation). is_before c.args.one.now h ≡ false) c.index-held-middle.is (sym c.if-is_before.ensures)) in
     record { after = omega (arith, last); before = c.loop-low.invariant.before; within = c.loop-low.invariant.within }

@@ -27,14 +27,14 @@ returns-clause-sums c = λ p h.
 
 pub returns-clause-moved : goal.returns-clause-moved
 returns-clause-moved c = λ l.
-    set_entry_lent (λ b o u. IsShifted c.args.motion (if b then c.args.held ∷ [] else []) o u) c.args.link c.index-deref_mut-place.result c.move_and_note.new.entry c.args.entries.now.items c.deref_mut.result.now c.args.place c.requires.rising c.requires.at c.deref_mut.ensures.value c.index-deref_mut-place.is
-    (stays c.args.motion c.args.held _ c.move_and_note.new.entry c.move_and_note.ensures.held c.move_and_note.ensures.promised) (λ o. unshifted c.args.motion o) l
+    set_entry_lent (λ b o u. IsShifted c.args.op (if b then c.args.held ∷ [] else []) o u) c.args.link c.index-deref_mut-place.result c.move_and_note.new.entry c.args.entries.now.items c.deref_mut.result.now c.args.place c.requires.rising c.requires.at c.deref_mut.ensures.value c.index-deref_mut-place.is
+    (stays c.args.op c.args.held _ c.move_and_note.new.entry c.move_and_note.ensures.held c.move_and_note.ensures.promised) (λ o. unshifted c.args.op o) l
 
 pub returns-clause-ok : goal.returns-clause-ok
 returns-clause-ok c =
     on_ok c.move_and_note.result _ _ c.move_and_note.ensures.ok (λ promised l.
-    set_entry_lent (λ b o u. promised_after c.args.motion (length (if b then c.args.held ∷ [] else [])) (promised_in o) ≤ promised_in u) c.args.link c.index-deref_mut-place.result c.move_and_note.new.entry c.args.entries.now.items c.deref_mut.result.now c.args.place c.requires.rising c.requires.at c.deref_mut.ensures.value c.index-deref_mut-place.is
-    (omega (arith, promised)) (λ o. unmoved_room c.args.motion o) l)
+    set_entry_lent (λ b o u. promised_after c.args.op (length (if b then c.args.held ∷ [] else [])) (promised_in o) ≤ promised_in u) c.args.link c.index-deref_mut-place.result c.move_and_note.new.entry c.args.entries.now.items c.deref_mut.result.now c.args.place c.requires.rising c.requires.at c.deref_mut.ensures.value c.index-deref_mut-place.is
+    (omega (arith, promised)) (λ o. unmoved_room c.args.op o) l)
 
 pub returns-clause-busy : goal.returns-clause-busy
 returns-clause-busy c = λ l none.

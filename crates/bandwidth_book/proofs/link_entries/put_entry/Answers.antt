@@ -20,17 +20,17 @@ returns-clause-rising c = rw (put c) (rising_insert (record { link = c.args.link
 
 pub returns-clause-moved : goal.returns-clause-moved
 returns-clause-moved c = λ l.
-    entries (λ b o u. IsShifted c.args.motion (if b then c.args.held ∷ [] else []) o u) c
-    (comes c.args.motion c.args.held c.move_one.new.self c.requires.promise (c.in_ok-move_one.ensures.held ∙ ap (moved_one c.args.motion c.args.held) c.new-entry.ensures.held) (c.in_ok-move_one.ensures.ok ∙ ap (promised_after c.args.motion 1) c.new-entry.ensures.promised))
-    (λ o. unshifted c.args.motion o) l
+    entries (λ b o u. IsShifted c.args.op (if b then c.args.held ∷ [] else []) o u) c
+    (comes c.args.op c.args.held c.move_one.new.self c.requires.promise (c.in_ok-move_one.ensures.held ∙ ap (moved_one c.args.op c.args.held) c.new-entry.ensures.held) (c.in_ok-move_one.ensures.ok ∙ ap (promised_after c.args.op 1) c.new-entry.ensures.promised))
+    (λ o. unshifted c.args.op o) l
 
 pub returns-clause-ok : goal.returns-clause-ok
 returns-clause-ok c = λ l.
-    let promised = c.in_ok-move_one.ensures.ok ∙ ap (promised_after c.args.motion 1) c.new-entry.ensures.promised in
-    entries (λ b o u. promised_after c.args.motion (length (if b then c.args.held ∷ [] else [])) (promised_in o) ≤ promised_in u) c
-    (omega (arith, promised)) (λ o. unmoved_room c.args.motion o) l
+    let promised = c.in_ok-move_one.ensures.ok ∙ ap (promised_after c.args.op 1) c.new-entry.ensures.promised in
+    entries (λ b o u. promised_after c.args.op (length (if b then c.args.held ∷ [] else [])) (promised_in o) ≤ promised_in u) c
+    (omega (arith, promised)) (λ o. unmoved_room c.args.op o) l
 
 pub returns-clause-busy : goal.returns-clause-busy
 returns-clause-busy c = λ l.
     entries (λ b o u. IsBusy o → IsBusy u) c
-    (λ was. comes_busy c.args.motion c.move_one.new.self c.requires.promise (c.in_ok-move_one.ensures.ok ∙ ap (promised_after c.args.motion 1) c.new-entry.ensures.promised)) (λ o was. was) l
+    (λ was. comes_busy c.args.op c.move_one.new.self c.requires.promise (c.in_ok-move_one.ensures.ok ∙ ap (promised_after c.args.op 1) c.new-entry.ensures.promised)) (λ o was. was) l

@@ -10,7 +10,7 @@ loop-link-preserved c = λ paths s.
     let i = c.loop-link.link-index in
     let less : i < length c.args.numbers.now = grind arith in
     let there : nat_lt (slice_index c.args.numbers.now i) (length c.args.links.now) ≡ true = (let n = c.if-link-links.false in lt_true (slice_index c.args.numbers.now i) (length c.args.links.now) (omega (arith, n))) in
-    let borne : list_all (fits_at c.args.links.now paths c.args.path.now (slice_index c.args.numbers.now i)) (priorities c.args.path.now.hold c.args.setup) ≡ true = sym (c.if-not-bears.ensures paths s) in
+    let borne : list_all (fits_at c.args.links.now paths c.args.path.now (slice_index c.args.numbers.now i)) (priorities c.args.path.now.hold c.args.setup) ≡ true = sym (c.if-not-fits_each.ensures paths s) in
     let passes : test (slice_index c.args.numbers.now i) ≡ true = λ j. there j && borne j in
     let next : suc i ≡ i + 1 = omega arith in
     subst (λ (m : ℕ). list_all test (drop m c.args.numbers.now) ≡ list_all test c.args.numbers.now) next (next_all test c.args.numbers.now i 0 less passes ∙ c.loop-link.invariant paths s)

@@ -2,7 +2,7 @@ use Rattle.std.proofs.Common.{◌≤◌, length, ◌∙◌, arith, inl, inr}
 use Rattle.bandwidth_book.specs.Reservation.{promised_after}
 use Rattle.bandwidth_book.specs.Ledgers.{count, held_at, promised_on}
 use Rattle.bandwidth_book.specs.Paths.{held_by}
-use Rattle.bandwidth_book.specs.declared.reservation.Motion.TheVariants.{Withdraw}
+use Rattle.bandwidth_book.specs.declared.reservation.BookOp.TheVariants.{Withdraw}
 use Rattle.bandwidth_book.proofs.Moved.{withdrawn}
 use Rattle.bandwidth_book.proofs.Promises.{given_up, split}
 use Rattle.bandwidth_book.proofs.paths.give_up_room.Goals as goal

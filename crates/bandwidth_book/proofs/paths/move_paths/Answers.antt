@@ -19,24 +19,24 @@ loop-path-preserved c =
     record {
       same = c.move_path.ensures.count ∙ same;
       moved = λ n k end h rest.
-          let one : IsMoved c.args.motion (held_by_path x.tunnel (held_of x) n k x.links) (entry_at c.loop-path.ledgers n k) (entry_at c.move_path.new.self n k) = rw (c.held_of.ensures.held, c.as_slice.ensures) at (c.move_path.ensures.moved n k (omega (arith, h, same))) in
-          known.moved n k end h (path_moved c.args.motion n k c.args.paths.now i x _ _ end test c.path-item.is one rest);
+          let one : IsMoved c.args.op (held_by_path x.tunnel (held_of x) n k x.links) (entry_at c.loop-path.ledgers n k) (entry_at c.move_path.new.self n k) = rw (c.held_of.ensures.held, c.as_slice.ensures) at (c.move_path.ensures.moved n k (omega (arith, h, same))) in
+          known.moved n k end h (path_moved c.args.op n k c.args.paths.now i x _ _ end test c.path-item.is one rest);
       past = λ n k h. c.move_path.ensures.past n k (omega (arith, h, same)) ∙ known.past n k h;
       room = λ n k h.
-          let one : promised_after c.args.motion (length (held_by_path x.tunnel (held_of x) n k x.links)) (promised_on c.loop-path.ledgers n k) ≤ promised_on c.move_path.new.self n k = rw (c.held_of.ensures.held, c.as_slice.ensures) at (c.in_ok-move_path.ensures.ok n k (omega (arith, h, same))) in
-          room_next c.args.motion _ _ _ _ (rw (next_long n k c.args.paths.now i x test c.path-item.is) at (known.room n k h)) one;
+          let one : promised_after c.args.op (length (held_by_path x.tunnel (held_of x) n k x.links)) (promised_on c.loop-path.ledgers n k) ≤ promised_on c.move_path.new.self n k = rw (c.held_of.ensures.held, c.as_slice.ensures) at (c.in_ok-move_path.ensures.ok n k (omega (arith, h, same))) in
+          room_next c.args.op _ _ _ _ (rw (next_long n k c.args.paths.now i x test c.path-item.is) at (known.room n k h)) one;
       after = λ n k h.
-          let one : promised_after c.args.motion (length (held_by_path x.tunnel (held_of x) n k x.links)) (promised_on c.loop-path.ledgers n k) ≤ promised_on c.move_path.new.self n k = rw (c.held_of.ensures.held, c.as_slice.ensures) at (c.in_ok-move_path.ensures.ok n k (omega (arith, h, same))) in
-          after_next c.args.motion _ _ _ _ _ (rw (next_long n k c.args.paths.now i x test c.path-item.is) at (known.after n k h)) one;
+          let one : promised_after c.args.op (length (held_by_path x.tunnel (held_of x) n k x.links)) (promised_on c.loop-path.ledgers n k) ≤ promised_on c.move_path.new.self n k = rw (c.held_of.ensures.held, c.as_slice.ensures) at (c.in_ok-move_path.ensures.ok n k (omega (arith, h, same))) in
+          after_next c.args.op _ _ _ _ _ (rw (next_long n k c.args.paths.now i x test c.path-item.is) at (known.after n k h)) one;
     }
 
 pub returns-in_err-move_path-clause-moved : goal.returns-in_err-move_path-clause-moved
 returns-in_err-move_path-clause-moved c = λ n k h.
     let same = c.loop-path.invariant.same in
     let x = c.path-item.result in
-    let one : IsMoved c.args.motion (held_by_path x.tunnel (held_of x) n k x.links) (entry_at c.loop-path.ledgers n k) (entry_at c.move_path.new.self n k) = rw (c.held_of.ensures.held, c.as_slice.ensures) at (c.move_path.ensures.moved n k (omega (arith, h, same))) in
-    elim (cases_Bool (takes_memory c.args.motion)) [
-      | inl promise ↦ c.loop-path.invariant.moved n k _ h (path_refused c.args.motion n k c.args.paths.now c.loop-path.path-index x _ _ c.loop-path-test.true c.path-item.is promise one)
+    let one : IsMoved c.args.op (held_by_path x.tunnel (held_of x) n k x.links) (entry_at c.loop-path.ledgers n k) (entry_at c.move_path.new.self n k) = rw (c.held_of.ensures.held, c.as_slice.ensures) at (c.move_path.ensures.moved n k (omega (arith, h, same))) in
+    elim (cases_Bool (takes_memory c.args.op)) [
+      | inl promise ↦ c.loop-path.invariant.moved n k _ h (path_refused c.args.op n k c.args.paths.now c.loop-path.path-index x _ _ c.loop-path-test.true c.path-item.is promise one)
       | inr sure ↦ absurd (let ok = c.in_err-move_path.ensures.sure sure in cc)
     ]
 
@@ -48,4 +48,4 @@ returns-in_err-move_path-clause-past c = λ n k h.
 pub returns-clause-moved : goal.returns-clause-moved
 returns-clause-moved c = λ n k h.
     let end : drop c.loop-path.path-index c.args.paths.now ≡ [] = no_more _ _ c.loop-path-test.false in
-    c.loop-path.invariant.moved n k _ h (rw end (unmoved c.args.motion _))
+    c.loop-path.invariant.moved n k _ h (rw end (unmoved c.args.op _))

@@ -1,7 +1,7 @@
 use Rattle.std.proofs.Common.{refl, ◌∙◌, arith, inl, inr}
 use Rattle.bandwidth_book.specs.Ledgers.{count, held_at}
 use Rattle.bandwidth_book.specs.Paths.{held_by}
-use Rattle.bandwidth_book.specs.declared.reservation.Motion.TheVariants.{Promise}
+use Rattle.bandwidth_book.specs.declared.reservation.BookOp.TheVariants.{Promise}
 use Rattle.bandwidth_book.proofs.Moved.{promised}
 use Rattle.bandwidth_book.proofs.Promises.{split}
 use Rattle.bandwidth_book.proofs.Places.{on_ok}

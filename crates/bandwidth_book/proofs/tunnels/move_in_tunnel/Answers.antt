@@ -23,7 +23,7 @@ found c = sym c.place_of-place.ensures.value ∙ search rules
 
 pub move_links-moved-requires-clause-room : goal.move_links-moved-requires-clause-room
 move_links-moved-requires-clause-room c = λ l h.
-    subst (λ o. room_for c.args.motion (length (held_by_links c.args.held l c.args.links.now)) ≤ promised_in (entry_on l (entries_in o))) (found c) (c.requires.room l h)
+    subst (λ o. room_for c.args.op (length (held_by_links c.args.held l c.args.links.now)) ≤ promised_in (entry_on l (entries_in o))) (found c) (c.requires.room l h)
 
 pub move_links-moved-requires-clause-within : goal.move_links-moved-requires-clause-within
 move_links-moved-requires-clause-within c = λ l p h q.
@@ -73,7 +73,7 @@ returns-then-is_empty-clause-few c = λ h. let n = (gone c).few in omega (arith,
 pub returns-then-is_empty-clause-moved : goal.returns-then-is_empty-clause-moved
 returns-then-is_empty-clause-moved c = λ l k h.
     rw (by_key c.args.tunnel c.args.held l k c.args.links.now) (replaced (gone c)
-    (λ b o u. IsMoved c.args.motion (if b then held_by_links c.args.held l c.args.links.now else []) (entry_on l o) (entry_on l u)) (c.move_links-moved.ensures.moved l h) (λ v. unmoved c.args.motion (entry_on l v)) k)
+    (λ b o u. IsMoved c.args.op (if b then held_by_links c.args.held l c.args.links.now else []) (entry_on l o) (entry_on l u)) (c.move_links-moved.ensures.moved l h) (λ v. unmoved c.args.op (entry_on l v)) k)
 
 pub returns-then-is_empty-clause-past : goal.returns-then-is_empty-clause-past
 returns-then-is_empty-clause-past c = λ l k h. replaced (gone c) (λ b o u. held_in (entry_on l u) ≡ held_in (entry_on l o)) (c.move_links-moved.ensures.past l h) (λ v. refl) k
@@ -82,7 +82,7 @@ pub returns-then-is_empty-clause-ok : goal.returns-then-is_empty-clause-ok
 returns-then-is_empty-clause-ok c =
     on_ok c.move_links-moved.result _ _ c.move_links-moved.ensures.ok (λ room l k h.
     rw (by_key c.args.tunnel c.args.held l k c.args.links.now) (replaced (gone c)
-    (λ b o u. promised_after c.args.motion (length (if b then held_by_links c.args.held l c.args.links.now else [])) (promised_in (entry_on l o)) ≤ promised_in (entry_on l u)) (room l h) (λ v. unmoved_room c.args.motion (entry_on l v)) k))
+    (λ b o u. promised_after c.args.op (length (if b then held_by_links c.args.held l c.args.links.now else [])) (promised_in (entry_on l o)) ≤ promised_in (entry_on l u)) (room l h) (λ v. unmoved_room c.args.op (entry_on l v)) k))
 
 pub returns-then-is_empty-clause-full : goal.returns-then-is_empty-clause-full
 returns-then-is_empty-clause-full c = is_full (gone c) (λ e. none-some [] e) c.requires.full
@@ -96,7 +96,7 @@ returns-else-is_empty-clause-few c = λ h. let n = (written c).few in omega (ari
 pub returns-else-is_empty-clause-moved : goal.returns-else-is_empty-clause-moved
 returns-else-is_empty-clause-moved c = λ l k h.
     rw (by_key c.args.tunnel c.args.held l k c.args.links.now) (replaced (written c)
-    (λ b o u. IsMoved c.args.motion (if b then held_by_links c.args.held l c.args.links.now else []) (entry_on l o) (entry_on l u)) (c.move_links-moved.ensures.moved l h) (λ v. unmoved c.args.motion (entry_on l v)) k)
+    (λ b o u. IsMoved c.args.op (if b then held_by_links c.args.held l c.args.links.now else []) (entry_on l o) (entry_on l u)) (c.move_links-moved.ensures.moved l h) (λ v. unmoved c.args.op (entry_on l v)) k)
 
 pub returns-else-is_empty-clause-past : goal.returns-else-is_empty-clause-past
 returns-else-is_empty-clause-past c = λ l k h. replaced (written c) (λ b o u. held_in (entry_on l u) ≡ held_in (entry_on l o)) (c.move_links-moved.ensures.past l h) (λ v. refl) k
@@ -105,7 +105,7 @@ pub returns-else-is_empty-clause-ok : goal.returns-else-is_empty-clause-ok
 returns-else-is_empty-clause-ok c =
     on_ok c.move_links-moved.result _ _ c.move_links-moved.ensures.ok (λ room l k h.
     rw (by_key c.args.tunnel c.args.held l k c.args.links.now) (replaced (written c)
-    (λ b o u. promised_after c.args.motion (length (if b then held_by_links c.args.held l c.args.links.now else [])) (promised_in (entry_on l o)) ≤ promised_in (entry_on l u)) (room l h) (λ v. unmoved_room c.args.motion (entry_on l v)) k))
+    (λ b o u. promised_after c.args.op (length (if b then held_by_links c.args.held l c.args.links.now else [])) (promised_in (entry_on l o)) ≤ promised_in (entry_on l u)) (room l h) (λ v. unmoved_room c.args.op (entry_on l v)) k))
 
 pub returns-else-is_empty-clause-full : goal.returns-else-is_empty-clause-full
 returns-else-is_empty-clause-full c = is_full (written c) (λ e. let z : length c.move_links-moved.new.self ≡ 0 = ap length (same_Some c.move_links-moved.new.self [] e) in true≢false (sym (c.if-is_empty.ensures.1 z))) c.requires.full
@@ -116,8 +116,8 @@ returns-else-is_empty-clause-unique c = subst (IsDistinct tunnel_eq) (sym (keys-
 pub returns-else-takes_memory-clause-moved : goal.returns-else-takes_memory-clause-moved
 returns-else-takes_memory-clause-moved c = λ l k h.
     let none : lookup (tunnel_eq c.args.tunnel) c.args.tunnels.now.entries ≡ None = sym c.place_of-place.ensures.value ∙ search rules in
-    let fixed : takes_memory c.args.motion ≡ false = sym c.takes_memory.ensures ∙ search rules in
+    let fixed : takes_memory c.args.op ≡ false = sym c.takes_memory.ensures ∙ search rules in
     rw (by_key c.args.tunnel c.args.held l k c.args.links.now) (unwritten tunnel_laws
-    (λ b o. IsMoved c.args.motion (if b then held_by_links c.args.held l c.args.links.now else []) (entry_on l (entries_in o)) (entry_on l (entries_in o))) c.args.tunnels.now.entries c.args.tunnel none
-    (missing c.args.motion _ fixed (subst (λ o. room_for c.args.motion (length (held_by_links c.args.held l c.args.links.now)) ≤ promised_in (entry_on l (entries_in o))) none (c.requires.room l h)))
-    (λ v. unmoved c.args.motion (entry_on l (entries_in v))) k)
+    (λ b o. IsMoved c.args.op (if b then held_by_links c.args.held l c.args.links.now else []) (entry_on l (entries_in o)) (entry_on l (entries_in o))) c.args.tunnels.now.entries c.args.tunnel none
+    (missing c.args.op _ fixed (subst (λ o. room_for c.args.op (length (held_by_links c.args.held l c.args.links.now)) ≤ promised_in (entry_on l (entries_in o))) none (c.requires.room l h)))
+    (λ v. unmoved c.args.op (entry_on l (entries_in v))) k)

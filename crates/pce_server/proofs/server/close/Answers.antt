@@ -3,7 +3,7 @@ use Rattle.pce_server.proofs.server.close.Goals as goal
 
 pub returns-else-not-are_all_down : goal.returns-else-not-are_all_down
 returns-else-not-are_all_down g c = (
-  g.B.Room.seats,
+  g.B.StepNumbers.seats,
   c.args.seats.items,
   record {
     past = c.in-Ok.ensures.one_history.0;

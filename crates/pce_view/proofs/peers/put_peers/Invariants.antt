@@ -8,4 +8,4 @@ use Rattle.pce_view.proofs.peers.put_peers.Given as goal
 abbrev pub invariant-loop-peer : goal.invariant-loop-peer
 invariant-loop-peer l =
     (l.writer.before ≡ l.fn.writer.before)
-    × (l.writer.tokens ++ items_tokens (peer_items l.fn.now_ms l.presences l.owners (drop l.peer-index l.peers)) ≡ l.fn.writer.tokens ++ json_tokens (array (peer_items l.fn.now_ms l.presences l.owners l.peers)))
+    × (l.writer.tokens ++ items_tokens (peer_items l.fn.now_ms l.peer_states l.owners (drop l.peer-index l.peers)) ≡ l.fn.writer.tokens ++ json_tokens (array (peer_items l.fn.now_ms l.peer_states l.owners l.peers)))

@@ -8,4 +8,4 @@ use Rattle.pce_view.proofs.why.put_each_traced.Given as goal
 abbrev pub invariant-loop-seen : goal.invariant-loop-seen
 invariant-loop-seen l =
     (l.writer.before ≡ l.fn.writer.before)
-    × (l.writer.tokens ++ items_tokens (traced_items l.fn.now_ms l.marks l.lefts (drop l.seen-index l.paths)) ≡ l.fn.writer.tokens ++ json_tokens (array (traced_items l.fn.now_ms l.marks l.lefts l.paths)))
+    × (l.writer.tokens ++ items_tokens (traced_items l.fn.now_ms l.marks l.residuals (drop l.seen-index l.paths)) ≡ l.fn.writer.tokens ++ json_tokens (array (traced_items l.fn.now_ms l.marks l.residuals l.paths)))

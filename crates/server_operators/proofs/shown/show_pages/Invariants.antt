@@ -6,6 +6,6 @@ use Rattle.server_operators.proofs.shown.show_pages.Given as goal
 -- after the pages so far comes what the next ask is shown, and no call was made
 abbrev pub invariant-loop-page : goal.invariant-loop-page
 invariant-loop-page g l = record {
-  shown : Awaits g.B.Room.text l.form l.around l.fn.store.seat.now.seen l.fn.first l.store.seat.now.seen l.ask l.text.items;
-  same : SeatedMoves g.B.Room.text l.fn.store.seat l.fn.store.calls.items [] l.store.seat l.store.calls.items;
+  shown : Awaits g.B.StepNumbers.text l.form l.info l.fn.store.seat.now.seen l.fn.first l.store.seat.now.seen l.ask l.text.items;
+  same : SeatedMoves g.B.StepNumbers.text l.fn.store.seat l.fn.store.calls.items [] l.store.seat l.store.calls.items;
 }

@@ -5,16 +5,16 @@ use Rattle.server_talk.proofs.commands.answer_line.Goals as goal
 
 pub returns-then-not-is_full : goal.returns-then-not-is_full
 returns-then-not-is_full g c = λ start lines said text kept s.
-    answered_at_once (server_of g.D.Store g.D.Desk.is_left g.D.Show.has_links g.D.Show.shows g.P.Plan.reads c.args.plan.now) c.answer_once-first.result start c.args.store.now c.answer_once-first.new.store lines said text (c.is_full.ensures.other c.if-not-is_full.true) (c.answer_once-first.ensures (number_behind lines) text kept) s
+    answered_at_once (server_of g.D.Store g.D.ServerStore.is_left g.D.Show.has_links g.D.Show.shows g.P.Plan.reads c.args.plan.now) c.answer_once-first.result start c.args.store.now c.answer_once-first.new.store lines said text (c.is_full.ensures.other c.if-not-is_full.true) (c.answer_once-first.ensures (number_behind lines) text kept) s
 
 pub returns-in-Ok : goal.returns-in-Ok
 returns-in-Ok g c = λ start lines said text kept s.
-    answered_after_roll (server_of g.D.Store g.D.Desk.is_left g.D.Show.has_links g.D.Show.shows g.P.Plan.reads c.args.plan.now) c.answer_once.result c.in-Ok.field-0 start c.args.store.now c.answer_once-first.new.store c.roll.new.self c.answer_once.new.store lines said text
-    (was_full (server_of g.D.Store g.D.Desk.is_left g.D.Show.has_links g.D.Show.shows g.P.Plan.reads c.args.plan.now) c.answer_once-first.result (number_behind lines) text c.args.store.now c.answer_once-first.new.store (c.is_full.ensures.full c.if-not-is_full.false) (c.answer_once-first.ensures (number_behind lines) text kept))
+    answered_after_roll (server_of g.D.Store g.D.ServerStore.is_left g.D.Show.has_links g.D.Show.shows g.P.Plan.reads c.args.plan.now) c.answer_once.result c.in-Ok.field-0 start c.args.store.now c.answer_once-first.new.store c.roll.new.self c.answer_once.new.store lines said text
+    (was_full (server_of g.D.Store g.D.ServerStore.is_left g.D.Show.has_links g.D.Show.shows g.P.Plan.reads c.args.plan.now) c.answer_once-first.result (number_behind lines) text c.args.store.now c.answer_once-first.new.store (c.is_full.ensures.full c.if-not-is_full.false) (c.answer_once-first.ensures (number_behind lines) text kept))
     c.in-Ok.ensures.rolled (c.answer_once.ensures (number_behind lines) text kept) s
 
 pub returns : goal.returns
 returns g c = λ start lines said text kept s.
-    answered_starved (server_of g.D.Store g.D.Desk.is_left g.D.Show.has_links g.D.Show.shows g.P.Plan.reads c.args.plan.now) start c.args.store.now c.answer_once-first.new.store c.roll.new.self lines said text
-    (was_full (server_of g.D.Store g.D.Desk.is_left g.D.Show.has_links g.D.Show.shows g.P.Plan.reads c.args.plan.now) c.answer_once-first.result (number_behind lines) text c.args.store.now c.answer_once-first.new.store (c.is_full.ensures.full c.if-not-is_full.false) (c.answer_once-first.ensures (number_behind lines) text kept))
+    answered_starved (server_of g.D.Store g.D.ServerStore.is_left g.D.Show.has_links g.D.Show.shows g.P.Plan.reads c.args.plan.now) start c.args.store.now c.answer_once-first.new.store c.roll.new.self lines said text
+    (was_full (server_of g.D.Store g.D.ServerStore.is_left g.D.Show.has_links g.D.Show.shows g.P.Plan.reads c.args.plan.now) c.answer_once-first.result (number_behind lines) text c.args.store.now c.answer_once-first.new.store (c.is_full.ensures.full c.if-not-is_full.false) (c.answer_once-first.ensures (number_behind lines) text kept))
     c.in-Err.ensures.unchanged s

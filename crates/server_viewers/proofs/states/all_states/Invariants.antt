@@ -6,5 +6,5 @@ use Rattle.server_viewers.proofs.states.all_states.Given as goal
 abbrev pub invariant-loop-page : goal.invariant-loop-page
 invariant-loop-page g l = record {
   begins : IsPrefix l.fn.front l.front;
-  awaits : Awaits g.B.Room.text l.fn.front l.front l.from l.states.items;
+  awaits : Awaits g.B.StepNumbers.text l.fn.front l.front l.from l.states.items;
 }

@@ -9,11 +9,11 @@ use Rattle.server_viewers.proofs.viewers.counted_text.Goals as goal
 pub returns-clause-text : goal.returns-clause-text
 returns-clause-text g c = IfOk-weaker c.metrics_text.result _ _
     (λ text says. record {
-      around = c.args.around.now;
+      info = c.args.info.now;
       book = c.in_ok-seen.seen.1;
       counters = c.args.counters.now;
       process = c.args.process;
       sees = c.in_ok-seen.ensures.sees.1;
-      says = subst (λ (n : Counts). text.items ≡ exposition (families c.args.around.now n c.in_ok-seen.seen.1 c.args.counters.now c.args.process c.args.states.now)) c.in_ok-seen.ensures.sees.0 says;
+      says = subst (λ (n : Counts). text.items ≡ exposition (families c.args.info.now n c.in_ok-seen.seen.1 c.args.counters.now c.args.process c.args.states.now)) c.in_ok-seen.ensures.sees.0 says;
     })
     c.metrics_text.ensures

@@ -12,6 +12,6 @@ returns-clause-text g c = IfOk-weaker c.counted_text.result _ _
       states = c.in_ok-states.states.items;
       are_states = c.in_ok-states.ensures.states;
       later = c.counted_text.ensures.begins;
-      numbers = subst (λ (states : List ShownState). IsNumbers g.B.Room.text c.counted_text.new.front states text.items) c.deref.ensures.value numbers;
+      numbers = subst (λ (states : List ShownState). IsNumbers g.B.StepNumbers.text c.counted_text.new.front states text.items) c.deref.ensures.value numbers;
     })
     c.counted_text.ensures.text

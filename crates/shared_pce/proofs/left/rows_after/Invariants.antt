@@ -1,5 +1,5 @@
 use Rattle.std.proofs.Common.{◌≡◌, map, take}
-use Rattle.shared_pce.specs.Lefts.{row_after}
+use Rattle.shared_pce.specs.Residuals.{row_after}
 use Rattle.shared_pce.proofs.left.rows_after.Given as goal
 
 -- the rows before this place were read again

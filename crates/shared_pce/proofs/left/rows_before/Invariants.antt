@@ -1,5 +1,5 @@
 use Rattle.std.proofs.Common.{◌≡◌, map, take}
-use Rattle.shared_pce.specs.Lefts.{row_before}
+use Rattle.shared_pce.specs.Residuals.{row_before}
 use Rattle.shared_pce.proofs.left.rows_before.Given as goal
 
 -- the links before this place were read

@@ -1,4 +1,4 @@
-use Rattle.shared_pce.proofs.Lefts.{all_before}
+use Rattle.shared_pce.proofs.Residuals.{all_before}
 use Rattle.shared_pce.proofs.left.see_before.Goals as goal
 
 pub returns-in-Some-clause-before : goal.returns-in-Some-clause-before

@@ -31,7 +31,7 @@ invariant_of-self c =
       few = c.move_in_tunnel.ensures.few c.args.self.now.few;
       small = rw items (λ l k p h.
           let less : l < length c.deref_mut.result.now = omega (arith, h, rows) in
-          small_by_path c.args.motion c.args.tunnel c.args.held l k c.args.path.now _ _ p (c.move_in_tunnel.ensures.moved l k less).kept c.requires.small (c.args.self.now.small l k p (rw c.deref_mut.ensures.value at less)));
+          small_by_path c.args.op c.args.tunnel c.args.held l k c.args.path.now _ _ p (c.move_in_tunnel.ensures.moved l k less).kept c.requires.small (c.args.self.now.small l k p (rw c.deref_mut.ensures.value at less)));
       busy = rw items (λ l k h.
           let less : l < length c.deref_mut.result.now = omega (arith, h, rows) in
           (c.move_in_tunnel.ensures.moved l k less).busy (c.args.self.now.busy l k (rw c.deref_mut.ensures.value at less)));

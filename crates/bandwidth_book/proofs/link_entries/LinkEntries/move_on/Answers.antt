@@ -16,4 +16,4 @@ returns-in-Some-clause-sums c = λ l p n h.
     let less : c.args.link < length c.args.sums.now = (let m = c.if-link-sums.false in omega (arith, m)) in
     rw (← c.self.view_is)
     (moved_row c.args.sums.now c.args.link c.move_at.new.sums p (λ k. most (kept k c.self.inside.entries.items) p) (λ k. most (kept k c.move_at.new.entries.items) p) less (c.move_at.ensures.sums p h)
-    (λ k other. ap (λ hs. most hs p) (kept_elsewhere c.args.motion c.args.link k c.args.held _ _ other (c.move_at.ensures.moved k))) l)
+    (λ k other. ap (λ hs. most hs p) (kept_elsewhere c.args.op c.args.link k c.args.held _ _ other (c.move_at.ensures.moved k))) l)

@@ -11,7 +11,7 @@ use Rattle.history_seats.proofs.held.Held.take_rolled.Goals as goal
 
 pub invariant_of-self-2 : goal.invariant_of-self-2
 invariant_of-self-2 g c =
-    let text = g.B.Room.text in
+    let text = g.B.StepNumbers.text in
     let past = c.self.inside.history in
     let is : c.take_rolled.new.self ≡ rolled_up (database_at text past) = c.in_ok-steps.ensures.rolled ∙ ap rolled_up c.self.invariant.5 in
     let after : c.show-2.new.self ≡ past ++ Rolled ∷ [] = c.show-2.ensures.same ∙ c.rolled.ensures ∙ ap (λ (h : List (Happening Event)). h ++ Rolled ∷ []) c.show.ensures.same in

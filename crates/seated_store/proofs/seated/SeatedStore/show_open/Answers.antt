@@ -3,4 +3,4 @@ use Rattle.seated_store.specs.SeatingLaws.{moves_shown}
 use Rattle.seated_store.proofs.seated.SeatedStore.show_open.Goals as goal
 
 pub returns : goal.returns
-returns g c = moves_shown g.B.Room.text c.args.self.now.seat c.args.self.now.calls.items (Opened c.args._peer_open)
+returns g c = moves_shown g.B.StepNumbers.text c.args.self.now.seat c.args.self.now.calls.items (Opened c.args._peer_open)

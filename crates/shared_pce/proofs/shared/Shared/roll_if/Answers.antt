@@ -9,11 +9,11 @@ use Rattle.shared_pce.proofs.shared.Shared.roll_if.Goals as goal
 
 pub returns-clause-rolled : goal.returns-clause-rolled
 returns-clause-rolled g c =
-    let text = g.B.Room.text in
+    let text = g.B.StepNumbers.text in
     let past = c.deref_mut.result.now in
     let looked : c.deref.result.now ≡ past = search rules in
     let again : c.deref_mut-2.result.now ≡ past = search rules in
     let later : c.deref-3.result.now ≡ c.take_rolled.new.self = search rules in
     let due : is_due c.args.at (database_at text c.deref.result.now) ≡ true = search rules in
     rolls_if (is_due c.args.at) text past c.take_rolled.new.self c.database.result.now c.args.seat.now c.show_seat.new.seat c.take_rolled.new.seat c.rolled-steps.result
-    c.show_seat.ensures.begins (ap (λ (h : List (Happening Event)). is_due c.args.at (database_at text h)) (sym looked) ∙ due) c.show_seat.ensures.shown (c.in_ok-unkept.ensures.rolled ∙ ap (λ (h : List (Happening Event)). h ++ Rolled ∷ []) again) (c.database.ensures ∙ ap (database_at text) later) c.rolled-steps.ensures c.take_rolled.ensures.seen
+    c.show_seat.ensures.begins (ap (λ (h : List (Happening Event)). is_due c.args.at (database_at text h)) (sym looked) ∙ due) c.show_seat.ensures.shown (c.in_ok-dropped.ensures.rolled ∙ ap (λ (h : List (Happening Event)). h ++ Rolled ∷ []) again) (c.database.ensures ∙ ap (database_at text) later) c.rolled-steps.ensures c.take_rolled.ensures.seen

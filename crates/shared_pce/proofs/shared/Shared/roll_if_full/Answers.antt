@@ -9,7 +9,7 @@ use Rattle.shared_pce.proofs.shared.Shared.roll_if_full.Goals as goal
 
 pub returns-clause-rolled : goal.returns-clause-rolled
 returns-clause-rolled g c =
-    let text = g.B.Room.text in
+    let text = g.B.StepNumbers.text in
     let past = c.deref_mut.result.now in
     let d : Content = database_at text past in
     let looked : c.deref.result.now ≡ past = search rules in
@@ -18,4 +18,4 @@ returns-clause-rolled g c =
     let d_is : c.database.result.now ≡ d = c.database.ensures ∙ ap (database_at text) looked in
     let full : is_full c.database.result.now ≡ true = search rules in
     rolls_if is_full text past c.take_rolled.new.self c.database-2.result.now c.args.seat.now c.show_seat.new.seat c.take_rolled.new.seat c.rolled-steps.result
-    c.show_seat.ensures.begins (sym (ap is_full d_is) ∙ full) c.show_seat.ensures.shown (c.in_ok-unkept.ensures.rolled ∙ ap (λ (h : List (Happening Event)). h ++ Rolled ∷ []) again) (c.database-2.ensures ∙ ap (database_at text) later) c.rolled-steps.ensures c.take_rolled.ensures.seen
+    c.show_seat.ensures.begins (sym (ap is_full d_is) ∙ full) c.show_seat.ensures.shown (c.in_ok-dropped.ensures.rolled ∙ ap (λ (h : List (Happening Event)). h ++ Rolled ∷ []) again) (c.database-2.ensures ∙ ap (database_at text) later) c.rolled-steps.ensures c.take_rolled.ensures.seen

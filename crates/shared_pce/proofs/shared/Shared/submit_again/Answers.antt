@@ -4,7 +4,7 @@ use Rattle.shared_pce.proofs.shared.Shared.submit_again.Goals as goal
 
 pub returns-clause-received : goal.returns-clause-received
 returns-clause-received g c =
-    IfOk-weaker c.submit_once.result _ _ (λ reply h. received_on g.B.Room.text c.args.seat.now c.spare.new.seat c.submit_once.new.seat c.args.event reply c.spare.ensures h) c.submit_once.ensures.received
+    IfOk-weaker c.submit_once.result _ _ (λ reply h. received_on g.B.StepNumbers.text c.args.seat.now c.spare.new.seat c.submit_once.new.seat c.args.event reply c.spare.ensures h) c.submit_once.ensures.received
 
 pub returns-clause-unchanged_on_fault : goal.returns-clause-unchanged_on_fault
 returns-clause-unchanged_on_fault g c =

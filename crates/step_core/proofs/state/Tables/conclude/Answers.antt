@@ -1,7 +1,7 @@
 use Rattle.std.proofs.Common.{◌∙◌, sym, ap}
 use Rattle.step_core.specs.States.{State}
 use Rattle.ticket_table.specs.Tickets.{ticket_at}
-use Rattle.step_core.proofs.Concluded.{path_is, peer_is_known, grant_is_possible, answer_is_possible, again_has_tries, found_has_tries}
+use Rattle.step_core.proofs.Concluded.{path_is, grant_has_path, answer_has_path, peer_is_known, grant_is_possible, answer_is_possible, again_has_tries, found_has_tries}
 use Rattle.step_core.proofs.ConsistentSteps.{grant_is_new}
 use Rattle.step_core.proofs.state.Tables.conclude.Goals as goal
 
@@ -25,6 +25,14 @@ answer-requires-clause-short c = rw c.as_slice.ensures (answer_is_possible c.arg
 
 pub answer-requires-clause-known : goal.answer-requires-clause-known
 answer-requires-clause-known c = peer_is_known c.args.self.now c.args.ticket.now c.args.offer.now _ (sym c.requires.verdict ∙ c.in-Answer-Some.is-0) (λ no. cc)
+
+pub unreachable-requires : goal.unreachable-requires
+unreachable-requires c =
+    grant_has_path c.args.self.now c.args.ticket.now c.args.offer.now c.args.path c.requires.path c.in-Grant-None.is-1 (sym c.requires.verdict ∙ c.in-Grant-None.is-0)
+
+pub unreachable-requires-in-Answer-None : goal.unreachable-requires-in-Answer-None
+unreachable-requires-in-Answer-None c =
+    answer_has_path c.args.self.now c.args.ticket.now c.args.offer.now c.args.path c.requires.path c.in-Answer-None.is-1 (sym c.requires.verdict ∙ c.in-Answer-None.is-0)
 
 pub put_back-requires : goal.put_back-requires
 put_back-requires c =

@@ -1,7 +1,0 @@
--- Which rows belong to a step.
-use Rattle.std.specs.Prelude.{ℕ, ◌==◌, List, filter}
-use Rattle.server_counts.specs.declared.lefts.LeftRow.{LeftRow}
-
--- what a step left of links
-abbrev pub rows_of : ℕ → List LeftRow → List LeftRow
-rows_of step rows = filter (λ r. r.step == step) rows

@@ -1,5 +1,0 @@
-use Rattle.shared_pce.proofs.Lefts.{all_noted}
-use Rattle.shared_pce.proofs.left_table.LeftTable.note.Goals as goal
-
-pub invariant_of-self : goal.invariant_of-self
-invariant_of-self c = all_noted c.add.result c.args.rows.now c.self.inside.rows.items c.add.new.kept.items c.add.ensures.added c.add.ensures.unchanged c.requires c.self.invariant
