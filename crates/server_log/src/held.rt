@@ -38,7 +38,8 @@ impl KindRate {
         }
     }
 
-    /// Whether a line may be written at this moment: the hundredth before it was written a second or more before.
+    /// Says whether a line may be written at this moment: the hundredth before it was written at least a second
+    /// earlier.
     fn may_pass(&self, now_ms: u64) -> bool
         ensures { result ≡ may_pass now_ms self.now }
     {
@@ -67,7 +68,7 @@ impl KindRate {
         self.held = self.held.saturating_add(1);
     }
 
-    /// How many lines were held back, once a second has passed since the first of them. They are counted once.
+    /// Takes how many lines were held back, once a second has passed since the first of them. They are counted once.
     fn held_by(&mut self, now_ms: u64) -> Option<u64>
         ensures told { result ≡ told now_ms self.old }
         ensures once { self.new ≡ after_told now_ms self.old }
@@ -98,7 +99,7 @@ pub(crate) struct Held {
 }
 
 impl Held {
-    /// Room for all that is counted apart, so that a line takes no memory.
+    /// Makes room for all that is counted apart, so that a line takes no memory.
     pub fn new(alloc: Global) -> Result<Held, AllocError> {
         let mut rates = Vec::with_capacity(alloc, KINDS.len())?;
         for _kind in KINDS {
@@ -110,14 +111,14 @@ impl Held {
         })
     }
 
-    /// Where the rate of these lines stands, if they have one.
+    /// Finds where the rate of these lines stands, if they have one.
     fn place_of(&self, kind: Kind, address: u32) -> Option<usize> {
         self.routers
             .iter()
             .position(|known| known.kind == kind && known.address == address)
     }
 
-    /// Where the lines stand that came longest ago.
+    /// Finds where the lines stand that came longest ago.
     fn longest_silent(&self) -> usize {
         let mut silent = 0usize;
         let mut since_ms = u64::MAX;
@@ -158,7 +159,7 @@ impl Held {
         }
     }
 
-    /// Whether the rate of a router's lines lets one through.
+    /// Says whether the rate of a router's lines lets one through.
     fn router_lets(&mut self, kind: Kind, address: u32, now_ms: u64) -> bool
         ensures { self.new.kinds ≡ self.old.kinds }
     {
@@ -175,7 +176,7 @@ impl Held {
         }
     }
 
-    /// Whether a line of this kind, about a router of this address, is written now. If not, it is counted.
+    /// Says whether a line of this kind, about a router of this address, is written now. If not, it is counted.
     pub fn lets(&mut self, kind: Kind, address: u32, now_ms: u64) -> bool
         ensures passes { result ≡ true → LetsThrough now_ms (rate_of kind self.old) (rate_of kind self.new) }
         ensures holds { result ≡ false → HoldsBack now_ms (rate_of kind self.old) (rate_of kind self.new) }
@@ -192,7 +193,7 @@ impl Held {
         false
     }
 
-    /// How many lines of this kind were held back, if it is time to say so.
+    /// Takes how many lines of this kind were held back, if it is time to say so.
     pub fn held_by(&mut self, kind: Kind, now_ms: u64) -> Option<u64>
         ensures { Tells now_ms (rate_of kind self.old) result (rate_of kind self.new) }
     {

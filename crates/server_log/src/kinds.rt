@@ -56,7 +56,7 @@ pub(crate) const KINDS: [Kind; 22] = [
 ];
 
 impl Kind {
-    /// Its number, below 22.
+    /// Gives its number, below 22.
     pub(crate) fn number(self) -> usize
         ensures number { result ≡ kind_number self }
         ensures few { result < 22 }
@@ -87,7 +87,7 @@ impl Kind {
         }
     }
 
-    /// What its lines are about, in words.
+    /// Says in words what its lines are about.
     pub(crate) fn subject(self) -> &'static str
         ensures { result.now ≡ subject self }
     {

@@ -131,7 +131,7 @@ pub enum LogLine {
 }
 
 impl LogLine {
-    /// What it is about.
+    /// Says what it is about.
     pub fn kind(&self) -> Kind
         ensures { result ≡ kind_of self.now }
     {
@@ -161,7 +161,7 @@ impl LogLine {
         }
     }
 
-    /// The address of the router that it is about, or 0. Lines about one router have a rate of their own.
+    /// Returns the address of the router that it is about, or 0. Lines about one router have a rate of their own.
     pub fn router(&self) -> u32
         ensures { result ≡ router_of self.now }
     {
@@ -180,7 +180,7 @@ impl LogLine {
         }
     }
 
-    /// Info for sessions and the run, warn for faults, debug for what the state refused.
+    /// Returns its level: info for sessions and the run, warn for faults, debug for what the state refused.
     pub fn level(&self) -> Level
         ensures { result ≡ level_of self.now }
     {
@@ -222,7 +222,7 @@ pub(crate) fn write_line<R: Log>(rt: &R, line: LogLine) {
     log!(*rt; target: TARGET, line.level(), "{line}");
 }
 
-/// Whether lines of level debug are wanted.
+/// Says whether lines of level debug are wanted.
 pub fn is_debug_wanted<R: Log>(rt: &R) -> bool {
     log_enabled!(*rt; target: TARGET, Level::Debug)
 }

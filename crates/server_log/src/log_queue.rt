@@ -88,7 +88,7 @@ pub struct LogQueue {
 }
 
 impl LogQueue {
-    /// Room for all lines that may wait, so that saying takes no memory.
+    /// Makes room for all lines that may wait, so that saying takes no memory.
     pub fn new(alloc: Global, is_debug: bool) -> Result<LogQueue, AllocError> {
         let held = Held::new(alloc)?;
         let queue = Queue {
@@ -104,7 +104,7 @@ impl LogQueue {
         })
     }
 
-    /// An empty list with room for all lines that may wait.
+    /// Makes an empty list with room for all lines that may wait.
     pub fn room(&self, alloc: Global) -> Result<Vec<LogLine>, AllocError> {
         Vec::with_capacity(alloc, LINES)
     }

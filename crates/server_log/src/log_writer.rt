@@ -26,7 +26,7 @@ pub struct ErrorOutput {
     found: Events,
 }
 
-/// Standard error's poll, where it can be waited for.
+/// Makes a poll of standard error, if it can be waited for.
 fn poll_of<R: Net>(rt: &R) -> io::Result<Poll> {
     let poll = Poll::new(rt)?;
     let registry = poll.registry();

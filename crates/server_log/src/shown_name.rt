@@ -23,7 +23,7 @@ impl ShownName {
         is_cut: false,
     };
 
-    /// This name.
+    /// Shows this name.
     pub fn new(name: &[u8]) -> ShownName
         ensures { result ≡ begin_of name.now }
     {
@@ -38,7 +38,8 @@ impl ShownName {
     }
 }
 
-/// Whether the byte is a printed character of ASCII and no backslash: a space isn't, since it ends the word of a line.
+/// Says whether the byte is a printed character of ASCII and no backslash. A space isn't one, since it ends the word of
+/// a line.
 fn is_plain(byte: u8) -> bool
     ensures { result ≡ is_plain byte }
 {
@@ -79,7 +80,7 @@ impl<'a> fmt::Display for Escaped<'a> {
     }
 }
 
-/// What stands behind a name that is cut.
+/// Returns what stands after a name that is cut.
 fn cut_mark(is_cut: bool) -> &'static str
     ensures { result.now ≡ cut_mark is_cut }
 {
@@ -87,7 +88,7 @@ fn cut_mark(is_cut: bool) -> &'static str
 }
 
 impl ShownName {
-    /// The bytes that are shown.
+    /// Returns the bytes that are shown.
     fn shown(&self) -> &[u8]
         ensures { result.now ≡ take self.now.count self.now.bytes }
     {

@@ -78,8 +78,8 @@ fn join_all(marks: &mut [usize], links: &[Link]) -> bool {
     changed
 }
 
-/// The number of parts that no link joins, whichever way it leads: of nodes that keep their own mark where each node
-/// takes the least mark of those that it is joined with.
+/// Counts the parts that no link joins, whichever way it leads: the nodes that keep their own mark when each node takes
+/// the least mark of those that it is joined with.
 fn part_count(marks: &mut [usize], links: &[Link]) -> usize {
     for _ in 0..marks.len() {
         if !join_all(marks, links) {
