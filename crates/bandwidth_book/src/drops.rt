@@ -1,7 +1,7 @@
 //! In which order the paths of a change go. On a link that many paths of a tunnel share, what they hold is kept in
-//! order. One that goes moves all between it and the one that went before it. So if many paths go in that order, each
-//! one that stays moves once, and each one that goes is near the one before it, where it is looked for first. The
-//! greatest goes last, so that the sums of the link move once for each holding priority.
+//! order. A path that goes moves everything between it and the path that went before it. So if many paths go in that
+//! order, each path that stays moves once. The search for a path that goes begins at the one before it, which is near.
+//! The greatest goes last, so that the sums of the link move once for each holding priority.
 ghost use Rattle.std.specs.Prelude.{◌≡◌, ◌<◌, ℕ, IfOk, option_to_list, slice_get};
 ghost use Rattle.lsp_base.specs.declared.tunnel.Tunnel.{Tunnel};
 ghost use Rattle.bandwidth_book.specs.Ledgers.{count, held_at, promised_on};
