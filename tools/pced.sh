@@ -29,7 +29,7 @@ end_server() {
 
 reload() {
     heard=yes
-    answer=$("$program" tell "$control" reload 2>&1)
+    answer=$("$program" tell --quiet "$control" reload 2>&1)
     [ "$answer" = "done" ] || echo "pced: reload: $answer" >&2
 }
 

@@ -119,8 +119,9 @@ def metrics(page):
     if shutil.which("promtool"):
         ran = subprocess.run(["promtool", "check", "metrics"], input=text.encode(), capture_output=True)
         yield (ran.returncode, ran.stdout + ran.stderr), (0, b"")
-    rows = dict(re.findall(r'^pced_link_unreserved_bytes_per_second\{link="(\d+)",[^}]*priority="7"\} (\S+)$', text, re.M))
-    yield {int(link): int(left) for link, left in rows.items()}, {
+    numbers = dict(re.findall(r'^pced_link_info\{link="(\d+)",([^}]*)\} 1$', text, re.M))
+    rows = dict(re.findall(r'^pced_link_unreserved_bytes_per_second\{([^}]*),priority="7"\} (\S+)$', text, re.M))
+    yield {int(link): int(rows[ends]) for link, ends in numbers.items()}, {
         link: int(page.network.links[link]["reservable"] - page.network.reserved(link, 7)) for link in range(30)}
 
 

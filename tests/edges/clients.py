@@ -13,6 +13,7 @@ from harness.server import ENDED, ControlledServer, ViewedServer, all_of, end, l
 from pcep import diamond
 
 REFUSED = b"refused 1\n"
+IS_REFUSED = 1  # the status of `pced tell` after a refusal
 
 
 def tells(server, line, within=TIMEOUT_S):
@@ -31,7 +32,7 @@ def idle_operators(program):
     for place in (0, 2, 3):
         idle[place].sendall(b"update 10.0.0.9 1\n")
         yield line_of(idle[place]), REFUSED
-    yield tells(server, "update 10.0.0.9 1", 5), (REFUSED, 0, True)
+    yield tells(server, "update 10.0.0.9 1", 5), (REFUSED, IS_REFUSED, True)
     yield all_of(idle[1]), b""
     time.sleep(1.5)
     idle[0].sendall(b"update 10.0.0.9 1\n")
@@ -71,7 +72,7 @@ def operators_who_trickle(program):
     acts = [threading.Thread(target=act, args=(hog,)) for act, hog in zip((trickle, trickle, ask, ask), hogs)]
     [act.start() for act in acts]
     time.sleep(0.5)
-    yield tells(server, "update 10.0.0.9 1", 8), (REFUSED, 0, True)
+    yield tells(server, "update 10.0.0.9 1", 8), (REFUSED, IS_REFUSED, True)
     begun = paced()
     yield server.asked("end"), (b"", 0)
     yield paced() - begun < 15, True

@@ -1,12 +1,12 @@
 """What the log holds back, and what it loses."""
 import fcntl
-import re
 import socket
 import time
 
 import pcep
 from harness.clock import TIMEOUT_S, comes
 from harness.exposition import ends_of
+from harness.logs import counted
 from harness.router import time_of_request, up
 from harness.server import ControlledServer, ViewedServer, end_with_log
 from pcep import diamond
@@ -14,13 +14,6 @@ from pcep import diamond
 # the kinds of lines of a session that comes, has a report refused, and goes, on a server that keeps nothing
 KINDS = ("up", "in sync", "refused", "ended", "forgotten")
 REFUSED = diamond.report(0, 1000.0)
-
-
-def counted(texts, *kinds):
-    """How many lines of these kinds were written or withheld, and how many lines were lost."""
-    withheld = [re.fullmatch(r"withheld (\d+) lines: (.*)", text) for text in texts]
-    return (sum(text.startswith(kind) for text in texts for kind in kinds) + sum(int(match[1]) for match in withheld if match and match[2] in kinds),
-            sum(int(match[1]) for match in (re.fullmatch(r"lost (\d+) lines", text) for text in texts) if match))
 
 
 def from_address(server, number):

@@ -24,3 +24,10 @@ def texts_of(server) -> tuple[int, list[str]]:
 def texts_in(lines: list[str]) -> list[str]:
     """The texts of those lines that are of the log."""
     return [match.group(2) for match in map(LINE.fullmatch, lines) if match]
+
+
+def counted(texts, *kinds):
+    """How many lines of these kinds were written or withheld, and how many lines were lost."""
+    withheld = [re.fullmatch(r"withheld (\d+) lines: (.*)", text) for text in texts]
+    return (sum(text.startswith(kind) for text in texts for kind in kinds) + sum(int(match[1]) for match in withheld if match and match[2] in kinds),
+            sum(int(match[1]) for match in (re.fullmatch(r"lost (\d+) lines", text) for text in texts) if match))

@@ -110,6 +110,8 @@ FREE = book_of(1_000_000, 1_000_000, 1_000_000, 1_000_000)
 BOOK = b"".join(b"link %d" % link + b" 1000000" * 8 + b"\n" for link in range(4))
 # what an operator is answered who ends a server, its status, and what is left in its folder
 ENDED = ((b"", 0), (0, []))
+# the same of a server made by with_text
+ENDED_WITH_TEXT = ((b"", 0), (0, ["te"]))
 
 
 def place_of(path: str) -> int | None:
@@ -125,6 +127,20 @@ def asked(program: str, path: str, *lines: str, words=(), text: bytes | None = N
     source = {"stdin": subprocess.DEVNULL} if text is None else {"input": text}
     ran = subprocess.run([program, "tell", *words, path, *lines], capture_output=True, timeout=300, **source)
     return ran.stdout, ran.returncode
+
+
+def meant(program: str, path: str, *lines: str, words=()) -> tuple[bytes, bytes, int]:
+    """What `pced tell` prints, what it says on standard error, and its status."""
+    ran = subprocess.run([program, "tell", *words, path, *lines], capture_output=True, timeout=300, stdin=subprocess.DEVNULL)
+    return ran.stdout, ran.stderr, ran.returncode
+
+
+def with_text(text: str) -> dict:
+    """How a server is made that reads this link text, in a folder of its own."""
+    folder = tempfile.mkdtemp()
+    with open(f"{folder}/te", "w") as file:
+        file.write(text)
+    return {"te": f"{folder}/te", "folder": folder}
 
 
 class ControlledServer(Server):

@@ -194,6 +194,7 @@ def the_completion(program):
     yield completed("tell", "n"), ["network.toml"]
     yield completed("tell", "control", "li"), ["links", "link"]
     yield completed("tell", "--json", "control", "wi"), ["without"]
+    yield completed("tell", "control", "wa"), ["watch"]
     yield completed("help", "de"), ["decode"]
 
 

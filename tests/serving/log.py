@@ -53,6 +53,7 @@ def what_the_log_says(program):
         wanted = {
             f"listening 127.0.0.1:{server.port} nodes=4 links=4", "up 127.0.1.1 keepalive=30s dead=120s capabilities=stateful,update,initiate",
             "in sync 127.0.1.1 lsps=2", "ended 127.0.1.1 why=second session",
+            "asked 127.0.1.1 ticket=1 request=1 by=request", "replied 127.0.1.1 ticket=1 request=1 links=2,3",
             "ended 127.0.1.1 why=closed by the peer", "forgotten 127.0.1.1", "audited grants=0"}
         yield set(texts) - {"refused 2 127.0.1.1"}, wanted if level in ("info", "debug") else set()
         yield "refused 2 127.0.1.1" in texts, level == "debug"

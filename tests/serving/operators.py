@@ -186,7 +186,9 @@ def a_reload_that_is_shown_first(program):
     yield server.tell("reload"), ["done"]
     yield server.tell("reload"), ["done"]
     _, said, _ = log_of(server)
-    yield [line for line in said if "below" in line[1]], [("WARN", "below zero link=0 local=10.1.0.1 remote=10.1.0.2 worst=-100000")]
+    yield [line for line in said if "below" in line[1]], [
+        ("WARN", "below zero link=0 local=10.1.0.1 remote=10.1.0.2 worst=-100000"), ("INFO", "reload links=4 below=1"),
+        ("INFO", "reload links=4 below=0"), ("INFO", "reload links=4 below=0")]
     file.drop()
 
 

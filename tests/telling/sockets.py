@@ -13,7 +13,7 @@ import time
 import pcep
 from harness.clock import TIMEOUT_S, paced
 from harness.router import Router
-from harness.server import BOOK, ENDED, TE, ControlledServer, all_of, asked, line_of
+from harness.server import BOOK, ENDED, TE, ControlledServer, all_of, asked, line_of, meant
 from pcep import diamond
 
 
@@ -25,7 +25,8 @@ def lines_that_are_answered(program):
     """Lines are answered as on standard input, each on a connection of its own, and end what they ask to end."""
     server = ControlledServer(program)
     yield server.asked("book"), (BOOK, 0)
-    yield server.asked("update 10.0.0.9 1"), (b"refused 1\n", 0)
+    yield server.asked("update 10.0.0.9 1"), (b"refused 1\n", 1)
+    yield server.asked("update 10.0.0.9 1", "book"), (b"refused 1\n" + BOOK, 1)
     yield server.asked("books"), (b"bad line 1\n", 2)
     yield server.asked("books", "book", ""), (b"bad line 1\n" + BOOK + b"bad line 1\n", 2)
     yield server.asked("x" * 5000), (b"bad line 1\n", 2)
@@ -55,7 +56,7 @@ def line_of_file(file):
 
 
 def an_answer_that_breaks_off(program):
-    """If nobody listens, an answer doesn't come, or its last line has no end, the status is 3."""
+    """If nobody listens, an answer doesn't come, or its last line has no end, the status is 3; else it is by the answer."""
     folder = tempfile.mkdtemp()
     path = f"{folder}/s"
     yield asked(program, path, "book"), (b"", 3)
@@ -63,7 +64,10 @@ def an_answer_that_breaks_off(program):
     listener.bind(path)
     yield asked(program, path, "book"), (b"", 3)
     listener.listen()
-    for answer, status in ((b"", 3), (b"link 0 1", 3), (b"link 0 1\n", 0), (b"bad line 1", 3), (b"bad line 1\n", 2)):
+    for answer, status in (
+        (b"", 3), (b"link 0 1", 3), (b"link 0 1\n", 0), (b"bad line 1", 3), (b"bad line 1\n", 2), (b"refused 4", 3), (b"refused 4\n", 1), (b"te fault 3\n", 2),
+        (b"device fault\n", 3), (b"out of memory\n", 5), (b"history full\n", 5), (b"no such LSP\n", 0),
+    ):
         def play():
             operator, _ = listener.accept()
             heard.append(all_of(operator))
@@ -75,7 +79,21 @@ def an_answer_that_breaks_off(program):
         playing.start()
         yield asked(program, path, "book"), (answer, status)
         playing.join()
-        yield heard, [b"book\n"]
+        yield heard, [b"words book\n"]
+    for words, sent, answer, said in (
+        ([], b"words book\n", b"refused 4\n# refused 4: 127.0.1.1 has no LSP 9\n", (b"refused 4\n", b"refused 4: 127.0.1.1 has no LSP 9\n", 1)),
+        (["--quiet"], b"book\n", b"refused 4\n", (b"refused 4\n", b"", 1)),
+        (["--json"], b"words book\n", b"book\n# \n", (b"book\n", b"\n", 0)),
+        ([], b"words book\n", b"bad line 1\n#bad\n", (b"bad line 1\n#bad\n", b"", 2)),
+        ([], b"words book\n", b"a\n# b\n# c\n", (b"a\n# b\n# c\n", b"", 0)),
+        ([], b"words book\n", b"refused 4\n# cut", (b"refused 4\n# cut", b"incomplete answer\n", 3)),
+    ):
+        heard = []
+        playing = threading.Thread(target=play)
+        playing.start()
+        yield meant(program, path, "book", words=words), said
+        playing.join()
+        yield heard, [sent]
     listener.close()
     yield asked(program, path, "book"), (b"", 3)
     yield asked(program, f"{folder}/{'x' * 200}", "book"), (b"", 3)

@@ -41,6 +41,9 @@ def documents(program):
         ("/api/path?bandwidth=600000&to=10.0.0.4&from=10.0.0.1", "path 10.0.0.1 10.0.0.4 600000 7 7"),
         ("/api/path?from=10.0.0.1&to=10.0.0.4&bandwidth=2000000&setup=3", "path 10.0.0.1 10.0.0.4 2000000 3 7"),
         ("/api/path?from=10.0.0.1&to=10.9.9.9&bandwidth=1&hold=0&setup=7", "path 10.0.0.1 10.9.9.9 1 7 0"),
+        ("/api/path?from=10.0.0.1&to=10.0.0.4&bandwidth=6.4Mbit&max-hops=2&metric=igp", "path 10.0.0.1 10.0.0.4 800000 7 7 metric=igp max-hops=2"),
+        ("/api/path?from=10.0.0.1&to=10.0.0.4&bandwidth=0.3kB&exclude=0x1&max-cost=9", "path 10.0.0.1 10.0.0.4 300 7 7 exclude=0x1 max-cost=9"),
+        ("/api/path?from=10.0.0.1&to=10.0.0.4&bandwidth=9bit", "path 10.0.0.1 10.0.0.4 2 7 7"),
     ):
         seen, (shown,) = server.view().document(target), server.shown(line)
         yield rose(ages(seen), ages(shown)), True
@@ -51,6 +54,12 @@ def documents(program):
     yield [seen, then], [first, first]
     yield [server.view().document("/api/lsps")["lsps"][0][name] for name in ("peer", "plsp_id")], ["127.0.1.1", 1]
     yield server.view().document("/api/path?from=10.0.0.1&to=10.0.0.4&bandwidth=250000")["links"], [0, 1]
+    path = "/api/path?from=10.0.0.1&to=10.0.0.4&bandwidth"
+    for value in ("1.5.5kB", ".5kB", "5.kB", "1kb", "1KB", "1Kbit", "1bits", "kB", "1 kB", "-1kB", "+1kB", "281474976.710656MB", "2251799813685248bit", "1e3B", "0x1B", "1.0"):
+        yield (value, server.view().get(f"{path}={value.replace(' ', '%20')}")), (value, refused(400, "bad bandwidth"))
+    for value in ("max-cost=x", "max-cost=1&max-cost=1", "exclude=1", "metric=ospf", "include-any=0x100000000"):
+        yield (value, server.view().get(f"{path}=1&{value}")), (value, refused(400, "bad limit"))
+    yield server.view().get(f"{path}=1&max-price=1"), refused(400, "bad query")
     yield server.end(), ENDED
 
 

@@ -60,6 +60,25 @@ def hosts(program):
     yield server.end(), ENDED
 
 
+def a_name(program):
+    """With `--http-name` a request may name the server by that name too, in any case of letters, and by no other."""
+    server = ViewedServer(program, "--endless", "--http-name", "Pce.Example")
+    viewer = server.view()
+    for host in ("pce.example", "PCE.EXAMPLE:8080", "Pce.Example", "127.0.0.1", "localhost"):
+        yield (host, viewer.get("/api/tickets", host=host)[0]), (host, 200)
+    for host in ("pce.example.", "pce", "example", "a.pce.example", "pce.example.org", "pce-example", "192.0.2"):
+        yield (host, viewer.get("/api/tickets", host=host)), (host, refused(400, "bad host"))
+    for host, named, status in (("pce.example", "localhost", 200), ("other.example", "pce.example", 400)):
+        yield (host, viewer.get(f"http://{host}/api/tickets", host=named)[0]), (host, status)
+    yield server.end(), ENDED
+    server = ViewedServer(program, "--endless", "--http-name", "")
+    viewer = server.view()
+    yield viewer.get("/api/tickets", host="pce.example"), refused(400, "bad host")
+    viewer.send(b"GET /api/tickets HTTP/1.1\r\nHost:\r\n\r\n")
+    yield viewer.answer()[0], 400
+    yield server.end(), ENDED
+
+
 def what_is_too_long(program):
     """Heads have 8 KB and 64 fields at most, and no request has a body. What breaks that is answered, and closed."""
     server = ViewedServer(program)
@@ -124,4 +143,4 @@ def where_viewers_connect(program):
     yield serve_once(program, "--listen", f"127.0.0.1:{port}", "--http", f"127.0.0.1:{port}"), (b"", in_use(f"127.0.0.1:{port}"), 3)
 
 
-CASES = [refusals, hosts, what_is_too_long, pipelines, where_viewers_connect]
+CASES = [refusals, hosts, a_name, what_is_too_long, pipelines, where_viewers_connect]

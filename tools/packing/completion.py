@@ -61,7 +61,7 @@ def rest(command, lines):
 
 def text(program):
     """The completion, for the words of a program."""
-    lines = next(words.line_words(command.after) for command in program.commands if command.name == "serve")
+    lines = [word for command in program.commands if command.name in ("serve", "tell") for word in words.line_words(command.after)]
     names = [*(command.name for command in program.commands), "help", *words.flags(program.options)]
     made = [HEAD.replace("@COMMANDS@", " ".join(names))]
     for command in program.commands:

@@ -1,1 +1,3 @@
 mod Numbers
+mod Hex
+pub mod Parts

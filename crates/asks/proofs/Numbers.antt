@@ -33,7 +33,7 @@ from_parts bits word (Err e) h =
       ]
     ]
 
--- what std parses, where no sign stands in front
+-- what std parses, if there is no sign
 pub by_parse : {E : Type 0} (bits : ℕ) (word : List ℕ) (r : Result ℕ E) → (slice_index word 0 == 43) ≡ false → ParsesUnsigned bits 10 word r → result_ok r ≡ number_of_bits bits word
 by_parse bits word r plain h =
     let other : get_or word 0 0 ≢ 43 = grind (arith, nat_tests) in

@@ -1,2 +1,5 @@
 pub mod Words
+pub mod Limits
 pub mod Lines
+pub mod Rates
+pub mod Places

@@ -1,13 +1,16 @@
 -- What the words of a line ask to see.
-use Rattle.std.specs.Prelude.{ℕ, Bool, List, [], ◌∷◌, Option, Some, None, option_map, option_and_then, codes, if◌then◌else◌}
+use Rattle.std.specs.Prelude.{ℕ, Bool, true, false, List, [], ◌∷◌, Option, Some, None, option_map, option_and_then, codes, if◌then◌else◌}
 use Rattle.std.specs.List.{list_any}
 use Rattle.std.specs.Str.{bytes_eq}
 use Rattle.pcep_word.specs.Address.{address_of}
 use Rattle.pcep_word.specs.Priority.{InForce, in_force}
+use Rattle.asks.specs.Limits.{limits_in, no_limits}
+use Rattle.asks.specs.Rates.{bandwidth_or_rate_in}
 use Rattle.asks.specs.Words.{bandwidth_in, cut_at_space, long_number_in, peer_in, plsp_in, priority_in}
 use Rattle.asks.specs.declared.ask.Ask.{Ask}
 use Rattle.asks.specs.declared.ask.Ask.TheVariants.{Status, Links, LinkLine, Link, Peers, Tickets, Lsps, Lsp, History, Why, Better, Without, Grants, Path, Tunnels}
 use Rattle.asks.specs.declared.ask.LspId.{LspId}
+use Rattle.asks.specs.declared.ask.PathLimits.{PathLimits}
 use Rattle.asks.specs.declared.ask.PathWanted.{PathWanted}
 use Rattle.asks.specs.declared.ask.PeerPage.{PeerPage}
 
@@ -31,17 +34,62 @@ priorities_in line = do
   hold ← priority_in words.1
   Some (in_force setup hold)
 
--- `FROM TO BW SETUP HOLD`
-unfoldable pub path_in : List ℕ → Option PathWanted
-path_in line = do
+-- a bandwidth, with a unit if it may have one
+abbrev pub bandwidth_with : Bool → List ℕ → Option ℕ
+bandwidth_with true word = bandwidth_or_rate_in word
+bandwidth_with false word = bandwidth_in word
+
+-- `FROM TO BW`, where BW may have a unit or not, and what follows
+unfoldable pub ends_in : Bool → List ℕ → Option (ℕ × ℕ × ℕ × List ℕ)
+ends_in has_units line = do
   first ← cut_at_space line
   from ← address_of first.0
   second ← cut_at_space first.1
   to ← address_of second.0
   flow ← cut_at_space second.1
-  bandwidth ← bandwidth_in flow.0
-  priorities ← priorities_in flow.1
-  Some (record { from = from; to = to; bandwidth = bandwidth; priorities = priorities })
+  bandwidth ← bandwidth_with has_units flow.0
+  Some (from, to, bandwidth, flow.1)
+
+-- `FROM TO BW SETUP HOLD`, where BW may have a unit or not: nothing is limited
+unfoldable pub path_with : Bool → List ℕ → Option PathWanted
+path_with has_units line = do
+  ends ← ends_in has_units line
+  priorities ← priorities_in ends.3
+  Some (record { from = ends.0; to = ends.1; bandwidth = ends.2; priorities = priorities; limits = no_limits })
+
+abbrev pub limited_hold : ℕ → Option PathLimits → Option (ℕ × PathLimits)
+limited_hold hold None = None
+limited_hold hold (Some limits) = Some (hold, limits)
+
+abbrev pub hold_of_words : List ℕ → Option (List ℕ × List ℕ) → Option (ℕ × PathLimits)
+hold_of_words line None = option_and_then (λ hold. Some (hold, no_limits)) (priority_in line)
+hold_of_words line (Some words) = option_and_then (λ hold. limited_hold hold (limits_in words.1)) (priority_in words.0)
+
+-- `HOLD [KEY=VALUE ..]`
+unfoldable pub hold_in : List ℕ → Option (ℕ × PathLimits)
+hold_in line = hold_of_words line (cut_at_space line)
+
+-- `SETUP HOLD [KEY=VALUE ..]`
+unfoldable pub limited_priorities_in : List ℕ → Option (InForce × PathLimits)
+limited_priorities_in line = do
+  words ← cut_at_space line
+  setup ← priority_in words.0
+  rest ← hold_in words.1
+  Some (in_force setup rest.0, rest.1)
+
+-- of a script, and of a server's operator
+abbrev pub path_in : List ℕ → Option PathWanted
+path_in line = path_with false line
+
+abbrev pub rated_path_in : List ℕ → Option PathWanted
+rated_path_in line = path_with true line
+
+-- `FROM TO BW SETUP HOLD [KEY=VALUE ..]`, where BW may have a unit
+unfoldable pub limited_path_in : List ℕ → Option PathWanted
+limited_path_in line = do
+  ends ← ends_in true line
+  rest ← limited_priorities_in ends.3
+  Some (record { from = ends.0; to = ends.1; bandwidth = ends.2; priorities = rest.0; limits = rest.1 })
 
 -- the first page of all peers, and of one
 abbrev pub first_page : PeerPage
@@ -63,7 +111,7 @@ ask_alone word =
     else if bytes_eq word (codes "tunnels") then Some (Tunnels first_page)
     else None
 
--- `lsps PEER`, `lsp PEER PLSP`, `link N`, `history N`, `path FROM TO BW SETUP HOLD`, `links N`, `why PEER PLSP`,
+-- `lsps PEER`, `lsp PEER PLSP`, `link N`, `history N`, `path FROM TO BW SETUP HOLD [KEY=VALUE ..]`, `links N`, `why PEER PLSP`,
 -- `better PEER`, `without N`, `grants PEER` and `tunnels PEER`
 unfoldable pub ask_with : List ℕ → List ℕ → Option Ask
 ask_with word rest =
@@ -71,7 +119,7 @@ ask_with word rest =
     else if bytes_eq word (codes "lsp") then option_map Lsp (lsp_in rest)
     else if bytes_eq word (codes "link") then option_map Link (long_number_in rest)
     else if bytes_eq word (codes "history") then option_map History (long_number_in rest)
-    else if bytes_eq word (codes "path") then option_map Path (path_in rest)
+    else if bytes_eq word (codes "path") then option_map Path (limited_path_in rest)
     else if bytes_eq word (codes "links") then option_map LinkLine (long_number_in rest)
     else if bytes_eq word (codes "why") then option_map Why (lsp_in rest)
     else if bytes_eq word (codes "better") then option_map Better (page_in rest)

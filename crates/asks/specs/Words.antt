@@ -12,6 +12,10 @@ is_space byte = byte == 32
 abbrev pub cut_at_space : List ℕ → Option (List ℕ × List ℕ)
 cut_at_space line = option_map (λ i. (take i line, drop (i + 1) line)) (position is_space line)
 
+-- the same of any byte
+abbrev pub cut_at : ℕ → List ℕ → Option (List ℕ × List ℕ)
+cut_at byte text = option_map (λ i. (take i text, drop (i + 1) text)) (position (λ b. b == byte) text)
+
 -- a number below 2 ^ bits in decimal; it may have leading zeros
 abbrev pub number_of_bits : ℕ → List ℕ → Option ℕ
 number_of_bits bits word =

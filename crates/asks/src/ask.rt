@@ -1,5 +1,5 @@
 //! What an operator asks for.
-use lsp_words::Plsp;
+use lsp_words::{Colours, MetricType, Plsp};
 use pcep_word::{Bandwidth, Ipv4, Priorities};
 
 /// A page, of one peer or of all, from a place on.
@@ -16,13 +16,25 @@ pub struct LspId {
     pub plsp: Plsp,
 }
 
-/// What is asked of a path: its ends, its bandwidth and its priorities.
+/// Which metric of a path is to be least, what it may cost, and which links it may take.
+#[derive(Clone, Copy, Debug, PartialEq, Eq)]
+pub struct PathLimits {
+    pub minimise: MetricType,
+    /// The most that the path may cost by that metric.
+    pub max_cost: Option<u64>,
+    /// The most links that it may have.
+    pub max_hops: Option<u64>,
+    pub colours: Colours,
+}
+
+/// What is asked of a path: its ends, its bandwidth, its priorities and its limits.
 #[derive(Clone, Copy, Debug, PartialEq, Eq)]
 pub struct PathWanted {
     pub from: Ipv4,
     pub to: Ipv4,
     pub bandwidth: Bandwidth,
     pub priorities: Priorities,
+    pub limits: PathLimits,
 }
 
 /// A question. Each has the name of its line, and one look answers it.

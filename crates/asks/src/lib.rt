@@ -1,5 +1,6 @@
 //! What an operator asks of a running server (`Ask`), as plain data, and how the words of a line and of a query are read
-//! (`specs/Lines.antt`, `specs/Words.antt`).
+//! (`specs/Lines.antt`, `specs/Words.antt`): also limits of a path (`specs/Limits.antt`) and bandwidths with a unit
+//! (`specs/Rates.antt`). `specs/Places.antt` says which word of a line can't be read.
 //!
 //! ```text
 //! fn first_page(peer: u32) -> Ask {
@@ -9,11 +10,22 @@
 #![tactic(auto)]
 
 mod ask;
+mod limits;
 mod lines;
+mod places;
+mod rates;
 mod words;
 
-pub use ask::{Ask, LspId, PathWanted, PeerPage};
-pub use lines::{ask_in, is_question, lsp_in, path_in, priorities_in};
+pub use ask::{Ask, LspId, PathLimits, PathWanted, PeerPage};
+pub use limits::{KeyFault, PathKeys};
+pub use lines::{
+    ask_in, is_question, limited_path_in, lsp_in, path_in, priorities_in, rated_path_in,
+};
+pub use places::{
+    is_request, names_peer, question_in, word_in, wrong_from_in, wrong_key_in, wrong_peer_in,
+    wrong_rate_in, wrong_to_in,
+};
+pub use rates::{bandwidth_or_rate_in, rate_in};
 pub use words::{
     bandwidth_in, cut_at_space, long_number_in, number_in, peer_in, plsp_in, priority_in,
 };

@@ -1,7 +1,7 @@
 //! Words of a line or a query: numbers, peers, PLSP-IDs, priorities and bandwidths.
-ghost use Rattle.std.specs.Prelude.{◌≡◌, ◌≤◌, ◌==◌, ℕ, option_map, slice_index, IfSome, IfNone};
+ghost use Rattle.std.specs.Prelude.{◌≡◌, ◌<◌, ◌≤◌, ◌==◌, ℕ, option_map, slice_index, IfSome, IfNone};
 ghost use Rattle.pcep_word.specs.Word.{IsBandwidth, IsLeast};
-ghost use Rattle.asks.specs.Words.{bandwidth_in, cut_at_space, long_number_in, number_in, peer_in, plsp_in, priority_in, raised};
+ghost use Rattle.asks.specs.Words.{bandwidth_in, cut_at, cut_at_space, long_number_in, number_in, peer_in, plsp_in, priority_in, raised};
 
 use lsp_words::Plsp;
 use pcep_word::{Bandwidth, Ipv4, Priority, metric_word};
@@ -13,7 +13,16 @@ pub fn cut_at_space(line: &str) -> Option<(&str, &str)>
     line.split_once(' ')
 }
 
-fn has_plus(word: &[u8]) -> bool
+/// Cuts a text at the first of a letter.
+pub(crate) fn cut_at(text: &str, letter: char) -> Option<(&str, &str)>
+    requires { letter < 128 }
+    ensures { option_map (λ x. (x.0.now, x.1.now)) result ≡ cut_at letter text.now }
+{
+    text.split_once(letter)
+}
+
+/// Tests whether a word begins with a plus, which std's parsers take.
+pub(crate) fn has_plus(word: &[u8]) -> bool
     ensures { result ≡ (slice_index word.now 0 == 43) }
 {
     match word {
@@ -73,7 +82,7 @@ pub fn priority_in(word: &str) -> Option<Priority>
 }
 
 /// Finds the least bandwidth that is not below the number, in bytes per second; `None` if there is none below 2^48.
-fn raised(number: u64) -> Option<Bandwidth>
+pub(crate) fn raised(number: u64) -> Option<Bandwidth>
     ensures value { result ≡ raised number }
     ensures found { IfSome result (λ bandwidth. IsLeast (λ v. (number ≤ v) × IsBandwidth v) bandwidth) }
     ensures none { IfNone result ((v : ℕ) → number ≤ v → IsBandwidth v → ⊥) }

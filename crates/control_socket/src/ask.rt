@@ -25,8 +25,14 @@ const END_WAIT_MS: u64 = 50;
 pub enum Outcome {
     /// The line was heard, and this is its whole answer.
     Answered,
-    /// The line was a bad one.
+    /// What the line asks for was refused.
     Refused,
+    /// The line is bad, or the link text that it asks to read.
+    Bad,
+    /// The link text can't be read.
+    Unread,
+    /// Memory ran out, or the history is full.
+    Short,
     /// The answer is missing, or its last line has no line break.
     BrokenOff,
 }
@@ -39,6 +45,7 @@ pub fn is_line(text: &str) -> bool
 }
 
 /// Returns what an answer says to the line. `end` gets no answer.
+#[tactic(auto, unfolding(crate::specs::Answers::outcome_of))]
 pub fn outcome_of(line: &str, answer: &[u8]) -> Outcome
     ensures { result ≡ outcome_of line.now answer.now }
 {
@@ -49,7 +56,22 @@ pub fn outcome_of(line: &str, answer: &[u8]) -> Outcome
         return Outcome::BrokenOff;
     }
     if answer.starts_with(b"bad line ") {
+        return Outcome::Bad;
+    }
+    if answer.starts_with(b"te fault ") {
+        return Outcome::Bad;
+    }
+    if answer.starts_with(b"refused ") {
         return Outcome::Refused;
+    }
+    if answer.starts_with(b"device fault\n") {
+        return Outcome::Unread;
+    }
+    if answer.starts_with(b"out of memory\n") {
+        return Outcome::Short;
+    }
+    if answer.starts_with(b"history full\n") {
+        return Outcome::Short;
     }
     Outcome::Answered
 }
@@ -72,8 +94,8 @@ fn receive<R: Read>(alloc: Global, reader: &mut R) -> io::Result<Vec<u8>>
     Ok(answer)
 }
 
-/// Returns what the server at the path answers a line. A connection carries one line; when it has ended, the answer is
-/// complete.
+/// Returns what the server at the path answers a line, or several with line breaks in between. A connection carries them
+/// only; when it has ended, the answer is complete.
 pub fn tell<R: Net>(rt: &R, alloc: Global, path: &str, line: &str) -> io::Result<Vec<u8>> {
     let stream = UnixStream::connect(rt, path)?;
     stream.set_read_timeout(Some(Duration::from_millis(ANSWER_WAIT_MS)))?;

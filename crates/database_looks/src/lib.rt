@@ -20,6 +20,7 @@ mod lsps;
 mod moves;
 mod nodes;
 mod numbers;
+mod peers;
 mod steps;
 mod upkeep;
 

@@ -5,6 +5,8 @@ use Rattle.http.specs.Request.{head_of}
 use Rattle.http_uri.specs.Uri.{uri_path, uri_query}
 use Rattle.pcep_word.specs.Priority.{in_force}
 use Rattle.asks.specs.declared.ask.Ask.TheVariants as ask
+use Rattle.asks.specs.Limits.{limits_of}
+use Rattle.asks.specs.declared.ask.PathLimits.{PathLimits}
 use Rattle.asks.specs.declared.ask.PeerPage.{PeerPage}
 use Rattle.http_views.specs.Hosts.{is_own}
 use Rattle.http_views.specs.Queries.{link_query, lsps_query, path_query}
@@ -26,6 +28,7 @@ wrong_text wrong.Bandwidth = codes "bad bandwidth\n"
 wrong_text wrong.Setup = codes "bad setup\n"
 wrong_text wrong.Hold = codes "bad hold\n"
 wrong_text wrong.Number = codes "bad number\n"
+wrong_text wrong.Limit = codes "bad limit\n"
 
 -- what is asked at a path that takes no query
 abbrev pub alone : List ℕ → Asked → Asked
@@ -59,15 +62,15 @@ link_given (Err w) = asked.Wrong w
 abbrev pub link_asked : List ℕ → Asked
 link_asked query = link_given (link_query query)
 
--- a path for a bandwidth between two addresses; the lowest priority if none is given
-abbrev pub path_with : Option ℕ → Option ℕ → Option ℕ → ℕ → ℕ → Asked
-path_with None to bandwidth setup hold = asked.Wrong wrong.From
-path_with (Some from) None bandwidth setup hold = asked.Wrong wrong.To
-path_with (Some from) (Some to) None setup hold = asked.Wrong wrong.Bandwidth
-path_with (Some from) (Some to) (Some bandwidth) setup hold = Document (ask.Path (record { from = from; to = to; bandwidth = bandwidth; priorities = in_force setup hold }))
+-- a path, for a bandwidth between two addresses; a priority that isn't given is the lowest
+abbrev pub path_with : Option ℕ → Option ℕ → Option ℕ → ℕ → ℕ → PathLimits → Asked
+path_with None to bandwidth setup hold limits = asked.Wrong wrong.From
+path_with (Some from) None bandwidth setup hold limits = asked.Wrong wrong.To
+path_with (Some from) (Some to) None setup hold limits = asked.Wrong wrong.Bandwidth
+path_with (Some from) (Some to) (Some bandwidth) setup hold limits = Document (ask.Path (record { from = from; to = to; bandwidth = bandwidth; priorities = in_force setup hold; limits = limits }))
 
 unfoldable pub path_of_query : PathQuery → Asked
-path_of_query query = path_with query.from query.to query.bandwidth (unwrap_or query.setup 7) (unwrap_or query.hold 7)
+path_of_query query = path_with query.from query.to query.bandwidth (unwrap_or query.setup 7) (unwrap_or query.hold 7) (limits_of query.keys)
 
 abbrev pub path_given : Result PathQuery Wrong → Asked
 path_given (Ok query) = path_of_query query
@@ -100,12 +103,12 @@ abbrev pub allowed : List ℕ → Asked → Asked
 allowed method NotFound = NotFound
 allowed method a = if only_reads method then a else NotAllowed
 
--- what a request asks for, if it names this server by an address
+-- what a request asks for, if it names this server by an address or by the name that it was given
 abbrev pub asked_of : List ℕ → List ℕ → List ℕ → Asked
 asked_of method path query = allowed method (asked_at path query)
 
-abbrev pub asked_by : Request (List ℕ) → Asked
-asked_by request =
-    if is_own (head_of request).uri (head_of request).headers
+abbrev pub asked_by : List ℕ → Request (List ℕ) → Asked
+asked_by own request =
+    if is_own own (head_of request).uri (head_of request).headers
     then asked_of (head_of request).method (uri_path (head_of request).uri) (unwrap_or (uri_query (head_of request).uri) [])
     else asked.Wrong wrong.Host

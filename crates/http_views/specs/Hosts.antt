@@ -1,5 +1,5 @@
--- Tests whether a request names this server by an address.
-use Rattle.std.specs.Prelude.{ℕ, ◌==◌, ◌&&◌, ◌||◌, Bool, false, List, codes, map, slice_index, is_some, Option, Some, None, option_map}
+-- Whether a request names this server by an address, or by the name that it was given.
+use Rattle.std.specs.Prelude.{ℕ, ◌==◌, ◌&&◌, ◌||◌, not, Bool, false, List, length, codes, map, slice_index, is_some, Option, Some, None, option_map}
 use Rattle.std.specs.Char.{to_ascii_lowercase}
 use Rattle.std.specs.Str.{bytes_eq}
 use Rattle.http_header.specs.FieldValue.{FieldValue, is_visible_text}
@@ -22,29 +22,36 @@ host_name host = name_or (cut_at 58 host) host
 abbrev pub is_localhost : List ℕ → Bool
 is_localhost name = bytes_eq (map to_ascii_lowercase name) (codes "localhost")
 
--- it is `localhost` or an IPv4 address
-abbrev pub is_own_name : List ℕ → Bool
-is_own_name name = is_localhost name || is_some (address_of name)
+abbrev pub is_same_name : List ℕ → List ℕ → Bool
+is_same_name own name = bytes_eq (map to_ascii_lowercase name) (map to_ascii_lowercase own)
+
+-- the name that this server was given, if it isn't empty
+abbrev pub is_this_name : List ℕ → List ℕ → Bool
+is_this_name own name = not (length own == 0) && is_same_name own name
+
+-- `localhost`, an address of IPv4, or the name that this server was given
+abbrev pub is_own_name : List ℕ → List ℕ → Bool
+is_own_name own name = (is_localhost name || is_some (address_of name)) || is_this_name own name
 
 -- it is an IPv6 address: it begins with `[`, and `http_server` refuses any other text in brackets
 abbrev pub is_bracketed : List ℕ → Bool
 is_bracketed host = slice_index host 0 == 91
 
-abbrev pub is_own_host : List ℕ → Bool
-is_own_host host = is_bracketed host || is_own_name (host_name host)
+abbrev pub is_own_host : List ℕ → List ℕ → Bool
+is_own_host own host = is_bracketed host || is_own_name own (host_name host)
 
-abbrev pub is_own_value : FieldValue → Bool
-is_own_value value = is_visible_text value.bytes && is_own_host value.bytes
+abbrev pub is_own_value : List ℕ → FieldValue → Bool
+is_own_value own value = is_visible_text value.bytes && is_own_host own value.bytes
 
--- the request's first Host names this server; every request has one (RFC 9112 section 3.2)
-abbrev pub is_own_first : Option FieldValue → Bool
-is_own_first None = false
-is_own_first (Some value) = is_own_value value
+-- the first Host of a request (RFC 9112 section 3.2), which has one
+abbrev pub is_own_first : List ℕ → Option FieldValue → Bool
+is_own_first own None = false
+is_own_first own (Some value) = is_own_value own value
 
--- if the target is in absolute form, its host counts, whatever Host says (RFC 9112 section 3.2.2)
-abbrev pub is_own_of : Option (List ℕ) → Entries FieldValue → Bool
-is_own_of None headers = is_own_first (get headers (codes "host"))
-is_own_of (Some host) headers = is_own_host host
+-- the host in a target of absolute form counts, whatever Host says (RFC 9112 section 3.2.2)
+abbrev pub is_own_of : List ℕ → Option (List ℕ) → Entries FieldValue → Bool
+is_own_of own None headers = is_own_first own (get headers (codes "host"))
+is_own_of own (Some host) headers = is_own_host own host
 
-abbrev pub is_own : Uri → Entries FieldValue → Bool
-is_own target headers = is_own_of (option_map authority_host (uri_authority target)) headers
+abbrev pub is_own : List ℕ → Uri → Entries FieldValue → Bool
+is_own own target headers = is_own_of own (option_map authority_host (uri_authority target)) headers

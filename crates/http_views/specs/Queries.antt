@@ -3,7 +3,12 @@ use Rattle.std.specs.Prelude.{ℕ, ◌==◌, List, length, fold, codes, Option, 
 use Rattle.std.specs.List.{slice_split}
 use Rattle.std.specs.Str.{bytes_eq}
 use Rattle.pcep_word.specs.Address.{address_of}
-use Rattle.asks.specs.Words.{bandwidth_in, long_number_in, priority_in}
+use Rattle.asks.specs.Limits.{no_keys, with_key}
+use Rattle.asks.specs.Rates.{bandwidth_or_rate_in}
+use Rattle.asks.specs.Words.{long_number_in, priority_in}
+use Rattle.asks.specs.declared.limits.KeyFault.{KeyFault}
+use Rattle.asks.specs.declared.limits.KeyFault.TheVariants as key
+use Rattle.asks.specs.declared.limits.PathKeys.{PathKeys}
 use Rattle.http_views.specs.Words.{cut_at}
 use Rattle.http_views.specs.declared.query.LspsQuery.{LspsQuery}
 use Rattle.http_views.specs.declared.query.PathQuery.{PathQuery}
@@ -52,20 +57,29 @@ lsps_query query = fold with_lsps_part (Ok no_lsps_query) (parts query)
 
 -- ---- a path
 
+-- a limit of the path
+abbrev pub limited : PathQuery → Result PathKeys KeyFault → Result PathQuery Wrong
+limited query (Ok keys) = Ok (record query { keys = keys })
+limited query (Err key.Name) = Err wrong.Query
+limited query (Err key.Value) = Err wrong.Limit
+
+abbrev pub with_limit : PathQuery → List ℕ → List ℕ → Result PathQuery Wrong
+with_limit query name value = limited query (with_key query.keys name value)
+
 unfoldable pub with_path_value : PathQuery → List ℕ → List ℕ → Result PathQuery Wrong
 with_path_value query name value =
     if bytes_eq name (codes "from") then result_map (λ v. record query { from = v }) (once query.from (address_of value) wrong.From)
     else if bytes_eq name (codes "to") then result_map (λ v. record query { to = v }) (once query.to (address_of value) wrong.To)
-    else if bytes_eq name (codes "bandwidth") then result_map (λ v. record query { bandwidth = v }) (once query.bandwidth (bandwidth_in value) wrong.Bandwidth)
+    else if bytes_eq name (codes "bandwidth") then result_map (λ v. record query { bandwidth = v }) (once query.bandwidth (bandwidth_or_rate_in value) wrong.Bandwidth)
     else if bytes_eq name (codes "setup") then result_map (λ v. record query { setup = v }) (once query.setup (priority_in value) wrong.Setup)
     else if bytes_eq name (codes "hold") then result_map (λ v. record query { hold = v }) (once query.hold (priority_in value) wrong.Hold)
-    else Err wrong.Query
+    else with_limit query name value
 
 abbrev pub with_path_part : Result PathQuery Wrong → List ℕ → Result PathQuery Wrong
 with_path_part so_far part = with_part with_path_value so_far part
 
 abbrev pub no_path_query : PathQuery
-no_path_query = record { from = None; to = None; bandwidth = None; setup = None; hold = None }
+no_path_query = record { from = None; to = None; bandwidth = None; setup = None; hold = None; keys = no_keys }
 
 abbrev pub path_query : List ℕ → Result PathQuery Wrong
 path_query query = fold with_path_part (Ok no_path_query) (parts query)

@@ -44,6 +44,7 @@ impl Wrong {
             Wrong::Setup => "bad setup\n",
             Wrong::Hold => "bad hold\n",
             Wrong::Number => "bad number\n",
+            Wrong::Limit => "bad limit\n",
         }
     }
 }
@@ -122,6 +123,7 @@ fn path_of_query(query: PathQuery) -> Asked
         to,
         bandwidth,
         priorities: Priorities::new(setup, hold),
+        limits: query.keys.limits(),
     }))
 }
 
@@ -172,11 +174,11 @@ fn allowed(method: &str, asked: Asked) -> Asked
     }
 }
 
-/// Returns what a request asks for.
-pub fn asked_by(request: &Request<Bytes>) -> Asked
-    ensures { result ≡ asked_by request.now }
+/// Returns what a request asks for, if the server was given this name.
+pub fn asked_by(own: &str, request: &Request<Bytes>) -> Asked
+    ensures { result ≡ asked_by own.now request.now }
 {
-    if !is_own(request.uri(), request.headers()) {
+    if !is_own(own, request.uri(), request.headers()) {
         return Asked::Wrong(Wrong::Host);
     }
     let uri = request.uri();

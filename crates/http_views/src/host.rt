@@ -1,9 +1,9 @@
-//! Tests whether a request names this server by an address. A name that another's DNS resolves to this machine is
-//! refused, so that no page from elsewhere reads what is shown here.
+//! Tests whether a request names this server by an address, or by the name that it was given. Any other name that
+//! another's DNS resolves to this machine is refused, so that no page from elsewhere reads what is shown here.
 ghost use Rattle.std.specs.Prelude.{◌≡◌, ◌==◌, None, option_copied, slice_index};
 ghost use Rattle.http_header.specs.HeaderMap.{get};
 ghost use Rattle.std.specs.Prelude.{codes};
-ghost use Rattle.http_views.specs.Hosts.{host_name, is_bracketed, is_own, is_localhost, is_own_host, is_own_name, is_own_of, is_own_value};
+ghost use Rattle.http_views.specs.Hosts.{host_name, is_bracketed, is_own, is_localhost, is_own_host, is_own_name, is_own_of, is_own_value, is_same_name, is_this_name};
 
 use crate::words::cut_at_colon;
 use http::{HeaderMap, HeaderValue, Uri, header};
@@ -26,10 +26,24 @@ fn is_localhost(name: &str) -> bool
     name.eq_ignore_ascii_case("localhost")
 }
 
-fn is_own_name(name: &str) -> bool
-    ensures { result ≡ is_own_name name.now }
+/// Tests whether two names are the same, in upper or lower case.
+fn is_same_name(own: &str, name: &str) -> bool
+    ensures { result ≡ is_same_name own.now name.now }
 {
-    is_localhost(name) || Ipv4::parse(name).is_some()
+    name.eq_ignore_ascii_case(own)
+}
+
+/// Tests whether a name is the one that this server was given, unless that one is empty.
+fn is_this_name(own: &str, name: &str) -> bool
+    ensures { result ≡ is_this_name own.now name.now }
+{
+    !own.is_empty() && is_same_name(own, name)
+}
+
+fn is_own_name(own: &str, name: &str) -> bool
+    ensures { result ≡ is_own_name own.now name.now }
+{
+    is_localhost(name) || Ipv4::parse(name).is_some() || is_this_name(own, name)
 }
 
 fn is_bracketed(host: &[u8]) -> bool
@@ -43,38 +57,38 @@ fn is_bracketed(host: &[u8]) -> bool
 
 /// Tests whether the host is an IPv6 address in brackets, whose form the connection has checked, or a name of this
 /// machine.
-fn is_own_host(host: &str) -> bool
-    ensures { result ≡ is_own_host host.now }
+fn is_own_host(own: &str, host: &str) -> bool
+    ensures { result ≡ is_own_host own.now host.now }
 {
-    is_bracketed(host.as_bytes()) || is_own_name(host_name(host))
+    is_bracketed(host.as_bytes()) || is_own_name(own, host_name(host))
 }
 
-fn is_own_value(value: &HeaderValue) -> bool
-    ensures { result ≡ is_own_value value.now }
+fn is_own_value(own: &str, value: &HeaderValue) -> bool
+    ensures { result ≡ is_own_value own.now value.now }
 {
     match value.to_str() {
-        Ok(host) => is_own_host(host),
+        Ok(host) => is_own_host(own, host),
         Err(_) => false,
     }
 }
 
-/// Tests whether the header fields name this server by an address, or as `localhost`.
-fn is_own_field(headers: &HeaderMap<HeaderValue>) -> bool
-    ensures { result ≡ is_own_of None headers.now }
+/// Tests whether the header fields name this server by an address, as `localhost`, or by its own name.
+fn is_own_field(own: &str, headers: &HeaderMap<HeaderValue>) -> bool
+    ensures { result ≡ is_own_of own.now None headers.now }
 {
     match headers.get(header::HOST) {
-        Some(value) => is_own_value(value),
+        Some(value) => is_own_value(own, value),
         None => false,
     }
 }
 
-/// Tests whether the request names this server by an address, or as `localhost`: in its target, or else in its header
-/// fields.
-pub(crate) fn is_own(target: &Uri, headers: &HeaderMap<HeaderValue>) -> bool
-    ensures { result ≡ is_own target.now headers.now }
+/// Tests whether the request names this server by an address, as `localhost`, or by its own name: in its target, or else
+/// in its header fields.
+pub(crate) fn is_own(own: &str, target: &Uri, headers: &HeaderMap<HeaderValue>) -> bool
+    ensures { result ≡ is_own own.now target.now headers.now }
 {
     match target.host() {
-        Some(host) => is_own_host(host),
-        None => is_own_field(headers),
+        Some(host) => is_own_host(own, host),
+        None => is_own_field(own, headers),
     }
 }

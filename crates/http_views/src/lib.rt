@@ -11,7 +11,7 @@
 //! ```text
 //! fn show<R: Net<Listener = TcpListener, Stream = TcpStream> + Wait, S: ViewSource, W: Watch>(rt: &R, alloc: Global, keys: RandomState, listener: &TcpListener, source: S, places: &[u8], watch: &W) -> io::Result<()>
 //! {
-//!     serve_views(rt, alloc, keys, listener, &mut ViewService { alloc, source, page: PAGE, places }, watch)
+//!     serve_views(rt, alloc, keys, listener, &mut ViewService { alloc, source, name: "", page: PAGE, places }, watch)
 //! }
 //! ```
 #![tactic(auto)]

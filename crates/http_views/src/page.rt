@@ -311,6 +311,13 @@ function rate(bytes) {
   return (bytes < 0 ? "-" : "") + (bits / size).toFixed(digits) + " " + unit;
 }
 
+/** The least whole number of bytes per second that isn't below this many of a unit. */
+function bytesIn(number, size) {
+  const [whole, part] = Math.min(number, 1e15).toFixed(9).split(".");
+  const scale = 10n ** BigInt(part.length);
+  return Number((BigInt(whole + part) * BigInt(size) + scale - 1n) / scale);
+}
+
 function exactly(bytes) {
   return rate(bytes) + " (" + bytes + " bytes/s)";
 }
@@ -917,7 +924,7 @@ $("ask").onsubmit = event => {
   const address = word => { const node = nodes.find(node => node.name === word.trim()); return node ? node.router_id : word.trim(); };
   const unit = UNITS.find(([name]) => name === $("ask-unit").value)[1];
   choose({ kind: "path", from: address($("ask-from").value), to: address($("ask-to").value),
-    bandwidth: Math.round(Number($("ask-rate").value) * unit), setup: $("ask-setup").value, hold: $("ask-hold").value });
+    bandwidth: bytesIn(Number($("ask-rate").value), unit), setup: $("ask-setup").value, hold: $("ask-hold").value });
 };
 
 // ---- tables ----

@@ -1,15 +1,15 @@
 //! What the query of a request gives under each of its names.
 ghost use Rattle.std.specs.Prelude.{◌≡◌, fold, Ok};
-ghost use Rattle.http_views.specs.Queries.{link_query, lsps_query, no_lsps_query, no_path_query, once, parts, path_query, with_link_part, with_link_value, with_lsps_part, with_lsps_value, with_path_part, with_path_value};
+ghost use Rattle.http_views.specs.Queries.{link_query, lsps_query, no_lsps_query, no_path_query, once, parts, path_query, with_link_part, with_limit, with_link_value, with_lsps_part, with_lsps_value, with_path_part, with_path_value};
 
 use crate::words::cut_at_equals;
-use asks::{bandwidth_in, long_number_in, priority_in};
+use asks::{KeyFault, PathKeys, bandwidth_or_rate_in, long_number_in, priority_in};
 use pcep_word::{Bandwidth, Ipv4, Priority};
 
 /// What is wrong with a request. `text` has the words.
 #[derive(Clone, Copy, PartialEq, Eq, Debug)]
 pub enum Wrong {
-    /// The host is neither an address nor `localhost`.
+    /// The host is neither an address, nor `localhost`, nor the name that this server was given.
     Host,
     /// A part of the query has no known name.
     Query,
@@ -20,6 +20,8 @@ pub enum Wrong {
     Setup,
     Hold,
     Number,
+    /// A limit of a path has no valid value, or comes twice.
+    Limit,
 }
 
 /// What the query of a page of LSPs gives.
@@ -37,6 +39,7 @@ pub(crate) struct PathQuery {
     pub bandwidth: Option<Bandwidth>,
     pub setup: Option<Priority>,
     pub hold: Option<Priority>,
+    pub keys: PathKeys,
 }
 
 /// Returns a valid value that is the first under its name.
@@ -92,6 +95,17 @@ pub(crate) fn lsps_query(query: &str) -> Result<LspsQuery, Wrong>
         .fold(Ok(nothing), |so_far, part| with_lsps_part(so_far, part))
 }
 
+/// Adds a limit of the path.
+fn with_limit(query: PathQuery, name: &str, value: &str) -> Result<PathQuery, Wrong>
+    ensures { result ≡ with_limit query name.now value.now }
+{
+    match query.keys.with_key(name, value) {
+        Ok(keys) => Ok(PathQuery { keys, ..query }),
+        Err(KeyFault::Name) => Err(Wrong::Query),
+        Err(KeyFault::Value) => Err(Wrong::Limit),
+    }
+}
+
 #[tactic(auto, unfolding(crate::specs::Queries::with_path_value))]
 fn with_path_value(query: PathQuery, name: &str, value: &str) -> Result<PathQuery, Wrong>
     ensures { result ≡ with_path_value query name.now value.now }
@@ -106,7 +120,11 @@ fn with_path_value(query: PathQuery, name: &str, value: &str) -> Result<PathQuer
             Ok(PathQuery { to, ..query })
         }
         "bandwidth" => {
-            let bandwidth = once(query.bandwidth, bandwidth_in(value), Wrong::Bandwidth)?;
+            let bandwidth = once(
+                query.bandwidth,
+                bandwidth_or_rate_in(value),
+                Wrong::Bandwidth,
+            )?;
             Ok(PathQuery { bandwidth, ..query })
         }
         "setup" => {
@@ -117,7 +135,7 @@ fn with_path_value(query: PathQuery, name: &str, value: &str) -> Result<PathQuer
             let hold = once(query.hold, priority_in(value), Wrong::Hold)?;
             Ok(PathQuery { hold, ..query })
         }
-        _ => Err(Wrong::Query),
+        _ => with_limit(query, name, value),
     }
 }
 
@@ -134,7 +152,7 @@ fn with_path_part(so_far: Result<PathQuery, Wrong>, part: &str) -> Result<PathQu
     }
 }
 
-/// Reads the query of a path: `from`, `to`, `bandwidth`, `setup` and `hold`, each at most once.
+/// Reads the query of a path: `from`, `to`, `bandwidth`, `setup`, `hold` and the limits of the path, each at most once.
 pub(crate) fn path_query(query: &str) -> Result<PathQuery, Wrong>
     ensures { result ≡ path_query query.now }
 {
@@ -144,6 +162,7 @@ pub(crate) fn path_query(query: &str) -> Result<PathQuery, Wrong>
         bandwidth: None,
         setup: None,
         hold: None,
+        keys: PathKeys::none(),
     };
     query
         .split('&')

@@ -21,6 +21,8 @@ const PAGE_POLICY: &str =
 pub struct ViewService<'a, S: ViewSource> {
     pub alloc: Global,
     pub source: S,
+    /// The name by which viewers may ask for this server; empty if only by its address.
+    pub name: &'a str,
     /// The page that draws the network.
     pub page: &'static str,
     /// The JSON document that says where nodes are on a map.
@@ -146,13 +148,13 @@ impl<'a, S: ViewSource> Service for ViewService<'a, S> {
     ghost use Rattle.http_views.specs.Asked.{asked_by};
 
     ghost answers = { λ old request response new.
-        (new ≡ record old { source = new.source }) × Answers S.is_document S.is_metrics old.page.now old.places.now old.source (asked_by request) response new.source };
+        (new ≡ record old { source = new.source }) × Answers S.is_document S.is_metrics old.page.now old.places.now old.source (asked_by old.name.now request) response new.source };
 
     fn call(
         &mut self,
         request: &Request<Bytes>,
         response: &mut Response,
     ) -> Result<(), AllocError> {
-        self.answer(asked_by(request), response)
+        self.answer(asked_by(self.name, request), response)
     }
 }

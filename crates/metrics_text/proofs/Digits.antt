@@ -4,6 +4,8 @@ use Rattle.std.proofs.Math.Dec.{eqb}
 use Rattle.std.proofs.lemmas.Bool.{cond_both, lt-ltb, ne_eqb}
 use Rattle.std.proofs.lemmas.Fmt.{decimal_step_wide}
 use Rattle.std.specs.Fmt.{decimal, digit_glyph, digits, digits_onto}
+use Rattle.std.specs.Int.{bytes_high_first}
+use Rattle.pcep_word.specs.Address.{dotted, text_of}
 use Rattle.metrics_text.specs.Exposition.{escaped, escaped_byte, places, seconds}
 
 -- each is a digit
@@ -81,4 +83,15 @@ seconds-escaped us = sym (
     escaped-append (decimal (us / 1000000)) (codes "." ++ places us)
     ∙ (λ i. escaped_digits (decimal (us / 1000000)) (decimal_digits (us / 1000000)) i ++ (codes "." ++ escaped_digits (places us) (places_digits us) i)))
 
-pub ruleset escaping = (decimal-escaped, seconds-escaped)
+escaped_dotted : (ns : List ℕ) → escaped (dotted ns) ≡ dotted ns
+escaped_dotted [] = refl
+escaped_dotted (n ∷ []) = escaped_digits (decimal n) (decimal_digits n)
+escaped_dotted (n ∷ m ∷ ns) =
+    escaped-append (decimal n) (46 ∷ dotted (m ∷ ns))
+    ∙ (λ i. escaped_digits (decimal n) (decimal_digits n) i ++ (46 ∷ escaped_dotted (m ∷ ns) i))
+
+pub address-escaped : (a : ℕ) → text_of a ≡ escaped (text_of a)
+unfolding text_of
+address-escaped a = sym (escaped_dotted (bytes_high_first 4 a))
+
+pub ruleset escaping = (decimal-escaped, seconds-escaped, address-escaped)

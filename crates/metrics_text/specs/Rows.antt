@@ -3,23 +3,25 @@ use Rattle.std.specs.Prelude.{ℕ, Bool, false, List, [], ◌∷◌, cond, map, 
 use Rattle.std.specs.Borrow.{Bor}
 use Rattle.std.specs.Fmt.{decimal}
 use Rattle.std.specs.List.{flat_map}
+use Rattle.pcep_word.specs.Address.{text_of}
 use Rattle.server_counts.specs.Counts.{count_of, times_of}
 use Rattle.server_counts.specs.Times.{bounds}
 use Rattle.metrics_text.specs.declared.format.LabelText.{LabelText}
-use Rattle.metrics_text.specs.declared.format.LabelText.TheVariants.{Text, Whole, Bound}
+use Rattle.metrics_text.specs.declared.format.LabelText.TheVariants.{Text, Whole, Address, Bound}
 use Rattle.metrics_text.specs.declared.format.Metric.{Metric}
 use Rattle.metrics_text.specs.declared.table.Family.{Family as Row}
 use Rattle.metrics_text.specs.declared.table.Sources.{Sources}
 use Rattle.metrics_text.specs.declared.table.Samples.{Samples}
-use Rattle.metrics_text.specs.declared.table.Samples.TheVariants.{One, Known, Count, Build, Counts, Steps, Errors, Times, States, Broken, Reservable, Unreserved}
+use Rattle.metrics_text.specs.declared.table.Samples.TheVariants.{One, Known, Count, Build, Counts, Steps, Errors, Times, States, Broken, PeersUp, PeerLsps, PeerGrants, LinkInfo, Reservable, Unreserved}
 use Rattle.metrics_text.specs.Exposition.{Family, Sample, bound_text, samples_text}
-use Rattle.metrics_text.specs.Samples.{broken_in, build, counts, errors, known, one, reservable, state_counts, steps, times, unreserved}
-use Rattle.metrics_text.specs.Table.{every_event, every_number, every_reply, every_state, family}
+use Rattle.metrics_text.specs.Samples.{broken_in, build, counts, errors, grants_of_each, known, link_info, lsps_of_each, one, peers_up, reservable, state_counts, steps, times, unreserved}
+use Rattle.metrics_text.specs.Table.{every_event, every_number, every_reply, every_state, family, peers_in}
 
 -- the text of a label, before it is escaped
 abbrev pub label_of : LabelText → List ℕ
 label_of (Text s) = s.now
 label_of (Whole n) = decimal n
+label_of (Address a) = text_of a
 label_of (Bound us) = bound_text us
 
 abbrev pub labels_of : List LabelText → List (List ℕ)
@@ -43,8 +45,12 @@ samples_of of (Errors way) = errors (of.counters).now way every_number every_num
 samples_of of (Times what) = times bounds (times_of what (of.counters).now)
 samples_of of States = state_counts (of.states).now every_state
 samples_of of Broken = one (broken_in (of.states).now)
-samples_of of Reservable = reservable ((of.book).now).nodes.items ((of.book).now).links.items
-samples_of of Unreserved = unreserved ((of.book).now).nodes.items ((of.book).now).links.items ((of.book).now).left.items
+samples_of of PeersUp = peers_up (peers_in (of.numbers).now)
+samples_of of PeerLsps = lsps_of_each (of.states).now every_state (peers_in (of.numbers).now)
+samples_of of PeerGrants = grants_of_each (((of.numbers).now).peers).grants.items (peers_in (of.numbers).now)
+samples_of of LinkInfo = link_info (((of.numbers).now).book).nodes.items (((of.numbers).now).book).links.items
+samples_of of Reservable = reservable (((of.numbers).now).book).nodes.items (((of.numbers).now).book).links.items
+samples_of of Unreserved = unreserved (((of.numbers).now).book).nodes.items (((of.numbers).now).book).links.items (((of.numbers).now).book).left.items
 
 abbrev pub is_left_out : Samples → Bool
 is_left_out (Known n) = is_none n

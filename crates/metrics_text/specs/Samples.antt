@@ -1,7 +1,8 @@
 -- The samples of metrics.
-use Rattle.std.specs.Prelude.{ℕ, ◌+◌, ◌-◌, ◌^◌, ◌==◌, min, ℤ, nat_eq, Bool, List, [], ◌∷◌, ◌++◌, cond, filter, fold, length, map, slice_get, Option, Some, None}
+use Rattle.std.specs.Prelude.{ℕ, ◌+◌, ◌-◌, ◌^◌, ◌==◌, ◌&&◌, min, ℤ, nat_eq, Bool, true, false, List, [], ◌∷◌, ◌++◌, cond, filter, fold, length, map, slice_get, Option, Some, None}
 use Rattle.std.specs.Fmt.{decimal}
 use Rattle.std.specs.List.{flat_map}
+use Rattle.pcep_word.specs.Address.{text_of}
 use Rattle.te_base.specs.declared.network.Node.{Node}
 use Rattle.te_base.specs.declared.network.Link.{Link}
 use Rattle.server_counts.specs.Counts.{count_of}
@@ -13,6 +14,7 @@ use Rattle.history_core.specs.Briefs.{brief_word}
 use Rattle.history_core.specs.declared.step.Brief.{Brief}
 use Rattle.server_counts.specs.declared.stream.Way.{Way}
 use Rattle.server_counts.specs.declared.stream.Way.TheVariants.{In, Out}
+use Rattle.pce_seen.specs.declared.peers.PeerSession.{PeerSession}
 use Rattle.pce_seen.specs.declared.steps.EventKind.{EventKind}
 use Rattle.pce_view.specs.Fields.{name_at}
 use Rattle.pce_view.specs.Words.{event_word}
@@ -135,17 +137,65 @@ with_broken n x = min (n + x.broken_paths) (2 ^ 64 - 1)
 unfoldable pub broken_in : List ShownState → ℕ
 broken_in states = fold with_broken 0 states
 
--- a link's number and the names of its ends
-abbrev pub link_labels : List Node → ℕ → Link → List (List ℕ)
-link_labels nodes n link = decimal n ∷ name_at nodes link.from ∷ name_at nodes link.to ∷ []
+-- ---- each router
 
--- what may be reserved of each link, from this number on
-abbrev pub reservable_from : List Node → ℕ → List Link → List Sample
-reservable_from nodes n [] = []
-reservable_from nodes n (link ∷ links) = number (link_labels nodes n link) link.reservable ∷ reservable_from nodes (n + 1) links
+abbrev pub flag : Bool → ℕ
+flag true = 1
+flag false = 0
+
+-- 1 if its session is up
+abbrev pub peer_up : PeerSession → Sample
+peer_up p = number (text_of p.peer ∷ []) (flag p.is_up)
+
+unfoldable pub peers_up : List PeerSession → List Sample
+peers_up ps = map peer_up ps
+
+-- how many of its LSPs are in a state
+abbrev pub is_of_peer : ℕ → LspState → ShownState → Bool
+is_of_peer peer s x = x.peer == peer && is_in s x
+
+abbrev pub number_of : ℕ → LspState → List ShownState → ℕ
+number_of peer s states = length (filter (is_of_peer peer s) states)
+
+abbrev pub lsps_in : List ShownState → ℕ → LspState → Sample
+lsps_in states peer s = number (text_of peer ∷ state_label s ∷ []) (number_of peer s states)
+
+unfoldable pub lsps_of : List ShownState → List LspState → PeerSession → List Sample
+lsps_of states each p = map (lsps_in states p.peer) each
+
+unfoldable pub lsps_of_each : List ShownState → List LspState → List PeerSession → List Sample
+lsps_of_each states each ps = flat_map (lsps_of states each) ps
+
+-- how many of its grants no report has settled
+abbrev pub is_owner : ℕ → ℕ → Bool
+is_owner peer owner = owner == peer
+
+abbrev pub grants_of : List ℕ → PeerSession → Sample
+grants_of owners p = number (text_of p.peer ∷ []) (length (filter (is_owner p.peer) owners))
+
+unfoldable pub grants_of_each : List ℕ → List PeerSession → List Sample
+grants_of_each owners ps = map (grants_of owners) ps
+
+-- ---- each link
+
+-- the names of its ends, and its address at the first
+abbrev pub link_labels : List Node → Link → List (List ℕ)
+link_labels nodes link = name_at nodes link.from ∷ name_at nodes link.to ∷ text_of link.local ∷ []
+
+-- the number of each link, from this one on
+abbrev pub numbered : List Node → ℕ → List Link → List Sample
+numbered nodes n [] = []
+numbered nodes n (link ∷ links) = number (decimal n ∷ link_labels nodes link) 1 ∷ numbered nodes (n + 1) links
+
+unfoldable pub link_info : List Node → List Link → List Sample
+link_info nodes links = numbered nodes 0 links
+
+-- what may be reserved of it
+abbrev pub link_reservable : List Node → Link → Sample
+link_reservable nodes link = number (link_labels nodes link) link.reservable
 
 unfoldable pub reservable : List Node → List Link → List Sample
-reservable nodes links = reservable_from nodes 0 links
+reservable nodes links = map (link_reservable nodes) links
 
 -- what is left of a link at each priority, from this one on
 abbrev pub priorities : List (List ℕ) → ℕ → List ℤ → List Sample
@@ -153,13 +203,13 @@ priorities labels priority [] = []
 priorities labels priority (left ∷ lefts) = sample Own (labels ++ decimal priority ∷ []) (Signed left) ∷ priorities labels (priority + 1) lefts
 
 -- of a link that is there
-unfoldable pub link_unreserved : List Node → ℕ → Option Link → List ℤ → List Sample
-link_unreserved nodes n None left = []
-link_unreserved nodes n (Some link) left = priorities (link_labels nodes n link) 0 left
+unfoldable pub link_unreserved : List Node → Option Link → List ℤ → List Sample
+link_unreserved nodes None left = []
+link_unreserved nodes (Some link) left = priorities (link_labels nodes link) 0 left
 
 abbrev pub unreserved_from : List Node → List Link → ℕ → List (List ℤ) → List Sample
 unreserved_from nodes links n [] = []
-unreserved_from nodes links n (left ∷ lefts) = link_unreserved nodes n (slice_get links n) left ++ unreserved_from nodes links (n + 1) lefts
+unreserved_from nodes links n (left ∷ lefts) = link_unreserved nodes (slice_get links n) left ++ unreserved_from nodes links (n + 1) lefts
 
 unfoldable pub unreserved : List Node → List Link → List (List ℤ) → List Sample
 unreserved nodes links lefts = unreserved_from nodes links 0 lefts

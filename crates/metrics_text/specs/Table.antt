@@ -4,7 +4,6 @@ use Rattle.server_counts.specs.Counts.{count_of}
 use Rattle.server_counts.specs.Times.{bounds}
 use Rattle.server_counts.specs.declared.counters.Counters.{Counters}
 use Rattle.server_counts.specs.declared.kinds.Counted.TheVariants as counted
-use Rattle.end_reasons.specs.declared.reason.LastWords.{LastWords}
 use Rattle.end_reasons.specs.declared.reason.Reason.{Reason}
 use Rattle.end_reasons.specs.declared.reason.Reason.TheVariants as reason
 use Rattle.history_core.specs.declared.fault.Fault.TheVariants.{OutOfMemory}
@@ -14,8 +13,8 @@ use Rattle.lsp_base.specs.declared.why.Why.TheVariants.{UnknownPeer}
 use Rattle.history_core.specs.declared.step.Brief.{Brief}
 use Rattle.history_core.specs.declared.step.Brief.TheVariants as brief
 use Rattle.server_counts.specs.declared.stream.Way.TheVariants.{In, Out}
-use Rattle.pce_seen.specs.declared.seen.Book.{Book}
-use Rattle.pce_seen.specs.declared.seen.Counts.{Counts}
+use Rattle.pce_seen.specs.declared.peers.PeerSession.{PeerSession}
+use Rattle.pce_seen.specs.declared.seen.Numbers.{Numbers}
 use Rattle.pce_seen.specs.declared.steps.EventKind.{EventKind}
 use Rattle.pce_seen.specs.declared.steps.EventKind.TheVariants as event
 use Rattle.pce_view.specs.declared.question.ServerInfo.{ServerInfo}
@@ -26,7 +25,7 @@ use Rattle.metrics_text.specs.declared.format.Kind.{Kind}
 use Rattle.metrics_text.specs.declared.format.Kind.TheVariants.{Gauge, Counter, Histogram}
 use Rattle.metrics_text.specs.declared.table.Process.{Process}
 use Rattle.metrics_text.specs.Exposition.{Family, Sample}
-use Rattle.metrics_text.specs.Samples.{broken_in, build, counts, errors, known, one, reservable, state_counts, steps, times, unreserved}
+use Rattle.metrics_text.specs.Samples.{broken_in, build, counts, errors, grants_of_each, known, link_info, lsps_of_each, one, peers_up, reservable, state_counts, steps, times, unreserved}
 
 abbrev pub every_event : List EventKind
 every_event = event.Up ∷ event.Report ∷ event.Marker ∷ event.Down ∷ event.Expire ∷ event.Ask ∷ event.Take ∷ event.Commit ∷ event.Drain ∷ event.Refused ∷ event.Return ∷ event.Delete ∷ event.Reload ∷ []
@@ -98,23 +97,30 @@ counted_families c =
     ∷ family Histogram (codes "pced_look_seconds") (codes "Time for which a look held the lock.") (codes "le" ∷ []) (times bounds c.looks)
     ∷ []
 
+abbrev pub peers_in : Numbers → List PeerSession
+peers_in n = (n.peers).peers.items
+
 -- what was seen of the database
-unfoldable pub seen_families : Counts → Book → List ShownState → List Family
-seen_families n book states =
+unfoldable pub seen_families : Numbers → List ShownState → List Family
+seen_families n states =
     family Gauge (codes "pced_lsps_by_state") (codes "LSPs by the state in which they are shown.") (codes "state" ∷ []) (state_counts states every_state)
     ∷ family Gauge (codes "pced_partly_placed_paths") (codes "Reported paths whose links have a gap.") [] (one (broken_in states))
-    ∷ family Gauge (codes "pced_sessions_up") (codes "Sessions that are up.") [] (one n.sessions_up)
-    ∷ family Gauge (codes "pced_tickets") (codes "Paths that are asked for and not found yet.") [] (one n.tickets)
-    ∷ family Gauge (codes "pced_lsps") (codes "LSPs that are known.") [] (one n.lsps)
-    ∷ family Gauge (codes "pced_paths") (codes "Paths of LSPs, reported or granted.") [] (one n.paths)
-    ∷ family Gauge (codes "pced_waiting_grants") (codes "Granted paths that no report has settled.") [] (one n.waiting_grants)
-    ∷ family Gauge (codes "pced_kept_steps") (codes "Steps that the history keeps.") [] (one n.kept)
-    ∷ family Counter (codes "pced_steps_total") (codes "Steps that were ever taken.") [] (one n.steps)
-    ∷ family Counter (codes "pced_grants_total") (codes "Steps that were grants.") [] (one n.grants)
-    ∷ family Gauge (codes "pced_link_reservable_bytes_per_second") (codes "What may be reserved of a link.") (codes "link" ∷ codes "from" ∷ codes "to" ∷ []) (reservable book.nodes.items book.links.items)
-    ∷ family Gauge (codes "pced_link_unreserved_bytes_per_second") (codes "What is left of a link at a priority.") (codes "link" ∷ codes "from" ∷ codes "to" ∷ codes "priority" ∷ []) (unreserved book.nodes.items book.links.items book.left.items)
+    ∷ family Gauge (codes "pced_sessions_up") (codes "Sessions that are up.") [] (one (n.counts).sessions_up)
+    ∷ family Gauge (codes "pced_tickets") (codes "Paths that are asked for and not found yet.") [] (one (n.counts).tickets)
+    ∷ family Gauge (codes "pced_lsps") (codes "LSPs that are known.") [] (one (n.counts).lsps)
+    ∷ family Gauge (codes "pced_paths") (codes "Paths of LSPs, reported or granted.") [] (one (n.counts).paths)
+    ∷ family Gauge (codes "pced_waiting_grants") (codes "Granted paths that no report has settled.") [] (one (n.counts).waiting_grants)
+    ∷ family Gauge (codes "pced_kept_steps") (codes "Steps that the history keeps.") [] (one (n.counts).kept)
+    ∷ family Counter (codes "pced_steps_total") (codes "Steps that were ever taken.") [] (one (n.counts).steps)
+    ∷ family Counter (codes "pced_grants_total") (codes "Steps that were grants.") [] (one (n.counts).grants)
+    ∷ family Gauge (codes "pced_peer_up") (codes "1 if the session of a router is up, and 0 if not.") (codes "peer" ∷ []) (peers_up (peers_in n))
+    ∷ family Gauge (codes "pced_peer_lsps") (codes "LSPs of a router by the state in which they are shown.") (codes "peer" ∷ codes "state" ∷ []) (lsps_of_each states every_state (peers_in n))
+    ∷ family Gauge (codes "pced_peer_grants") (codes "Granted paths of a router that no report has settled.") (codes "peer" ∷ []) (grants_of_each (n.peers).grants.items (peers_in n))
+    ∷ family Gauge (codes "pced_link_info") (codes "1; the number of a link.") (codes "link" ∷ codes "from" ∷ codes "to" ∷ codes "local" ∷ []) (link_info (n.book).nodes.items (n.book).links.items)
+    ∷ family Gauge (codes "pced_link_reservable_bytes_per_second") (codes "What may be reserved of a link.") (codes "from" ∷ codes "to" ∷ codes "local" ∷ []) (reservable (n.book).nodes.items (n.book).links.items)
+    ∷ family Gauge (codes "pced_link_unreserved_bytes_per_second") (codes "What is left of a link at a priority.") (codes "from" ∷ codes "to" ∷ codes "local" ∷ codes "priority" ∷ []) (unreserved (n.book).nodes.items (n.book).links.items (n.book).left.items)
     ∷ []
 
 -- all metrics
-unfoldable pub families : ServerInfo → Counts → Book → Counters → Process → List ShownState → List Family
-families info n book c process states = program info process ++ (counted_families c ++ seen_families n book states)
+unfoldable pub families : ServerInfo → Numbers → Counters → Process → List ShownState → List Family
+families info n c process states = program info process ++ (counted_families c ++ seen_families n states)

@@ -1,14 +1,13 @@
-//! Samples of what was seen of the database.
-ghost use Rattle.std.specs.Prelude.{◌≡◌, ◌++◌, slice_get, OnOk};
+//! Samples of the states of LSPs.
+ghost use Rattle.std.specs.Prelude.{◌≡◌, ◌++◌, OnOk};
 ghost use Rattle.metrics_text.specs.Rows.{lines_of};
-ghost use Rattle.metrics_text.specs.Samples.{broken_in, is_in, link_labels, link_unreserved, number_in, priorities, reservable, state_counts, state_number, unreserved};
+ghost use Rattle.metrics_text.specs.Samples.{broken_in, is_in, number_in, state_counts, state_number};
 
 use crate::counts::put_number;
-use crate::format::{LabelText, Metric, Series, Value, put_sample};
+use crate::format::{LabelText, Metric};
 use crate::words::state_label;
-use pce_view::{LspState, ShownState, name_at};
+use pce_view::{LspState, ShownState};
 use std::alloc::AllocError;
-use te_base::{Link, Node};
 
 fn state_number(state: LspState) -> usize
     ensures { result ≡ state_number state }
@@ -24,7 +23,7 @@ fn state_number(state: LspState) -> usize
     }
 }
 
-fn is_in(state: LspState, shown: &ShownState) -> bool
+pub(crate) fn is_in(state: LspState, shown: &ShownState) -> bool
     ensures { result ≡ is_in state shown.now }
 {
     state_number(shown.state) == state_number(state)
@@ -71,89 +70,4 @@ pub(crate) fn broken_in(states: &[ShownState]) -> u64
         count = count.saturating_add(shown.broken_paths);
     }
     count
-}
-
-/// Adds what may be reserved of each link.
-#[tactic(auto, using(crate::proofs::Lines::lines), unfolding(crate::specs::Samples::reservable))]
-pub(crate) fn put_reservable(
-    text: &mut Vec<u8>,
-    metric: &Metric<'_>,
-    nodes: &[Node],
-    links: &[Link],
-) -> Result<(), AllocError>
-    ensures { OnOk result (text.new.items ≡ text.old.items
-        ++ lines_of metric.now (reservable nodes.now links.now)) }
-{
-    for (number, link) in links.iter().enumerate() {
-        let labels = [
-            LabelText::Whole(number as u64),
-            LabelText::Text(name_at(nodes, link.from)),
-            LabelText::Text(name_at(nodes, link.to)),
-        ];
-        put_number(text, metric, &labels, link.reservable)?;
-    }
-    Ok(())
-}
-
-/// Adds what is left of a link at each priority.
-#[tactic(auto, using(crate::proofs::Lines::lines))]
-fn put_priorities(
-    text: &mut Vec<u8>,
-    metric: &Metric<'_>,
-    nodes: &[Node],
-    number: usize,
-    link: &Link,
-    lefts: &[i64; 8],
-) -> Result<(), AllocError>
-    ensures { OnOk result (text.new.items ≡ text.old.items
-        ++ lines_of metric.now (priorities (link_labels nodes.now number link.now) 0 lefts.now)) }
-{
-    for (priority, left) in lefts.iter().enumerate() {
-        let labels = [
-            LabelText::Whole(number as u64),
-            LabelText::Text(name_at(nodes, link.from)),
-            LabelText::Text(name_at(nodes, link.to)),
-            LabelText::Whole(priority as u64),
-        ];
-        put_sample(text, metric, Series::Own, &labels, Value::Signed(*left))?;
-    }
-    Ok(())
-}
-
-/// Adds what is left of a link, if it is there.
-#[tactic(auto, unfolding(crate::specs::Samples::link_unreserved))]
-fn put_link_unreserved(
-    text: &mut Vec<u8>,
-    metric: &Metric<'_>,
-    nodes: &[Node],
-    links: &[Link],
-    number: usize,
-    left: &[i64; 8],
-) -> Result<(), AllocError>
-    ensures { OnOk result (text.new.items ≡ text.old.items
-        ++ lines_of metric.now
-        (link_unreserved nodes.now number (slice_get links.now number) left.now)) }
-{
-    match links.get(number) {
-        Some(link) => put_priorities(text, metric, nodes, number, link, left),
-        None => Ok(()),
-    }
-}
-
-/// Adds what is left of each link.
-#[tactic(auto, using(crate::proofs::Lines::lines), unfolding(crate::specs::Samples::unreserved))]
-pub(crate) fn put_unreserved(
-    text: &mut Vec<u8>,
-    metric: &Metric<'_>,
-    nodes: &[Node],
-    links: &[Link],
-    lefts: &[[i64; 8]],
-) -> Result<(), AllocError>
-    ensures { OnOk result (text.new.items ≡ text.old.items
-        ++ lines_of metric.now (unreserved nodes.now links.now lefts.now)) }
-{
-    for (number, left) in lefts.iter().enumerate() {
-        put_link_unreserved(text, metric, nodes, links, number, left)?;
-    }
-    Ok(())
 }

@@ -1,10 +1,12 @@
 //! Lines of Prometheus's text format 0.0.4.
 ghost use Rattle.std.specs.Fmt.{decimal};
 ghost use Rattle.std.specs.Prelude.{◌≡◌, ◌++◌, map, OnOk};
+ghost use Rattle.pcep_word.specs.Address.{text_of};
 ghost use Rattle.metrics_text.specs.Exposition.{bound_text, escaped, escaped_byte, help_text, kind_word, label_text, labels_text, more_labels, places, sample, sample_text, seconds, suffix, type_text, value_text};
 ghost use Rattle.metrics_text.specs.Rows.{label_of, labels_of, names_of};
 
 use itoa::Buffer;
+use pcep_word::Ipv4;
 use std::alloc::AllocError;
 
 /// What kind of metric it is.
@@ -38,6 +40,7 @@ pub enum Value {
 pub enum LabelText<'a> {
     Text(&'a str),
     Whole(u64),
+    Address(Ipv4),
     /// A bound in microseconds, which is written as seconds, or `+Inf` if there is none.
     Bound(Option<u64>),
 }
@@ -105,6 +108,22 @@ fn put_value(text: &mut Vec<u8>, value: Value) -> Result<(), AllocError>
     }
 }
 
+/// Adds an address: its four numbers, joined by points.
+#[tactic(auto, unfolding(pcep_word::specs::Address::text_of))]
+fn put_address(text: &mut Vec<u8>, at: Ipv4) -> Result<(), AllocError>
+    ensures { OnOk result (text.new.items ≡ text.old.items ++ text_of at) }
+{
+    let [a, b, c, d] = at.bytes();
+    let mut buffer = Buffer::new();
+    text.extend_from_slice(buffer.format(a).as_bytes())?;
+    text.push(b'.')?;
+    text.extend_from_slice(buffer.format(b).as_bytes())?;
+    text.push(b'.')?;
+    text.extend_from_slice(buffer.format(c).as_bytes())?;
+    text.push(b'.')?;
+    text.extend_from_slice(buffer.format(d).as_bytes())
+}
+
 /// Adds the text of a label, escaped. Digits and points need no escaping.
 #[tactic(auto, using(crate::proofs::Digits::escaping))]
 fn put_label_text(text: &mut Vec<u8>, label: &LabelText<'_>) -> Result<(), AllocError>
@@ -114,6 +133,7 @@ fn put_label_text(text: &mut Vec<u8>, label: &LabelText<'_>) -> Result<(), Alloc
     match label {
         LabelText::Text(label) => put_escaped(text, label.as_bytes()),
         LabelText::Whole(n) => text.extend_from_slice(buffer.format(*n).as_bytes()),
+        LabelText::Address(at) => put_address(text, *at),
         LabelText::Bound(Some(us)) => put_seconds(text, *us),
         LabelText::Bound(None) => text.extend_from_slice(b"+Inf"),
     }

@@ -1,8 +1,7 @@
 //! What is written is read.
 ghost use Rattle.std.specs.Prelude.{◌≡◌, List, [], true};
 ghost use Rattle.server_counts.specs.declared.counters.Counters.{Counters};
-ghost use Rattle.pce_seen.specs.declared.seen.Book.{Book};
-ghost use Rattle.pce_seen.specs.declared.seen.Counts.{Counts};
+ghost use Rattle.pce_seen.specs.declared.seen.Numbers.{Numbers};
 ghost use Rattle.pce_view.specs.declared.question.ServerInfo.{ServerInfo};
 ghost use Rattle.pce_view.specs.declared.shown_states.ShownState.{ShownState};
 ghost use Rattle.metrics_text.specs.Exposition.{Family};
@@ -17,7 +16,7 @@ pub fn what_is_written_is_read()
 
 /// It reads the metrics of the table so, whatever was seen and counted.
 pub fn all_metrics_are_read()
-    ensures { (info : ServerInfo) (n : Counts) (book : Book) (c : Counters)
+    ensures { (info : ServerInfo) (n : Numbers) (c : Counters)
         (process : Process) (states : List ShownState)
-        → IsRead (families info n book c process states) }
+        → IsRead (families info n c process states) }
 {}

@@ -2,7 +2,7 @@
 //!
 //! - `format`: lines of the format
 //! - `words`: words of labels
-//! - `counts`, `times`, `database`: samples
+//! - `counts`, `times`, `database`, `peers`, `links`: samples
 //! - `table`: a row for each metric
 //! - `laws`: what is written is read
 #![tactic(auto)]
@@ -11,6 +11,8 @@ mod counts;
 mod database;
 mod format;
 mod laws;
+mod links;
+mod peers;
 mod table;
 mod times;
 mod words;

@@ -6,12 +6,14 @@ ghost use Rattle.metrics_text.specs.Samples.{build};
 ghost use Rattle.metrics_text.specs.Table.{counted_families, families, program, seen_families};
 
 use crate::counts::{put_counts, put_errors, put_number, put_steps};
-use crate::database::{broken_in, put_reservable, put_states, put_unreserved};
+use crate::database::{broken_in, put_states};
 use crate::format::{Kind, LabelText, Metric, put_help, put_type};
+use crate::links::{put_link_info, put_reservable, put_unreserved};
+use crate::peers::{put_grants_of_each, put_lsps_of_each, put_peers_up};
 use crate::times::put_times;
 use end_reasons::{LastWords, Reason};
 use history_core::{Brief, Fault, Why};
-use pce_seen::{Book, Counts, EventKind};
+use pce_seen::{EventKind, Numbers};
 use pce_view::{LspState, ServerInfo, ShownState};
 use server_counts::{BOUNDS_US, Counted, Counters, MessageKind, Timed, Way};
 use std::alloc::{AllocError, Global};
@@ -31,7 +33,7 @@ pub struct Process {
 #[derive(Clone, Copy)]
 pub(crate) struct Sources<'a> {
     pub info: &'a ServerInfo<'a>,
-    pub book: &'a Book,
+    pub numbers: &'a Numbers,
     pub counters: &'a Counters,
     pub states: &'a [ShownState],
 }
@@ -59,6 +61,14 @@ pub(crate) enum Samples<'a> {
     States,
     /// Paths that have a gap.
     Broken,
+    /// Which routers' sessions are up.
+    PeersUp,
+    /// LSPs of each router by state.
+    PeerLsps,
+    /// Grants of each router that no report has settled.
+    PeerGrants,
+    /// The number of each link.
+    LinkInfo,
     /// What may be reserved of each link.
     Reservable,
     /// What is left of each link at each priority.
@@ -243,7 +253,7 @@ fn put_samples(
     ensures { OnOk result (text.new.items ≡ text.old.items
         ++ lines_of metric.now (samples_of of.now samples.now)) }
 {
-    let (counters, book) = (of.counters, of.book);
+    let (counters, peers, book) = (of.counters, &of.numbers.peers, &of.numbers.book);
     match samples {
         Samples::One(n) | Samples::Known(Some(n)) => put_number(text, metric, &[], *n),
         Samples::Known(None) => Ok(()),
@@ -255,6 +265,10 @@ fn put_samples(
         Samples::Times(what) => put_times(text, metric, &BOUNDS_US, &counters.times(*what)),
         Samples::States => put_states(text, metric, of.states, &STATES),
         Samples::Broken => put_number(text, metric, &[], broken_in(of.states)),
+        Samples::PeersUp => put_peers_up(text, metric, &peers.peers),
+        Samples::PeerLsps => put_lsps_of_each(text, metric, of.states, &STATES, &peers.peers),
+        Samples::PeerGrants => put_grants_of_each(text, metric, &peers.grants, &peers.peers),
+        Samples::LinkInfo => put_link_info(text, metric, &book.nodes, &book.links),
         Samples::Reservable => put_reservable(text, metric, &book.nodes, &book.links),
         Samples::Unreserved => put_unreserved(text, metric, &book.nodes, &book.links, &book.left),
     }
@@ -351,10 +365,11 @@ fn put_counted(text: &mut Vec<u8>, of: &Sources<'_>) -> Result<(), AllocError>
 
 /// Adds what was seen of the database.
 #[tactic(auto, unfolding(crate::specs::Table::seen_families))]
-fn put_seen(text: &mut Vec<u8>, of: &Sources<'_>, counts: &Counts) -> Result<(), AllocError>
+fn put_seen(text: &mut Vec<u8>, of: &Sources<'_>) -> Result<(), AllocError>
     ensures { OnOk result (text.new.items ≡ text.old.items
-        ++ exposition (seen_families counts.now of.now.book.now of.now.states.now)) }
+        ++ exposition (seen_families of.now.numbers.now of.now.states.now)) }
 {
+    let counts = of.numbers.counts;
     put_families(
         text,
         of,
@@ -369,8 +384,12 @@ fn put_seen(text: &mut Vec<u8>, of: &Sources<'_>, counts: &Counts) -> Result<(),
             Gauge "pced_kept_steps" "Steps that the history keeps." [] One(counts.kept);
             Counter "pced_steps_total" "Steps that were ever taken." [] One(counts.steps);
             Counter "pced_grants_total" "Steps that were grants." [] One(counts.grants);
-            Gauge "pced_link_reservable_bytes_per_second" "What may be reserved of a link." ["link" "from" "to"] Reservable;
-            Gauge "pced_link_unreserved_bytes_per_second" "What is left of a link at a priority." ["link" "from" "to" "priority"] Unreserved;
+            Gauge "pced_peer_up" "1 if the session of a router is up, and 0 if not." ["peer"] PeersUp;
+            Gauge "pced_peer_lsps" "LSPs of a router by the state in which they are shown." ["peer" "state"] PeerLsps;
+            Gauge "pced_peer_grants" "Granted paths of a router that no report has settled." ["peer"] PeerGrants;
+            Gauge "pced_link_info" "1; the number of a link." ["link" "from" "to" "local"] LinkInfo;
+            Gauge "pced_link_reservable_bytes_per_second" "What may be reserved of a link." ["from" "to" "local"] Reservable;
+            Gauge "pced_link_unreserved_bytes_per_second" "What is left of a link at a priority." ["from" "to" "local" "priority"] Unreserved;
         },
     )
 }
@@ -379,24 +398,23 @@ fn put_seen(text: &mut Vec<u8>, of: &Sources<'_>, counts: &Counts) -> Result<(),
 pub fn metrics_text<'x>(
     alloc: Global,
     info: &'x ServerInfo<'x>,
-    counts: &Counts,
-    book: &'x Book,
+    numbers: &'x Numbers,
     counters: &'x Counters,
     process: Process,
     states: &'x [ShownState],
 ) -> Result<Vec<u8>, AllocError>
     ensures { IfOk result (λ text. text.items
-        ≡ exposition (families info.now counts.now book.now counters.now process states.now)) }
+        ≡ exposition (families info.now numbers.now counters.now process states.now)) }
 {
     let mut text = Vec::new(alloc);
     let of = Sources {
         info,
-        book,
+        numbers,
         counters,
         states,
     };
     put_program(&mut text, &of, process)?;
     put_counted(&mut text, &of)?;
-    put_seen(&mut text, &of, counts)?;
+    put_seen(&mut text, &of)?;
     Ok(text)
 }

@@ -24,6 +24,20 @@ pub struct LspOwner {
     pub is_delegated: bool,
 }
 
+/// Whether the session of a peer is up.
+#[derive(Clone, Copy)]
+pub struct PeerSession {
+    pub peer: u32,
+    pub is_up: bool,
+}
+
+/// The peers in the order in which they came, and whose each grant is that no report has settled, in the order of the paths.
+#[derive(Drop)]
+pub struct PeerGrants {
+    pub peers: Vec<PeerSession>,
+    pub grants: Vec<u32>,
+}
+
 /// The peers in the order in which they came, and the owner of each LSP, in the order of the records.
 #[derive(Drop)]
 pub struct SeenPeers {

@@ -1,4 +1,5 @@
 //! The network and its counts.
+use crate::peers::PeerGrants;
 use te_base::{Link, Node};
 use te_snapshot::Snapshot;
 
@@ -29,6 +30,14 @@ pub struct Book {
     pub nodes: Vec<Node>,
     pub links: Vec<Link>,
     pub left: Vec<[i64; 8]>,
+}
+
+/// What is counted and measured, all at one moment.
+#[derive(Drop)]
+pub struct Numbers {
+    pub counts: Counts,
+    pub peers: PeerGrants,
+    pub book: Book,
 }
 
 /// The nodes, and what a path search reads.

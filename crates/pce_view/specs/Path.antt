@@ -1,4 +1,4 @@
--- `path FROM TO BW SETUP HOLD`: a path that nobody asks the network for, or what stands in its way.
+-- `path FROM TO BW SETUP HOLD [KEY=VALUE ..]`: a path that nobody asks the network for, or what stands in its way.
 use Rattle.std.specs.Prelude.{ℕ, List, [], ◌∷◌, codes, Option, Some, None, ◌≡◌, false}
 use Rattle.json.specs.Json.{Json, boolean, array, object, Items, no_items, item, no_members, member, document}
 use Rattle.path_looks.specs.declared.answer.PathAnswer.{PathAnswer}
@@ -7,10 +7,9 @@ use Rattle.path_looks.specs.declared.link_room.LinkRoom.{LinkRoom}
 use Rattle.pce_view.specs.Fields.{left_or_null, obstacle_json, whole_or_null, wholes}
 use Rattle.pce_view.specs.Json.{whole}
 use Rattle.pce_view.specs.Words.{cost_in, is_found, link_in, links_in, obstacle_of}
-use Rattle.lsp_words.specs.declared.object.MetricType.TheVariants.{Te}
 use Rattle.lsp_base.specs.declared.lsp.Constraints.{Constraints}
 use Rattle.te_snapshot.specs.Network.{NetworkState, network_of}
-use Rattle.path_looks.specs.Paths.{any_colours, full_links, no_bounds, IsPathAnswer}
+use Rattle.path_looks.specs.Paths.{full_links, no_bounds, IsPathAnswer}
 use Rattle.path_looks.specs.Tightest.{tightest}
 use Rattle.pce_seen.specs.declared.seen.Network.{Network}
 use Rattle.te_snapshot.specs.Left.{state_beside}
@@ -41,17 +40,17 @@ path_answer_json a tightest full = object
     (member (codes "full_links") (array (full_items full))
     no_members)))))))
 
--- what is asked of a path: the least TE metric, of no colour and with no bound
+-- what is asked of a path; no metric is bounded but the one that is to be least
 abbrev pub wanted : PathWanted → Constraints
 wanted q = record {
   source = Some q.from;
   destination = Some q.to;
   bandwidth = q.bandwidth;
   priorities = q.priorities;
-  colours = any_colours;
-  minimise = Te;
-  bound = None;
-  hop_bound = None;
+  colours = (q.limits).colours;
+  minimise = (q.limits).minimise;
+  bound = (q.limits).max_cost;
+  hop_bound = (q.limits).max_hops;
   other_bounds = no_bounds;
   local_protection = false;
 }

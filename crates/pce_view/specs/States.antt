@@ -128,7 +128,7 @@ gaps_at gaps place = known_gaps (slice_get gaps place)
 -- ---- what metrics count of all LSPs
 
 abbrev pub shown_state : Heard → List (Option Gap) → KnownLsp → ShownState
-shown_state h gaps l = record { state = state_of h.words l.paths; broken_paths = length (filter (λ g. is_some g) gaps) }
+shown_state h gaps l = record { peer = (l.known).peer; state = state_of h.words l.paths; broken_paths = length (filter (λ g. is_some g) gaps) }
 
 -- each LSP from this place on
 abbrev pub shown_states : Heard → List (List (Option Gap)) → ℕ → List KnownLsp → List ShownState

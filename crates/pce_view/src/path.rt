@@ -1,4 +1,4 @@
-//! `path FROM TO BW SETUP HOLD`: a path that nobody asks the network for, or what stands in its way.
+//! `path FROM TO BW SETUP HOLD [KEY=VALUE ..]`: a path that nobody asks the network for, or what stands in its way.
 ghost use Rattle.std.specs.Prelude.{◌≡◌, IfOk, ◌++◌, Some, OnOk};
 ghost use Rattle.pce_view.specs.Path.{SeesNetwork};
 ghost use Rattle.json.specs.Tree.{json_tokens};
@@ -22,7 +22,6 @@ use json::Writer;
 use lsp_base::{Constraints, OtherBounds};
 use path_looks::{FullLink, LinkRoom, PathAnswer, full_links, path_on, tightest};
 use pce_seen::Network;
-use pcep_objects::{Colours, MetricType};
 use pcep_word::Priority;
 use std::alloc::{AllocError, Global};
 use std::fmt::Write;
@@ -30,7 +29,7 @@ use table_text::add_rate;
 use te_base::{LinkNumber, Node};
 use te_snapshot::Snapshot;
 
-/// Gives what is asked of a path: the least TE metric, of no colour and with no bound.
+/// Gives what is asked of a path. No metric is bounded but the one that is to be least.
 fn wanted(asked: PathWanted) -> Constraints
     ensures { result ≡ wanted asked }
 {
@@ -39,14 +38,10 @@ fn wanted(asked: PathWanted) -> Constraints
         destination: Some(asked.to),
         bandwidth: asked.bandwidth,
         priorities: asked.priorities,
-        colours: Colours {
-            exclude_any: 0,
-            include_any: 0,
-            include_all: 0,
-        },
-        minimise: MetricType::Te,
-        bound: None,
-        hop_bound: None,
+        colours: asked.limits.colours,
+        minimise: asked.limits.minimise,
+        bound: asked.limits.max_cost,
+        hop_bound: asked.limits.max_hops,
         other_bounds: OtherBounds {
             igp: None,
             te: None,

@@ -9,9 +9,10 @@ use pce_seen::{Gap, KnownLsp, PlacedPage};
 use sequence::Sequence;
 use std::alloc::AllocError;
 
-/// In which state an LSP is shown, and how many of its paths have a gap.
+/// Whose an LSP is, in which state it is shown, and how many of its paths have a gap.
 #[derive(Clone, Copy)]
 pub struct ShownState {
+    pub peer: u32,
     pub state: LspState,
     pub broken_paths: u64,
 }
@@ -34,6 +35,7 @@ fn shown_state(heard: &Heard, gaps: &[Option<Gap>], seen: &KnownLsp) -> ShownSta
     ensures { result ≡ shown_state heard.now gaps.now seen.now }
 {
     ShownState {
+        peer: seen.known.peer,
         state: state_of(&heard.words, seen.paths.as_slice()),
         broken_paths: gap_count(gaps),
     }

@@ -19,10 +19,10 @@ use log::Log;
 use pce_engine::ScriptFault;
 use pce_server::ErrorOutput;
 use pced_commands::{
-    LinesEnd, ServeFault, TellFault, check, lines_status, print_version, refused, serve_status,
-    tell_all, tell_status,
+    LinesEnd, ServeFault, TellFault, WatchWord, check, lines_status, print_version, refused,
+    serve_status, tell_all, tell_status, watch_in, watch_server,
 };
-use pced_words::{ServeWords, Task, parse};
+use pced_words::{ServeWords, Task, TellWords, parse};
 use script_commands::{decode, end, explain_script, fail, open_standard, print_script};
 use serve::serve;
 use std::alloc::Global;
@@ -105,6 +105,21 @@ fn serve_to_end<
     end_serving(rt, outcome, &told)
 }
 
+/// Sends the lines of the words, or watches the server if they ask for that.
+fn tell_or_watch<R: Runtime<A = Global> + Net>(
+    rt: &R,
+    files: &HostRuntime,
+    words: &TellWords<'_>,
+) -> Result<LinesEnd, TellFault> {
+    match watch_in(&words.lines) {
+        WatchWord::Absent => tell_all(rt, words),
+        WatchWord::Every(seconds) if !words.is_json => {
+            watch_server(rt, files, words.path, seconds)
+        }
+        _ => Err(TellFault::BadArgument),
+    }
+}
+
 /// Prints how lines were answered, and returns the status.
 fn end_lines<R: Eprint>(rt: &R, outcome: Result<LinesEnd, TellFault>) -> io::Result<u8>
     ensures status { IfOk result (λ given. given ≡ ended_tell_status outcome) }
@@ -136,7 +151,7 @@ fn run<
         Ok(Task::Decode) => decode(rt),
         Ok(Task::Check(file)) => check(files, file),
         Ok(Task::Serve(words)) => serve_to_end(rt, files, &words),
-        Ok(Task::Tell(words)) => end_lines(rt, tell_all(rt, &words)),
+        Ok(Task::Tell(words)) => end_lines(rt, tell_or_watch(rt, files, &words)),
     }
 }
 

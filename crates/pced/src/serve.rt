@@ -249,6 +249,7 @@ fn listeners_at<'a>(
     http: &'a Option<TcpListener>,
     keys: Option<RandomState>,
     places: &'a [u8],
+    name: &'a str,
     files: &'a HostRuntime,
 ) -> Listeners<'a> {
     let viewers = match (http, keys) {
@@ -256,6 +257,7 @@ fn listeners_at<'a>(
             listener,
             keys,
             places,
+            name,
             files,
         }),
         _ => None,
@@ -368,6 +370,7 @@ pub fn serve<
         &http,
         keys,
         &places,
+        words.http_name.unwrap_or(""),
         files,
     );
     let outcome = serve_run(

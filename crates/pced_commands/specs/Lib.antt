@@ -1,3 +1,4 @@
 pub mod Statuses
 pub mod Texts
 pub mod Tells
+pub mod Watches

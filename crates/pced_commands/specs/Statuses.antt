@@ -7,7 +7,8 @@ use Rattle.clap.specs.declared.error.kind.ErrorKind.TheVariants as word
 use Rattle.pce_engine.specs.declared.fault.ScriptFault.{ScriptFault}
 use Rattle.pce_engine.specs.declared.fault.ScriptFault.TheVariants.{ReadFault, OutOfMemory}
 use Rattle.te_base.specs.declared.fault.TeFault.{TeFault}
-use Rattle.te_base.specs.declared.fault.TeFault.TheVariants as te
+use Rattle.control_socket.specs.declared.ask.Outcome.{Outcome}
+use Rattle.control_socket.specs.declared.ask.Outcome.TheVariants as outcome
 use Rattle.history_seats.specs.declared.fault.AuditFault.{AuditFault}
 use Rattle.history_seats.specs.declared.fault.AuditFault.TheVariants as audit
 use Rattle.server_signals.specs.declared.run.RunFault.{RunFault}
@@ -17,7 +18,7 @@ use Rattle.pced_commands.specs.declared.fault.ServeFault.TheVariants as serve
 use Rattle.pced_commands.specs.declared.tell.TellFault.{TellFault}
 use Rattle.pced_commands.specs.declared.tell.TellFault.TheVariants as tell
 use Rattle.pced_commands.specs.declared.tell.LinesEnd.{LinesEnd}
-use Rattle.pced_commands.specs.declared.tell.LinesEnd.TheVariants.{AllHeard, SomeRefused}
+use Rattle.pced_commands.specs.declared.tell.LinesEnd.TheVariants.{AllHeard, SomeRefused, SomeBad, SomeUnread, SomeShort}
 use Rattle.script_commands.specs.Statuses.{te_status}
 
 -- the exit status of a check of a link text
@@ -62,10 +63,22 @@ tell_status tell.BrokenOff = 3
 tell_status tell.Device = 3
 tell_status tell.OutOfMemory = 5
 
--- the exit status after lines were answered
+-- what came of a line that was answered so
+abbrev pub end_of : Outcome → Result LinesEnd TellFault
+end_of outcome.Answered = Ok AllHeard
+end_of outcome.Refused = Ok SomeRefused
+end_of outcome.Bad = Ok SomeBad
+end_of outcome.Unread = Ok SomeUnread
+end_of outcome.Short = Ok SomeShort
+end_of outcome.BrokenOff = Err tell.BrokenOff
+
+-- the exit status of lines that were answered
 abbrev pub lines_status : LinesEnd → ℕ
 lines_status AllHeard = 0
-lines_status SomeRefused = 2
+lines_status SomeRefused = 1
+lines_status SomeBad = 2
+lines_status SomeUnread = 3
+lines_status SomeShort = 5
 
 abbrev pub ended_tell_status : Result LinesEnd TellFault → ℕ
 ended_tell_status (Ok end) = lines_status end

@@ -12,6 +12,9 @@ use script_commands::{DEVICE, INPUT, MEMORY};
 use server_signals::RunFault;
 use te_base::TeFault;
 
+/// What a line asked for was refused.
+const REFUSED: u8 = 1;
+
 /// The audit at the end failed.
 const AUDIT: u8 = 4;
 
@@ -66,7 +69,10 @@ pub fn lines_status(end: LinesEnd) -> u8
 {
     match end {
         LinesEnd::AllHeard => 0,
-        LinesEnd::SomeRefused => INPUT,
+        LinesEnd::SomeRefused => REFUSED,
+        LinesEnd::SomeBad => INPUT,
+        LinesEnd::SomeUnread => DEVICE,
+        LinesEnd::SomeShort => MEMORY,
     }
 }
 

@@ -1,8 +1,9 @@
 //! `pced tell`: sends lines to a running server, each on a connection of its own, and prints its answers.
-ghost use Rattle.std.specs.Prelude.{◌≡◌, ◌++◌, IfOk, codes, string_bytes};
-ghost use Rattle.pced_commands.specs.Statuses.{tell_fault};
-ghost use Rattle.pced_commands.specs.Tells.{first_word, sent, shows};
+ghost use Rattle.std.specs.Prelude.{◌≡◌, ◌++◌, IfOk, codes, max, option_map, string_bytes};
+ghost use Rattle.pced_commands.specs.Statuses.{end_of, lines_status, tell_fault};
+ghost use Rattle.pced_commands.specs.Tells.{asked, cut_at, first_word, note_in, sent, shows};
 
+use crate::statuses::lines_status;
 use asks::is_question;
 use control_socket::{Outcome, await_end, is_line, outcome_of, tell};
 use pced_words::TellWords;
@@ -33,16 +34,22 @@ pub enum TellFault {
     OutOfMemory,
 }
 
-/// The result of the lines that were sent.
+/// The worst result among the lines that were sent.
 #[derive(Clone, Copy, Debug, PartialEq, Eq)]
 pub enum LinesEnd {
     AllHeard,
-    /// A line was bad.
+    /// What a line asked for was refused.
     SomeRefused,
+    /// A line was bad, or the link text that it had read.
+    SomeBad,
+    /// A link text couldn't be read.
+    SomeUnread,
+    /// Memory ran out, or the history was full.
+    SomeShort,
 }
 
 /// Returns the fault of an exchange with the server that failed with this error.
-fn tell_fault(kind: ErrorKind) -> TellFault
+pub(crate) fn tell_fault(kind: ErrorKind) -> TellFault
     ensures { result ≡ tell_fault kind }
 {
     match kind {
@@ -56,7 +63,7 @@ fn tell_fault(kind: ErrorKind) -> TellFault
 }
 
 /// Returns the first word of a line.
-fn first_word(line: &str) -> &str
+pub(crate) fn first_word(line: &str) -> &str
     ensures { result.now ≡ first_word line.now }
 {
     match line.split_once(' ') {
@@ -72,14 +79,54 @@ fn shows(line: &str) -> bool
     is_question(first_word(line))
 }
 
-/// Returns what is sent for a line. One that shows nothing is sent as it is.
-fn sent(alloc: Global, is_json: bool, line: &str) -> Result<String, AllocError>
-    ensures { IfOk result (λ text. string_bytes text ≡ sent is_json line.now) }
+/// Returns a line with the word `json` in front, if JSON is asked for. A line that shows nothing stays as it is.
+fn asked(alloc: Global, is_json: bool, line: &str) -> Result<String, AllocError>
+    ensures { IfOk result (λ text. string_bytes text ≡ asked is_json line.now) }
 {
     if is_json && shows(line) {
         format!(in alloc; "json {line}")
     } else {
         String::from_str(alloc, line)
+    }
+}
+
+/// Returns what is sent for a line. The word `words` in front asks the server to explain its answer.
+fn sent(alloc: Global, is_quiet: bool, is_json: bool, line: &str) -> Result<String, AllocError>
+    ensures { IfOk result (λ text. string_bytes text ≡ sent is_quiet is_json line.now) }
+{
+    let asked = asked(alloc, is_json, line)?;
+    if is_quiet {
+        return Ok(asked);
+    }
+    format!(in alloc; "words {asked}")
+}
+
+/// Cuts a text at its first line break.
+fn cut_at_break(text: &str) -> Option<(&str, &str)>
+    ensures { option_map (λ cut. (cut.0.now, cut.1.now)) result ≡ cut_at 10 text.now }
+{
+    text.split_once('\n')
+}
+
+/// Cuts a text at its first space.
+fn cut_at_space(text: &str) -> Option<(&str, &str)>
+    ensures { option_map (λ cut. (cut.0.now, cut.1.now)) result ≡ cut_at 32 text.now }
+{
+    text.split_once(' ')
+}
+
+/// Cuts what was heard into an answer of one line and what it means; `None` if it isn't said what the answer means.
+#[tactic(auto, unfolding(crate::specs::Tells::note_in))]
+fn note_in(heard: &str) -> Option<(&str, &str)>
+    ensures { option_map (λ cut. (cut.0.now, cut.1.now)) result ≡ note_in heard.now }
+{
+    let (answer, rest) = cut_at_break(heard)?;
+    let (sign, rest) = cut_at_space(rest)?;
+    let (sentence, behind) = cut_at_break(rest)?;
+    if sign == "#" && behind.is_empty() {
+        Some((answer, sentence))
+    } else {
+        None
     }
 }
 
@@ -91,30 +138,68 @@ fn heard<R: Net + Clock>(rt: &R, path: &str, line: &str) -> Result<LinesEnd, Tel
     Ok(LinesEnd::AllHeard)
 }
 
-/// Sends a line, and writes its answer.
-fn tell_line<R: Net + Clock, O: Write>(
-    rt: &R,
-    alloc: Global,
-    path: &str,
-    line: &str,
-    writer: &mut O,
-) -> Result<LinesEnd, TellFault> {
-    let answer = match tell(rt, alloc, path, line) {
-        Ok(answer) => answer,
-        Err(error) => return Err(tell_fault(error.kind())),
-    };
-    if writer.write_all(&answer).is_err() || writer.flush().is_err() {
-        return Err(TellFault::Device);
-    }
-    match outcome_of(line, &answer) {
-        Outcome::Answered => heard(rt, path, line),
+/// Returns the result of a line that was answered.
+pub(crate) fn end_of(outcome: Outcome) -> Result<LinesEnd, TellFault>
+    ensures { result ≡ end_of outcome }
+{
+    match outcome {
+        Outcome::Answered => Ok(LinesEnd::AllHeard),
         Outcome::Refused => Ok(LinesEnd::SomeRefused),
+        Outcome::Bad => Ok(LinesEnd::SomeBad),
+        Outcome::Unread => Ok(LinesEnd::SomeUnread),
+        Outcome::Short => Ok(LinesEnd::SomeShort),
         Outcome::BrokenOff => Err(TellFault::BrokenOff),
     }
 }
 
+/// Writes all of an answer.
+pub(crate) fn write_answer<O: Write>(writer: &mut O, answer: &[u8]) -> Result<(), TellFault> {
+    if writer.write_all(answer).is_err() || writer.flush().is_err() {
+        return Err(TellFault::Device);
+    }
+    Ok(())
+}
+
+/// Writes an answer to the writer, and what it means to standard error. If standard error fails, that is left out.
+fn show<R: Eprint, O: Write>(rt: &R, writer: &mut O, heard: &[u8]) -> Result<(), TellFault> {
+    let Ok(text) = str::from_utf8(heard) else {
+        return write_answer(writer, heard);
+    };
+    match note_in(text) {
+        Some((answer, sentence)) => {
+            if writer.write_all(answer.as_bytes()).is_err() {
+                return Err(TellFault::Device);
+            }
+            write_answer(writer, b"\n")?;
+            let _shown = eprintln!(rt; "{sentence}");
+            Ok(())
+        }
+        None => write_answer(writer, heard),
+    }
+}
+
+/// Sends the text for a line, and shows its answer.
+fn tell_line<R: Net + Clock + Eprint, O: Write>(
+    rt: &R,
+    alloc: Global,
+    words: &TellWords<'_>,
+    line: &str,
+    text: &str,
+    writer: &mut O,
+) -> Result<LinesEnd, TellFault> {
+    let answer = match tell(rt, alloc, words.path, text) {
+        Ok(answer) => answer,
+        Err(error) => return Err(tell_fault(error.kind())),
+    };
+    show(rt, writer, &answer)?;
+    match end_of(outcome_of(line, &answer))? {
+        LinesEnd::AllHeard => heard(rt, words.path, line),
+        end => Ok(end),
+    }
+}
+
 /// Sends a line, in the form that the words ask for.
-fn tell_one<R: Net + Clock, O: Write>(
+fn tell_one<R: Net + Clock + Eprint, O: Write>(
     rt: &R,
     alloc: Global,
     words: &TellWords<'_>,
@@ -124,22 +209,25 @@ fn tell_one<R: Net + Clock, O: Write>(
     if !is_line(line) {
         return Err(TellFault::BadArgument);
     }
-    match sent(alloc, words.is_json, line) {
-        Ok(text) => tell_line(rt, alloc, words.path, &text, writer),
+    match sent(alloc, words.is_quiet, words.is_json, line) {
+        Ok(text) => tell_line(rt, alloc, words, line, &text, writer),
         Err(_) => Err(TellFault::OutOfMemory),
     }
 }
 
-/// Returns the result of these lines and one more.
-fn worse_end(all: LinesEnd, one: LinesEnd) -> LinesEnd {
-    match one {
-        LinesEnd::AllHeard => all,
-        LinesEnd::SomeRefused => LinesEnd::SomeRefused,
+/// Returns the worse of the result of these lines and that of one more.
+fn worse_end(all: LinesEnd, one: LinesEnd) -> LinesEnd
+    ensures { lines_status result ≡ max (lines_status all) (lines_status one) }
+{
+    if lines_status(one) > lines_status(all) {
+        one
+    } else {
+        all
     }
 }
 
 /// Sends the lines of the words, in their order.
-fn tell_words<R: Net + Clock, O: Write>(
+fn tell_words<R: Net + Clock + Eprint, O: Write>(
     rt: &R,
     alloc: Global,
     words: &TellWords<'_>,

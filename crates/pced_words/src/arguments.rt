@@ -43,6 +43,8 @@ const OPERATOR_LINES: &str = "\
 Standard input has an operator's lines, each answered on standard output, and so has `pced tell` with --control:
   initiate PEER NAME FROM TO BW SETUP HOLD
                    a path is asked for, to set an LSP up
+  place PEER NAME FROM TO BW SETUP HOLD [KEY=VALUE ..]
+                   the same, with limits of the path
   update PEER PLSP a path is asked for, to update an LSP
   return PEER PLSP an LSP is given back to its router
   delete PEER PLSP an LSP that was initiated is to be removed
@@ -51,11 +53,18 @@ Standard input has an operator's lines, each answered on standard output, and so
   reload           the link text is read again, and links have its values
   reload check     what that would change
   status, links, link N, peers, lsps, lsps PEER, lsp PEER PLSP, tickets,
-  history N, path FROM TO BW SETUP HOLD, why PEER PLSP, better, better PEER,
-  without N, grants, grants PEER, tunnels, tunnels PEER
+  history N, path FROM TO BW SETUP HOLD [KEY=VALUE ..], why PEER PLSP, better,
+  better PEER, without N, grants, grants PEER, tunnels, tunnels PEER
                    what stands, as a table; as JSON behind the word json
   end              the end of the run
-PEER is a number or a dotted address. docs/OPERATING.md says how to run it.";
+PEER is a number, a dotted address or a node's name, and FROM and TO are addresses or names.
+docs/OPERATING.md says how to run it.";
+
+/// What `tell` does besides sending lines.
+const WATCH_WORDS: &str = "\
+Instead of lines, these words may be given; they aren't sent to the server:
+  watch [SECONDS]  links, the fullest first, routers, LSPs by state, grants that
+                   wait and decisions, again every SECONDS (2) until Enter";
 
 /// The words of `serve`.
 #[derive(Drop)]
@@ -68,6 +77,8 @@ pub struct ServeWords<'a> {
     pub control: Option<&'a str>,
     /// Where viewers connect, as `ADDR:PORT`.
     pub http: Option<&'a str>,
+    /// The name by which viewers may ask for the server.
+    pub http_name: Option<&'a str>,
     /// The most verbose level that is logged.
     pub log: &'a str,
     /// Only routers whose address a node of the network owns are heard.
@@ -86,6 +97,8 @@ pub struct TellWords<'a> {
     pub lines: Vec<&'a str>,
     /// Lines that show something are answered as JSON.
     pub is_json: bool,
+    /// Nothing is said of what an answer means.
+    pub is_quiet: bool,
 }
 
 /// What the words ask for.
@@ -169,6 +182,14 @@ fn http_arg<'a>(alloc: Global) -> Arg<'a> {
         .value_name("ADDR:PORT")
         .action(ArgAction::Set)
         .help("Where browsers and scrapers see the network, as 127.0.0.1:8080")
+}
+
+fn http_name_arg<'a>(alloc: Global) -> Arg<'a> {
+    Arg::new(alloc, "http-name")
+        .long("http-name")
+        .value_name("NAME")
+        .action(ArgAction::Set)
+        .help("A name by which browsers and scrapers may ask for it, besides its addresses")
 }
 
 fn workers_arg<'a>(alloc: Global) -> Arg<'a> {
@@ -285,6 +306,7 @@ fn serve_command<'a>(alloc: Global) -> Result<Command<'a>, AllocError> {
         .arg(listen_arg(alloc))?
         .arg(control_arg(alloc))?
         .arg(http_arg(alloc))?
+        .arg(http_name_arg(alloc))?
         .arg(workers_arg(alloc))?
         .arg(sessions_arg(alloc))?
         .arg(keep_arg(alloc))?
@@ -321,10 +343,19 @@ fn json_arg<'a>(alloc: Global) -> Arg<'a> {
         .help("Lines that show something are answered as JSON")
 }
 
+fn quiet_arg<'a>(alloc: Global) -> Arg<'a> {
+    Arg::new(alloc, "quiet")
+        .long("quiet")
+        .action(ArgAction::SetTrue)
+        .help("Don't say on standard error what an answer means")
+}
+
 fn tell_command<'a>(alloc: Global) -> Result<Command<'a>, AllocError> {
     Command::new(alloc, "tell")
         .about("Sends lines to a running server, and prints what it answers")
+        .after_help(WATCH_WORDS)
         .arg(json_arg(alloc))?
+        .arg(quiet_arg(alloc))?
         .arg(path_arg(alloc))?
         .arg(lines_arg(alloc))
 }
@@ -382,6 +413,7 @@ fn serve_words<'a>(alloc: Global, matches: &ArgMatches<'a>) -> Result<ServeWords
         listen: matches.get_str("listen").unwrap_or(""),
         control: matches.get_str("control"),
         http: matches.get_str("http"),
+        http_name: matches.get_str("http-name"),
         log: matches.get_str("log").unwrap_or("info"),
         only_known: matches.get_flag("only-known"),
         settle_for: addresses_in(alloc, matches.get_strs("settle-for").unwrap_or(&[]))?,
@@ -405,6 +437,7 @@ fn tell_words<'a>(alloc: Global, matches: &ArgMatches<'a>) -> Result<TellWords<'
         path: matches.get_str("path").unwrap_or(""),
         lines,
         is_json: matches.get_flag("json"),
+        is_quiet: matches.get_flag("quiet"),
     })
 }
 

@@ -7,12 +7,10 @@ use Rattle.link_reload.specs.declared.entry.LinkReload.{LinkReload}
 use Rattle.te_base.specs.Values.{Values, checked_values}
 use Rattle.commit_core.specs.declared.ticket.Purpose.TheVariants.{Update, Initiate}
 use Rattle.lsp_base.specs.declared.lsp.Constraints.{Constraints}
-use Rattle.lsp_words.specs.declared.object.MetricType.TheVariants.{Te}
-use Rattle.pcep_word.specs.Priority.{InForce}
 use Rattle.history_core.specs.declared.fault.Fault.TheVariants.{OutOfMemory, HistoryFull}
 use Rattle.script_lines.specs.declared.fault.CommandFault.{CommandFault}
 use Rattle.script_lines.specs.declared.fault.CommandFault.TheVariants.{BadLine, Store}
-use Rattle.asks.specs.Lines.{◌>>=◌, lsp_in, path_in}
+use Rattle.asks.specs.Lines.{◌>>=◌, limited_path_in, lsp_in, path_in, rated_path_in}
 use Rattle.asks.specs.Words.{cut_at_space, long_number_in, number_in, peer_in}
 use Rattle.asks.specs.declared.ask.LspId.{LspId}
 use Rattle.asks.specs.declared.ask.PathWanted.{PathWanted}
@@ -36,38 +34,55 @@ commit_event line = do
   offer ← offer_in words.1
   Some (Commit ticket offer)
 
--- a path of least TE metric between two addresses; links of all colours may be taken, and there are no other
--- constraints
-abbrev pub plain_constraints : ℕ → ℕ → ℕ → InForce → Constraints
-plain_constraints source destination bandwidth priorities = record {
-  source = Some source;
-  destination = Some destination;
-  bandwidth = bandwidth;
-  priorities = priorities;
-  colours = record { exclude_any = 0; include_any = 0; include_all = 0 };
-  minimise = Te;
-  bound = None;
-  hop_bound = None;
+-- what a path is asked for with; no metric is bounded but the one that is to be least
+abbrev pub constraints_of : PathWanted → Constraints
+constraints_of w = record {
+  source = Some w.from;
+  destination = Some w.to;
+  bandwidth = w.bandwidth;
+  priorities = w.priorities;
+  colours = (w.limits).colours;
+  minimise = (w.limits).minimise;
+  bound = (w.limits).max_cost;
+  hop_bound = (w.limits).max_hops;
   other_bounds = record { igp = None; te = None };
   local_protection = false;
 }
 
--- `FROM TO BW SETUP HOLD`
-abbrev pub constraints_of : PathWanted → Constraints
-constraints_of w = plain_constraints w.from w.to w.bandwidth w.priorities
-
-abbrev pub constraints_in : List ℕ → Option Constraints
-constraints_in line = option_map constraints_of (path_in line)
-
--- `PEER NAME FROM TO BW SETUP HOLD`
-unfoldable pub initiate_event : List ℕ → Option Event
-initiate_event line = do
+-- `PEER NAME`, and what follows
+unfoldable pub named_in : List ℕ → Option (ℕ × List ℕ × List ℕ)
+named_in line = do
   words ← cut_at_space line
   peer ← peer_in words.0
   named ← cut_at_space words.1
-  constraints ← constraints_in named.1
-  name ← name_in named.0
-  Some (Ask peer (Initiate name constraints))
+  Some (peer, named.0, named.1)
+
+abbrev pub named_event : ℕ → PathWanted → Option (List ℕ) → Option Event
+named_event peer wanted None = None
+named_event peer wanted (Some name) = Some (Ask peer (Initiate name (constraints_of wanted)))
+
+-- a request for a path, to set an LSP of this name up
+abbrev pub request_event : ℕ → List ℕ → Option PathWanted → Option Event
+request_event peer name None = None
+request_event peer name (Some wanted) = named_event peer wanted (name_in name)
+
+-- `PEER NAME FROM TO BW SETUP HOLD`: a path of least TE metric; links of all colours may be taken, and nothing else binds it
+unfoldable pub initiate_event : List ℕ → Option Event
+initiate_event line = do
+  named ← named_in line
+  request_event named.0 named.1 (path_in named.2)
+
+-- of a server's operator: BW may have a unit
+unfoldable pub rated_event : List ℕ → Option Event
+rated_event line = do
+  named ← named_in line
+  request_event named.0 named.1 (rated_path_in named.2)
+
+-- `PEER NAME FROM TO BW SETUP HOLD [KEY=VALUE ..]`
+unfoldable pub place_event : List ℕ → Option Event
+place_event line = do
+  named ← named_in line
+  request_event named.0 named.1 (limited_path_in named.2)
 
 -- `PEER SRP`: the peer's grant or deletion of this SRP-ID ends, as if the peer had refused it
 unfoldable pub drop_event : List ℕ → Option Event
@@ -87,9 +102,14 @@ operator_event_with word rest =
     else if bytes_eq word (codes "initiate") then initiate_event rest
     else None
 
--- what a server's operator may ask: also `drop PEER SRP`
+-- what a server's operator may: also `drop PEER SRP` and `place PEER NAME FROM TO BW SETUP HOLD [KEY=VALUE ..]`, and a bandwidth may
+-- have a unit
 unfoldable pub server_event_with : List ℕ → List ℕ → Option Event
-server_event_with word rest = if bytes_eq word (codes "drop") then drop_event rest else operator_event_with word rest
+server_event_with word rest =
+    if bytes_eq word (codes "drop") then drop_event rest
+    else if bytes_eq word (codes "initiate") then rated_event rest
+    else if bytes_eq word (codes "place") then place_event rest
+    else operator_event_with word rest
 
 -- `IGP TE COLOUR RESERVABLE`, each in the range that a link text gives it
 unfoldable pub link_values_in : List ℕ → Option Values

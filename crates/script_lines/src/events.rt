@@ -1,17 +1,18 @@
 //! The events that lines name.
 
-ghost use Rattle.std.specs.Prelude.{◌≡◌, Some, IfOk, IfErr, IsSome};
+ghost use Rattle.std.specs.Prelude.{◌≡◌, Some, IfOk, IfErr, IsSome, option_map};
 ghost use Rattle.step_core.specs.declared.event.Event.TheVariants.{Return, Ask, Delete};
 ghost use Rattle.commit_core.specs.declared.ticket.Purpose.TheVariants.{Update};
 ghost use Rattle.asks.specs.Lines.{lsp_in};
-ghost use Rattle.script_lines.specs.Commands.{expire_event, lsp_event, commit_event, plain_constraints, constraints_in, initiate_event, link_values_in, link_reload_in, reload_event, drop_event, operator_event_with, server_event_with, event_with, operator_event_in, event_in};
+ghost use Rattle.script_lines.specs.Commands.{expire_event, lsp_event, commit_event, constraints_of, named_in, request_event, initiate_event, rated_event, place_event, link_values_in, link_reload_in, reload_event, drop_event, operator_event_with, server_event_with, event_with, operator_event_in, event_in};
 
 use crate::words::{link_in, name_in, offer_in};
-use asks::{LspId, PathWanted, cut_at_space, long_number_in, lsp_in, number_in, path_in, peer_in};
+use asks::{
+    LspId, PathWanted, cut_at_space, limited_path_in, long_number_in, lsp_in, number_in, path_in,
+    peer_in, rated_path_in,
+};
 use history_core::{Event, LinkReload, Purpose};
 use lsp_base::{Constraints, OtherBounds};
-use pcep_objects::{Colours, MetricType};
-use pcep_word::{Bandwidth, Ipv4, Priorities};
 use sequence::Sequence;
 use std::alloc::{AllocError, Global};
 use te_base::LinkValues;
@@ -74,29 +75,19 @@ fn commit_event(alloc: Global, line: &str) -> Result<Option<Event>, AllocError>
     }
 }
 
-/// Makes the constraints of a path of least TE metric; links of all colours may be taken, and there are no other
-/// constraints.
-fn plain_constraints(
-    source: Ipv4,
-    destination: Ipv4,
-    bandwidth: Bandwidth,
-    priorities: Priorities,
-) -> Constraints
-    ensures { result ≡ plain_constraints source destination bandwidth priorities }
+/// Makes the constraints of a path that is asked for.
+fn constraints_of(wanted: PathWanted) -> Constraints
+    ensures { result ≡ constraints_of wanted }
 {
     Constraints {
-        source: Some(source),
-        destination: Some(destination),
-        bandwidth,
-        priorities,
-        colours: Colours {
-            exclude_any: 0,
-            include_any: 0,
-            include_all: 0,
-        },
-        minimise: MetricType::Te,
-        bound: None,
-        hop_bound: None,
+        source: Some(wanted.from),
+        destination: Some(wanted.to),
+        bandwidth: wanted.bandwidth,
+        priorities: wanted.priorities,
+        colours: wanted.limits.colours,
+        minimise: wanted.limits.minimise,
+        bound: wanted.limits.max_cost,
+        hop_bound: wanted.limits.max_hops,
         other_bounds: OtherBounds {
             igp: None,
             te: None,
@@ -105,21 +96,40 @@ fn plain_constraints(
     }
 }
 
-/// Reads what is asked of the path of an LSP to be initiated: two addresses, a bandwidth and two priorities.
-fn constraints_in(line: &str) -> Option<Constraints>
-    ensures { result ≡ constraints_in line.now }
+/// Makes a request for a path, to set up an LSP of this name. Only a valid name and a path take memory.
+fn request_event(
+    alloc: Global,
+    peer: u32,
+    name: &str,
+    wanted: Option<PathWanted>,
+) -> Result<Option<Event>, AllocError>
+    ensures event { IfOk result (λ event. event ≡ request_event peer name.now wanted) }
+    ensures good { IfErr result (λ _. IsSome (request_event peer name.now wanted)) }
 {
-    match path_in(line) {
-        Some(
-            PathWanted {
-                from,
-                to,
-                bandwidth,
-                priorities,
+    let Some(wanted) = wanted else {
+        return Ok(None);
+    };
+    match name_in(alloc, name)? {
+        Some(name) => Ok(Some(Event::Ask {
+            peer,
+            purpose: Purpose::Initiate {
+                name,
+                constraints: constraints_of(wanted),
             },
-        ) => Some(plain_constraints(from, to, bandwidth, priorities)),
-        None => None,
+        })),
+        None => Ok(None),
     }
+}
+
+/// Reads a peer and a name, and gives what follows them.
+#[tactic(auto, unfolding(crate::specs::Commands::named_in))]
+fn named_in(line: &str) -> Option<(u32, &str, &str)>
+    ensures { option_map (λ x. (x.0, x.1.now, x.2.now)) result ≡ named_in line.now }
+{
+    let (peer, rest) = cut_at_space(line)?;
+    let peer = peer_in(peer)?;
+    let (name, rest) = cut_at_space(rest)?;
+    Some((peer, name, rest))
 }
 
 /// Reads a peer, a name and what is asked of the path. Only a line that names all of them takes memory.
@@ -128,23 +138,32 @@ fn initiate_event(alloc: Global, line: &str) -> Result<Option<Event>, AllocError
     ensures event { IfOk result (λ event. event ≡ initiate_event line.now) }
     ensures good { IfErr result (λ _. IsSome (initiate_event line.now)) }
 {
-    let Some((peer, rest)) = cut_at_space(line) else {
-        return Ok(None);
-    };
-    let Some(peer) = peer_in(peer) else {
-        return Ok(None);
-    };
-    let Some((name, rest)) = cut_at_space(rest) else {
-        return Ok(None);
-    };
-    let Some(constraints) = constraints_in(rest) else {
-        return Ok(None);
-    };
-    match name_in(alloc, name)? {
-        Some(name) => Ok(Some(Event::Ask {
-            peer,
-            purpose: Purpose::Initiate { name, constraints },
-        })),
+    match named_in(line) {
+        Some((peer, name, rest)) => request_event(alloc, peer, name, path_in(rest)),
+        None => Ok(None),
+    }
+}
+
+/// Reads the same for a server's operator: the bandwidth may have a unit.
+#[tactic(auto, unfolding(crate::specs::Commands::rated_event))]
+fn rated_event(alloc: Global, line: &str) -> Result<Option<Event>, AllocError>
+    ensures event { IfOk result (λ event. event ≡ rated_event line.now) }
+    ensures good { IfErr result (λ _. IsSome (rated_event line.now)) }
+{
+    match named_in(line) {
+        Some((peer, name, rest)) => request_event(alloc, peer, name, rated_path_in(rest)),
+        None => Ok(None),
+    }
+}
+
+/// Reads the same, with limits of the path.
+#[tactic(auto, unfolding(crate::specs::Commands::place_event))]
+fn place_event(alloc: Global, line: &str) -> Result<Option<Event>, AllocError>
+    ensures event { IfOk result (λ event. event ≡ place_event line.now) }
+    ensures good { IfErr result (λ _. IsSome (place_event line.now)) }
+{
+    match named_in(line) {
+        Some((peer, name, rest)) => request_event(alloc, peer, name, limited_path_in(rest)),
         None => Ok(None),
     }
 }
@@ -226,6 +245,8 @@ fn server_event_with(alloc: Global, word: &str, rest: &str) -> Result<Option<Eve
 {
     match word {
         "drop" => Ok(drop_event(rest)),
+        "initiate" => rated_event(alloc, rest),
+        "place" => place_event(alloc, rest),
         _ => operator_event_with(alloc, word, rest),
     }
 }

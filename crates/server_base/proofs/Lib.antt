@@ -1,2 +1,3 @@
 pub mod Downs
 mod Standings
+mod Named

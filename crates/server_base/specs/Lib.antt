@@ -3,6 +3,7 @@ pub mod Counting
 pub mod DownPaths
 pub mod Holders
 pub mod Linkless
+pub mod LspNames
 pub mod Moments
 pub mod Routers
 pub mod Shares

@@ -16,7 +16,7 @@ use history_seats::Brands;
 use pce_seen::EventKind;
 use pcep_word::Ipv4;
 use server_counts::{Counted, Counters, Marks, PeerStates, Timed, Waits};
-use server_log::{LogLine, LogQueue};
+use server_log::{Asker, LogLine, LogQueue};
 use server_rules::{PathHappening, PathWords, PcErrHappening, PeerErrors, Settling};
 use server_signals::{GrantGate, Run, RunFault, Wakers};
 use server_talk::Watch;
@@ -251,13 +251,14 @@ impl<'a, R: Clock, B: Brands> Context<'a, R, B> {
         count_step(&mut acquire(self.rt, self.counters), event, reply);
     }
 
-    /// Notes that a path was asked for at a moment, in microseconds, if that was the last of these calls.
-    pub fn note_ask(&self, calls: &[Call], asked_us: u64)
+    /// Notes and logs that a path was asked for at a moment, in microseconds, if that was the last of these calls.
+    pub fn note_ask(&self, calls: &[Call], asked_us: u64, by: Asker)
     where
         R: Wait,
     {
         if let Some(call) = calls.last() {
             self.note_asked(&call.reply, asked_us);
+            self.say_asked(call, by);
         }
     }
 
@@ -351,6 +352,7 @@ impl<'a, R: Clock, B: Brands> Context<'a, R, B> {
         let _noted = acquire(self.rt, self.words).note(gone);
         let gone = PcErrHappening::Expired { peer };
         let _noted = acquire(self.rt, self.errors).note(gone);
+        acquire(self.rt, self.upkeep.names()).forget(peer);
     }
 
     /// Tests whether a router of this address is served. Counts it if it isn't.

@@ -9,6 +9,7 @@
 //! - `ticket_share`: how many tickets one router may have (`specs/Shares`)
 //! - `expiry`: what happens to peers, and when they are forgotten (`specs/Expiries`)
 //! - `routers`, `grant_of`, `upkeep`: grants and deletions that their routers don't settle (`specs/Routers`)
+//! - `lsp_names`, `decided`: the names of LSPs, and what the log says about decisions (`specs/LspNames`)
 //! - `replaced`: forgets a path when another of its LSP replaces it
 //! - `linkless`, `down_paths`, `retries`, `retrying`: LSPs that are down, and are asked for again (`specs/Linkless`, `specs/DownPaths`)
 //! - `timed_look`, `run_view`: what viewers and operators see of a run
@@ -17,12 +18,14 @@
 
 mod context;
 mod counting;
+mod decided;
 mod down_paths;
 mod expiry;
 mod grant_of;
 mod holders;
 mod link_ends;
 mod linkless;
+mod lsp_names;
 mod replaced;
 mod retries;
 mod retrying;

@@ -1,4 +1,7 @@
 //! Notes what happens to LSPs that are down.
+ghost use Rattle.std.specs.Prelude.{◌≡◌};
+ghost use Rattle.server_base.specs.LspNames.{are_unsignalled};
+
 use crate::down_paths::{DownPaths, ReportedPath};
 use engine_core::{Call, Reply};
 use lsp_words::Plsp;
@@ -21,7 +24,9 @@ pub(crate) fn lsp_id_of(report: &StateReport) -> u16 {
 
 /// Tests whether a report is about an unsignalled LSP: its identifiers are all zero, or it has none (RFC 8231 section
 /// 7.3.1).
-fn is_unsignalled(report: &StateReport) -> bool {
+pub(crate) fn is_unsignalled(report: &StateReport) -> bool
+    ensures { result ≡ are_unsignalled report.now.identifiers }
+{
     match &report.identifiers {
         Some(i) => {
             i.sender.0 == 0 && i.lsp == 0 && i.tunnel == 0 && i.extended == 0 && i.endpoint.0 == 0

@@ -10,6 +10,7 @@ use indexmap::IndexMap;
 use lsp_words::Plsp;
 use pce_seen::EventKind;
 use server_counts::Counted;
+use server_log::Asker;
 use server_rules::{LspSight, RetryHappening, RouterLsp};
 use server_talk::Watch;
 use shared_pce::{Event, Fault, Seat};
@@ -259,6 +260,7 @@ impl<'a, R: Wait + Clock, B: Brands> Context<'a, R, B> {
     /// Asks for a path for an LSP again. If memory runs out, or the history is full, the LSP stays due at the next
     /// turn.
     fn retry_one(&self, seat: &mut Seat<B>, of: RouterLsp, plsp: Plsp) -> Result<(), Fault> {
+        let purpose = Purpose::Update { plsp };
         let event = Event::Ask {
             peer: of.peer,
             purpose: Purpose::Update { plsp },
@@ -267,6 +269,7 @@ impl<'a, R: Wait + Clock, B: Brands> Context<'a, R, B> {
         let reply = self.shared.submit(self.rt, seat, event)?;
         self.count_step(EventKind::Ask, &reply);
         self.note_asked(&reply, asked_us);
+        self.say_asked_for(of.peer, &purpose, &reply, Asker::Retry);
         let now_ms = self.moments().now_ms();
         let tried = RetryHappening::Tried { of, now_ms };
         self.upkeep.retries().note(self.rt, tried)?;

@@ -2,6 +2,7 @@
 //! should end are dropped.
 use crate::context::Context;
 use crate::grant_of::{GrantOfLook, GrantsOfPeerLook};
+use crate::lsp_names::LspNames;
 use crate::retries::Retries;
 use crate::retrying::SeenRetries;
 use crate::routers::{RoutersLook, SeenRouter, find};
@@ -49,6 +50,8 @@ pub struct Upkeep {
     /// How many grants and deletions had been made when none stood; the greatest number while one stands.
     idle_at: AtomicU64,
     retries: Retries,
+    /// The names with which routers reported LSPs.
+    names: Mutex<LspNames>,
 }
 
 impl Upkeep {
@@ -59,6 +62,7 @@ impl Upkeep {
             ending: Mutex::new(()),
             idle_at: AtomicU64::new(u64::MAX),
             retries: Retries::new(alloc),
+            names: Mutex::new(LspNames::new(alloc)),
         }
     }
 
@@ -72,14 +76,20 @@ impl Upkeep {
         &self.retries
     }
 
+    /// Lends the names of LSPs.
+    pub(crate) fn names(&self) -> &Mutex<LspNames> {
+        &self.names
+    }
+
     /// Notes what a session's call says about a grant or deletion, at this moment: a report that names its SRP-ID puts
-    /// off its limit. Also notes what the call says about LSPs that may have to be asked for again.
+    /// off its limit. Also notes what the call says about LSPs that may have to be asked for again, and about names.
     pub fn note_call<R: Wait>(&self, rt: &R, call: &Call, now_ms: u64) {
         if let Some(of) = named_by(call) {
             let named = PendingHappening::Named { of, now_ms };
             let _noted = acquire(rt, &self.table).note(named);
         }
         self.retries.note_call(rt, call, now_ms);
+        self.note_name(rt, call);
     }
 
     fn note<R: Wait>(&self, rt: &R, what: PendingHappening) -> Result<(), AllocError> {

@@ -1,5 +1,5 @@
 -- What an accepted call says about a session, and about its router's paths and LSPs.
-use Rattle.std.specs.Prelude.{ℕ, Bool, true, false, not, ◌||◌, List, Option, Some, None, option_map, if◌then◌else◌}
+use Rattle.std.specs.Prelude.{ℕ, Bool, true, false, not, ◌||◌, List, Option, Some, None, is_some, option_map, if◌then◌else◌}
 use Rattle.delegate_rules.specs.Reports.{are_zero, identifiers_of}
 use Rattle.lsp_base.specs.Whys.{number_of}
 use Rattle.pcep_messages.specs.declared.message.StateReport.{StateReport}
@@ -31,6 +31,20 @@ session_happening (event.Up peer capabilities) (reply.Refused why) now_ms = Some
 session_happening (event.Down peer) (reply.Refused why) now_ms = None
 session_happening (event.Down peer) other now_ms = Some WentDown
 session_happening other reply now_ms = None
+
+-- ---- about a request
+
+abbrev pub answering : StateReport → Option StateReport
+answering report = if is_some report.srp then Some report else None
+
+-- the report in an event, if it answers a request
+abbrev pub answer_in : Event → Option StateReport
+answer_in (event.Report peer report) = answering report
+answer_in other = None
+
+abbrev pub answer_of : Event → Reply → Option StateReport
+answer_of e (reply.Refused why) = None
+answer_of e other = answer_in e
 
 -- ---- about a path
 

@@ -3,6 +3,7 @@ use crate::notes::Notes;
 use crate::observed_store::ObservedStore;
 use crate::overheard::{TappedReader, TappedWriter};
 use crate::reading::Reading;
+use crate::sent::SentRequests;
 use end_reasons::Reason;
 use engine_core::Store;
 use history_seats::Brands;
@@ -80,6 +81,7 @@ fn receive<R: Wait + Clock, B: Brands>(
             standing: Standing::new(),
             trials,
             reading: &reading,
+            sent: SentRequests::new(context.alloc),
             front: context.shared.front(context.rt),
         },
         store: Seated::new(context.rt, context.alloc, context.shared, seat),

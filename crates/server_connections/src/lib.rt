@@ -5,6 +5,7 @@
 //! - `overheard`: a socket whose messages are counted, and whose reading may pause
 //! - `sayings`: what a call says about a session, and about its router's paths and LSPs (`specs/Sayings`)
 //! - `asked`: the LSP of a request that its router refuses (`specs/Asked`)
+//! - `sent`: the requests that a router hasn't answered (`specs/Sent`)
 //! - `notes`: what a connection's thread notes and logs about its session
 //! - `observed_store`: a store that notes what happens to its peer's session
 //! - `connection`: a connection's thread
@@ -19,5 +20,6 @@ mod observed_store;
 mod overheard;
 mod reading;
 mod sayings;
+mod sent;
 
 pub use acceptor::accept_all;

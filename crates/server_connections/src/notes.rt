@@ -1,14 +1,18 @@
 //! What a connection's thread notes and logs about its session.
 use crate::asked::{AskedLook, AskedLsp};
 use crate::reading::Reading;
-use crate::sayings::{lsp_of, path_happening, replaced_lsp, session_happening, trial_happening};
+use crate::sayings::{
+    answer_of, lsp_of, path_happening, replaced_lsp, session_happening, trial_happening,
+};
+use crate::sent::SentRequests;
 use engine_core::{Call, Event, Reply};
 use history_seats::Brands;
-use pcep_messages::{Errors, Message, StateReport};
-use pcep_objects::{Capabilities, Open};
+use lsp_base::Why;
+use pcep_messages::{Errors, Initiate, Message, StateReport};
+use pcep_objects::{Capabilities, Open, Plsp};
 use server_base::{Context, Standing, StandsLook};
 use server_counts::Counted;
-use server_log::{LogLine, PeerTimers, ShownName};
+use server_log::{Decision, LogLine, PeerTimers, ShownName, refusal_line};
 use server_rules::{
     ConnectionNotes, PathHappening, PauseHappening, PcErr, PcErrHappening, ReadPause, RouterLsp,
     SessionHappening,
@@ -46,6 +50,8 @@ pub(crate) struct Notes<'a, 'c, 't, R: Clock, B: Brands> {
     /// The LSPs that recently were granted paths or went down.
     pub trials: &'t mut ReadPause,
     pub reading: &'t Reading,
+    /// The requests that the router hasn't answered.
+    pub sent: SentRequests,
     /// What the connection's thread has seen of the history.
     pub front: Front<Event, B>,
 }
@@ -132,20 +138,17 @@ impl<'a, 'c, 't, R: Wait + Clock, B: Brands> Notes<'a, 'c, 't, R, B> {
     }
 
     /// Notes and logs that the state refused an event of the session.
-    fn refuse(&mut self, event: &Event, number: u8) {
+    fn refuse(&mut self, event: &Event, why: Why) {
         if matches!(event, Event::Up { .. }) {
             self.stay_down();
         }
-        self.context.say(LogLine::Refused {
-            peer: self.peer,
-            number,
-        });
+        self.context.say(refusal_line(self.peer, event, why));
     }
 
     /// Notes and logs what a call says.
     fn note(&mut self, call: &Call) {
         match (call.event.event(), &call.reply) {
-            (event, Reply::Refused(why)) => self.refuse(event, why.number()),
+            (event, Reply::Refused(why)) => self.refuse(event, *why),
             (Event::Up { capabilities, .. }, Reply::Done) => self.rise(*capabilities),
             (Event::Up { .. }, _) => self.stay_down(),
             (Event::Marker { .. }, _) => self.sync(),
@@ -173,6 +176,9 @@ impl<'a, 'c, 't, R: Wait + Clock, B: Brands> Notes<'a, 'c, 't, R, B> {
         };
         self.standing = self.standing.after(call);
         let now_ms = self.now_ms();
+        if let Some(report) = answer_of(call) {
+            self.hear_answer(report, now_ms);
+        }
         if let Some(what) = session_happening(call, now_ms) {
             self.session.note(what);
         }
@@ -232,13 +238,46 @@ impl<'a, 'c, 't, R: Wait + Clock, B: Brands> Notes<'a, 'c, 't, R, B> {
         }
     }
 
-    /// Notes that messages are on their way to the router: each PCUpd grants its LSP a path.
+    /// Returns the name of a report's LSP: the one in the report, or in an earlier one.
+    fn name_in(&self, report: &StateReport) -> ShownName {
+        match &report.name {
+            Some(name) => ShownName::new(name.as_slice()),
+            None => self.context.name_of(self.peer, report.plsp.number()),
+        }
+    }
+
+    /// Logs that the router answered a request, if this report is the first to answer it.
+    fn hear_answer(&mut self, report: &StateReport, now_ms: u64) {
+        let Some(srp) = report.srp else {
+            return;
+        };
+        let Some(sent_ms) = self.sent.answer(srp) else {
+            return;
+        };
+        self.context.say_decided(Some(Decision::Answered {
+            peer: self.peer,
+            srp,
+            lsp: self.name_in(report),
+            after_ms: now_ms.saturating_sub(sent_ms),
+        }));
+    }
+
+    /// Notes that a PCUpd is on its way to the router, which grants its LSP a path.
+    fn note_update(&mut self, srp: u32, plsp: Plsp, now_ms: u64) {
+        self.sent.note(srp, now_ms);
+        let plsp = plsp.number();
+        self.note_trial(PauseHappening::Granted { plsp, now_ms }, now_ms);
+    }
+
+    /// Notes the requests among these messages, which are on their way to the router.
     fn note_sent(&mut self, messages: &[Message]) {
         let now_ms = self.now_ms();
         for message in messages {
-            if let Message::Update(update) = message {
-                let plsp = update.plsp.number();
-                self.note_trial(PauseHappening::Granted { plsp, now_ms }, now_ms);
+            match message {
+                Message::Update(update) => self.note_update(update.srp, update.plsp, now_ms),
+                Message::Initiate(Initiate::Create(create)) => self.sent.note(create.srp, now_ms),
+                Message::Initiate(Initiate::Remove { srp, .. }) => self.sent.note(*srp, now_ms),
+                _ => {}
             }
         }
     }
@@ -317,6 +356,7 @@ impl<'a, 'c, 't, R: Wait + Clock, B: Brands> Notes<'a, 'c, 't, R, B> {
     /// Notes and logs that the router refused what an SRP-ID asked for.
     fn hear_refusal(&mut self, srp: u32, error: PcErr) {
         let context = self.context;
+        let _sent_ms = self.sent.answer(srp);
         let peer = self.peer;
         let look = AskedLook { peer, srp };
         let Ok(Some(AskedLsp { plsp, name })) = context

@@ -5,6 +5,7 @@ use history_seats::Brands;
 use pcep_messages::Message;
 use pcep_objects::Open;
 use server_base::forget_counted;
+use server_log::Asker;
 use server_rules::SessionHappening;
 use server_talk::Watch;
 use short_lock::acquire;
@@ -58,7 +59,9 @@ impl<'a, 'c, 't, R: Wait + Clock, B: Brands, D: ServerStore + Drop> Store
             self.notes.note_last(self.store.calls());
         }
         if is_ask && submitted.is_ok() {
-            self.notes.context.note_ask(self.store.calls(), asked_us);
+            self.notes
+                .context
+                .note_ask(self.store.calls(), asked_us, Asker::Report);
         }
         submitted
     }

@@ -1,7 +1,7 @@
 //! What an accepted call says about a session, and about its router's paths and LSPs.
-ghost use Rattle.std.specs.Prelude.{◌≡◌};
+ghost use Rattle.std.specs.Prelude.{◌≡◌, option_copied};
 ghost use Rattle.delegate_rules.specs.Reports.{are_zero, identifiers_of};
-ghost use Rattle.server_connections.specs.Sayings.{key_of, lsp_of, operational_of, path_event, path_happening, removal, replaced_by, replaced_in, replaced_lsp, reported, reported_trial, rsvp_error_of, session_happening, trial_event, trial_happening, trial_in, word_of};
+ghost use Rattle.server_connections.specs.Sayings.{answer_in, answer_of, key_of, lsp_of, operational_of, path_event, path_happening, removal, replaced_by, replaced_in, replaced_lsp, reported, reported_trial, rsvp_error_of, session_happening, trial_event, trial_happening, trial_in, word_of};
 
 use engine_core::{Call, Event, Reply};
 use pcep_messages::StateReport;
@@ -100,6 +100,26 @@ pub(crate) fn lsp_of(peer: u32, report: &StateReport) -> RouterLsp
     RouterLsp {
         peer,
         plsp: report.plsp.number(),
+    }
+}
+
+/// Lends the report of an event, if it answers a request.
+fn answer_in(event: &Event) -> Option<&StateReport>
+    ensures { option_copied result ≡ answer_in event.now }
+{
+    match event {
+        Event::Report { report, .. } if report.srp.is_some() => Some(report),
+        _ => None,
+    }
+}
+
+/// Lends the report of an accepted call, if it answers a request.
+pub(crate) fn answer_of(call: &Call) -> Option<&StateReport>
+    ensures { option_copied result ≡ answer_of call.now.event call.now.reply }
+{
+    match &call.reply {
+        Reply::Refused(_) => None,
+        _ => answer_in(call.event.event()),
     }
 }
 

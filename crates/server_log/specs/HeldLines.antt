@@ -1,5 +1,5 @@
 -- Which lines are held back: of each kind, at most a hundred are written in a second.
-use Rattle.std.specs.Prelude.{ℕ, ◌≡◌, ◌==◌, ◌+◌, ◌-◌, ◌%◌, ◌^◌, ◌&&◌, not, min, nat_le, Bool, true, false, replicate, slice_get, slice_set, Option, Some, None, ⊤, if◌then◌else◌}
+use Rattle.std.specs.Prelude.{ℕ, ◌≡◌, ◌==◌, ◌+◌, ◌-◌, ◌%◌, ◌^◌, ◌&&◌, not, min, nat_le, Bool, true, replicate, slice_get, slice_set, Option, Some, None, ⊤, if◌then◌else◌}
 use Rattle.server_rules.specs.Lines.{is_past}
 use Rattle.server_log.specs.LogLines.{kind_number}
 use Rattle.server_log.specs.declared.held.Held.{Held}

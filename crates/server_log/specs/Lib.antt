@@ -1,7 +1,10 @@
 pub mod Joining
+pub mod Limits
+pub mod Decisions
 pub mod LogLines
 pub mod Reasons
 pub mod Names
+pub mod Paths
 pub mod Texts
 pub mod HeldLines
 pub mod Queues

@@ -2,7 +2,14 @@
 use Rattle.std.specs.Prelude.{ℕ, Bool, true, false, List, codes, Option, Some, None}
 use Rattle.log.specs.declared.level.Level.{Level}
 use Rattle.log.specs.declared.level.Level.TheVariants.{Warn, Info, Debug}
+use Rattle.lsp_base.specs.Whys.{number_of}
+use Rattle.lsp_base.specs.declared.why.Why.{Why}
+use Rattle.lsp_base.specs.declared.why.Why.TheVariants as why
 use Rattle.lsp_words.specs.declared.object.Capabilities.{Capabilities}
+use Rattle.step_core.specs.declared.event.Event.{Event}
+use Rattle.step_core.specs.declared.event.Event.TheVariants as event
+use Rattle.server_log.specs.Decisions.{decision_kind, decision_level, decision_peer}
+use Rattle.server_log.specs.declared.decisions.Decision.TheVariants.{NotBooked}
 use Rattle.server_log.specs.declared.kinds.Kind.{Kind}
 use Rattle.server_log.specs.declared.kinds.Kind.TheVariants as kind
 use Rattle.server_log.specs.declared.log_lines.LogLine.{LogLine}
@@ -31,6 +38,15 @@ kind_number kind.Log = 18
 kind_number kind.NoAnswer = 19
 kind_number kind.RouterRefused = 20
 kind_number kind.Slowed = 21
+kind_number kind.Asked = 22
+kind_number kind.Granted = 23
+kind_number kind.Replied = 24
+kind_number kind.NoPath = 25
+kind_number kind.GaveUp = 26
+kind_number kind.Answered = 27
+kind_number kind.Ordered = 28
+kind_number kind.Reloaded = 29
+kind_number kind.NotBooked = 30
 
 abbrev pub subject : Kind → List ℕ
 subject kind.Listening = codes "listening"
@@ -55,6 +71,15 @@ subject kind.Log = codes "log"
 subject kind.NoAnswer = codes "no answer"
 subject kind.RouterRefused = codes "router refused"
 subject kind.Slowed = codes "slowed"
+subject kind.Asked = codes "asked"
+subject kind.Granted = codes "granted"
+subject kind.Replied = codes "replied"
+subject kind.NoPath = codes "no path"
+subject kind.GaveUp = codes "gave up"
+subject kind.Answered = codes "answered"
+subject kind.Ordered = codes "operator lines"
+subject kind.Reloaded = codes "reload"
+subject kind.NotBooked = codes "not booked"
 
 abbrev pub kind_of : LogLine → Kind
 kind_of (line.Listening address port nodes links) = kind.Listening
@@ -81,6 +106,7 @@ kind_of (line.Lost lines) = kind.Log
 kind_of (line.NoAnswer peer srp plsp) = kind.NoAnswer
 kind_of (line.RouterRefused peer srp lsp error) = kind.RouterRefused
 kind_of (line.Slowed peer pause_ms) = kind.Slowed
+kind_of (line.Decided decision) = decision_kind decision
 
 -- info for sessions and the run, warn for faults, debug for what the state refused
 abbrev pub level_of : LogLine → Level
@@ -108,6 +134,7 @@ level_of (line.Lost lines) = Warn
 level_of (line.NoAnswer peer srp plsp) = Warn
 level_of (line.RouterRefused peer srp lsp error) = Info
 level_of (line.Slowed peer pause_ms) = Warn
+level_of (line.Decided decision) = decision_level decision
 
 -- the router that a line is about, or 0
 abbrev pub router_of : LogLine → ℕ
@@ -135,6 +162,7 @@ router_of (line.Lost lines) = 0
 router_of (line.NoAnswer peer srp plsp) = peer
 router_of (line.RouterRefused peer srp lsp error) = peer
 router_of (line.Slowed peer pause_ms) = peer
+router_of (line.Decided decision) = decision_peer decision
 
 abbrev pub updating : Bool → Bool → List ℕ
 updating false false = codes "stateful"
@@ -146,3 +174,13 @@ updating true true = codes "stateful,update,initiate"
 abbrev pub capability_words : Option Capabilities → List ℕ
 capability_words None = codes "stateless"
 capability_words (Some c) = updating c.update c.create
+
+-- ---- that an event of a peer was refused. A report that is refused because too many paths stand has a line of its own
+
+abbrev pub refused_report : ℕ → ℕ → Why → LogLine
+refused_report peer plsp why.TooManyPaths = line.Decided (NotBooked peer plsp)
+refused_report peer plsp other = line.Refused peer (number_of other)
+
+abbrev pub refusal_line : ℕ → Event → Why → LogLine
+refusal_line peer (event.Report of report) why = refused_report peer report.plsp why
+refusal_line peer other why = line.Refused peer (number_of why)

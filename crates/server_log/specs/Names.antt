@@ -1,5 +1,5 @@
 -- Names of LSPs as log lines print them.
-use Rattle.std.specs.Prelude.{ℕ, ◌==◌, ◌<◌, ◌++◌, ◌/◌, ◌%◌, ◌-◌, ◌&&◌, not, min, nat_le, nat_lt, Bool, true, false, List, [], ◌∷◌, length, take, drop, replicate, codes, flat_map, if◌then◌else◌}
+use Rattle.std.specs.Prelude.{ℕ, ◌==◌, ◌++◌, ◌/◌, ◌%◌, ◌&&◌, not, min, nat_le, nat_lt, Bool, true, false, List, [], ◌∷◌, length, take, drop, replicate, codes, flat_map, if◌then◌else◌}
 use Rattle.std.specs.Fmt.{digits}
 use Rattle.server_log.specs.Joining.{◌+>◌}
 use Rattle.server_log.specs.declared.shown_name.ShownName.{ShownName}

@@ -7,6 +7,7 @@ use Rattle.history_core.specs.Faults.{fault_text}
 use Rattle.lsp_words.specs.declared.object.Capabilities.{Capabilities}
 use Rattle.pcep_word.specs.Address.{text_of}
 use Rattle.server_rules.specs.declared.peer_errors.PcErr.{PcErr}
+use Rattle.server_log.specs.Decisions.{decision_text}
 use Rattle.server_log.specs.LogLines.{capability_words, subject}
 use Rattle.server_log.specs.Names.{name_text}
 use Rattle.end_reasons.specs.Reasons.{code_text}
@@ -53,3 +54,4 @@ line_text (line.NoAnswer peer srp plsp) =
 line_text (line.RouterRefused peer srp lsp error) =
     codes "router refused " +> text_of peer +> codes " srp=" +> decimal srp +> codes " lsp=" +> name_text lsp +> codes " " +> refusal_text error
 line_text (line.Slowed peer pause_ms) = codes "slowed " +> text_of peer +> codes " pause=" +> decimal pause_ms +> codes "ms"
+line_text (line.Decided decision) = decision_text decision

@@ -27,10 +27,19 @@ pub enum Kind {
     NoAnswer,
     RouterRefused,
     Slowed,
+    Asked,
+    Granted,
+    Replied,
+    NoPath,
+    GaveUp,
+    Answered,
+    Ordered,
+    Reloaded,
+    NotBooked,
 }
 
 /// All kinds, by their numbers.
-pub(crate) const KINDS: [Kind; 22] = [
+pub(crate) const KINDS: [Kind; 31] = [
     Kind::Listening,
     Kind::Up,
     Kind::InSync,
@@ -53,13 +62,22 @@ pub(crate) const KINDS: [Kind; 22] = [
     Kind::NoAnswer,
     Kind::RouterRefused,
     Kind::Slowed,
+    Kind::Asked,
+    Kind::Granted,
+    Kind::Replied,
+    Kind::NoPath,
+    Kind::GaveUp,
+    Kind::Answered,
+    Kind::Ordered,
+    Kind::Reloaded,
+    Kind::NotBooked,
 ];
 
 impl Kind {
-    /// Gives its number, below 22.
+    /// Gives its number, below 31.
     pub(crate) fn number(self) -> usize
         ensures number { result ≡ kind_number self }
-        ensures few { result < 22 }
+        ensures few { result < 31 }
     {
         match self {
             Kind::Listening => 0,
@@ -84,6 +102,15 @@ impl Kind {
             Kind::NoAnswer => 19,
             Kind::RouterRefused => 20,
             Kind::Slowed => 21,
+            Kind::Asked => 22,
+            Kind::Granted => 23,
+            Kind::Replied => 24,
+            Kind::NoPath => 25,
+            Kind::GaveUp => 26,
+            Kind::Answered => 27,
+            Kind::Ordered => 28,
+            Kind::Reloaded => 29,
+            Kind::NotBooked => 30,
         }
     }
 
@@ -114,6 +141,15 @@ impl Kind {
             Kind::NoAnswer => "no answer",
             Kind::RouterRefused => "router refused",
             Kind::Slowed => "slowed",
+            Kind::Asked => "asked",
+            Kind::Granted => "granted",
+            Kind::Replied => "replied",
+            Kind::NoPath => "no path",
+            Kind::GaveUp => "gave up",
+            Kind::Answered => "answered",
+            Kind::Ordered => "operator lines",
+            Kind::Reloaded => "reload",
+            Kind::NotBooked => "not booked",
         }
     }
 }

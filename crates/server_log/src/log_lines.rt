@@ -1,12 +1,14 @@
 //! What the log says.
 ghost use Rattle.std.specs.Prelude.{◌≡◌};
-ghost use Rattle.server_log.specs.LogLines.{kind_of, level_of, router_of};
+ghost use Rattle.server_log.specs.LogLines.{kind_of, level_of, refusal_line, router_of};
 
+use crate::decisions::Decision;
 use crate::kinds::Kind;
 use crate::shown_name::ShownName;
 use end_reasons::Reason;
-use history_core::Fault;
+use history_core::{Event, Fault};
 use log::{Level, Log, info, log, log_enabled};
+use lsp_base::Why;
 use pcep_objects::Capabilities;
 use server_rules::PcErr;
 
@@ -128,6 +130,8 @@ pub enum LogLine {
         peer: u32,
         pause_ms: u64,
     },
+    /// What was asked for, decided or answered.
+    Decided(Decision),
 }
 
 impl LogLine {
@@ -158,6 +162,7 @@ impl LogLine {
             LogLine::NoAnswer { .. } => Kind::NoAnswer,
             LogLine::RouterRefused { .. } => Kind::RouterRefused,
             LogLine::Slowed { .. } => Kind::Slowed,
+            LogLine::Decided(decision) => decision.kind(),
         }
     }
 
@@ -176,6 +181,7 @@ impl LogLine {
             | LogLine::RouterRefused { peer, .. }
             | LogLine::Slowed { peer, .. } => peer,
             LogLine::Stranger { address, .. } => address,
+            LogLine::Decided(decision) => decision.router(),
             _ => 0,
         }
     }
@@ -209,7 +215,27 @@ impl LogLine {
             | LogLine::NoAnswer { .. }
             | LogLine::Slowed { .. } => Level::Warn,
             LogLine::Refused { .. } => Level::Debug,
+            LogLine::Decided(decision) => decision.level(),
         }
+    }
+}
+
+/// Returns the line for an event of a peer that was refused. A report that is refused because too many paths stand has a
+/// line of its own.
+pub fn refusal_line(peer: u32, event: &Event, why: Why) -> LogLine
+    ensures { result ≡ refusal_line peer event.now why }
+{
+    match (event, why) {
+        (Event::Report { report, .. }, Why::TooManyPaths) => {
+            LogLine::Decided(Decision::NotBooked {
+                peer,
+                plsp: report.plsp.number(),
+            })
+        }
+        _ => LogLine::Refused {
+            peer,
+            number: why.number(),
+        },
     }
 }
 

@@ -51,14 +51,19 @@ impl Queue {
         }
     }
 
-    /// Adds the line unless it is held back, after the count of those that were.
-    fn say(&mut self, line: LogLine, now_ms: u64) {
-        let kind = line.kind();
-        if !self.held.lets(kind, line.router(), now_ms) {
-            return;
-        }
-        self.add_held(kind, now_ms);
+    /// Adds a line that isn't held back, after the count of those that were.
+    fn add(&mut self, line: LogLine, now_ms: u64) {
+        self.add_held(line.kind(), now_ms);
         self.push(line);
+    }
+
+    /// Adds the line unless it is held back. Returns whether it was added.
+    fn say(&mut self, line: LogLine, now_ms: u64) -> bool {
+        let is_said = self.held.lets(line.kind(), line.router(), now_ms);
+        if is_said {
+            self.add(line, now_ms);
+        }
+        is_said
     }
 
     /// Adds how many lines of a kind were held back, if it is time.
@@ -114,7 +119,20 @@ impl LogQueue {
         if line.level() == Level::Debug && !self.is_debug {
             return;
         }
-        self.queue.lock(rt).say(line, now_ms);
+        let is_said = self.queue.lock(rt).say(line, now_ms);
+        if is_said {
+            self.filled.notify_one();
+        }
+    }
+
+    /// Tests whether a line of this kind about a router may be written at this moment. If not, it is counted as held back.
+    pub fn admits<R: Wait>(&self, rt: &R, kind: Kind, router: u32, now_ms: u64) -> bool {
+        self.queue.lock(rt).held.lets(kind, router, now_ms)
+    }
+
+    /// Adds a line that was admitted at this moment.
+    pub fn say_admitted<R: Wait>(&self, rt: &R, line: LogLine, now_ms: u64) {
+        self.queue.lock(rt).add(line, now_ms);
         self.filled.notify_one();
     }
 

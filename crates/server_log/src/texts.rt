@@ -168,6 +168,7 @@ impl fmt::Display for LogLine {
                 let peer = Ipv4(peer);
                 write!(f, "slowed {peer} pause={pause_ms}ms")
             }
+            LogLine::Decided(decision) => write!(f, "{decision}"),
         }
     }
 }

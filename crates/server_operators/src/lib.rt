@@ -4,6 +4,7 @@
 //! - `plan`: the file of the link text
 //! - `reload_log`: a store that notes which links a reload leaves below zero
 //! - `links_look`: a look at all links
+//! - `names_look`: a look at what names in a line stand for
 //! - `shown`: what an operator is shown, from its own seat
 //! - `answering`: an operator's lines
 //! - `control`: operators who connect
@@ -13,6 +14,7 @@
 mod answering;
 mod control;
 mod links_look;
+mod names_look;
 mod operator;
 mod plan;
 mod reload_log;

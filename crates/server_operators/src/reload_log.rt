@@ -1,10 +1,11 @@
-//! A store that notes which links a reload leaves below zero.
+//! A store that logs what operators ask for, the replies, and which links a reload leaves below zero.
 use engine_core::{Call, Event, Fault, Reply, ServerStore, Store};
 use history_seats::Brands;
 use pcep_messages::Message;
 use pcep_objects::Open;
+use seated_store::Seated;
 use server_base::{Context, LinkEnds, forget_counted};
-use server_log::LogLine;
+use server_log::{Asker, LogLine, ordered, reloaded};
 use shared_pce::Front;
 use short_lock::acquire;
 use std::alloc::{AllocError, Global};
@@ -64,11 +65,11 @@ fn lines_of(
 
 /// The store of an operator's lines.
 #[derive(Drop)]
-pub(crate) struct ReloadLog<'a, 'c, R: Clock, B: Brands, D: ServerStore + Drop> {
+pub(crate) struct ReloadLog<'a, 'c, 's, R: Wait + Clock, B: Brands> {
     pub context: &'a Context<'c, R, B>,
     /// What the operator's thread has seen of the history.
     pub front: Front<Event, B>,
-    pub store: D,
+    pub store: Seated<'s, R, B>,
 }
 
 /// Returns the lines to log about these entries after they are submitted.
@@ -93,38 +94,44 @@ fn lines_for<R: Wait + Clock, B: Brands>(
     }
 }
 
-impl<'a, 'c, R: Wait + Clock, B: Brands, D: ServerStore + Drop> ReloadLog<'a, 'c, R, B, D> {
-    /// Logs these lines, unless the last event was refused.
+impl<'a, 'c, 's, R: Wait + Clock, B: Brands> ReloadLog<'a, 'c, 's, R, B> {
+    /// Logs what the last event asked for and its reply, and unless it was refused also these lines.
     fn say_all(&self, lines: &[LogLine]) {
         let Some(call) = self.store.calls().last() else {
             return;
         };
-        if !matches!(call.reply, Reply::Done) {
+        let (event, reply) = (call.event.event(), &call.reply);
+        self.context.say_decided(ordered(event, reply));
+        if !matches!(reply, Reply::Done) {
             return;
         }
         for line in lines {
             self.context.say(*line);
         }
+        self.context
+            .say_decided(reloaded(event, reply, lines.len()));
     }
 }
 
-impl<'a, 'c, R: Wait + Clock, B: Brands, D: ServerStore + Drop> Store
-    for ReloadLog<'a, 'c, R, B, D> {
-    ghost calls = { λ s. D.calls s.store };
+impl<'a, 'c, 's, R: Wait + Clock, B: Brands> Store for ReloadLog<'a, 'c, 's, R, B> {
+    ghost use Rattle.seated_store.specs.Seating.{SeatedMoves, SeatedRolls, SameSeat, WasFull};
+    ghost use Rattle.seated_store.specs.SeatingLaws.{moves_nowhere, moves_on};
 
-    ghost moves = { λ old made new. D.moves old.store made new.store };
+    ghost calls = { λ s. s.store.calls.items };
 
-    ghost same_but_calls = { λ old new. D.same_but_calls old.store new.store };
+    ghost moves = { λ old made new. SeatedMoves B.text old.store.seat old.store.calls.items made new.store.seat new.store.calls.items };
 
-    ghost is_full = { λ s. D.is_full s.store };
+    ghost same_but_calls = { λ old new. SameSeat B.text old.store.seat new.store.seat };
 
-    ghost rolls = { λ old steps new. D.rolls old.store steps new.store };
+    ghost is_full = { λ s. WasFull B.text s.store.seat };
 
-    ghost moves_nowhere = { λ s. D.moves_nowhere s.store };
+    ghost rolls = { λ old steps new. SeatedRolls B.text old.store.seat old.store.calls.items steps new.store.seat new.store.calls.items };
 
-    ghost moves_on = { λ a b c first second h k. D.moves_on a.store b.store c.store first second h k };
+    ghost moves_nowhere = { λ s. moves_nowhere B.text s.store.seat s.store.calls.items };
 
-    ghost moves_add = { λ a b made h. D.moves_add a.store b.store made h };
+    ghost moves_on = { λ a b c first second h k. moves_on B.text a.store.seat b.store.seat c.store.seat a.store.calls.items b.store.calls.items c.store.calls.items first second h k };
+
+    ghost moves_add = { λ a b made h. h.added };
 
     /// Submits an event. If there is no memory for the lines of a reload, nothing is done.
     fn submit(&mut self, event: Event) -> Result<(), Fault> {
@@ -138,8 +145,9 @@ impl<'a, 'c, R: Wait + Clock, B: Brands, D: ServerStore + Drop> Store
         let asked_us = self.context.moments().now_us();
         let submitted = self.store.submit(event);
         if submitted.is_ok() {
-            self.context.note_ask(self.store.calls(), asked_us);
             self.say_all(&lines);
+            self.context
+                .note_ask(self.store.calls(), asked_us, Asker::Operator);
         }
         submitted
     }
@@ -166,21 +174,25 @@ impl<'a, 'c, R: Wait + Clock, B: Brands, D: ServerStore + Drop> Store
     }
 }
 
-impl<'a, 'c, R: Wait + Clock, B: Brands, D: ServerStore + Drop> ServerStore
-    for ReloadLog<'a, 'c, R, B, D> {
-    ghost queues = { λ s peer waits. D.queues s.store peer waits };
+impl<'a, 'c, 's, R: Wait + Clock, B: Brands> ServerStore for ReloadLog<'a, 'c, 's, R, B> {
+    ghost use Rattle.std.specs.Prelude.{◌≡◌};
+    ghost use Rattle.history_seats.specs.Past.{database_at};
+    ghost use Rattle.step_core.specs.States.{is_queued};
+    ghost use Rattle.te_snapshot.specs.Left.{all_left};
 
-    ghost is_left = { λ s table. D.is_left s.store table };
+    ghost queues = { λ s peer waits. waits ≡ is_queued (database_at B.text s.store.seat.now.seen).state peer };
+
+    ghost is_left = { λ s table. let d = database_at B.text s.store.seat.now.seen in table ≡ all_left d.state.te.links d.state.base.paths };
 
     fn roll_if_full(&mut self) -> Result<Option<u64>, AllocError> {
         self.store.roll_if_full()
     }
 
     fn queued(&mut self, peer: u32) -> bool {
-        self.store.queued(peer)
+        ServerStore::queued(&mut self.store, peer)
     }
 
     fn left(&mut self) -> Result<Vec<[i64; 8]>, AllocError> {
-        self.store.left()
+        ServerStore::left(&mut self.store)
     }
 }

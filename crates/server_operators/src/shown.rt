@@ -6,9 +6,11 @@ ghost use Rattle.shared_pce.specs.Residuals.{WasLeft};
 ghost use Rattle.server_operators.specs.Shows.{bounded, form_of, line_end, AddsPage, IsShown};
 
 use crate::links_look::LinksLook;
+use crate::names_look::NamesLook;
 use crate::reload_log::ReloadLog;
 use asks::Ask;
 use history_seats::Brands;
+use line_names::Named;
 use pce_view::{Form, ServerInfo};
 use pced_build::{LOGIC, VERSION};
 use script_lines::ViewLine;
@@ -182,9 +184,10 @@ fn notes_for<R: Wait + Clock, B: Brands>(
     })
 }
 
-impl<'a, 'c, 's, R: Wait + Clock, B: Brands> Show for ReloadLog<'a, 'c, R, B, Seated<'s, R, B>> {
-    ghost use Rattle.std.specs.Prelude.{◌≡◌, All};
+impl<'a, 'c, 's, R: Wait + Clock, B: Brands> Show for ReloadLog<'a, 'c, 's, R, B> {
+    ghost use Rattle.std.specs.Prelude.{◌≡◌, All, map};
     ghost use Rattle.history_seats.specs.Past.{database_at};
+    ghost use Rattle.line_names.specs.Names.{named_in};
     ghost use Rattle.pce_view.specs.declared.question.ServerInfo.{ServerInfo};
     ghost use Rattle.server_operators.specs.Shows.{bounded, form_of, IsShown};
     ghost use Rattle.shared_pce.specs.Residuals.{WasLeft};
@@ -193,10 +196,16 @@ impl<'a, 'c, 's, R: Wait + Clock, B: Brands> Show for ReloadLog<'a, 'c, R, B, Se
 
     ghost has_links = { λ s values left. let d = database_at B.text s.store.seat.now.seen in (values ≡ values_in d.state.te) × (left ≡ all_left d.state.te.links d.state.base.paths) };
 
+    ghost names = { λ s line named. let d = database_at B.text s.store.seat.now.seen in named ≡ named_in d.state.te (map (λ p. p.number) d.state.peers) line };
+
     ghost shows = { λ old line text new. (info : ServerInfo) × All WasLeft info.residuals.now × IsShown B.text (form_of line.is_json) info old.store.seat.now.seen (bounded line.ask) text new.store.seat.now.seen };
 
     fn links(&mut self) -> Result<(Vec<LinkValues>, Vec<[i64; 8]>), AllocError> {
         self.store.look(&LinksLook)
+    }
+
+    fn named(&mut self, _alloc: Global, line: &str) -> Result<Named, AllocError> {
+        self.store.look(&NamesLook { line })
     }
 
     fn show(&mut self, _alloc: Global, line: &ViewLine) -> Result<Vec<u8>, AllocError> {

@@ -1,5 +1,5 @@
 -- An operator, line by line.
-use Rattle.std.proofs.Common.{◌≡◌, ◌≢◌, ℕ, ◌+◌, ◌-◌, ◌^◌, ◌<◌, min, ℤ, Bool, true, false, List, [], ◌∷◌, ◌++◌, length, codes, string_bytes, Option, Some, None, IsSome, Result, Ok, Err, refl, sym, ◌∙◌, ap, subst, append_assoc, append-nil, take, drop, get_or, take-append-drop, drop-cons, add-one, arith}
+use Rattle.std.proofs.Common.{◌≡◌, ◌≢◌, ℕ, ◌+◌, ◌-◌, ◌^◌, ◌<◌, min, ℤ, Bool, true, false, List, [], ◌∷◌, ◌++◌, length, codes, string_bytes, Option, Some, None, IsSome, Result, Ok, Err, refl, inl, inr, sym, ◌∙◌, ap, subst, append_assoc, append-nil, take, drop, get_or, take-append-drop, drop-cons, add-one, arith}
 use Rattle.std.specs.Prelude.{◌==◌}
 use Rattle.std.proofs.lemmas.Bool.Decides.{nat_tests}
 use Rattle.std.proofs.lemmas.List.{length_push, take_more}
@@ -29,16 +29,21 @@ use Rattle.server_talk.specs.declared.operator.OperatorEnd.TheVariants.{InputEnd
 use Rattle.server_talk.specs.declared.pending.OpenLine.{OpenLine}
 use Rattle.server_talk.specs.declared.plan.PlanFault.{PlanFault}
 use Rattle.server_talk.specs.declared.requests.Request.{Request}
-use Rattle.server_talk.specs.declared.requests.Request.TheVariants.{Book, Check, End, Reload, Submit, View}
+use Rattle.server_talk.specs.declared.requests.Request.TheVariants.{Book, Check, Reload, Submit, View}
 use Rattle.server_talk.specs.Goings.{Goes}
 use Rattle.server_talk.specs.Goings.Goes.{Stays, Moves, Empties, Rolls}
 use Rattle.server_talk.specs.Listening.{said_of, Comes, Answered, Answers, AnswersLines, TakesLine, IsKept, SoFar, StopsAt, Stopped, HandsOn, HearsOn, Turns}
+use Rattle.line_names.specs.Plain.{plain_line}
+use Rattle.line_names.specs.declared.plain.Named.{Named}
+use Rattle.server_talk.specs.Naming.{AsksEnd, MayStandFor, StandsFor, is_named}
+use Rattle.server_talk.specs.Naming.StandsFor.{Itself, Plain}
+use Rattle.server_talk.specs.Notes.{IsNote, note_text}
 use Rattle.server_talk.specs.Operators.{bad_line, unread_line, number_behind, IsOperators, AreOperators, IsAnswered, Listens, is_out, FailsAs, IsOver, Operated}
 use Rattle.server_talk.specs.Operators.IsAnswered.{Obeyed, Shown, Reloaded, Unread, Checked, Viewed, Refused, Starved, StillFull}
-use Rattle.server_talk.specs.Operators.Listens.{Begins, Hears, Waits}
+use Rattle.server_talk.specs.Operators.Listens.{Begins, Hears, Lacks, Waits}
 use Rattle.server_talk.specs.Servers.{Server}
 use Rattle.server_talk.specs.ReloadChecks.{check_text}
-use Rattle.server_talk.specs.Requests.{asks_reading, asks_step, is_operators, request_of}
+use Rattle.server_talk.specs.Requests.{asks_reading, asks_step, bare, explained_in, request_of}
 use Rattle.server_talk.specs.Connections.{TakesAll}
 use Rattle.server_talk.proofs.Flowing.{appends_none, takes_behind}
 use Rattle.server_talk.proofs.Requesting.{operators_alone}
@@ -179,16 +184,19 @@ module _ {S : Type 0} (server : Server S) where
   -- the calls of all lines let the store go on
   pub listens_goes : (start now : S) (lines : List (List ℕ)) (calls : List Deed) (said : List ℕ) → Heard start lines calls said now → Goings start calls now
   listens_goes start now lines calls said Begins = Stays
-  listens_goes start now lines calls said (Hears before first made answers text line a b h answer) =
-      goes_behind start a b first made (listens_goes start a before first answers h) (answer_goes (number_behind before) line a b made text answer)
+  listens_goes start now lines calls said (Hears before first made answers text line plain note at a b h went stands answer noted) =
+      goes_behind start a b first made (listens_goes start a before first answers h) (answer_goes (number_behind before) plain a b made text answer)
+  listens_goes start now lines calls said (Lacks before first answers line note a b h names way noted) =
+      subst (λ (all : List Deed). Goings start all b) (append-nil first) (goes_behind start a b first [] (listens_goes start a before first answers h) (Moves [] [] a b Stays way))
   listens_goes start now lines calls said (Waits before first answers a b h way) =
       subst (λ (all : List Deed). Goings start all b) (append-nil first) (goes_behind start a b first [] (listens_goes start a before first answers h) way)
 
   -- each of these calls submits an operator's event
   pub listens_operators : (start now : S) (lines : List (List ℕ)) (calls : List Deed) (said : List ℕ) → Heard start lines calls said now → AreOperators calls
   listens_operators start now lines calls said Begins = All-nil IsOperators
-  listens_operators start now lines calls said (Hears before first made answers text line a b h answer) =
-      All-append IsOperators first made (listens_operators start a before first answers h) (answer_operators (number_behind before) line a b made text answer)
+  listens_operators start now lines calls said (Hears before first made answers text line plain note at a b h went stands answer noted) =
+      All-append IsOperators first made (listens_operators start a before first answers h) (answer_operators (number_behind before) plain a b made text answer)
+  listens_operators start now lines calls said (Lacks before first answers line note a b h names way noted) = listens_operators start a before first answers h
   listens_operators start now lines calls said (Waits before first answers a b h way) = listens_operators start a before first answers h
 
   -- ---- the result of a line
@@ -237,56 +245,84 @@ module _ {S : Type 0} (server : Server S) where
   waited start a b lines said went s = record { calls = s.calls; listens = Waits lines s.calls said a b s.listens went }
 
   -- one more line
-  heard_line : (start a b : S) (lines : List (List ℕ)) (said text line : List ℕ) (made : List Deed) → IsDone (number_behind lines) line a made text b → Stands start lines said a → Stands start (lines ++ line ∷ []) (said ++ text) b
-  heard_line start a b lines said text line made done s = record { calls = s.calls ++ made; listens = Hears lines s.calls made said text line a b s.listens done }
+  heard_line : (start named a b : S) (lines : List (List ℕ)) (said text line plain : List ℕ) (made : List Deed) → Goings named [] a → StandsFor server named line plain → IsDone (number_behind lines) plain a made text b → Stands start lines said a
+      → (note : Option (List ℕ)) → IsNote note (explained_in line) text → Stands start (lines ++ line ∷ []) (said ++ (text ++ note_text note)) b
+  heard_line start named a b lines said text line plain made went stands done s note noted =
+      record { calls = s.calls ++ made; listens = Hears lines s.calls made said text line plain note named a b s.listens went stands done noted }
 
-  -- the line had its answer at once
-  pub answered_at_once : (r : Result Answer CommandFault) (start a b : S) (lines : List (List ℕ)) (said line : List ℕ) → r ≢ Err (Store HistoryFull) → Came r (number_behind lines) line a b → Stands start lines said a → Answering r start lines said line b
-  answered_at_once (Ok (answers.Reply text)) start a b lines said line other h s = heard_line start a b lines said (string_bytes text ++ codes "\n") line h.0 h.1 s
-  answered_at_once (Ok (answers.Table text)) start a b lines said line other h s = heard_line start a b lines said (string_bytes text) line h.0 h.1 s
-  answered_at_once (Ok (answers.Viewed text)) start a b lines said line other h s = heard_line start a b lines said text.items line h.0 h.1 s
-  answered_at_once (Ok (answers.Unread fault)) start a b lines said line other h s = heard_line start a b lines said (unread_line fault) line h.0 h.1 s
-  answered_at_once (Ok answers.End) start a b lines said line other h s = (h.0, subst (λ (now : S). Stands start lines said now) (sym h.1) s)
-  answered_at_once (Err BadLine) start a b lines said line other h s = heard_line start a b lines said (bad_line (number_behind lines)) line h.0 h.1 s
-  answered_at_once (Err (Store OutOfMemory)) start a b lines said line other h s = heard_line start a b lines said (fault_text OutOfMemory ++ codes "\n") line h.0 h.1 s
-  answered_at_once (Err (Store HistoryFull)) start a b lines said line other h s = absurd (other refl)
+  may_stand : (now : S) (line plain : List ℕ) → StandsFor server now line plain → MayStandFor line plain
+  may_stand now line plain (Itself none) = inl refl
+  may_stand now line plain (Plain named some given) = inr (named, refl)
+
+  -- the line that a line stands for had its answer at once
+  pub answered_at_once : (r : Result Answer CommandFault) (start named a b : S) (lines : List (List ℕ)) (said line plain : List ℕ) → r ≢ Err (Store HistoryFull) → Came r (number_behind lines) plain a b → Goings named [] a → StandsFor server named line plain
+      → Stands start lines said a → Answering r start lines said line b
+  answered_at_once (Ok (answers.Reply text)) start named a b lines said line plain other h went stands s = heard_line start named a b lines said (string_bytes text ++ codes "\n") line plain h.0 went stands h.1 s
+  answered_at_once (Ok (answers.Table text)) start named a b lines said line plain other h went stands s = heard_line start named a b lines said (string_bytes text) line plain h.0 went stands h.1 s
+  answered_at_once (Ok (answers.Viewed text)) start named a b lines said line plain other h went stands s = heard_line start named a b lines said text.items line plain h.0 went stands h.1 s
+  answered_at_once (Ok (answers.Unread fault)) start named a b lines said line plain other h went stands s = heard_line start named a b lines said (unread_line fault) line plain h.0 went stands h.1 s
+  answered_at_once (Ok answers.End) start named a b lines said line plain other h went stands s =
+      ((plain, may_stand named line plain stands, h.0), subst (λ (now : S). Stands start lines said now) (sym h.1) s)
+  answered_at_once (Err BadLine) start named a b lines said line plain other h went stands s = heard_line start named a b lines said (bad_line (number_behind lines)) line plain h.0 went stands h.1 s
+  answered_at_once (Err (Store OutOfMemory)) start named a b lines said line plain other h went stands s = heard_line start named a b lines said (fault_text OutOfMemory ++ codes "\n") line plain h.0 went stands h.1 s
+  answered_at_once (Err (Store HistoryFull)) start named a b lines said line plain other h went stands s = absurd (other refl)
 
   abbrev Full : ℕ → List ℕ → S → S → Type 0
   Full number line a b = Came (Err (Store HistoryFull)) number line a b
 
   -- the history was full, and was rolled
-  pub answered_after_roll : (r : Result Answer CommandFault) (steps : ℕ) (start a b c d : S) (lines : List (List ℕ)) (said line : List ℕ) → Full (number_behind lines) line a b → server.ways.rolls b steps c → Came r (number_behind lines) line c d
-      → Stands start lines said a → Answering r start lines said line d
-  answered_after_roll (Ok answer) steps start a b c d lines said line full k h s =
-      answered_at_once (Ok answer) start c d lines said line (λ e. cc) h (waited start a c lines said (rolled steps a b c full.1 full.2 k) s)
-  answered_after_roll (Err BadLine) steps start a b c d lines said line full k h s =
-      answered_at_once (Err BadLine) start c d lines said line (λ e. cc) h (waited start a c lines said (rolled steps a b c full.1 full.2 k) s)
-  answered_after_roll (Err (Store OutOfMemory)) steps start a b c d lines said line full k h s =
-      answered_at_once (Err (Store OutOfMemory)) start c d lines said line (λ e. cc) h (waited start a c lines said (rolled steps a b c full.1 full.2 k) s)
-  answered_after_roll (Err (Store HistoryFull)) steps start a b c d lines said line full k h s =
-      heard_line start a d lines said (fault_text HistoryFull ++ codes "\n") line [] (StillFull steps b c d full.0 full.1 full.2 k h.1 h.2) s
+  pub answered_after_roll : (r : Result Answer CommandFault) (steps : ℕ) (start a b c d : S) (lines : List (List ℕ)) (said line plain : List ℕ) → Full (number_behind lines) plain a b → server.ways.rolls b steps c → Came r (number_behind lines) plain c d
+      → StandsFor server a line plain → Stands start lines said a → Answering r start lines said line d
+  answered_after_roll (Ok answer) steps start a b c d lines said line plain full k h stands s =
+      let went : Goings a [] c = rolled steps a b c full.1 full.2 k in answered_at_once (Ok answer) start a c d lines said line plain (λ e. cc) h went stands (waited start a c lines said went s)
+  answered_after_roll (Err BadLine) steps start a b c d lines said line plain full k h stands s =
+      let went : Goings a [] c = rolled steps a b c full.1 full.2 k in answered_at_once (Err BadLine) start a c d lines said line plain (λ e. cc) h went stands (waited start a c lines said went s)
+  answered_after_roll (Err (Store OutOfMemory)) steps start a b c d lines said line plain full k h stands s =
+      let went : Goings a [] c = rolled steps a b c full.1 full.2 k in answered_at_once (Err (Store OutOfMemory)) start a c d lines said line plain (λ e. cc) h went stands (waited start a c lines said went s)
+  answered_after_roll (Err (Store HistoryFull)) steps start a b c d lines said line plain full k h stands s =
+      heard_line start a a d lines said (fault_text HistoryFull ++ codes "\n") line plain [] Stays stands (StillFull steps b c d full.0 full.1 full.2 k h.1 h.2) s
 
   -- the history was full, was rolled, and memory ran out
-  pub answered_starved : (start a b c : S) (lines : List (List ℕ)) (said line : List ℕ) → Full (number_behind lines) line a b → server.ways.moves b [] c → Stands start lines said a → Answering (Err (Store OutOfMemory)) start lines said line c
-  answered_starved start a b c lines said line full k s =
-      heard_line start b c lines said (fault_text OutOfMemory ++ codes "\n") line [] (Starved c (step_is_asked (request_of line) full.0) k) (waited start a b lines said (Moves [] [] a b Stays full.1) s)
+  pub answered_starved : (start a b c : S) (lines : List (List ℕ)) (said line plain : List ℕ) → Full (number_behind lines) plain a b → server.ways.moves b [] c → StandsFor server a line plain → Stands start lines said a → Answering (Err (Store OutOfMemory)) start lines said line c
+  answered_starved start a b c lines said line plain full k stands s =
+      let went : Goings a [] b = Moves [] [] a b Stays full.1 in
+      heard_line start a b c lines said (fault_text OutOfMemory ++ codes "\n") line plain [] went stands (Starved c (step_is_asked (request_of plain) full.0) k) (waited start a b lines said went s)
+
+  -- the line that a line with names stands for
+  pub stands_plain : (now : S) (line text : List ℕ) (named : Named) → text ≡ bare line → is_named line ≡ true → server.names now text named → StandsFor server now line (plain_line named text)
+  stands_plain now line text named is some given =
+      subst (λ (t : List ℕ). StandsFor server now line (plain_line named t)) (sym is) (Plain named some (subst (λ (t : List ℕ). server.names now t named) is given))
+
+  -- the store was asked for names
+  pub waited_named : (start a b : S) (lines : List (List ℕ)) (said : List ℕ) → server.ways.moves a [] b → Stands start lines said a → Stands start lines said b
+  waited_named start a b lines said h s = waited start a b lines said (Moves [] [] a b Stays h) s
+
+  -- a line has names, and memory ran out for what they stand for
+  pub names_lack : (start a b : S) (lines : List (List ℕ)) (said line : List ℕ) → is_named line ≡ true → server.ways.moves a [] b → Stands start lines said a → Answering (Err (Store OutOfMemory)) start lines said line b
+  names_lack start a b lines said line named h s = λ note noted. record { calls = s.calls; listens = Lacks lines s.calls said line note a b s.listens named h noted }
 
   -- ---- what is written
 
   -- the line was answered, and the answer was written
   pub said_of_line : (r : Result Answer CommandFault) (goes_out : Bool) (start now : S) (lines : List (List ℕ)) (blank old new : Option (List ℕ)) (said line : List ℕ) → r ≢ Ok answers.End → Answering r start lines said line now → TakesAll true blank old said
-      → TakesAll goes_out old new (said_of (number_behind lines) r) → AnswersThem start (lines ++ line ∷ []) blank goes_out now new
-  said_of_line (Ok (answers.Reply text)) goes_out start now lines blank old new said line other a was out = record { said = said ++ said_of (number_behind lines) (Ok (answers.Reply text)); answered = a; out = takes_behind goes_out blank old new said (said_of (number_behind lines) (Ok (answers.Reply text))) was out }
-  said_of_line (Ok (answers.Table text)) goes_out start now lines blank old new said line other a was out = record { said = said ++ said_of (number_behind lines) (Ok (answers.Table text)); answered = a; out = takes_behind goes_out blank old new said (said_of (number_behind lines) (Ok (answers.Table text))) was out }
-  said_of_line (Ok (answers.Viewed text)) goes_out start now lines blank old new said line other a was out = record { said = said ++ said_of (number_behind lines) (Ok (answers.Viewed text)); answered = a; out = takes_behind goes_out blank old new said (said_of (number_behind lines) (Ok (answers.Viewed text))) was out }
-  said_of_line (Ok (answers.Unread fault)) goes_out start now lines blank old new said line other a was out = record { said = said ++ said_of (number_behind lines) (Ok (answers.Unread fault)); answered = a; out = takes_behind goes_out blank old new said (said_of (number_behind lines) (Ok (answers.Unread fault))) was out }
-  said_of_line (Ok answers.End) goes_out start now lines blank old new said line other a was out = absurd (other refl)
-  said_of_line (Err BadLine) goes_out start now lines blank old new said line other a was out = record { said = said ++ said_of (number_behind lines) (Err BadLine); answered = a; out = takes_behind goes_out blank old new said (said_of (number_behind lines) (Err BadLine)) was out }
-  said_of_line (Err (Store fault)) goes_out start now lines blank old new said line other a was out = record { said = said ++ said_of (number_behind lines) (Err (Store fault)); answered = a; out = takes_behind goes_out blank old new said (said_of (number_behind lines) (Err (Store fault))) was out }
+      → (note : Option (List ℕ)) → IsNote note (explained_in line) (said_of (number_behind lines) r) → TakesAll goes_out old new (said_of (number_behind lines) r ++ note_text note) → AnswersThem start (lines ++ line ∷ []) blank goes_out now new
+  said_of_line (Ok (answers.Reply text)) goes_out start now lines blank old new said line other a was note noted out =
+      record { said = said ++ (said_of (number_behind lines) (Ok (answers.Reply text)) ++ note_text note); answered = a note noted; out = takes_behind goes_out blank old new said (said_of (number_behind lines) (Ok (answers.Reply text)) ++ note_text note) was out }
+  said_of_line (Ok (answers.Table text)) goes_out start now lines blank old new said line other a was note noted out =
+      record { said = said ++ (said_of (number_behind lines) (Ok (answers.Table text)) ++ note_text note); answered = a note noted; out = takes_behind goes_out blank old new said (said_of (number_behind lines) (Ok (answers.Table text)) ++ note_text note) was out }
+  said_of_line (Ok (answers.Viewed text)) goes_out start now lines blank old new said line other a was note noted out =
+      record { said = said ++ (said_of (number_behind lines) (Ok (answers.Viewed text)) ++ note_text note); answered = a note noted; out = takes_behind goes_out blank old new said (said_of (number_behind lines) (Ok (answers.Viewed text)) ++ note_text note) was out }
+  said_of_line (Ok (answers.Unread fault)) goes_out start now lines blank old new said line other a was note noted out =
+      record { said = said ++ (said_of (number_behind lines) (Ok (answers.Unread fault)) ++ note_text note); answered = a note noted; out = takes_behind goes_out blank old new said (said_of (number_behind lines) (Ok (answers.Unread fault)) ++ note_text note) was out }
+  said_of_line (Ok answers.End) goes_out start now lines blank old new said line other a was note noted out = absurd (other refl)
+  said_of_line (Err BadLine) goes_out start now lines blank old new said line other a was note noted out =
+      record { said = said ++ (said_of (number_behind lines) (Err BadLine) ++ note_text note); answered = a note noted; out = takes_behind goes_out blank old new said (said_of (number_behind lines) (Err BadLine) ++ note_text note) was out }
+  said_of_line (Err (Store fault)) goes_out start now lines blank old new said line other a was note noted out =
+      record { said = said ++ (said_of (number_behind lines) (Err (Store fault)) ++ note_text note); answered = a note noted; out = takes_behind goes_out blank old new said (said_of (number_behind lines) (Err (Store fault)) ++ note_text note) was out }
 
   -- the line asks for the end
   pub end_of_line : (r : Result Answer CommandFault) (start now : S) (lines : List (List ℕ)) (blank old : Option (List ℕ)) (said line : List ℕ) → r ≡ Ok answers.End → Answering r start lines said line now → TakesAll true blank old said
-      → (request_of line ≡ Some End) × AnswersThem start lines blank true now old
+      → AsksEnd line × AnswersThem start lines blank true now old
   end_of_line (Ok answers.End) start now lines blank old said line is a was = (a.0, record { said = said; answered = a.1; out = was })
   end_of_line (Ok (answers.Reply text)) start now lines blank old said line is a was = cc
   end_of_line (Ok (answers.Table text)) start now lines blank old said line is a was = cc
@@ -296,34 +332,36 @@ module _ {S : Type 0} (server : Server S) where
 
   -- the store's list was emptied
   pub answer_emptied : (r : Result Answer CommandFault) (start a b : S) (lines : List (List ℕ)) (said line : List ℕ) → server.ways.same_but_calls a b → Answering r start lines said line a → Answering r start lines said line b
-  answer_emptied (Ok (answers.Reply text)) start a b lines said line h s = waited start a b (lines ++ line ∷ []) (said ++ said_of (number_behind lines) (Ok (answers.Reply text))) (Empties [] a b Stays h) s
-  answer_emptied (Ok (answers.Table text)) start a b lines said line h s = waited start a b (lines ++ line ∷ []) (said ++ said_of (number_behind lines) (Ok (answers.Table text))) (Empties [] a b Stays h) s
-  answer_emptied (Ok (answers.Viewed text)) start a b lines said line h s = waited start a b (lines ++ line ∷ []) (said ++ said_of (number_behind lines) (Ok (answers.Viewed text))) (Empties [] a b Stays h) s
-  answer_emptied (Ok (answers.Unread fault)) start a b lines said line h s = waited start a b (lines ++ line ∷ []) (said ++ said_of (number_behind lines) (Ok (answers.Unread fault))) (Empties [] a b Stays h) s
+  answer_emptied (Ok (answers.Reply text)) start a b lines said line h s = λ note noted. waited start a b (lines ++ line ∷ []) (said ++ (said_of (number_behind lines) (Ok (answers.Reply text)) ++ note_text note)) (Empties [] a b Stays h) (s note noted)
+  answer_emptied (Ok (answers.Table text)) start a b lines said line h s = λ note noted. waited start a b (lines ++ line ∷ []) (said ++ (said_of (number_behind lines) (Ok (answers.Table text)) ++ note_text note)) (Empties [] a b Stays h) (s note noted)
+  answer_emptied (Ok (answers.Viewed text)) start a b lines said line h s = λ note noted. waited start a b (lines ++ line ∷ []) (said ++ (said_of (number_behind lines) (Ok (answers.Viewed text)) ++ note_text note)) (Empties [] a b Stays h) (s note noted)
+  answer_emptied (Ok (answers.Unread fault)) start a b lines said line h s = λ note noted. waited start a b (lines ++ line ∷ []) (said ++ (said_of (number_behind lines) (Ok (answers.Unread fault)) ++ note_text note)) (Empties [] a b Stays h) (s note noted)
   answer_emptied (Ok answers.End) start a b lines said line h s = (s.0, waited start a b lines said (Empties [] a b Stays h) s.1)
-  answer_emptied (Err BadLine) start a b lines said line h s = waited start a b (lines ++ line ∷ []) (said ++ said_of (number_behind lines) (Err BadLine)) (Empties [] a b Stays h) s
-  answer_emptied (Err (Store fault)) start a b lines said line h s = waited start a b (lines ++ line ∷ []) (said ++ said_of (number_behind lines) (Err (Store fault))) (Empties [] a b Stays h) s
+  answer_emptied (Err BadLine) start a b lines said line h s = λ note noted. waited start a b (lines ++ line ∷ []) (said ++ (said_of (number_behind lines) (Err BadLine) ++ note_text note)) (Empties [] a b Stays h) (s note noted)
+  answer_emptied (Err (Store fault)) start a b lines said line h s = λ note noted. waited start a b (lines ++ line ∷ []) (said ++ (said_of (number_behind lines) (Err (Store fault)) ++ note_text note)) (Empties [] a b Stays h) (s note noted)
 
   -- the same for a line that was answered and for one that asks for the end
   pub line_taken : (r : Result Answer CommandFault) (goes_out : Bool) (number : ℕ) (start now a b : S) (lines : List (List ℕ)) (blank old new : Option (List ℕ)) (line : List ℕ) → r ≢ Ok answers.End → number ≡ number_behind lines
-      → ((said : List ℕ) → Stands start lines said now → Answering r start lines said line a) → server.ways.same_but_calls a b → TakesAll goes_out old new (said_of number r) → AnswersThem start lines blank true now old → AnswersThem start (lines ++ line ∷ []) blank goes_out b new
-  line_taken r goes_out number start now a b lines blank old new line other counted answer same out t =
-      said_of_line r goes_out start b lines blank old new t.said line other (answer_emptied r start a b lines t.said line same (answer t.said t.answered)) t.out
-      (subst (λ (n : ℕ). TakesAll goes_out old new (said_of n r)) counted out)
+      → ((said : List ℕ) → Stands start lines said now → Answering r start lines said line a) → server.ways.same_but_calls a b → (note : Option (List ℕ)) → IsNote note (explained_in line) (said_of number r) → TakesAll goes_out old new (said_of number r ++ note_text note)
+      → AnswersThem start lines blank true now old → AnswersThem start (lines ++ line ∷ []) blank goes_out b new
+  line_taken r goes_out number start now a b lines blank old new line other counted answer same note noted out t =
+      said_of_line r goes_out start b lines blank old new t.said line other (answer_emptied r start a b lines t.said line same (answer t.said t.answered)) t.out note
+      (subst (λ (n : ℕ). IsNote note (explained_in line) (said_of n r)) counted noted) (subst (λ (n : ℕ). TakesAll goes_out old new (said_of n r ++ note_text note)) counted out)
 
   -- the same whether the writer takes the answer or not
   pub line_said : (r : Result Answer CommandFault) (end : Option OperatorEnd) (number : ℕ) (start now a b : S) (lines : List (List ℕ)) (blank old new : Option (List ℕ)) (line : List ℕ) → r ≢ Ok answers.End → number ≡ number_behind lines
-      → ((said : List ℕ) → Stands start lines said now → Answering r start lines said line a) → server.ways.same_but_calls a b → HandsOn end old new (said_of number r) → AnswersThem start lines blank true now old → Line end start lines blank line b new
-  line_said r None number start now a b lines blank old new line other counted answer same out t = line_taken r true number start now a b lines blank old new line other counted answer same out t
-  line_said r (Some WriteFault) number start now a b lines blank old new line other counted answer same out t = line_taken r false number start now a b lines blank old new line other counted answer same out t
-  line_said r (Some FlushFault) number start now a b lines blank old new line other counted answer same out t = line_taken r true number start now a b lines blank old new line other counted answer same out t
-  line_said r (Some InputEnded) number start now a b lines blank old new line other counted answer same out t = absurd out
-  line_said r (Some EndAsked) number start now a b lines blank old new line other counted answer same out t = absurd out
-  line_said r (Some RunEnding) number start now a b lines blank old new line other counted answer same out t = absurd out
-  line_said r (Some ReadFault) number start now a b lines blank old new line other counted answer same out t = absurd out
+      → ((said : List ℕ) → Stands start lines said now → Answering r start lines said line a) → server.ways.same_but_calls a b → (note : Option (List ℕ)) → IsNote note (explained_in line) (said_of number r) → HandsOn end old new (said_of number r ++ note_text note)
+      → AnswersThem start lines blank true now old → Line end start lines blank line b new
+  line_said r None number start now a b lines blank old new line other counted answer same note noted out t = line_taken r true number start now a b lines blank old new line other counted answer same note noted out t
+  line_said r (Some WriteFault) number start now a b lines blank old new line other counted answer same note noted out t = line_taken r false number start now a b lines blank old new line other counted answer same note noted out t
+  line_said r (Some FlushFault) number start now a b lines blank old new line other counted answer same note noted out t = line_taken r true number start now a b lines blank old new line other counted answer same note noted out t
+  line_said r (Some InputEnded) number start now a b lines blank old new line other counted answer same note noted out t = absurd out
+  line_said r (Some EndAsked) number start now a b lines blank old new line other counted answer same note noted out t = absurd out
+  line_said r (Some RunEnding) number start now a b lines blank old new line other counted answer same note noted out t = absurd out
+  line_said r (Some ReadFault) number start now a b lines blank old new line other counted answer same note noted out t = absurd out
 
   pub end_taken : (r : Result Answer CommandFault) (start now a b : S) (lines : List (List ℕ)) (blank old : Option (List ℕ)) (line : List ℕ) → r ≡ Ok answers.End
-      → ((said : List ℕ) → Stands start lines said now → Answering r start lines said line a) → server.ways.same_but_calls a b → AnswersThem start lines blank true now old → (request_of line ≡ Some End) × AnswersThem start lines blank true b old
+      → ((said : List ℕ) → Stands start lines said now → Answering r start lines said line a) → server.ways.same_but_calls a b → AnswersThem start lines blank true now old → AsksEnd line × AnswersThem start lines blank true b old
   end_taken r start now a b lines blank old line is answer same t =
       end_of_line r start b lines blank old t.said line is (answer_emptied r start a b lines t.said line same (answer t.said t.answered)) t.out
 

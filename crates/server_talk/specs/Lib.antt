@@ -5,5 +5,7 @@ pub mod Watches
 pub mod Connections
 pub mod Requests
 pub mod ReloadChecks
+pub mod Notes
+pub mod Naming
 pub mod Operators
 pub mod Listening

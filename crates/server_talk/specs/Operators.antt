@@ -1,5 +1,5 @@
 -- An operator's lines to a running server: what each line leads to, and what all lead to together.
-use Rattle.std.specs.Prelude.{◌≡◌, ◌⊎◌, ℕ, ◌+◌, ◌-◌, ◌^◌, min, ℤ, Bool, true, false, List, [], ◌∷◌, ◌++◌, length, codes, All, ⊤, Option, Some, None, IsSome, Result, Ok, Err}
+use Rattle.std.specs.Prelude.{◌≡◌, ℕ, ◌+◌, ◌-◌, ◌^◌, min, ℤ, Bool, true, false, List, [], ◌∷◌, ◌++◌, length, codes, All, ⊤, Option, Some, None, IsSome, Result, Ok, Err}
 use Rattle.std.specs.Fmt.{decimal}
 use Rattle.std.specs.Io.KnownBytes.{Consumes, IsAtEnd}
 use Rattle.std.specs.declared.io.ErrorKind.{ErrorKind}
@@ -25,11 +25,13 @@ use Rattle.server_talk.specs.declared.operator.OperatorEnd.{OperatorEnd}
 use Rattle.server_talk.specs.declared.operator.OperatorEnd.TheVariants.{InputEnded, EndAsked, RunEnding, ReadFault, WriteFault, FlushFault}
 use Rattle.server_talk.specs.declared.plan.PlanFault.{PlanFault}
 use Rattle.server_talk.specs.declared.plan.PlanFault.TheVariants.{Device, Te}
-use Rattle.server_talk.specs.declared.requests.Request.TheVariants.{Book, Check, End, Reload, Submit, View}
+use Rattle.server_talk.specs.declared.requests.Request.TheVariants.{Book, Check, Reload, Submit, View}
 use Rattle.server_talk.specs.Goings.{Goes}
 use Rattle.server_talk.specs.Servers.{Server}
 use Rattle.server_talk.specs.ReloadChecks.{check_text}
-use Rattle.server_talk.specs.Requests.{asks_reading, asks_step, is_operators, request_of}
+use Rattle.server_talk.specs.Naming.{AsksEnd, StandsFor, is_named}
+use Rattle.server_talk.specs.Notes.{IsNote, note_text}
+use Rattle.server_talk.specs.Requests.{asks_reading, asks_step, explained_in, is_operators, request_of}
 use Rattle.server_talk.specs.Connections.{TakesAll}
 
 -- the answer to a bad line, by its number
@@ -88,10 +90,14 @@ pub data IsAnswered {S : Type 0} (server : Server S) (number : ℕ) (line : List
 -- said, each in order, and the store as it is now.
 pub data Listens {S : Type 0} (server : Server S) (start : S) : List (List ℕ) → List Deed → List ℕ → S → Type 0 where
   Begins : Listens server start [] [] [] start
-  -- one more line
-  Hears : (lines : List (List ℕ)) (calls made : List Deed) (said text line : List ℕ) (a b : S)
-      → Listens server start lines calls said a → IsAnswered server (number_behind lines) line a made text b
-      → Listens server start (lines ++ line ∷ []) (calls ++ made) (said ++ text) b
+  -- one more line: the one that it stands for is answered, and what the answer means may follow
+  Hears : (lines : List (List ℕ)) (calls made : List Deed) (said text line plain : List ℕ) (note : Option (List ℕ)) (named a b : S)
+      → Listens server start lines calls said a → Goes server.ways named [] a → StandsFor server named line plain → IsAnswered server (number_behind lines) plain a made text b → IsNote note (explained_in line) text
+      → Listens server start (lines ++ line ∷ []) (calls ++ made) (said ++ (text ++ note_text note)) b
+  -- one more line, which has names, and memory runs out for what they stand for
+  Lacks : (lines : List (List ℕ)) (calls : List Deed) (said line : List ℕ) (note : Option (List ℕ)) (a b : S)
+      → Listens server start lines calls said a → is_named line ≡ true → server.ways.moves a [] b → IsNote note (explained_in line) (fault_text OutOfMemory ++ codes "\n")
+      → Listens server start (lines ++ line ∷ []) calls (said ++ ((fault_text OutOfMemory ++ codes "\n") ++ note_text note)) b
   -- in between, the store goes on without a call: its list is emptied, or its history rolled
   Waits : (lines : List (List ℕ)) (calls : List Deed) (said : List ℕ) (a b : S)
       → Listens server start lines calls said a → Goes server.ways a [] b → Listens server start lines calls said b
@@ -121,7 +127,7 @@ is_out end = true
 -- the first line there asks for the end; or the run may be closing.
 abbrev pub IsOver : OperatorEnd → Type 0 → Option (List ℕ) → List ℕ → Type 0
 IsOver InputEnded may_close left rest = IsAtEnd left × ((cut rest).0 ≡ [])
-IsOver EndAsked may_close left rest = (line : List ℕ) × (request_of line ≡ Some End) × (more : List ℕ) × (rest ≡ line ++ 10 ∷ more)
+IsOver EndAsked may_close left rest = (line : List ℕ) × AsksEnd line × (more : List ℕ) × (rest ≡ line ++ 10 ∷ more)
 IsOver RunEnding may_close left rest = may_close
 IsOver ReadFault may_close left rest = ⊤
 IsOver WriteFault may_close left rest = ⊤

@@ -1,6 +1,7 @@
 -- What a line asks a running server for.
-use Rattle.std.specs.Prelude.{ℕ, ◌&&◌, nat_le, Bool, true, false, List, length, codes, Option, Some, None, option_map, if◌then◌else◌}
+use Rattle.std.specs.Prelude.{ℕ, ◌&&◌, nat_le, Bool, true, false, List, length, codes, unwrap_or, Option, Some, None, option_map, if◌then◌else◌}
 use Rattle.std.specs.Str.{bytes_eq, is_utf8}
+use Rattle.asks.specs.Words.{cut_at_space}
 use Rattle.step_core.specs.declared.event.Event.{Event}
 use Rattle.step_core.specs.declared.event.Event.TheVariants as event
 use Rattle.script_lines.specs.Commands.{operator_event_in}
@@ -48,6 +49,18 @@ asks_reading asked = false
 abbrev pub line_limit : ℕ
 line_limit = 4096
 
+abbrev pub behind_words : Option (List ℕ × List ℕ) → Option (List ℕ)
+behind_words None = None
+behind_words (Some cut) = if bytes_eq cut.0 (codes "words") then Some cut.1 else None
+
+-- what stands behind the word `words`: the line whose answer is to be explained
+unfoldable pub explained_in : List ℕ → Option (List ℕ)
+explained_in line = behind_words (cut_at_space line)
+
+-- the line without that word
+unfoldable pub bare : List ℕ → List ℕ
+bare line = unwrap_or (explained_in line) line
+
 -- a line that is longer, or isn't text, is bad
 unfoldable pub request_of : List ℕ → Option Request
-request_of line = if nat_le (length line) line_limit && is_utf8 line then request_in line else None
+request_of line = if nat_le (length line) line_limit && is_utf8 line then request_in (bare line) else None

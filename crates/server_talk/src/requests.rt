@@ -1,8 +1,11 @@
 //! What a line of a server's operator asks for.
-ghost use Rattle.std.specs.Prelude.{◌≡◌, IfOk, IfErr, IsSome};
-ghost use Rattle.server_talk.specs.Requests.{request_in, request_of};
+ghost use Rattle.std.specs.Prelude.{◌≡◌, IfOk, IfErr, IsSome, option_map};
+ghost use Rattle.server_talk.specs.Naming.{if_named, IsNamedText};
+ghost use Rattle.server_talk.specs.Requests.{bare, explained_in, request_in, request_of};
 
+use asks::cut_at_space;
 use engine_core::Event;
+use line_names::has_names;
 use script_lines::{ViewLine, operator_event_in, view_line_in};
 use std::alloc::{AllocError, Global};
 
@@ -53,6 +56,49 @@ fn request_in(alloc: Global, text: &str) -> Result<Option<Request>, AllocError>
     }
 }
 
+/// Returns what comes after the word `words`: the line whose answer is to be explained.
+#[tactic(auto, unfolding(crate::specs::Requests::explained_in))]
+pub(crate) fn explained_in(text: &str) -> Option<&str>
+    ensures { option_map (λ rest. rest.now) result ≡ explained_in text.now }
+{
+    match cut_at_space(text) {
+        Some(("words", rest)) => Some(rest),
+        _ => None,
+    }
+}
+
+/// Returns the line without the word `words`.
+#[tactic(auto, unfolding(crate::specs::Requests::bare))]
+fn bare(text: &str) -> &str
+    ensures { result.now ≡ bare text.now }
+{
+    match explained_in(text) {
+        Some(rest) => rest,
+        None => text,
+    }
+}
+
+/// Returns a text if it has names.
+fn if_named(text: &str) -> Option<&str>
+    ensures { option_map (λ text. text.now) result ≡ if_named text.now }
+{
+    if has_names(text) { Some(text) } else { None }
+}
+
+/// Returns the text of a line that has names, without the word `words`.
+#[tactic(auto, unfolding(crate::specs::Naming::is_named))]
+pub(crate) fn named_in(line: &[u8]) -> Option<&str>
+    ensures { IsNamedText (option_map (λ text. text.now) result) line.now }
+{
+    if line.len() > LINE_LIMIT {
+        return None;
+    }
+    match str::from_utf8(line) {
+        Ok(text) => if_named(bare(text)),
+        Err(_) => None,
+    }
+}
+
 /// Returns what a line asks for, or `None` for a bad line. Only a line that asks for something takes memory.
 #[tactic(auto, unfolding(crate::specs::Requests::request_of))]
 pub(crate) fn request_of(alloc: Global, line: &[u8]) -> Result<Option<Request>, AllocError>
@@ -63,7 +109,7 @@ pub(crate) fn request_of(alloc: Global, line: &[u8]) -> Result<Option<Request>, 
         return Ok(None);
     }
     match str::from_utf8(line) {
-        Ok(text) => request_in(alloc, text),
+        Ok(text) => request_in(alloc, bare(text)),
         Err(_) => Ok(None),
     }
 }

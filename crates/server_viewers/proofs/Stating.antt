@@ -1,5 +1,5 @@
 -- The states of LSPs, page by page.
-use Rattle.std.proofs.Common.{ℕ, List, ◌++◌, Option, Some, None, append_assoc, subst, sym}
+use Rattle.std.proofs.Common.{ℕ, List, ◌++◌, Some, None, append_assoc, subst, sym}
 use mathlib.Core.List.{IsPrefix}
 use Rattle.te_base.specs.Ted.{Ted}
 use Rattle.step_core.specs.declared.event.Event.{Event}

@@ -6,8 +6,8 @@ use Rattle.step_core.specs.declared.event.Event.{Event}
 use Rattle.history_tokens.specs.declared.rule.Happening.{Happening}
 use Rattle.history_seats.specs.Past.{database_at}
 use Rattle.asks.specs.declared.ask.Ask.{Ask}
-use Rattle.pce_seen.specs.declared.seen.Book.{Book}
-use Rattle.database_looks.specs.Looks.{counts_in, SeesBook}
+use Rattle.pce_seen.specs.declared.seen.Numbers.{Numbers}
+use Rattle.database_looks.specs.Looks.{SeesNumbers}
 use Rattle.metrics_text.specs.Exposition.{exposition}
 use Rattle.metrics_text.specs.Table.{families}
 use Rattle.pce_view.specs.declared.question.Form.TheVariants.{Json}
@@ -28,11 +28,11 @@ pub record IsDocument (text : Ted) (past : List (Happening Event)) (a : Ask) (do
 -- metrics with these states of LSPs: what one look saw of the database to which this past led, and some counts
 pub record IsNumbers (text : Ted) (past : List (Happening Event)) (states : List ShownState) (document : List ℕ) : Type 0 where
   pub info : ServerInfo
-  pub book : Book
+  pub numbers : Numbers
   pub counters : Counters
   pub process : Process
-  pub sees : SeesBook (database_at text past) book
-  pub says : document ≡ exposition (families info (counts_in (database_at text past)) book counters process states)
+  pub sees : SeesNumbers (database_at text past) numbers
+  pub says : document ≡ exposition (families info numbers counters process states)
 
 -- The metrics: the states of all LSPs, and then what one look saw of the database to which this past led. Each look saw all that the
 -- looks before it had seen, and what had been seen when they began.

@@ -37,6 +37,8 @@ pub struct ViewerListener<'a> {
     pub keys: RandomState,
     /// The JSON document that says where on a map the network's nodes are.
     pub places: &'a [u8],
+    /// The name by which viewers may ask for the server, besides its address. It may be empty.
+    pub name: &'a str,
     /// Where what the system says about the process is read.
     pub files: &'a HostRuntime,
 }
@@ -85,17 +87,8 @@ fn counted_text<R: Wait + Clock, B: Brands>(
     ensures begins { IsPrefix front.old front.new }
     ensures text { IfOk result (λ text. IsNumbers B.text front.new states.now text.items) }
 {
-    let seen = run_view.look(front, &NumbersLook)?;
-    let counts = seen.0;
-    metrics_text(
-        run_view.alloc,
-        info,
-        &counts,
-        &seen.1,
-        counters,
-        process,
-        states,
-    )
+    let numbers = run_view.look(front, &NumbersLook)?;
+    metrics_text(run_view.alloc, info, &numbers, counters, process, states)
 }
 
 /// Writes the metrics: the states in which all LSPs are shown, and then the rest from one look.
@@ -250,6 +243,7 @@ pub fn show_views<R: Wait + Clock + Net<Listener = TcpListener, Stream = TcpStre
     let mut service = ViewService {
         alloc: context.alloc,
         source: Views::new(&run_view, at.files),
+        name: at.name,
         page: PAGE,
         places: at.places,
     };

@@ -1,3 +1,4 @@
+pub mod Decided
 pub mod Faults
 pub mod Rings
 pub mod Turns

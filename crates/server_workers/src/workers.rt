@@ -6,6 +6,7 @@ ghost use Rattle.server_workers.specs.Rings.{peer_of_turn};
 ghost use Rattle.server_workers.specs.Faults.{after_turn, turn};
 ghost use Rattle.server_workers.specs.Turns.{times_counted, hand_counted, all_of_turn};
 
+use crate::decided::say_worked;
 use history_core::Brief;
 use history_seats::Brands;
 use pce_seen::EventKind;
@@ -234,7 +235,7 @@ fn note_worked<R: Wait + Clock, B: Brands>(
     count_turn(&mut counters, worked, times, had_job, has_job);
 }
 
-/// Works on the job in the seat's hand, or on the ticket that waits, and notes the result.
+/// Works on the job in the seat's hand, or on the ticket that waits, and notes and logs the result.
 fn work_once<R: Wait + Clock, B: Brands>(
     context: &Context<'_, R, B>,
     seat: &mut Seat<B>,
@@ -252,6 +253,7 @@ fn work_once<R: Wait + Clock, B: Brands>(
         had_job,
         has_job,
     );
+    say_worked(context, seat, &worked);
     Ok(())
 }
 

@@ -1,6 +1,7 @@
 //! Readers, writers, watches and stores that do what a test wants.
 use engine_core::{Call, Event, Fault, Reply, ServerStore, Store};
 use history_core::{LinkReload, SharedEvent};
+use line_names::Named;
 use pcep_messages::Message;
 use pcep_objects::Open;
 use script_lines::ViewLine;
@@ -284,6 +285,14 @@ impl Show for Faulty {
         values.push(values_with(10, 1_000_000)?)?;
         let left = self.left()?;
         Ok((values, left))
+    }
+
+    fn named(&mut self, _alloc: Global, _line: &str) -> Result<Named, AllocError> {
+        Ok(Named {
+            peer: None,
+            from: None,
+            to: None,
+        })
     }
 
     fn show(&mut self, alloc: Global, _line: &ViewLine) -> Result<Vec<u8>, AllocError> {

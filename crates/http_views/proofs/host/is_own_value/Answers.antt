@@ -18,7 +18,7 @@ hidden bytes h =
 
 pub returns-in-Ok : goal.returns-in-Ok
 returns-in-Ok c =
-    let ok : c.is_own_host.result ≡ is_own_host c.args.value.now.bytes = search rules in
+    let ok : c.is_own_host.result ≡ is_own_host c.args.own.now c.args.value.now.bytes = search rules in
     let seen : is_visible_text c.args.value.now.bytes ≡ true = visible c.args.value.now.bytes (search rules) in
     rw seen ok
 

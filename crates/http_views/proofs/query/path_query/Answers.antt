@@ -6,4 +6,5 @@ use Rattle.http_views.proofs.query.path_query.Goals as goal
 
 pub returns : goal.returns
 returns c =
-    fold_from_yields_List _ with_path_part _ _ c.fold.ensures.ran (YieldsList-from_str_split 38 c.args.query.now (lit< tt) c.split.ensures.text c.split.ensures.has_more c.split.ensures.pattern) (λ a x b q k. search (rules, tests))
+    rw c.none.ensures at
+    (fold_from_yields_List _ with_path_part _ _ c.fold.ensures.ran (YieldsList-from_str_split 38 c.args.query.now (lit< tt) c.split.ensures.text c.split.ensures.has_more c.split.ensures.pattern) (λ a x b q k. search (rules, tests)))

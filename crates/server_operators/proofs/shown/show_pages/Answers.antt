@@ -1,6 +1,5 @@
 use Rattle.std.proofs.Common.{Option, [], subst}
 use Rattle.asks.specs.declared.ask.Ask.{Ask}
-use Rattle.seated_store.specs.Seating.{SeatedMoves}
 use Rattle.seated_store.specs.SeatingLaws.{moves_nowhere, moves_on}
 use Rattle.server_operators.specs.Shows.{AddsPage}
 use Rattle.server_operators.proofs.Showing.{shown_last, shown_more}

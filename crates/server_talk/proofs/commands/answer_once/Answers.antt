@@ -9,7 +9,7 @@ use Rattle.server_talk.proofs.commands.answer_once.Goals as goal
 
 pub returns-in-Err : goal.returns-in-Err
 returns-in-Err g c = λ number text kept.
-    came_starved (server_of g.D.Store g.D.ServerStore.is_left g.D.Show.has_links g.D.Show.shows g.P.Plan.reads c.args.plan.now) number text c.args.store.now c.args.store.now (some_asked c.in-Err.field-0 (request_of text) (c.in-Err.ensures text kept)) (g.met.D.Store.moves_nowhere c.args.store.now)
+    came_starved (server_of g.D.Store g.D.ServerStore.is_left g.D.Show.has_links g.D.Show.names g.D.Show.shows g.P.Plan.reads c.args.plan.now) number text c.args.store.now c.args.store.now (some_asked c.in-Err.field-0 (request_of text) (c.in-Err.ensures text kept)) (g.met.D.Store.moves_nowhere c.args.store.now)
 
 pub returns-in-None : goal.returns-in-None
 returns-in-None g c = λ number text kept. ([], Refused (sym (c.in-Ok.ensures text kept) ∙ c.in-None.is))

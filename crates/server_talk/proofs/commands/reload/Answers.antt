@@ -8,4 +8,4 @@ returns-in-Ok g c = λ number text asks. c.submit_links.ensures number text asks
 
 pub returns-in-Err : goal.returns-in-Err
 returns-in-Err g c = λ number text asks.
-    came_unread (server_of g.D.Store g.D.ServerStore.is_left g.D.Show.has_links g.D.Show.shows g.P.Plan.reads c.args.plan.now) number text c.args.store.now c.in-Err.fault (rw asks refl) c.in-Err.ensures
+    came_unread (server_of g.D.Store g.D.ServerStore.is_left g.D.Show.has_links g.D.Show.names g.D.Show.shows g.P.Plan.reads c.args.plan.now) number text c.args.store.now c.in-Err.fault (rw asks refl) c.in-Err.ensures

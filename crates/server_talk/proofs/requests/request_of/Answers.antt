@@ -11,14 +11,14 @@ unfolding request_of
 returns-in-Ok-clause-request c =
     let short : nat_le (length c.args.line.now) 4096 ≡ true = grind (arith, nat_tests) in
     let valid : is_utf8 c.args.line.now ≡ true = is_utf8-from_IsUtf8 _ c.in-Ok.ensures.cases.1 in
-    rw (short, valid, ← c.in-Ok.ensures.cases.0) c.request_in.ensures.request
+    rw (short, valid, ← c.in-Ok.ensures.cases.0, ← c.bare.ensures) c.request_in.ensures.request
 
 pub returns-in-Ok-clause-good : goal.returns-in-Ok-clause-good
 unfolding request_of
 returns-in-Ok-clause-good c =
     let short : nat_le (length c.args.line.now) 4096 ≡ true = grind (arith, nat_tests) in
     let valid : is_utf8 c.args.line.now ≡ true = is_utf8-from_IsUtf8 _ c.in-Ok.ensures.cases.1 in
-    rw (short, valid, ← c.in-Ok.ensures.cases.0) c.request_in.ensures.good
+    rw (short, valid, ← c.in-Ok.ensures.cases.0, ← c.bare.ensures) c.request_in.ensures.good
 
 pub returns-in-Err-clause-request : goal.returns-in-Err-clause-request
 unfolding request_of

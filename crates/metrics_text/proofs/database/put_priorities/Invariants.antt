@@ -1,7 +1,0 @@
-use Rattle.std.proofs.Common.{◌≡◌, ◌++◌, drop}
-use Rattle.metrics_text.specs.Rows.{lines_of}
-use Rattle.metrics_text.specs.Samples.{link_labels, priorities}
-use Rattle.metrics_text.proofs.database.put_priorities.Given as goal
-
-abbrev pub invariant-loop-priority : goal.invariant-loop-priority
-invariant-loop-priority l = l.text.items ++ lines_of l.metric (priorities (link_labels l.nodes l.fn.number l.link) l.priority (drop l.priority l.lefts)) ≡ l.fn.text.items ++ lines_of l.metric (priorities (link_labels l.nodes l.fn.number l.link) 0 l.lefts)

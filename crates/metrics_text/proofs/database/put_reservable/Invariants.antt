@@ -1,7 +1,0 @@
-use Rattle.std.proofs.Common.{◌≡◌, ◌++◌, drop}
-use Rattle.metrics_text.specs.Rows.{lines_of}
-use Rattle.metrics_text.specs.Samples.{reservable_from}
-use Rattle.metrics_text.proofs.database.put_reservable.Given as goal
-
-abbrev pub invariant-loop-number : goal.invariant-loop-number
-invariant-loop-number l = l.text.items ++ lines_of l.metric (reservable_from l.nodes l.number (drop l.number l.links)) ≡ l.fn.text.items ++ lines_of l.metric (reservable_from l.nodes 0 l.links)

@@ -1,0 +1,3 @@
+mod Adding
+mod Links
+mod Listing
