@@ -15,6 +15,9 @@ hold_of hold bandwidth h = div-mul-add hold (2 ^ 48) bandwidth h
 pub bandwidth_of : (hold bandwidth : ℕ) → bandwidth < 2 ^ 48 → (hold * 2 ^ 48 + bandwidth) % 2 ^ 48 ≡ bandwidth
 bandwidth_of hold bandwidth h = mod-mul-add hold (2 ^ 48) bandwidth h
 
+pub rank_of : (n : ℕ) → n / 2 ^ 48 * 2 ^ 48 + n % 2 ^ 48 ≡ n
+rank_of n = omega (arith, div-add-mod n (2 ^ 48))
+
 less_by_parts : (a b c d n m : ℕ) → 2 ^ 48 * a + c ≡ n → 2 ^ 48 * b + d ≡ m → c < 2 ^ 48 → d < 2 ^ 48 → nat_lt n m ≡ (nat_lt a b || (a == b && nat_lt c d))
 less_by_parts a b c d n m en em hc hd =
     elim (cases_Bool (nat_lt a b)) [

@@ -1,5 +1,5 @@
 //! What one path holds on a link.
-ghost use Rattle.std.specs.Prelude.{◌≡◌, ◌<◌, ◌^◌};
+ghost use Rattle.std.specs.Prelude.{◌≡◌, ◌<◌, ◌+◌, ◌*◌, ◌^◌};
 ghost use Rattle.bandwidth_book.specs.Reservation.{changes_held, held_of, is_before, same_held, takes_memory};
 
 use lsp_base::Path;
@@ -89,7 +89,10 @@ impl Reservation {
     }
 
     /// Ranks it in the order of a list.
-    pub fn rank(&self) -> u64 {
+    #[tactic(auto, using(crate::proofs::Packed::rank_of))]
+    pub fn rank(&self) -> u64
+        ensures { result ≡ self.now.hold * 2 ^ 48 + self.now.bandwidth }
+    {
         self.number
     }
 
