@@ -4,6 +4,7 @@ This is where bench finds the packages of tests (`pcep`, `harness`): its program
 """
 import multiprocessing
 import os
+import random
 import socket
 import subprocess
 import sys
@@ -12,9 +13,14 @@ import time
 ROOT = os.path.dirname(os.path.dirname(os.path.realpath(__file__)))
 sys.path.append(f"{ROOT}/tests")
 import pcep
+from harness.grid import SIDE, report
 from pcep import diamond
 
 PORT, ECHO_PORT = 41890, 41891
+# a storm of new paths: how many routers report how many LSPs each, and for what, over the network of harness.grid
+ROUTERS, LSPS, BANDWIDTH = 16, 64, 1000.0
+# delegated, and without a route
+PATHLESS = pcep.DELEGATE | pcep.ADMIN
 fork = multiprocessing.get_context("fork")
 
 
@@ -136,10 +142,17 @@ def of(times, share):
     return sorted(times)[min(len(times) - 1, int(len(times) * share))]
 
 
-def up_and_in_sync(number):
+def newcomer(number):
+    """A router that has come up and sent the end of its synchronization."""
     router = Router(number)
     router.come_up()
     router.synchronize()
+    return router
+
+
+def up_and_in_sync(number):
+    """A router whose synchronization the server has heard to the end."""
+    router = newcomer(number)
     router.ask(1)
     return router
 
@@ -188,3 +201,11 @@ def replies(program, sessions, count):
     taken, _ = at_once(sessions, up_and_in_sync, lambda router: waits(router.ask, each, pause))
     server.end()
     return [one for times in taken for one in times]
+
+
+def new_paths(router, first, count):
+    """`count` reports of a router, of LSPs from its own node to others, the same in each run."""
+    chance = random.Random(router)
+    start = router * SIDE * SIDE // ROUTERS
+    ends = chance.sample([node for node in range(SIDE * SIDE) if node != start], first + count)
+    return [report(first + n + 1, start, end, BANDWIDTH, PATHLESS) for n, end in enumerate(ends[first:])]

@@ -117,7 +117,8 @@ def filled(page):
     page.has(sessions_up=11, lsps=7, paths=8, tickets=1)
 
 
-def ask(page, start, end, rate, unit="Gbit/s"):
-    page.run(f"$('ask-from').value = {start!r}; $('ask-to').value = {end!r}; $('ask-rate').value = {rate}; $('ask-unit').value = {unit!r}; $('ask').requestSubmit()")
+def ask(page, start, end, rate, limits=""):
+    page.run(f"$('ask-from').value = {start!r}; $('ask-to').value = {end!r}; $('ask-rate').value = {rate!r}; $('ask-limits').value = {limits!r}; "
+             "$('ask').requestSubmit()")
     page.waits_for("chosen.answer || chosen.fault")
     return page.text("chosen")

@@ -103,17 +103,19 @@ def sessions_and_tickets(page):
 
 
 def what_if(page):
-    """What a path would be is shown and drawn, or why there is none, or what is wrong with the question."""
-    said = ask(page, "Seattle", "NewYork", 3.5)
+    """What a path would be is shown and drawn, or why there is none, or what is wrong with the question, in the words of operators."""
+    said = ask(page, "Seattle", "NewYork", "3.5Gbit")
     way = page.network.over("Seattle", "Sunnyvale", "LosAngeles", "Houston", "Atlanta", "Washington", "NewYork")
     yield ["A path of cost 5375" in said, "Least is left on link 0, Seattle \u2192 Sunnyvale: 6.00 Gbit/s." in said], [True, True]
     yield page.run("marked()"), [way, []]
-    said = ask(page, "127.0.1.1", "Houston", 9)
+    said = ask(page, "127.0.1.1", "Houston", "9000Mbit")
     yield ["There is no path. No path has enough bandwidth left." in said, "Without that, a path of cost 3120" in said], [True, True]
     yield page.run("marked()"), [[], page.network.over("Seattle", "Sunnyvale", "LosAngeles", "Houston")]
     page.picture(f"{PICTURES}/what-if.png")
-    said = ask(page, "Nowhere", "Houston", 1)
-    yield "The server answers: " in said, True
+    said = ask(page, "Seattle", "NewYork", "437500000", "metric=igp  max-hops=3")
+    yield ["3.50 Gbit/s (437500000 bytes/s), priorities 7 and 7, metric=igp, max-hops=3. Nothing is booked." in said, "There is no path. Each path costs more than the bound." in said], [True, True]
+    for words in (("Nowhere", "Houston", "1Gbit"), ("Seattle", "Houston", "1 Gbit"), ("Seattle", "Houston", "1Gbit", "max-hops"), ("Seattle", "Houston", "1Gbit", "cost=3")):
+        yield (words, "The server answers: " in ask(page, *words)), (words, True)
     page.run("choose({kind: 'nothing'})")
 
 

@@ -61,7 +61,7 @@ def light_and_dark(page):
         page.picture(f"{PICTURES}/{scheme}.png")
     page.prefers("light")
     page.size(1280, 800)
-    ask(page, "Seattle", "NewYork", 3.5)
+    ask(page, "Seattle", "NewYork", "3.5Gbit")
     page.run("choose({kind: 'link', number: 14})")
     page.waits_for("chosen.use && !isAsked")
     page.picture(f"{PICTURES}/small.png")

@@ -172,6 +172,9 @@ def why_it_cannot_start(program):
         (["--te", f"{folder}/bad.toml"], 2, "te fault 3", ["10.1.0.300"]),
         (["--te", TE, "--listen", "nowhere"], 2, "bad argument", ["nowhere"]),
         (["--te", TE, "--http", "nowhere"], 2, "bad argument", ["nowhere"]),
+        (["--te", TE, "--http-name", "pced.example"], 2, "bad argument", ["--http-name", "--http ADDR:PORT"]),
+        (["--te", TE, "--http", "127.0.0.1:0", "--http-name", "pced.example:8080"], 2, "bad argument", ["pced.example:8080"]),
+        (["--te", TE, "--http", "127.0.0.1:0", "--http-name", ""], 2, "bad argument", ["--http-name"]),
         (["--te", TE, "--settle", "60", "--settle-for", "router"], 2, "bad argument", ["router"]),
         (["--te", TE, "--log", "loud"], 2, "bad argument", ["loud"]),
     ]

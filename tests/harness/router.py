@@ -13,11 +13,12 @@ from .process import connections, name_of_end
 
 class Router:
     """A router that connects from 127.0.1.NUMBER to the port of a server."""
+    NETWORK = "127.0.1"
 
     def __init__(self, server, number: int, timeout: float | None = TIMEOUT_S):
         self.socket = socket.socket()
         self.socket.setsockopt(socket.IPPROTO_TCP, socket.TCP_NODELAY, 1)
-        self.address = f"127.0.1.{number}"
+        self.address = f"{self.NETWORK}.{number}"
         self.socket.bind((self.address, 0))
         self.socket.settimeout(timeout)
         self.limit_room()

@@ -59,10 +59,10 @@ STORY = (
         "answered PEER srp=2 lsp=t1 after=Nms"]),
     ("update PEER 9", "refused 4", ["operator update PEER 9: refused 4"]),
     (f"initiate PEER t2 {A} {D} 2000000 7 7", "asked 3", [
-        f"operator initiate PEER t2 {A} {D} 2000000 7 7: asked 3", "asked PEER ticket=3 lsp=t2 by=operator",
+        f"operator initiate PEER t2 {A} {D} 16Mbit 7 7: asked 3", "asked PEER ticket=3 lsp=t2 by=operator",
         "no path PEER ticket=3 lsp=t2 why=bandwidth"]),
     (rf"initiate PEER t\3 {A} {D} 100000 7 7", "asked 4", [
-        rf"operator initiate PEER t\x5c3 {A} {D} 100000 7 7: asked 4", r"asked PEER ticket=4 lsp=t\x5c3 by=operator",
+        rf"operator initiate PEER t\x5c3 {A} {D} 800kbit 7 7: asked 4", r"asked PEER ticket=4 lsp=t\x5c3 by=operator",
         r"granted PEER ticket=4 srp=3 lsp=t\x5c3 links=0,1", r"answered PEER srp=3 lsp=t\x5c3 after=Nms"]),
     ("delete PEER 2", "removing 4", ["operator delete PEER 2: removing 4", r"answered PEER srp=4 lsp=t\x5c3 after=Nms"]),
     ("drop PEER 77", "done", ["operator drop PEER 77: done"]),
@@ -73,20 +73,20 @@ STORY = (
     ("initiate PEER t3", "bad line 1", []),
     # (the limits of a path stand behind the line)
     (f"place PEER t5 {A} {D} 1000 7 7 include-all=0x0 include-any=0x1F", "asked 5", [
-        f"operator place PEER t5 {A} {D} 1000 7 7 include-any=0x1f: asked 5", "asked PEER ticket=5 lsp=t5 by=operator",
+        f"operator place PEER t5 {A} {D} 8kbit 7 7 include-any=0x1f: asked 5", "asked PEER ticket=5 lsp=t5 by=operator",
         "no path PEER ticket=5 lsp=t5 why=colours"]),
     (f"place PEER t6 {A} {D} 1000 7 7 metric=igp max-cost=19 max-hops=2 exclude=0xF include-all=0x0", "asked 6", [
-        f"operator place PEER t6 {A} {D} 1000 7 7 metric=igp max-cost=19 max-hops=2 exclude=0xf: asked 6",
+        f"operator place PEER t6 {A} {D} 8kbit 7 7 metric=igp max-cost=19 max-hops=2 exclude=0xf: asked 6",
         "asked PEER ticket=6 lsp=t6 by=operator", "no path PEER ticket=6 lsp=t6 why=bounds"]),
     (f"place PEER t7 {A} {D} 2000000 7 7 metric=hops include-all=0x80000000", "asked 7", [
-        f"operator place PEER t7 {A} {D} 2000000 7 7 metric=hops include-all=0x80000000: asked 7",
+        f"operator place PEER t7 {A} {D} 16Mbit 7 7 metric=hops include-all=0x80000000: asked 7",
         "asked PEER ticket=7 lsp=t7 by=operator", "no path PEER ticket=7 lsp=t7 why=several"]),
     (f"place PEER t8 {A} {D} 2000000 7 7 metric=te", "asked 8", [
-        f"operator initiate PEER t8 {A} {D} 2000000 7 7: asked 8", "asked PEER ticket=8 lsp=t8 by=operator",
+        f"operator initiate PEER t8 {A} {D} 16Mbit 7 7: asked 8", "asked PEER ticket=8 lsp=t8 by=operator",
         "no path PEER ticket=8 lsp=t8 why=bandwidth"]),
     # (no link leads back, so that there is no way at all)
     (f"initiate PEER t4 {D} {A} 1000 7 7", "asked 9", [
-        f"operator initiate PEER t4 {D} {A} 1000 7 7: asked 9", "asked PEER ticket=9 lsp=t4 by=operator", "no path PEER ticket=9 lsp=t4"]),
+        f"operator initiate PEER t4 {D} {A} 8kbit 7 7: asked 9", "asked PEER ticket=9 lsp=t4 by=operator", "no path PEER ticket=9 lsp=t4"]),
 )
 DECIDED = re.compile(r"(asked|granted|replied|no path|gave up|answered|operator|reload|not booked) ")
 
@@ -224,7 +224,7 @@ def a_full_table_of_paths(program):
     said, status, lines = lines_of(zoo.server)
     yield (said, status), ((b"", 0), 0)
     yield not_in_the_table(lines), []
-    wanted = [("INFO", f"operator initiate PEER t3 {A} {D} 1000 7 7: asked 1"), ("INFO", "asked PEER ticket=1 lsp=t3 by=operator"),
+    wanted = [("INFO", f"operator initiate PEER t3 {A} {D} 8kbit 7 7: asked 1"), ("INFO", "asked PEER ticket=1 lsp=t3 by=operator"),
               ("INFO", "gave up PEER ticket=1 lsp=t3"), ("WARN", f"not booked PEER lsp={MOST_PATHS + 1}: too many paths")]
     came = [line for line in lines if DECIDED.match(line[1])]
     yield sorted(came), sorted((level, text.replace("PEER", router.address)) for level, text in wanted)

@@ -57,6 +57,7 @@ def limits_of_a_path(program):
     yield server.status()["steps"], 0
     router = Router(server, 1)
     router.come_up()
+    router.ask()
     for line, links in (
         (f"place 127.0.1.1 a {ENDS} 100 7 7", [0, 1]), (f"place 127.0.1.1 b {ENDS} 100 7 7 exclude=0x1", [2, 3]),
         (f"place 127.0.1.1 c {ENDS} 100 7 7 metric=igp max-hops=2", [2, 3]), (f"initiate 127.0.1.1 d {ENDS} 100 7 7", [0, 1]),
@@ -85,6 +86,7 @@ def units_of_bandwidth(program):
         yield (wrong, server.asked(f"place 127.0.1.1 t {ENDS} {wrong} 7 7")), (wrong, (b"bad line 1\n", 2))
     router = Router(server, 1)
     router.come_up()
+    router.ask()
     for line in (f"initiate 127.0.1.1 a {ENDS} 2.4Mbit 7 0", f"place 127.0.1.1 b {ENDS} 300kB 7 0 max-hops=2"):
         yield server.asked(line)[1], 0
         yield router.hear_of(pcep.PCINITIATE)[:2], bytes([0x20, pcep.PCINITIATE])
@@ -115,6 +117,12 @@ def what_answers_mean(program):
         ("path 10.0.0 10.0.0.4 1 7 7", "bad line 1", "no node has the name 10.0.0", 2), ("path 10.0.0.1 Z 1 7 7", "bad line 1", "no node has the name Z", 2),
         ("path 10.0.0.1 10.0.0.4 1e9 7 7", "bad line 1", "1e9 is no bandwidth", 2), ("path 10.0.0.1 10.0.0.4 281474976710656 7 7", "bad line 1", "281474976710656 is no bandwidth", 2),
         ("path 10.0.0.1 10.0.0.4 1 7 7 max-hop=2", "bad line 1", "max-hop=2 limits no path, or comes twice", 2),
+        ("initiate 127.0.1.1 t 10.0.0.1 10.0.0.4 1 7 7 max-hops=x", "bad line 1", "initiate takes no limits, and place does", 2),
+        ("path 10.0.0.1 10.0.0.4 6 Mbit 7 7", "bad line 1", "Mbit is no priority", 2),
+        ("json path 10.0.0.1 10.0.0.4 1 7 8 max-hops=x", "bad line 1", "8 is no priority", 2),
+        ("place 127.0.1.1 t 10.0.0.1 10.0.0.4 1 7 -1", "bad line 1", "-1 is no priority", 2),
+        ("path 10.0.0.1  10.0.0.4 1 7 7", "bad line 1", "words are parted by one space, and none is at the end", 2),
+        ("links ", "bad line 1", "words are parted by one space, and none is at the end", 2),
         ("place 127.0.1.1 t 10.0.0.1 10.0.0.4 1 7 7 max-hops=2 max-hops=3", "bad line 1", "max-hops=3 limits no path, or comes twice", 2),
     ):
         told = f"{answer}\n".encode()

@@ -16,6 +16,7 @@ def pages_of_grants(program):
     server = ControlledServer(program)
     router = Router(server, 1)
     yield router.come_up(), True
+    router.ask()
     lines = [f"initiate 127.0.1.1 t{number} 10.0.0.1 10.0.0.4 1000 7 0" for number in range(1, 301)]
     yield server.asked(*lines)[1], 0
     yield comes(lambda: sum(len(page["grants"]) for page in server.shown("grants")) == 300), True

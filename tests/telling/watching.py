@@ -17,7 +17,8 @@ from pcep import diamond
 from .read import status_at_rest
 
 BLOCK = b"pced "  # what each block begins with
-REDRAWN = b"\x1b[H\x1b[J"
+REDRAWN = b"\x1b[?7l\x1b[H\x1b[J"  # (a row that is wider than the screen isn't broken, up to the end of the block)
+WRAPS = b"\x1b[?7h"
 
 
 def documented():
@@ -131,6 +132,7 @@ def on_a_terminal(program):
         yield watching.heard.startswith(REDRAWN + BLOCK), True
         yield watching.heard.count(REDRAWN), watching.heard.count(BLOCK)
         yield watching.heard.split(REDRAWN)[1].count(b"\r\n") <= 23, True
+        yield watching.heard.split(REDRAWN)[1].endswith(b"\r\n" + WRAPS), True
         os.write(terminal, key)
         yield watching.status(), status
         os.close(terminal)

@@ -71,7 +71,7 @@ def a_name(program):
     for host, named, status in (("pce.example", "localhost", 200), ("other.example", "pce.example", 400)):
         yield (host, viewer.get(f"http://{host}/api/tickets", host=named)[0]), (host, status)
     yield server.end(), ENDED
-    server = ViewedServer(program, "--endless", "--http-name", "")
+    server = ViewedServer(program)
     viewer = server.view()
     yield viewer.get("/api/tickets", host="pce.example"), refused(400, "bad host")
     viewer.send(b"GET /api/tickets HTTP/1.1\r\nHost:\r\n\r\n")

@@ -5,8 +5,8 @@ ghost use Rattle.answer_words.specs.Sentences.{Adds, Explains, IsSentenceOf, lin
 use crate::refusals::{Subject, of_lsp, of_nothing, of_peer, subject_of};
 use crate::wanted::{te_words, wanted};
 use asks::{
-    cut_at_space, number_in, word_in, wrong_from_in, wrong_key_in, wrong_peer_in, wrong_rate_in,
-    wrong_to_in,
+    cut_at_space, number_in, priority_in, question_in, word_in, wrong_from_in, wrong_key_in,
+    wrong_peer_in, wrong_rate_in, wrong_to_in,
 };
 use std::alloc::{AllocError, Global};
 use std::fmt::Write;
@@ -54,26 +54,77 @@ fn add_refusal(text: &mut String, line: &str, number: u32) -> Result<(), AllocEr
     }
 }
 
+/// Gives what follows so many words of a line.
+fn behind(line: &str, words: usize) -> Option<&str> {
+    let mut rest = line;
+    for _ in 0..words {
+        let (_, more) = cut_at_space(rest)?;
+        rest = more;
+    }
+    Some(rest)
+}
+
+/// Finds the first of a path's two priorities in a line that is none.
+fn wrong_priority_in(line: &str) -> Option<&str> {
+    let before = match word_in(line) {
+        "path" => 4,
+        "initiate" | "place" => 6,
+        _ => return None,
+    };
+    let before = if question_in(line).is_some() {
+        before + 1
+    } else {
+        before
+    };
+    let (setup, rest) = cut_at_space(behind(line, before)?)?;
+    let hold = match cut_at_space(rest) {
+        Some((hold, _)) => hold,
+        None => rest,
+    };
+    for word in [setup, hold] {
+        if priority_in(word).is_none() {
+            return Some(word);
+        }
+    }
+    None
+}
+
+/// Says which word of a line can't be read, if one is found. Says whether it did.
+fn add_wrong_word(text: &mut String, line: &str) -> Result<bool, AllocError>
+    ensures { OnOk result (Adds (string_bytes text.old) (string_bytes text.new)) }
+{
+    if line.contains("  ") || line.ends_with(' ') {
+        text.push_str("words are parted by one space, and none is at the end")?;
+    } else if let Some(word) = wrong_peer_in(line) {
+        write!(text, "{word} names no peer, or several")?;
+    } else if let Some(word) = wrong_from_in(line) {
+        write!(text, "no node has the name {word}")?;
+    } else if let Some(word) = wrong_to_in(line) {
+        write!(text, "no node has the name {word}")?;
+    } else if let Some(rate) = wrong_rate_in(line) {
+        write!(text, "{rate} is no bandwidth")?;
+    } else if let Some(word) = wrong_priority_in(line) {
+        write!(text, "{word} is no priority")?;
+    } else {
+        return Ok(false);
+    }
+    Ok(true)
+}
+
 /// Says what is wrong in a line, or what it has to have.
 fn add_bad_line(text: &mut String, line: &str) -> Result<(), AllocError>
     ensures { OnOk result (Adds (string_bytes text.old) (string_bytes text.new)) }
 {
-    if let Some(word) = wrong_peer_in(line) {
-        return write!(text, "{word} names no peer, or several");
+    if add_wrong_word(text, line)? {
+        return Ok(());
     }
-    if let Some(word) = wrong_from_in(line) {
-        return write!(text, "no node has the name {word}");
-    }
-    if let Some(word) = wrong_to_in(line) {
-        return write!(text, "no node has the name {word}");
-    }
-    if let Some(rate) = wrong_rate_in(line) {
-        return write!(text, "{rate} is no bandwidth");
+    let word = word_in(line);
+    if word == "initiate" && wrong_key_in(line).is_some() {
+        return text.push_str("initiate takes no limits, and place does");
     }
     if let Some(key) = wrong_key_in(line) {
         return write!(text, "{key} limits no path, or comes twice");
     }
-    let word = word_in(line);
     if word.is_empty() {
         return text.push_str("the line has no first word");
     }

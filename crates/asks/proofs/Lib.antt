@@ -1,3 +1,4 @@
 mod Numbers
 mod Hex
 pub mod Parts
+pub mod Written

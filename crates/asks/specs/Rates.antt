@@ -1,5 +1,6 @@
 -- Bandwidths with a unit.
-use Rattle.std.specs.Prelude.{ℕ, ◌+◌, ◌*◌, ◌^◌, ◌&&◌, nat_lt, nat_le, List, [], length, codes, Option, Some, None, option_map, option_and_then, if◌then◌else◌}
+use Rattle.std.specs.Prelude.{ℕ, ◌+◌, ◌*◌, ◌/◌, ◌%◌, ◌^◌, ◌==◌, ◌&&◌, nat_lt, nat_le, List, [], ◌++◌, length, codes, Option, Some, None, option_map, option_and_then, if◌then◌else◌}
+use Rattle.std.specs.Fmt.{decimal}
 use Rattle.std.specs.Int.{div_ceil}
 use Rattle.std.specs.Str.{bytes_eq}
 use Rattle.asks.specs.Words.{cut_at, long_number_in, raised}
@@ -78,3 +79,23 @@ number_or_rate (Some number) word = Some number
 -- a bandwidth in bytes per second, with a unit or without
 abbrev pub bandwidth_or_rate_in : List ℕ → Option ℕ
 bandwidth_or_rate_in word = option_and_then raised (number_or_rate (long_number_in word) word)
+
+-- ---- how a bandwidth is written
+
+-- The greatest unit of which so many bits are a whole number: how many bits it has, and what stands before `bit`. 0 is
+-- written in bits.
+unfoldable pub unit_of : ℕ → (ℕ × List ℕ)
+unit_of bits =
+    if bits == 0 then (1, [])
+    else if bits % 1_000_000_000_000 == 0 then (1_000_000_000_000, codes "T")
+    else if bits % 1_000_000_000 == 0 then (1_000_000_000, codes "G")
+    else if bits % 1_000_000 == 0 then (1_000_000, codes "M")
+    else if bits % 1_000 == 0 then (1_000, codes "k")
+    else (1, [])
+
+abbrev pub in_unit : ℕ → (ℕ × List ℕ) → List ℕ
+in_unit bits unit = decimal (bits / unit.0) ++ unit.1 ++ codes "bit"
+
+-- so many bytes per second as a whole number of the greatest unit that allows it
+abbrev pub rate_text : ℕ → List ℕ
+rate_text bytes = in_unit (8 * bytes) (unit_of (8 * bytes))

@@ -1,10 +1,11 @@
 //! Bandwidths with a unit: `750kB`, `6Mbit`, `1.5Gbit`.
-ghost use Rattle.std.specs.Prelude.{◌≡◌, ◌<◌, ◌≤◌, ◌*◌, IfSome, option_map};
+ghost use Rattle.std.specs.Prelude.{◌≡◌, ◌<◌, ◌≤◌, ◌*◌, IfSome, Some, option_map};
 ghost use Rattle.pcep_word.specs.Word.{IsLeast};
-ghost use Rattle.asks.specs.Rates.{bandwidth_or_rate_in, before, bytes_of, decimal_in, parts_of, rate_in, thousands, top_of, unit_in};
+ghost use Rattle.asks.specs.Rates.{bandwidth_or_rate_in, before, bytes_of, decimal_in, parts_of, rate_in, rate_text, thousands, top_of, unit_in, unit_of};
 
 use crate::words::{cut_at, long_number_in, raised};
 use pcep_word::Bandwidth;
+use std::fmt;
 
 /// Gives what stands before a letter, if `tail` stands after it.
 fn before<'a>(text: &'a str, letter: char, tail: &str) -> Option<&'a str>
@@ -144,5 +145,45 @@ pub fn bandwidth_or_rate_in(word: &str) -> Option<Bandwidth>
             Some(number) => raised(number),
             None => None,
         },
+    }
+}
+
+/// Bytes per second that are written with a unit, as operators write a bandwidth: `6Mbit`. The number is always whole, so
+/// 187,500,000 bytes per second are `1500Mbit`.
+#[derive(Clone, Copy, Debug, PartialEq, Eq)]
+pub struct Rate(pub u64);
+
+/// Finds the greatest unit of which so many bits are a whole number. Gives how many bits it has, and what stands before `bit`.
+#[tactic(auto, unfolding(crate::specs::Rates::unit_of))]
+fn unit_of(bits: u128) -> (u128, &'static str)
+    ensures value { (result.0, result.1.now) ≡ unit_of bits }
+    ensures positive { 0 < result.0 }
+{
+    if bits == 0 {
+        return (1, "");
+    }
+    if bits % 1_000_000_000_000 == 0 {
+        return (1_000_000_000_000, "T");
+    }
+    if bits % 1_000_000_000 == 0 {
+        return (1_000_000_000, "G");
+    }
+    if bits % 1_000_000 == 0 {
+        return (1_000_000, "M");
+    }
+    if bits % 1_000 == 0 {
+        return (1_000, "k");
+    }
+    (1, "")
+}
+
+impl fmt::Display for Rate {
+    ghost output = { λ rate. Some (rate_text rate.0) };
+
+    fn fmt<W: fmt::Write>(&self, f: &mut fmt::Formatter<W>) -> fmt::Result {
+        let bits = 8 * u128::from(self.0);
+        let (unit, letter) = unit_of(bits);
+        let number = bits / unit;
+        write!(f, "{number}{letter}bit")
     }
 }

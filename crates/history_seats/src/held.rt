@@ -286,7 +286,8 @@ impl<B: Brands> Held<B> {
     }
 
     /// Does the same, and returns the receipts that the seat no longer keeps, oldest first, so that they can be dropped
-    /// after a lock is freed. Makes room for the new receipt before the step, and nothing fails after it.
+    /// after a lock is freed. A seat that folds goes on with a list of its own. Makes room for the new receipt before the
+    /// step, and nothing fails after it.
     pub fn step_and_fold(
         &mut self,
         seat: &mut Seat<B>,
@@ -300,13 +301,11 @@ impl<B: Brands> Held<B> {
         ensures full { (result ≡ Err Fault.HistoryFull) ↔ IsTrue (is_full (database_at B.text self.old)) }
         ensures unchanged_on_fault { OnErr result ((self.new ≡ self.old) × (seat.new ≡ with_seen self.old seat.old)) }
     {
-        // only for the proof: the seat has seen all that has happened until now
-        self.history.show(&mut seat.seen);
+        self.history.show(&mut seat.seen); // for the proof only
         if self.database.is_full() {
             return Err(Fault::HistoryFull);
         }
         let past = past_floor(seat.floor, self.database.rolled(), seat.receipts.as_slice());
-        // a seat that folds goes on with a list of its own
         let mut spare = Vec::new(self.alloc);
         match past {
             Some(_) => spare.reserve(1)?,

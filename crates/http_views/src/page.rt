@@ -102,8 +102,8 @@ dd { margin: 0; overflow-wrap: anywhere; }
       <form id="ask">
         <label for="ask-from">From</label><input id="ask-from" class="wide" list="routers" required autocomplete="off" placeholder="router or address">
         <label for="ask-to">To</label><input id="ask-to" class="wide" list="routers" required autocomplete="off" placeholder="router or address">
-        <label for="ask-rate">Bandwidth</label><input id="ask-rate" type="number" min="0" step="any" value="100" required>
-        <select id="ask-unit" aria-label="Unit of the bandwidth"></select>
+        <label for="ask-rate">Bandwidth</label><input id="ask-rate" class="wide" value="100Mbit" required autocomplete="off" placeholder="750000, 750kB, 6Mbit or 1.5Gbit" title="Bytes per second, or a number and one of B, kB, MB, GB, TB, bit, kbit, Mbit, Gbit, Tbit">
+        <label for="ask-limits">Limits</label><input id="ask-limits" class="wide" autocomplete="off" placeholder="metric=igp max-hops=3" title="metric=te, igp or hops; max-cost=N, max-hops=N; exclude=0xN, include-any=0xN, include-all=0xN">
         <label for="ask-setup">Priority</label>
         <span class="wide"><select id="ask-setup" aria-label="Setup priority"></select> setup, <select id="ask-hold" aria-label="Holding priority"></select> holding <button>Search</button></span>
       </form>
@@ -301,21 +301,12 @@ async function readLsp(peer, plsp) {
 
 // ---- words ----
 
-const UNITS = [["Gbit/s", 125000000], ["Mbit/s", 125000], ["kbit/s", 125], ["bytes/s", 1]];
-
 /** Bytes per second as bits per second. */
 function rate(bytes) {
   const bits = Math.abs(bytes) * 8;
   const [unit, size] = bits >= 1e9 ? ["Gbit/s", 1e9] : bits >= 1e6 ? ["Mbit/s", 1e6] : bits >= 1e3 ? ["kbit/s", 1e3] : ["bit/s", 1];
   const digits = size === 1 ? 0 : bits / size >= 100 ? 0 : bits / size >= 10 ? 1 : 2;
   return (bytes < 0 ? "-" : "") + (bits / size).toFixed(digits) + " " + unit;
-}
-
-/** The least whole number of bytes per second that isn't below this many of a unit. */
-function bytesIn(number, size) {
-  const [whole, part] = Math.min(number, 1e15).toFixed(9).split(".");
-  const scale = 10n ** BigInt(part.length);
-  return Number((BigInt(whole + part) * BigInt(size) + scale - 1n) / scale);
 }
 
 function exactly(bytes) {
@@ -790,7 +781,7 @@ async function renewChosen() {
   if (what.kind === "lsp") what.lsp = await readLsp(what.peer, what.plsp);
   if (what.kind === "path") {
     try {
-      what.answer = await read("/api/path?from=" + encodeURIComponent(what.from) + "&to=" + encodeURIComponent(what.to) + "&bandwidth=" + what.bandwidth + "&setup=" + what.setup + "&hold=" + what.hold);
+      what.answer = await read("/api/path?" + new URLSearchParams([["from", what.from], ["to", what.to], ["bandwidth", what.bandwidth], ["setup", what.setup], ["hold", what.hold], ...what.limits]));
       what.fault = null;
     } catch (error) {
       what.answer = null;
@@ -907,8 +898,9 @@ const OBSTACLES = {
   several: "Several things stand in the way together.",
 };
 
-function pathParts({ from, to, bandwidth, setup, hold, answer, fault }) {
-  const head = [h("h2", {}, "What if: " + called(from) + " \u2192 " + called(to)), h("p", { class: "faint" }, exactly(bandwidth) + ", priorities " + setup + " and " + hold + ". Nothing is booked.")];
+function pathParts({ from, to, bandwidth, setup, hold, limits, answer, fault }) {
+  const wanted = [/^\d+$/.test(bandwidth) ? exactly(Number(bandwidth)) : bandwidth, "priorities " + setup + " and " + hold, ...limits.map(limit => limit.join("="))];
+  const head = [h("h2", {}, "What if: " + called(from) + " \u2192 " + called(to)), h("p", { class: "faint" }, wanted.join(", ") + ". Nothing is booked.")];
   if (fault) return [...head, h("p", { class: "warn" }, "The server answers: " + fault)];
   if (!answer) return [...head, h("p", {}, "Searching ...")];
   const tightest = links[answer.tightest_link];
@@ -922,9 +914,10 @@ function pathParts({ from, to, bandwidth, setup, hold, answer, fault }) {
 $("ask").onsubmit = event => {
   event.preventDefault();
   const address = word => { const node = nodes.find(node => node.name === word.trim()); return node ? node.router_id : word.trim(); };
-  const unit = UNITS.find(([name]) => name === $("ask-unit").value)[1];
-  choose({ kind: "path", from: address($("ask-from").value), to: address($("ask-to").value),
-    bandwidth: bytesIn(Number($("ask-rate").value), unit), setup: $("ask-setup").value, hold: $("ask-hold").value });
+  const words = $("ask-limits").value.trim();
+  const limits = words ? words.split(/\s+/).map(word => { const [key, ...value] = word.split("="); return [key, value.join("=")]; }) : [];
+  choose({ kind: "path", from: address($("ask-from").value), to: address($("ask-to").value), bandwidth: $("ask-rate").value.trim(),
+    setup: $("ask-setup").value, hold: $("ask-hold").value, limits });
 };
 
 // ---- tables ----
@@ -1074,7 +1067,6 @@ $("on").onclick = () => { tab.first += ROWS; showTable(); };
 
 const choices = (list, first) => list.map(one => h("option", one === first ? { value: one, selected: "" } : { value: one }, one));
 for (const id of ["priority", "ask-setup", "ask-hold"]) show($(id), choices([0, 1, 2, 3, 4, 5, 6, 7], 7));
-show($("ask-unit"), choices(UNITS.map(([name]) => name), "Mbit/s"));
 $("priority").onchange = showLoads;
 $("closer").onclick = () => scale(1.25);
 $("farther").onclick = () => scale(0.8);

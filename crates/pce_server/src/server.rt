@@ -27,7 +27,7 @@ use std::os::unix::net::UnixListener;
 use std::sync::Wait;
 use std::sync::ledger::Blank;
 use std::thread;
-use std::thread::Threads;
+use std::thread::{JoinHandle, Threads};
 use std::time::{Clock, Instant};
 use step_core::Peer;
 use te_base::TeBase;
@@ -249,6 +249,50 @@ fn close<R: Net + Log, B: Brands>(
     }
 }
 
+/// Lends each thread of a run what it needs.
+fn context_of<'a, R: Clock, B: Brands>(
+    rt: &'a R,
+    alloc: Global,
+    shared: &'a Shared<B>,
+    pool: &'a SeatPool<B>,
+    log: &'a LogQueue,
+    ends: &'a [LinkEnds],
+    orders: Orders,
+    routers: Routers<'a>,
+    state: &'a RunState,
+    seats: usize,
+) -> Context<'a, R, B> {
+    let usher = seats.saturating_add(orders.workers as usize);
+    Context {
+        rt,
+        alloc,
+        shared,
+        pool,
+        peers: &state.peers,
+        run: &state.run,
+        wakers: &state.wakers,
+        log,
+        grants: &state.grants,
+        known: routers.known,
+        counters: &state.counters,
+        waits: &state.waits,
+        peer_states: &state.peer_states,
+        marks: &state.marks,
+        upkeep: &state.upkeep,
+        words: &state.words,
+        errors: &state.errors,
+        answer_ms: orders.answer_seconds.saturating_mul(1000),
+        retry_ms: orders.retry_seconds.saturating_mul(1000),
+        strangers: &state.strangers,
+        ends,
+        start: Instant::now(rt).ok(),
+        keep_ms: orders.keep_seconds.saturating_mul(1000),
+        seats,
+        usher,
+        closer: usher.saturating_add(1),
+    }
+}
+
 /// Serves all until the end, when all seats rest in the pool.
 fn serve_all<B: Brands + Send + Sync, R, I: TimedRead, O: Write, P: Plan + Sync>(
     rt: &R,
@@ -281,36 +325,9 @@ where
     let seats = 2 * live;
     let settle_ms = orders.settle_seconds * 1000;
     let state = RunState::new(alloc, live, seats, routers.settle_for, settle_ms)?;
-    let context = Context {
-        rt,
-        alloc,
-        shared,
-        pool,
-        peers: &state.peers,
-        run: &state.run,
-        wakers: &state.wakers,
-        log,
-        grants: &state.grants,
-        known: routers.known,
-        counters: &state.counters,
-        waits: &state.waits,
-        peer_states: &state.peer_states,
-        marks: &state.marks,
-        upkeep: &state.upkeep,
-        words: &state.words,
-        errors: &state.errors,
-        answer_ms: orders.answer_seconds.saturating_mul(1000),
-        retry_ms: orders.retry_seconds.saturating_mul(1000),
-        strangers: &state.strangers,
-        ends,
-        start: Instant::now(rt).ok(),
-        keep_ms: orders.keep_seconds * 1000,
-        seats,
-        usher: seats.saturating_add(orders.workers as usize),
-        closer: seats
-            .saturating_add(orders.workers as usize)
-            .saturating_add(1),
-    };
+    let context = context_of(
+        rt, alloc, shared, pool, log, ends, orders, routers, &state, seats,
+    );
     run_threads(
         &context,
         listeners.routers,
@@ -338,10 +355,32 @@ fn log_all<R: Wait + Clock + Net + Log, B: Brands>(context: &Context<'_, R, B>) 
     }
 }
 
-/// Starts the threads, serves the operator, and joins the threads in order: the acceptor first, since workers are
-/// needed as long as there are connections, and the log last. The slots are those of connections, then of workers, of
-/// the seat that makes room, of the seat that drops a covered grant, of the timer, of the operator, and of those at the
-/// control socket.
+/// Joins the threads in order, those that could be started: the acceptor first, since workers are needed as long as there
+/// are connections, and the log last.
+fn end_threads<R: Wait + Threads + Clock, B: Brands>(
+    context: &Context<'_, R, B>,
+    acceptor: Option<JoinHandle<()>>,
+    controls: Option<JoinHandle<()>>,
+    keeper: Option<JoinHandle<()>>,
+) {
+    let rt = context.rt;
+    if let Some(acceptor) = acceptor {
+        acceptor.join(rt);
+    }
+    if let Some(controls) = controls {
+        context.close();
+        controls.join(rt);
+    }
+    context.shared.finish(rt);
+    if let Some(keeper) = keeper {
+        keeper.join(rt);
+    }
+    context.log.end(rt);
+}
+
+/// Starts the threads, serves the operator, and joins the threads. The slots are those of connections, then of workers,
+/// of the seat that makes room, of the seat that drops a covered grant, of the timer, of the operator, and of those at
+/// the control socket.
 fn run_threads<B: Brands + Send + Sync, R, I: TimedRead, O: Write, P: Plan + Sync>(
     context: &Context<'_, R, B>,
     routers: &TcpListener,
@@ -400,17 +439,6 @@ where
         if let Some(end) = hear_operator(context, operator_at, reader, writer, plan) {
             end_with(context, end, sessions, control.is_some());
         }
-        if let Ok(acceptor) = acceptor {
-            acceptor.join(rt);
-        }
-        if let Some(controls) = controls {
-            context.close();
-            controls.join(rt);
-        }
-        context.shared.finish(rt);
-        if let Ok(keeper) = keeper {
-            keeper.join(rt);
-        }
-        context.log.end(rt);
+        end_threads(context, acceptor.ok(), controls, keeper.ok());
     });
 }

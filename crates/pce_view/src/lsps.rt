@@ -105,40 +105,27 @@ fn put_noted_lsp(
     ensures before { writer.new.before ≡ writer.old.before }
     ensures written { OnOk result (writer.new.tokens ≡ writer.old.tokens ++ json_tokens (noted_lsp_json notes words.now gaps.now seen.now)) }
 {
+    let lsp = &seen.known.lsp;
+    let asked = &lsp.constraints;
     begin_with(
         alloc,
         writer,
         &[
             Member("peer", Field::Peer(seen.known.peer)),
             Member("plsp_id", Field::Plsp(seen.known.plsp)),
-            Member("name", Field::Name(&seen.known.lsp.name)),
-            Member("name_hex", Field::Hex(&seen.known.lsp.name)),
-            Member("is_delegated", Field::Flag(seen.known.lsp.delegated)),
-            Member("is_created", Field::Flag(seen.known.lsp.created)),
-            Member("is_removing", Field::IsThere(seen.known.lsp.removing)),
+            Member("name", Field::Name(&lsp.name)),
+            Member("name_hex", Field::Hex(&lsp.name)),
+            Member("is_delegated", Field::Flag(lsp.delegated)),
+            Member("is_created", Field::Flag(lsp.created)),
+            Member("is_removing", Field::IsThere(lsp.removing)),
             Member("is_down", Field::IsDown(&seen.paths)),
             Member("state", Field::State(notes.state)),
             Member("is_partly_placed", Field::Flag(notes.is_partly_placed)),
-            Member(
-                "setup_priority",
-                Field::Setup(seen.known.lsp.constraints.priorities),
-            ),
-            Member(
-                "hold_priority",
-                Field::Hold(seen.known.lsp.constraints.priorities),
-            ),
-            Member(
-                "bandwidth_bytes_per_second",
-                Field::Rate(seen.known.lsp.constraints.bandwidth),
-            ),
-            Member(
-                "source",
-                Field::AddressOr(seen.known.lsp.constraints.source),
-            ),
-            Member(
-                "destination",
-                Field::AddressOr(seen.known.lsp.constraints.destination),
-            ),
+            Member("setup_priority", Field::Setup(asked.priorities)),
+            Member("hold_priority", Field::Hold(asked.priorities)),
+            Member("bandwidth_bytes_per_second", Field::Rate(asked.bandwidth)),
+            Member("source", Field::AddressOr(asked.source)),
+            Member("destination", Field::AddressOr(asked.destination)),
             Member("refusal_type", Field::WholeOr(notes.refusal_type)),
             Member("refusal_value", Field::WholeOr(notes.refusal_value)),
             Member("refusal", Field::Refusal(notes.refusal)),

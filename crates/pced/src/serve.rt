@@ -14,9 +14,10 @@ use pcep_word::Ipv4;
 use server_talk::{PolledInput, PolledOutput};
 use std::alloc::Global;
 use std::fmt::Write;
+use std::fs::Files;
 use std::hash::RandomState;
 use std::io;
-use std::io::IsTerminal;
+use std::io::{IsTerminal, Read};
 use std::net::{Ipv4Addr, Net, SocketAddr, TcpListener, TcpStream};
 use std::os::unix::net::UnixListener;
 use std::rt::Runtime;
@@ -194,6 +195,28 @@ fn listener_of(control: &Option<ControlFile>) -> Option<&UnixListener> {
     }
 }
 
+/// Tests whether a word may be the name of a host: letters, digits, `-` and `.`.
+fn is_host_name(word: &str) -> bool {
+    !word.is_empty()
+        && word.bytes().all(|byte| byte.is_ascii_alphanumeric() || byte == b'-' || byte == b'.')
+}
+
+/// Reads the name by which viewers may ask; empty if none is given.
+fn http_name_of<'a>(told: &mut String, words: &ServeWords<'a>) -> Result<&'a str, ServeFault> {
+    let Some(name) = words.http_name else {
+        return Ok("");
+    };
+    if words.http.is_none() {
+        let _told = told.push_str("--http-name: given without --http ADDR:PORT");
+        return Err(ServeFault::BadArgument);
+    }
+    if !is_host_name(name) {
+        let _told = write!(told, "--http-name {name}: not a name, as pced.example");
+        return Err(ServeFault::BadArgument);
+    }
+    Ok(name)
+}
+
 /// Returns the address and the port for viewers, if there should be any.
 fn http_place_of(told: &mut String, word: Option<&str>) -> Result<Option<SocketAddr>, ServeFault> {
     match word {
@@ -308,6 +331,101 @@ fn orders_within(orders: Orders) -> Orders
     }
 }
 
+/// Limits the orders to what they may be, with as many descriptors as the system allows.
+fn orders_of<R: Files + AllocGlobal>(rt: &R, orders: Orders) -> Orders
+    ensures { AreOrders result }
+{
+    orders_within(Orders {
+        descriptors: descriptor_limit(rt),
+        ..orders
+    })
+}
+
+/// What the words of `serve` and the link text say.
+#[derive(Drop)]
+struct Setting<'a> {
+    place: SocketAddr,
+    http_place: Option<SocketAddr>,
+    http_name: &'a str,
+    level: LevelFilter,
+    settle_for: &'a [u32],
+    /// The network, for threads that read the link text anew.
+    te: TeBase,
+    /// It once more, if only its routers are served.
+    known: Option<TeBase>,
+}
+
+impl<'a> Setting<'a> {
+    fn routers(&self) -> Routers<'_> {
+        Routers {
+            known: &self.known,
+            settle_for: self.settle_for,
+        }
+    }
+
+    fn plan<'b>(&'b self, files: &'b HostRuntime, file: &'b str) -> FilePlan<'b, HostRuntime> {
+        FilePlan {
+            rt: files,
+            file,
+            te: &self.te,
+        }
+    }
+}
+
+/// Reads the words and the link text. Returns the network at the start, too.
+fn setting_of<'a>(
+    alloc: Global,
+    files: &HostRuntime,
+    words: &'a ServeWords<'_>,
+    told: &mut String,
+) -> Result<(TeBase, Setting<'a>), ServeFault> {
+    let place = place_of(told, "--listen", words.listen)?;
+    let http_place = http_place_of(told, words.http)?;
+    let http_name = http_name_of(told, words)?;
+    let level = level_of(told, words.log)?;
+    let settle_for = settle_for_of(told, words)?;
+    let text = read_text(files, told, words.file)?;
+    let base = base_in(alloc, told, &text)?;
+    let setting = Setting {
+        place,
+        http_place,
+        http_name,
+        level,
+        settle_for,
+        te: base_in(alloc, told, &text)?,
+        known: known_in(alloc, told, &text, words.only_known)?,
+    };
+    Ok((base, setting))
+}
+
+/// Makes standard input one that can be waited for.
+fn input_of<'a, R: Net + AllocGlobal, I: Read>(
+    rt: &R,
+    input: &'a mut I,
+    files: &'a HostRuntime,
+    told: &mut String,
+) -> Result<PolledInput<'a, I, HostRuntime>, ServeFault> {
+    let is_terminal = files.reader().is_terminal();
+    match PolledInput::new(rt, rt.alloc(), input, files, is_terminal) {
+        Ok(reader) => Ok(reader),
+        Err(error) => {
+            let _told = write!(told, "cannot wait for standard input: {error}");
+            Err(device_fault(&error))
+        }
+    }
+}
+
+/// Makes standard output one that can be waited for.
+fn output_of<'a, R: Net + AllocGlobal, O: io::Write>(
+    rt: &R,
+    output: &'a mut O,
+) -> Result<PolledOutput<'a, O>, ServeFault> {
+    match PolledOutput::new(rt, rt.alloc(), output) {
+        Ok(writer) => Ok(writer),
+        Err(_) => Err(ServeFault::Run(RunFault::Store(Fault::OutOfMemory))),
+    }
+}
+
 /// Serves until the end of the run. Each operator's thread reads the link text through the system's own `files`. If the
 /// start fails, adds to `told` what failed, on what and why.
 pub fn serve<
@@ -323,46 +441,18 @@ pub fn serve<
     words: &ServeWords<'_>,
     told: &mut String,
 ) -> Result<(), ServeFault> {
-    let place = place_of(told, "--listen", words.listen)?;
-    let http_place = http_place_of(told, words.http)?;
-    let level = level_of(told, words.log)?;
-    let settle_for = settle_for_of(told, words)?;
-    let text = read_text(files, told, words.file)?;
-    let base = base_in(rt.alloc(), told, &text)?;
-    let second = base_in(rt.alloc(), told, &text)?;
-    let known = known_in(rt.alloc(), told, &text, words.only_known)?;
-    let listener = listen(rt, told, place)?;
-    let http = listen_http(rt, told, http_place)?;
-    let places = places_of(rt.alloc(), &second, http_place.is_some())?;
+    let (base, setting) = setting_of(rt.alloc(), files, words, told)?;
+    let listener = listen(rt, told, setting.place)?;
+    let http = listen_http(rt, told, setting.http_place)?;
+    let places = places_of(rt.alloc(), &setting.te, http.is_some())?;
     let keys = viewer_keys(files, told, http.is_some())?;
-    let is_terminal = files.reader().is_terminal();
     let mut input = rt.reader();
-    let mut reader = match PolledInput::new(rt, rt.alloc(), &mut input, files, is_terminal) {
-        Ok(reader) => reader,
-        Err(error) => {
-            let _told = write!(told, "cannot wait for standard input: {error}");
-            return Err(device_fault(&error));
-        }
-    };
+    let mut reader = input_of(rt, &mut input, files, told)?;
     let mut output = io::writer(rt);
-    let mut writer = match PolledOutput::new(rt, rt.alloc(), &mut output) {
-        Ok(writer) => writer,
-        Err(_) => return Err(ServeFault::Run(RunFault::Store(Fault::OutOfMemory))),
-    };
-    let orders = orders_within(Orders {
-        descriptors: descriptor_limit(rt),
-        ..words.orders
-    });
-    let logged = Logged::new(rt, level, Stamped::new(rt));
-    let routers = Routers {
-        known: &known,
-        settle_for,
-    };
-    let plan = FilePlan {
-        rt: files,
-        file: words.file,
-        te: &second,
-    };
+    let mut writer = output_of(rt, &mut output)?;
+    let orders = orders_of(rt, words.orders);
+    let logged = Logged::new(rt, setting.level, Stamped::new(rt));
+    let plan = setting.plan(files, words.file);
     let control = open_control(files, rt.alloc(), told, words.control)?;
     let listeners = listeners_at(
         &listener,
@@ -370,7 +460,7 @@ pub fn serve<
         &http,
         keys,
         &places,
-        words.http_name.unwrap_or(""),
+        setting.http_name,
         files,
     );
     let outcome = serve_run(
@@ -379,7 +469,7 @@ pub fn serve<
         base,
         &plan,
         orders,
-        routers,
+        setting.routers(),
         &mut reader,
         &mut writer,
     );

@@ -1,5 +1,5 @@
 -- What `pced tell` sends.
-use Rattle.std.specs.Prelude.{ℕ, ◌+◌, ◌==◌, ◌&&◌, Bool, true, false, List, ◌++◌, length, codes, take, drop, position, Option, Some, None, option_map, option_and_then, if◌then◌else◌}
+use Rattle.std.specs.Prelude.{ℕ, ◌+◌, ◌==◌, ◌&&◌, ◌||◌, Bool, true, false, List, ◌++◌, length, codes, take, drop, position, Option, Some, None, option_map, option_and_then, if◌then◌else◌}
 use Rattle.std.specs.Str.{bytes_eq}
 use Rattle.asks.specs.Lines.{is_question}
 
@@ -19,10 +19,12 @@ abbrev pub asked : Bool → List ℕ → List ℕ
 asked true line = if shows line then codes "json " ++ line else line
 asked false line = line
 
--- unless it is to be quiet, a line gets the word `words` in front, so that its answer is explained
+abbrev pub is_explained : List ℕ → Bool
+is_explained line = bytes_eq (first_word line) (codes "words")
+
+-- unless it is to be quiet, a line gets the word `words` in front if it hasn't got it, so that its answer is explained
 abbrev pub sent : Bool → Bool → List ℕ → List ℕ
-sent true is_json line = asked is_json line
-sent false is_json line = codes "words " ++ asked is_json line
+sent is_quiet is_json line = if is_quiet || is_explained line then asked is_json line else codes "words " ++ asked is_json line
 
 -- ---- what is heard
 

@@ -90,12 +90,13 @@ fn asked(alloc: Global, is_json: bool, line: &str) -> Result<String, AllocError>
     }
 }
 
-/// Returns what is sent for a line. The word `words` in front asks the server to explain its answer.
+/// Returns what is sent for a line. The word `words` in front asks the server to explain its answer. A line that has it stays
+/// as it is.
 fn sent(alloc: Global, is_quiet: bool, is_json: bool, line: &str) -> Result<String, AllocError>
     ensures { IfOk result (λ text. string_bytes text ≡ sent is_quiet is_json line.now) }
 {
     let asked = asked(alloc, is_json, line)?;
-    if is_quiet {
+    if is_quiet || first_word(line) == "words" {
         return Ok(asked);
     }
     format!(in alloc; "words {asked}")

@@ -49,6 +49,28 @@ fn reason_of<R: Wait + Clock, B: Brands>(
     end.reason()
 }
 
+/// Makes the notes of a connection whose Open hasn't come yet.
+fn new_notes<'a, 'c, 't, R: Wait + Clock, B: Brands>(
+    context: &'a Context<'c, R, B>,
+    slot: usize,
+    peer: u32,
+    trials: &'t mut ReadPause,
+    reading: &'t Reading,
+) -> Notes<'a, 'c, 't, R, B> {
+    Notes {
+        context,
+        slot,
+        peer,
+        timers: NO_TIMERS,
+        session: ConnectionNotes::new(),
+        standing: Standing::new(),
+        trials,
+        reading,
+        sent: SentRequests::new(context.alloc),
+        front: context.shared.front(context.rt),
+    }
+}
+
 /// Serves the peer from this seat until the end of its connection.
 fn receive<R: Wait + Clock, B: Brands>(
     context: &Context<'_, R, B>,
@@ -72,18 +94,7 @@ fn receive<R: Wait + Clock, B: Brands>(
     );
     let mut said = TappedWriter::new(context.rt, context.counters, stream);
     let mut store = ObservedStore {
-        notes: Notes {
-            context,
-            slot,
-            peer,
-            timers: NO_TIMERS,
-            session: ConnectionNotes::new(),
-            standing: Standing::new(),
-            trials,
-            reading: &reading,
-            sent: SentRequests::new(context.alloc),
-            front: context.shared.front(context.rt),
-        },
+        notes: new_notes(context, slot, peer, trials, &reading),
         store: Seated::new(context.rt, context.alloc, context.shared, seat),
     };
     let departure = connection(

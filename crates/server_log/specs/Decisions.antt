@@ -13,6 +13,7 @@ use Rattle.step_core.specs.declared.event.Event.{Event}
 use Rattle.step_core.specs.declared.event.Event.TheVariants as event
 use Rattle.step_core.specs.declared.event.Reply.{Reply}
 use Rattle.step_core.specs.declared.event.Reply.TheVariants as reply
+use Rattle.asks.specs.Rates.{rate_text}
 use Rattle.asks.specs.declared.ask.PathLimits.{PathLimits}
 use Rattle.server_log.specs.Limits.{limits_text, line_word}
 use Rattle.server_log.specs.Joining.{◌+>◌}
@@ -201,11 +202,11 @@ abbrev pub end_text : Bool → ℕ → List ℕ
 end_text false address = codes "-"
 end_text true address = text_of address
 
--- the words of the operator's line
+-- the words of the operator's line, the bandwidth with its unit
 abbrev pub initiate_text : Initiation → List ℕ
 initiate_text i =
     line_word i.limits +> codes " " +> text_of i.peer +> codes " " +> name_text i.name +> codes " " +> end_text i.has_source i.source +> codes " " +> end_text i.has_destination i.destination
-    +> codes " " +> decimal i.bandwidth +> codes " " +> decimal i.setup +> codes " " +> decimal i.hold +> limits_text i.limits
+    +> codes " " +> rate_text i.bandwidth +> codes " " +> decimal i.setup +> codes " " +> decimal i.hold +> limits_text i.limits
 
 abbrev pub order_text : Order → List ℕ
 order_text (order.Initiate asked) = initiate_text asked

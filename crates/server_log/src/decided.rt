@@ -4,6 +4,7 @@ ghost use Rattle.server_log.specs.Decisions.{answer_text, asked_text, asker_text
 
 use crate::decisions::{AskedPath, Asker, Decision, Initiation, Order, OrderReply, Wanted};
 use crate::limits::{LimitKeys, LineWord};
+use asks::Rate;
 use path_looks::Obstacle;
 use pcep_word::Ipv4;
 use std::fmt;
@@ -108,7 +109,7 @@ impl fmt::Display for Initiation {
             is_given: self.has_destination,
             address: self.destination,
         };
-        let (bandwidth, setup, hold) = (self.bandwidth, self.setup, self.hold);
+        let (bandwidth, setup, hold) = (Rate(self.bandwidth), self.setup, self.hold);
         let (word, limits) = (LineWord(self.limits), LimitKeys(self.limits));
         write!(
             f,

@@ -1,5 +1,5 @@
 -- An operator, line by line.
-use Rattle.std.proofs.Common.{◌≡◌, ◌≢◌, ℕ, ◌+◌, ◌-◌, ◌^◌, ◌<◌, min, ℤ, Bool, true, false, List, [], ◌∷◌, ◌++◌, length, codes, string_bytes, Option, Some, None, IsSome, Result, Ok, Err, refl, inl, inr, sym, ◌∙◌, ap, subst, append_assoc, append-nil, take, drop, get_or, take-append-drop, drop-cons, add-one, arith}
+use Rattle.std.proofs.Common.{◌≡◌, ◌≢◌, ℕ, ◌+◌, ◌-◌, ◌^◌, ◌<◌, min, ℤ, Bool, true, false, List, [], ◌∷◌, ◌++◌, length, codes, string_bytes, Option, Some, None, IsSome, Result, Ok, Err, refl, sym, ◌∙◌, ap, subst, append_assoc, append-nil, take, drop, get_or, take-append-drop, drop-cons, add-one, arith}
 use Rattle.std.specs.Prelude.{◌==◌}
 use Rattle.std.proofs.lemmas.Bool.Decides.{nat_tests}
 use Rattle.std.proofs.lemmas.List.{length_push, take_more}
@@ -29,20 +29,21 @@ use Rattle.server_talk.specs.declared.operator.OperatorEnd.TheVariants.{InputEnd
 use Rattle.server_talk.specs.declared.pending.OpenLine.{OpenLine}
 use Rattle.server_talk.specs.declared.plan.PlanFault.{PlanFault}
 use Rattle.server_talk.specs.declared.requests.Request.{Request}
-use Rattle.server_talk.specs.declared.requests.Request.TheVariants.{Book, Check, Reload, Submit, View}
+use Rattle.server_talk.specs.declared.requests.Request.TheVariants.{Book, Check, End, Reload, Submit, View}
 use Rattle.server_talk.specs.Goings.{Goes}
 use Rattle.server_talk.specs.Goings.Goes.{Stays, Moves, Empties, Rolls}
 use Rattle.server_talk.specs.Listening.{said_of, Comes, Answered, Answers, AnswersLines, TakesLine, IsKept, SoFar, StopsAt, Stopped, HandsOn, HearsOn, Turns}
 use Rattle.line_names.specs.Plain.{plain_line}
 use Rattle.line_names.specs.declared.plain.Named.{Named}
-use Rattle.server_talk.specs.Naming.{AsksEnd, MayStandFor, StandsFor, is_named}
-use Rattle.server_talk.specs.Naming.StandsFor.{Itself, Plain}
+use Rattle.server_talk.specs.Naming.{StandsFor, is_named}
+use Rattle.server_talk.specs.Naming.StandsFor.{Plain}
 use Rattle.server_talk.specs.Notes.{IsNote, note_text}
 use Rattle.server_talk.specs.Operators.{bad_line, unread_line, number_behind, IsOperators, AreOperators, IsAnswered, Listens, is_out, FailsAs, IsOver, Operated}
 use Rattle.server_talk.specs.Operators.IsAnswered.{Obeyed, Shown, Reloaded, Unread, Checked, Viewed, Refused, Starved, StillFull}
 use Rattle.server_talk.specs.Operators.Listens.{Begins, Hears, Lacks, Waits}
 use Rattle.server_talk.specs.Servers.{Server}
 use Rattle.server_talk.specs.ReloadChecks.{check_text}
+use Rattle.server_talk.proofs.Ending.{asks_itself}
 use Rattle.server_talk.specs.Requests.{asks_reading, asks_step, bare, explained_in, request_of}
 use Rattle.server_talk.specs.Connections.{TakesAll}
 use Rattle.server_talk.proofs.Flowing.{appends_none, takes_behind}
@@ -250,10 +251,6 @@ module _ {S : Type 0} (server : Server S) where
   heard_line start named a b lines said text line plain made went stands done s note noted =
       record { calls = s.calls ++ made; listens = Hears lines s.calls made said text line plain note named a b s.listens went stands done noted }
 
-  may_stand : (now : S) (line plain : List ℕ) → StandsFor server now line plain → MayStandFor line plain
-  may_stand now line plain (Itself none) = inl refl
-  may_stand now line plain (Plain named some given) = inr (named, refl)
-
   -- the line that a line stands for had its answer at once
   pub answered_at_once : (r : Result Answer CommandFault) (start named a b : S) (lines : List (List ℕ)) (said line plain : List ℕ) → r ≢ Err (Store HistoryFull) → Came r (number_behind lines) plain a b → Goings named [] a → StandsFor server named line plain
       → Stands start lines said a → Answering r start lines said line b
@@ -262,7 +259,7 @@ module _ {S : Type 0} (server : Server S) where
   answered_at_once (Ok (answers.Viewed text)) start named a b lines said line plain other h went stands s = heard_line start named a b lines said text.items line plain h.0 went stands h.1 s
   answered_at_once (Ok (answers.Unread fault)) start named a b lines said line plain other h went stands s = heard_line start named a b lines said (unread_line fault) line plain h.0 went stands h.1 s
   answered_at_once (Ok answers.End) start named a b lines said line plain other h went stands s =
-      ((plain, may_stand named line plain stands, h.0), subst (λ (now : S). Stands start lines said now) (sym h.1) s)
+      (asks_itself named line plain stands h.0, subst (λ (now : S). Stands start lines said now) (sym h.1) s)
   answered_at_once (Err BadLine) start named a b lines said line plain other h went stands s = heard_line start named a b lines said (bad_line (number_behind lines)) line plain h.0 went stands h.1 s
   answered_at_once (Err (Store OutOfMemory)) start named a b lines said line plain other h went stands s = heard_line start named a b lines said (fault_text OutOfMemory ++ codes "\n") line plain h.0 went stands h.1 s
   answered_at_once (Err (Store HistoryFull)) start named a b lines said line plain other h went stands s = absurd (other refl)
@@ -322,7 +319,7 @@ module _ {S : Type 0} (server : Server S) where
 
   -- the line asks for the end
   pub end_of_line : (r : Result Answer CommandFault) (start now : S) (lines : List (List ℕ)) (blank old : Option (List ℕ)) (said line : List ℕ) → r ≡ Ok answers.End → Answering r start lines said line now → TakesAll true blank old said
-      → AsksEnd line × AnswersThem start lines blank true now old
+      → (request_of line ≡ Some End) × AnswersThem start lines blank true now old
   end_of_line (Ok answers.End) start now lines blank old said line is a was = (a.0, record { said = said; answered = a.1; out = was })
   end_of_line (Ok (answers.Reply text)) start now lines blank old said line is a was = cc
   end_of_line (Ok (answers.Table text)) start now lines blank old said line is a was = cc
@@ -361,7 +358,7 @@ module _ {S : Type 0} (server : Server S) where
   line_said r (Some ReadFault) number start now a b lines blank old new line other counted answer same note noted out t = absurd out
 
   pub end_taken : (r : Result Answer CommandFault) (start now a b : S) (lines : List (List ℕ)) (blank old : Option (List ℕ)) (line : List ℕ) → r ≡ Ok answers.End
-      → ((said : List ℕ) → Stands start lines said now → Answering r start lines said line a) → server.ways.same_but_calls a b → AnswersThem start lines blank true now old → AsksEnd line × AnswersThem start lines blank true b old
+      → ((said : List ℕ) → Stands start lines said now → Answering r start lines said line a) → server.ways.same_but_calls a b → AnswersThem start lines blank true now old → (request_of line ≡ Some End) × AnswersThem start lines blank true b old
   end_taken r start now a b lines blank old line is answer same t =
       end_of_line r start b lines blank old t.said line is (answer_emptied r start a b lines t.said line same (answer t.said t.answered)) t.out
 

@@ -16,7 +16,6 @@ use Rattle.server_talk.specs.declared.requests.Request.{Request}
 use Rattle.server_talk.specs.declared.requests.Request.TheVariants.{End}
 use Rattle.server_talk.specs.Servers.{Server}
 use Rattle.server_talk.specs.Operators.{IsAnswered, Listens, Operated, bad_line, is_out, number_behind, unread_line}
-use Rattle.server_talk.specs.Naming.{AsksEnd}
 use Rattle.server_talk.specs.Notes.{IsNote, note_text}
 use Rattle.server_talk.specs.Requests.{asks_step, explained_in, line_limit, request_of}
 use Rattle.server_talk.specs.Connections.{TakesAll, TakesPart}
@@ -51,7 +50,7 @@ said_of number (Err (Store fault)) = fault_text fault ++ codes "\n"
 
 -- the first line of the rest asks for the end, or the writer failed
 abbrev pub StopsAt : OperatorEnd → List ℕ → Type 0
-StopsAt EndAsked rest = (line : List ℕ) × AsksEnd line × (more : List ℕ) × (rest ≡ line ++ 10 ∷ more)
+StopsAt EndAsked rest = (line : List ℕ) × (request_of line ≡ Some End) × (more : List ℕ) × (rest ≡ line ++ 10 ∷ more)
 StopsAt WriteFault rest = ⊤
 StopsAt FlushFault rest = ⊤
 StopsAt end rest = ⊥
@@ -84,14 +83,14 @@ module _ {S : Type 0} (server : Server S) where
 
   -- one more line is answered, whatever is said of what its answer means; or it asks for the end
   abbrev pub Answers : Result Answer CommandFault → S → List (List ℕ) → List ℕ → List ℕ → S → Type 0
-  Answers (Ok answers.End) start lines said line now = AsksEnd line × Answered start lines said now
+  Answers (Ok answers.End) start lines said line now = (request_of line ≡ Some End) × Answered start lines said now
   Answers answer start lines said line now = (note : Option (List ℕ)) → IsNote note (explained_in line) (said_of (number_behind lines) answer)
       → Answered start (lines ++ line ∷ []) (said ++ (said_of (number_behind lines) answer ++ note_text note)) now
 
   -- the line was taken, and more may be heard, or not
   abbrev pub TakesLine : Option OperatorEnd → S → List (List ℕ) → Option (List ℕ) → List ℕ → S → Option (List ℕ) → Type 0
   TakesLine None start lines blank line now written = AnswersLines start (lines ++ line ∷ []) blank true now written
-  TakesLine (Some EndAsked) start lines blank line now written = AsksEnd line × AnswersLines start lines blank true now written
+  TakesLine (Some EndAsked) start lines blank line now written = (request_of line ≡ Some End) × AnswersLines start lines blank true now written
   TakesLine (Some WriteFault) start lines blank line now written = AnswersLines start (lines ++ line ∷ []) blank false now written
   TakesLine (Some FlushFault) start lines blank line now written = AnswersLines start (lines ++ line ∷ []) blank true now written
   TakesLine (Some end) start lines blank line now written = ⊥

@@ -1,10 +1,9 @@
 -- The line that an operator's line with names of nodes stands for.
-use Rattle.std.specs.Prelude.{◌≡◌, ◌⊎◌, ℕ, ◌&&◌, nat_le, Bool, true, false, List, length, Option, Some, None, if◌then◌else◌}
+use Rattle.std.specs.Prelude.{◌≡◌, ℕ, ◌&&◌, nat_le, Bool, true, false, List, length, Option, Some, None, if◌then◌else◌}
 use Rattle.std.specs.Str.{is_utf8}
 use Rattle.line_names.specs.Plain.{has_names, plain_line}
 use Rattle.line_names.specs.declared.plain.Named.{Named}
-use Rattle.server_talk.specs.Requests.{bare, line_limit, request_of}
-use Rattle.server_talk.specs.declared.requests.Request.TheVariants.{End}
+use Rattle.server_talk.specs.Requests.{bare, line_limit}
 use Rattle.server_talk.specs.Servers.{Server}
 
 -- a line that can be read, and has a word that isn't read as it stands
@@ -23,11 +22,3 @@ IsNamedText (Some text) line = (text ≡ bare line) × (is_named line ≡ true)
 pub data StandsFor {S : Type 0} (server : Server S) (now : S) (line : List ℕ) : List ℕ → Type 0 where
   Itself : is_named line ≡ false → StandsFor server now line line
   Plain : (named : Named) → is_named line ≡ true → server.names now (bare line) named → StandsFor server now line (plain_line named (bare line))
-
--- the same, whatever addresses names have
-abbrev pub MayStandFor : List ℕ → List ℕ → Type 0
-MayStandFor line plain = (plain ≡ line) ⊎ ((named : Named) × (plain ≡ plain_line named (bare line)))
-
--- it asks for the end of the run
-abbrev pub AsksEnd : List ℕ → Type 0
-AsksEnd line = (plain : List ℕ) × MayStandFor line plain × (request_of plain ≡ Some End)

@@ -25,11 +25,11 @@ use Rattle.server_talk.specs.declared.operator.OperatorEnd.{OperatorEnd}
 use Rattle.server_talk.specs.declared.operator.OperatorEnd.TheVariants.{InputEnded, EndAsked, RunEnding, ReadFault, WriteFault, FlushFault}
 use Rattle.server_talk.specs.declared.plan.PlanFault.{PlanFault}
 use Rattle.server_talk.specs.declared.plan.PlanFault.TheVariants.{Device, Te}
-use Rattle.server_talk.specs.declared.requests.Request.TheVariants.{Book, Check, Reload, Submit, View}
+use Rattle.server_talk.specs.declared.requests.Request.TheVariants.{Book, Check, End, Reload, Submit, View}
 use Rattle.server_talk.specs.Goings.{Goes}
 use Rattle.server_talk.specs.Servers.{Server}
 use Rattle.server_talk.specs.ReloadChecks.{check_text}
-use Rattle.server_talk.specs.Naming.{AsksEnd, StandsFor, is_named}
+use Rattle.server_talk.specs.Naming.{StandsFor, is_named}
 use Rattle.server_talk.specs.Notes.{IsNote, note_text}
 use Rattle.server_talk.specs.Requests.{asks_reading, asks_step, explained_in, is_operators, request_of}
 use Rattle.server_talk.specs.Connections.{TakesAll}
@@ -127,7 +127,7 @@ is_out end = true
 -- the first line there asks for the end; or the run may be closing.
 abbrev pub IsOver : OperatorEnd → Type 0 → Option (List ℕ) → List ℕ → Type 0
 IsOver InputEnded may_close left rest = IsAtEnd left × ((cut rest).0 ≡ [])
-IsOver EndAsked may_close left rest = (line : List ℕ) × AsksEnd line × (more : List ℕ) × (rest ≡ line ++ 10 ∷ more)
+IsOver EndAsked may_close left rest = (line : List ℕ) × (request_of line ≡ Some End) × (more : List ℕ) × (rest ≡ line ++ 10 ∷ more)
 IsOver RunEnding may_close left rest = may_close
 IsOver ReadFault may_close left rest = ⊤
 IsOver WriteFault may_close left rest = ⊤

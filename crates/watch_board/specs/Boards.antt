@@ -72,7 +72,8 @@ board_words b =
     +> table (codes "\nPEER\tSRP\tLSP\tUNANSWERED\tLINKS\n") (string_bytes b.grants)
     +> table (codes "\nSTEP\tEVENT\tPEER\tREPLY\n") (string_bytes b.decisions)
 
--- What is written for a block: on a terminal it replaces what is on the screen, and elsewhere an empty line follows.
+-- What is written for a block: on a terminal it replaces what is on the screen, whose lines aren't broken meanwhile
+-- (DECAWM), and elsewhere an empty line follows.
 abbrev pub framed : Bool → List ℕ → List ℕ
-framed true text = codes "\u{1b}[H\u{1b}[J" ++ text
+framed true text = codes "\u{1b}[?7l\u{1b}[H\u{1b}[J" ++ text ++ codes "\u{1b}[?7h"
 framed false text = text ++ codes "\n"

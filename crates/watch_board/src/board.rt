@@ -265,13 +265,13 @@ impl Board {
     }
 }
 
-/// Returns what is written for a block with this text: on a terminal it replaces what is on the screen, and elsewhere an empty
-/// line follows.
+/// Returns what is written for a block with this text: on a terminal it replaces what is on the screen, and a line that is
+/// wider than the screen isn't broken; elsewhere an empty line follows.
 pub fn block(alloc: Global, is_terminal: bool, text: &str) -> Result<String, AllocError>
     ensures { IfOk result (λ block. string_bytes block ≡ framed is_terminal text.now) }
 {
     if is_terminal {
-        format!(in alloc; "\x1b[H\x1b[J{text}")
+        format!(in alloc; "\x1b[?7l\x1b[H\x1b[J{text}\x1b[?7h")
     } else {
         format!(in alloc; "{text}\n")
     }

@@ -191,12 +191,11 @@ fn a_reload_answers_its_reply_or_why_there_is_none(rt: HostRuntime) -> Result<()
             bytes: Vec::new(alloc),
         };
         let mut store = store_in(alloc);
+        let bytes = b"reload\nreload 0 1 1 0 1\nreload check\n";
         let end = operate(
             &rt,
             alloc,
-            &mut Given {
-                bytes: b"reload\nreload 0 1 1 0 1\nreload check\n",
-            },
+            &mut Given { bytes },
             &mut writer,
             &Noon { is_closing: false },
             &Text { alloc, fault },
