@@ -131,6 +131,7 @@ def what_answers_mean(program):
     for line in ("status", "links", "book", "lsp 127.0.1.1 9", "update 127.0.1.1 1 1", "return 127.0.1.1 1"):
         answer, meaning, status = meant(program, server.path, line)
         yield (line, meaning != b""), (line, status != 0)
+    yield meant(program, server.path, "words update 10.0.0.9 1"), (b"refused 1\n", b"refused 1: 10.0.0.9 is not known\n", 1)
     yield meant(program, server.path, "status", words=["--json"])[1:], (b"", 0)
     yield meant(program, server.path, "status", "update 10.0.0.9 1", "status")[2], 1
     yield meant(program, server.path, "books", "update 10.0.0.9 1")[2], 2
