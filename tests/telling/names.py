@@ -92,6 +92,8 @@ def both_spellings(program):
         else:
             plain, named = [server.asked(line) for server, line in zip(servers, spelled)]
             yield (spelled[1], named), (spelled[1], plain)
+            # (a path that was asked for is granted before the next line)
+            yield [comes(lambda: server.shown("tickets")[0]["tickets"] == []) for server in servers], [True, True]
     for server in servers:
         yield server.end(), ENDED_WITH_TEXT
 
