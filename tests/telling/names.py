@@ -66,9 +66,9 @@ def lines_of_the_document():
 
 
 def timeless(document):
-    """A document without what tells moments, and without how many steps there were: that depends on how the messages came."""
+    """A document without what tells moments, and without the numbers of steps: those depend on how the messages came."""
     if isinstance(document, dict):
-        return {name: timeless(value) for name, value in document.items() if not re.search("_ms$|_ms_|_ago|^steps$", name)}
+        return {name: timeless(value) for name, value in document.items() if not re.search("_ms$|_ms_|_ago|^steps?$", name)}
     return [timeless(each) for each in document] if isinstance(document, list) else document
 
 
