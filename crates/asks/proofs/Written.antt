@@ -30,7 +30,7 @@ off false h = refl
 itself : (letter : ℕ) → (letter == letter) ≡ true
 itself letter = search (rules, tests)
 
--- the first of the letter stands behind as many bytes as are in front of it
+-- the first of the letter comes after as many bytes as are in front of it
 found_at : (letter : ℕ) (front rest : List ℕ) → HasNo letter front → position_or_len (λ b. b == letter) (front ++ letter ∷ rest) ≡ length front
 found_at letter [] rest none = rw (itself letter) refl
 found_at letter (b ∷ front) rest none =
@@ -93,14 +93,14 @@ whole_again n small =
 
 -- ---- a unit is read again
 
--- a letter behind digits
+-- a letter after digits
 before_found : (letter : ℕ) (ds : List ℕ) → is_ascii_digit letter ≡ false → all_ascii_digits ds ≡ true → before letter [] (ds ++ letter ∷ []) ≡ Some ds
 before_found letter ds none digits = rw (cut_found letter ds [] (digits_have_no letter ds none digits)) refl
 
 before_none : (letter : ℕ) (text : List ℕ) → HasNo letter text → before letter [] text ≡ None
 before_none letter text none = rw (cut_none letter text none) refl
 
--- another letter behind digits
+-- another letter after digits
 before_other : (letter x : ℕ) (ds : List ℕ) → is_ascii_digit letter ≡ false → not (x == letter) ≡ true → all_ascii_digits ds ≡ true → before letter [] (ds ++ x ∷ []) ≡ None
 before_other letter x ds none apart digits =
     before_none letter (ds ++ x ∷ []) (has_no_both letter ds (x ∷ []) (digits_have_no letter ds none digits) (rw apart refl))

@@ -14,7 +14,7 @@ abbrev pub pause_of : Option ℕ → WatchWord
 pause_of None = Bad
 pause_of (Some seconds) = if nat_le 1 seconds && nat_le seconds 3600 then Every seconds else Bad
 
--- `watch` alone, or with its seconds in the same word
+-- only `watch`, or with its seconds in the same word
 abbrev pub pause_after : Option (List ℕ × List ℕ) → WatchWord
 pause_after None = Every 2
 pause_after (Some parts) = pause_of (long_number_in parts.1)

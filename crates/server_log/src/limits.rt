@@ -121,7 +121,7 @@ impl fmt::Display for ColourSet {
     }
 }
 
-/// The keys of limits, each behind a space.
+/// The keys of limits, each after a space.
 #[derive(Clone, Copy)]
 pub(crate) struct LimitKeys(pub PathLimits);
 

@@ -53,7 +53,7 @@ abbrev pub behind_words : Option (List ℕ × List ℕ) → Option (List ℕ)
 behind_words None = None
 behind_words (Some cut) = if bytes_eq cut.0 (codes "words") then Some cut.1 else None
 
--- what stands behind the word `words`: the line whose answer is to be explained
+-- what comes after the word `words`: the line whose answer is to be explained
 unfoldable pub explained_in : List ℕ → Option (List ℕ)
 explained_in line = behind_words (cut_at_space line)
 

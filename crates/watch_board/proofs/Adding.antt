@@ -2,7 +2,7 @@
 use Rattle.std.proofs.Common.{◌≡◌, ◌∙◌, ℕ, is_ok, if◌then◌else◌, string_bytes, Result, Ok, Err, OnOk, List, ◌++◌, String, ap, append_assoc}
 use Rattle.std.specs.declared.alloc.Global.{Global}
 
--- a piece, and what comes behind it
+-- a piece, and what comes after it
 pub and_then : (old mid : String Global) (new a b : List ℕ) → string_bytes mid ≡ string_bytes old ++ a → new ≡ string_bytes mid ++ b → new ≡ string_bytes old ++ (a ++ b)
 and_then old mid new a b first second = second ∙ ap (λ (t : List ℕ). t ++ b) first ∙ append_assoc (string_bytes old) a b
 

@@ -39,7 +39,7 @@ duration_cell name d = known_duration (number_in name d)
 
 -- ---- links
 
--- how much of a link is reserved, and what is left of it, behind its names
+-- how much of a link is reserved, and what is left of it, after its names
 unfoldable pub share_cells : LinkShare → List ℕ
 share_cells s = percent_words s.reservable s.left +> tab +> rate_words s.left +> end
 
