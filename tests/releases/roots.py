@@ -153,6 +153,7 @@ def a_life_of_the_package(program):
     network = machine.edit(NETWORK, running.makes_known)
     options = machine.edit(OPTIONS, lambda text: running.options_of(text, free_port()))
     os.makedirs(f"{machine.root}/run/pced", mode=0o700)  # (as RuntimeDirectory=pced has it)
+    os.makedirs(f"{machine.root}/var/lib/pced", mode=0o700)  # (as StateDirectory=pced has it)
     service = running.Service(machine.root)
     yield (service.check[1], service.is_up), (0, True)
     yield from running.serves_a_router(service)

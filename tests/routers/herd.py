@@ -29,9 +29,9 @@ def a_temper(draw):
 class Herd:
     """The routers of one server, and what they do, drawn from a seed."""
 
-    def __init__(self, program, seed):
+    def __init__(self, program, seed, **flags):
         self.draw = random.Random(seed)
-        self.zoo = Zoo(program, te=ABILENE, answer=self.draw.choice(ANSWERS), retry=RETRY, keep=KEEP)
+        self.zoo = Zoo(program, te=ABILENE, answer=self.draw.choice(ANSWERS), retry=RETRY, keep=KEEP, **flags)
         self.nodes = list(self.zoo.network.ids.values())
         self.names = 0
 
@@ -44,6 +44,13 @@ class Herd:
     def name(self):
         self.names += 1
         return f"t{self.names}"
+
+    def come(self):
+        """Its routers come up."""
+        for _ in range(ROUTERS):
+            router = self.zoo.router(a_temper(self.draw))
+            for _ in range(self.draw.randrange(4)):
+                self.begin(router)
 
     # ---- what a router does
 
@@ -106,10 +113,7 @@ def a_herd(program, seed):
     """Routers of all tempers, drawn from a seed: once they are quiet, the book is what they hold together, and no grant is too old."""
     herd = Herd(program, seed)
     zoo = herd.zoo
-    for _ in range(ROUTERS):
-        router = zoo.router(a_temper(herd.draw))
-        for _ in range(herd.draw.randrange(4)):
-            herd.begin(router)
+    herd.come()
     herd.act()
     # one of them leaves for good, and no more connections are lost
     for router in zoo.routers:

@@ -76,3 +76,5 @@ class Ticket:
     tries: int = 0
     seen: int = 0
     taken: bool = False
+    # what was asked for with the purpose, if it isn't what is asked of the path
+    wanted: Constraints | None = None

@@ -24,14 +24,17 @@ from .facts import (
     need,
 )
 from .reports import Reports
+from .rows import KeyedRows, Rows
 from .tickets import Tickets
 
 
 class State(Reports, Tickets):
     def __init__(self, network):
         self.network = network
-        self.peers, self.paths, self.records = {}, {}, {}
-        self.names, self.tickets = [], []
+        self.peers, self.paths, self.records = {}, {}, KeyedRows()
+        # all paths, in the order in which a base has them
+        self.path_rows = Rows()
+        self.names, self.tickets = Rows(), []
         self.changes = self.last_session = self.last_ticket = self.grants = 0
         self.last_left = None
 
@@ -101,11 +104,14 @@ class State(Reports, Tickets):
         if not dropped and not added:
             return
         paths = self.paths.setdefault(peer, [])
-        for path in dropped:
+        for path in self.path_rows.in_order(dropped):
             paths.remove(path)
+            self.path_rows.remove(path)
             if path.srp is not None and path.plsp == 0 and (entry := self.name_of(peer, path.srp)):
                 self.names.remove(entry)
-        paths.extend(added)
+        for path in added:
+            paths.append(path)
+            self.path_rows.append(path)
         self.changes += 1
 
     def name_of(self, peer, srp):
@@ -115,7 +121,7 @@ class State(Reports, Tickets):
         """The paths that pass the test go, with the peer's records that then have none."""
         self.change(peer, [path for path in self.paths.get(peer, ()) if goes(path)], [])
         left = {path.plsp for path in self.paths.get(peer, ())}
-        for key in [key for key in self.records if key[0] == peer and key[1] not in left]:
+        for key in [key for key in self.records.rows if key[0] == peer and key[1] not in left]:
             del self.records[key]
 
     def queue(self, peer, message):
@@ -154,6 +160,8 @@ class State(Reports, Tickets):
     def on_down(self, peer):
         self.must_be_up(peer)
         self.peers[peer] = replace(self.peers[peer], up=False, syncing=False, outgoing=())
+        for path in self.paths.get(peer, ()):
+            self.path_rows.change(path, replace(path, fresh=False))
         self.paths[peer] = [replace(path, fresh=False) for path in self.paths.get(peer, ())]
         for (owner, _), record in self.records.items():
             if owner == peer:

@@ -6,10 +6,10 @@ MOST_LINKS = 64
 
 
 def shares(paths, links):
-    """For each link, what each tunnel reserves there at each priority."""
+    """For each link, what each tunnel reserves there at each priority. Other links that a base names count for nothing."""
     table = [{} for _ in range(links)]
     for path in paths:
-        for link in path.links:
+        for link in (link for link in path.links if link < links):
             held = table[link].setdefault(path.tunnel, [0] * 8)
             for priority in range(path.hold, 8):
                 held[priority] = max(held[priority], path.bandwidth)

@@ -3,22 +3,25 @@ use Rattle.std.proofs.Common.{◌≡◌, ◌≢◌, ℕ, ◌+◌, ◌≤◌, Boo
 use Rattle.std.specs.Prelude.{Result, Ok, if◌then◌else◌}
 use Rattle.std.proofs.lemmas.Bool.Decides.{nat_tests}
 use Rattle.std.proofs.lemmas.Grind.{common_steps}
-use Rattle.te_base.specs.Values.{Values, IsSameNetwork, with_all_values}
+use Rattle.te_base.specs.Ted.{Ted}
+use Rattle.te_base.specs.Values.{IsSameNetwork}
 use Rattle.te_base.proofs.Values.{same-length}
 use Rattle.lsp_base.specs.declared.why.Why.{Why}
 use Rattle.step_core.specs.declared.base.Base as known
 use Rattle.step_core.specs.declared.event.Event.{Event}
 use Rattle.step_core.specs.declared.event.Reply.{Reply}
 use Rattle.step_core.specs.declared.event.Reply.TheVariants.{Refused}
-use Rattle.step_core.specs.Bases.{state_over}
-use Rattle.step_core.specs.States.{State, empty}
+use Rattle.step_core.specs.Bases.{MayStand, known_in, state_over}
+use Rattle.step_core.specs.Consistent.{IsConsistent}
+use Rattle.step_core.specs.States.{State}
 use Rattle.step_core.specs.Steps.{step}
-use Rattle.step_core.proofs.Reloading.{same_over, state_over-same}
+use Rattle.step_core.proofs.Reloading.{state_over-same}
 use Rattle.step_core.proofs.StepLaws.{network_stays, counts_rise, refused_stays}
 use Rattle.history_core.specs.declared.fault.Fault.{Fault}
+use Rattle.history_core.specs.declared.start.Start as placed
 use Rattle.history_core.specs.declared.step.Step.{Step}
 use Rattle.history_core.specs.Briefs.{brief_of, is_grant}
-use Rattle.history_core.specs.Histories.{Content, replay, IsLegalFrom, ReplaysFrom, Replays, IsWhole, content, kept_step, stepped, is_full, steps_of, step_limit, last_step}
+use Rattle.history_core.specs.Histories.{Content, Start, start_over, IsCounted, MayBegin, replay, IsLegalFrom, ReplaysFrom, Replays, IsWhole, content, kept_step, stepped, is_full, steps_of, step_limit, last_step}
 use Rattle.history_core.proofs.Sounding.{grants-snoc, grants_le}
 
 pub replay-append : (s : State) (xs ys : List Step) → replay s (xs ++ ys) ≡ replay (replay s xs) ys
@@ -39,6 +42,7 @@ ReplaysFrom-stepped start xs s event reply kept is = record {
 
 pub Replays-stepped : (d : Content) (event : Event) (reply : Reply) → Replays d → reply ≡ (step d.state event).reply → Replays (stepped d event reply)
 Replays-stepped d event reply whole is = record {
+  start = whole.start;
   kept = ReplaysFrom-stepped d.base d.history d.state event reply whole.kept is;
   past = whole.past;
 }
@@ -63,23 +67,38 @@ tickets-replay : (s : State) (xs : List Step) → (replay s xs).last_ticket ≤ 
 tickets-replay s [] = omega arith
 tickets-replay s (y ∷ ys) = omega (arith, tickets-replay (step s y.event).state ys, (counts_rise s y.event).tickets_rise)
 
-pub changes_le : (d : Content) → Replays d → d.state.changes ≤ steps_of d
-changes_le d whole =
+-- what was rolled is counted
+pub base_counted : (d : Content) → Replays d → steps_of d ≤ last_step → IsCounted (known_in d.base) d.rolled d.rolled_grants
+base_counted d whole few =
+    let steps : List Step = whole.past.0 in
     let past = whole.past.1 in
-    let start = empty d.text in
-    omega (arith, ap (λ (s : State). s.changes) whole.kept.leads, changes-replay d.base d.history, ap (λ (s : State). s.changes) past.replays.leads, changes-replay start whole.past.0, past.steps)
+    let start = d.start.state in
+    let first = whole.start.counted in
+    let changes : start.changes ≤ d.start.steps = first.changes in
+    let sessions : start.last_session ≤ d.start.steps = first.sessions in
+    let tickets : start.last_ticket ≤ d.start.steps = first.tickets in
+    record {
+      changes = omega (arith, changes, changes-replay start steps, ap (λ (s : State). s.changes) past.replays.leads, past.steps);
+      sessions = omega (arith, sessions, sessions-replay start steps, ap (λ (s : State). s.last_session) past.replays.leads, past.steps);
+      tickets = omega (arith, tickets, tickets-replay start steps, ap (λ (s : State). s.last_ticket) past.replays.leads, past.steps);
+      grants = omega (arith, first.grants, grants_le steps, past.steps, past.grants);
+      taken = omega (arith, few);
+    }
 
-pub sessions_le : (d : Content) → Replays d → d.state.last_session ≤ steps_of d
-sessions_le d whole =
-    let past = whole.past.1 in
-    let start = empty d.text in
-    omega (arith, ap (λ (s : State). s.last_session) whole.kept.leads, sessions-replay d.base d.history, ap (λ (s : State). s.last_session) past.replays.leads, sessions-replay start whole.past.0, past.steps)
+pub changes_le : (d : Content) → Replays d → steps_of d ≤ last_step → d.state.changes ≤ steps_of d
+changes_le d whole few =
+    let before : d.base.changes ≤ d.rolled = (base_counted d whole few).changes in
+    omega (arith, before, ap (λ (s : State). s.changes) whole.kept.leads, changes-replay d.base d.history)
 
-pub tickets_le : (d : Content) → Replays d → d.state.last_ticket ≤ steps_of d
-tickets_le d whole =
-    let past = whole.past.1 in
-    let start = empty d.text in
-    omega (arith, ap (λ (s : State). s.last_ticket) whole.kept.leads, tickets-replay d.base d.history, ap (λ (s : State). s.last_ticket) past.replays.leads, tickets-replay start whole.past.0, past.steps)
+pub sessions_le : (d : Content) → Replays d → steps_of d ≤ last_step → d.state.last_session ≤ steps_of d
+sessions_le d whole few =
+    let before : d.base.last_session ≤ d.rolled = (base_counted d whole few).sessions in
+    omega (arith, before, ap (λ (s : State). s.last_session) whole.kept.leads, sessions-replay d.base d.history)
+
+pub tickets_le : (d : Content) → Replays d → steps_of d ≤ last_step → d.state.last_ticket ≤ steps_of d
+tickets_le d whole few =
+    let before : d.base.last_ticket ≤ d.rolled = (base_counted d whole few).tickets in
+    omega (arith, before, ap (λ (s : State). s.last_ticket) whole.kept.leads, tickets-replay d.base d.history)
 
 -- ---- a database after one more event
 
@@ -99,7 +118,7 @@ more_may_come d n whole none =
     )
 
 pub grants_le_steps : (d : Content) (n : ℕ) → IsWhole d n → n ≤ steps_of d
-grants_le_steps d n whole = omega (arith, whole.counted, grants_le d.history, grants_le whole.replays.past.0, whole.replays.past.1.steps, whole.replays.past.1.grants)
+grants_le_steps d n whole = omega (arith, whole.counted, grants_le d.history, (base_counted d whole.replays whole.taken).grants)
 
 pub IsWhole-stepped : (d : Content) (n m : ℕ) (event : Event) (reply : Reply) → IsWhole d n → is_full d ≡ false → reply ≡ (step d.state event).reply
     → m ≡ n + (if is_grant (brief_of reply) then 1 else 0) → IsWhole (stepped d event reply) m
@@ -117,13 +136,44 @@ stays_over : (s t : State) (event : Event) → t ≡ (step s event).state → Is
 stays_over s t event t_is = subst (λ (u : State). IsSameNetwork s.te u.te) (sym t_is) (network_stays s event)
 
 -- the same database, if the new state and history are known by equations
-pub content-stepped : (s t : State) (xs ys : List Step) (base : known.Base) (text : List Values) (rolled rolled_grants : ℕ) (event : Event) (reply : Reply)
-    → length base.values ≡ length s.te.links → length text ≡ length s.te.links → t ≡ (step s event).state → ys ≡ xs ++ kept_step event reply ∷ [] → content t ys base text rolled rolled_grants ≡ stepped (content s xs base text rolled rolled_grants) event reply
-content-stepped s t xs ys base text rolled rolled_grants event reply at_base of_text t_is ys_is =
+pub content-stepped : (s t : State) (xs ys : List Step) (base : known.Base) (start : placed.Start) (rolled rolled_grants : ℕ) (event : Event) (reply : Reply)
+    → length base.values ≡ length s.te.links → length start.base.values ≡ length s.te.links → t ≡ (step s event).state → ys ≡ xs ++ kept_step event reply ∷ []
+    → content t ys base start rolled rolled_grants ≡ stepped (content s xs base start rolled rolled_grants) event reply
+content-stepped s t xs ys base start rolled rolled_grants event reply at_base at_start t_is ys_is =
     let same = stays_over s t event t_is in
     let same_base : state_over t.te base ≡ state_over s.te base = sym (state_over-same s.te t.te base same at_base) in
-    let same_text : with_all_values t.te text ≡ with_all_values s.te text = sym (same_over s.te t.te text same of_text) in
+    let same_first : state_over t.te start.base ≡ state_over s.te start.base = sym (state_over-same s.te t.te start.base same at_start) in
+    let same_start : start_over t.te start.base start.steps start.grants ≡ start_over s.te start.base start.steps start.grants
+    = ap (λ (u : State). started u start.steps start.grants) same_first in
     cc
+  where
+    started : State → (steps grants : ℕ) → Start
+    started u steps grants = record { state = u; steps = steps; grants = grants }
+
+-- what may stand over a network may stand over the same one with other values of its links
+MayStand-same : (a b : Ted) (base : known.Base) → IsSameNetwork a b → MayStand a base → MayStand b base
+MayStand-same a b base same stands = record {
+  values = stands.values ∙ same-length a b same;
+  few = stands.few;
+  consistent = subst IsConsistent (state_over-same a b base same stands.values) stands.consistent;
+}
+
+-- a step leaves what may stand
+pub stands_on : (s t : State) (event : Event) (base : known.Base) → t ≡ (step s event).state → MayStand s.te base → MayStand t.te base
+stands_on s t event base t_is stands = MayStand-same s.te t.te base (stays_over s t event t_is) stands
+
+-- what is known of a state may stand, if it is known by an equation
+pub known_stands : (s : State) (base : known.Base) → base ≡ known_in s → MayStand s.te (known_in s) → MayStand s.te base
+known_stands s base is stands = subst (MayStand s.te) (sym is) stands
+
+-- the base of a database may begin another one
+pub base_begins : (te : Ted) (b : known.Base) (d : Content) → d.base ≡ state_over te b → Replays d → steps_of d ≤ last_step → MayStand te b → MayBegin te b d.rolled d.rolled_grants
+base_begins te b d is whole few stands =
+    let counted : IsCounted (known_in (state_over te b)) d.rolled d.rolled_grants = subst (λ (s : State). IsCounted (known_in s) d.rolled d.rolled_grants) is (base_counted d whole few) in
+    record {
+      stands = stands;
+      counted = record { changes = counted.changes; sessions = counted.sessions; tickets = counted.tickets; grants = counted.grants; taken = counted.taken };
+    }
 
 -- a step leaves as many links as there were
 pub links_stay : (s t : State) (event : Event) → t ≡ (step s event).state → length s.te.links ≡ length t.te.links

@@ -1,5 +1,5 @@
 //! A state with its history.
-ghost use Rattle.std.specs.Prelude.{◌≡◌, ◌<◌, ◌≤◌, ◌+◌, ◌^◌, ◌↔◌, if◌then◌else◌, IsTrue, List, [], ◌∷◌, ◌++◌, length, vec_len, vec_capacity, IfOk, OnOk, OnErr, IsNone, IfSome};
+ghost use Rattle.std.specs.Prelude.{◌≡◌, ◌<◌, ◌≤◌, ◌+◌, ◌^◌, ◌↔◌, if◌then◌else◌, IsTrue, List, [], ◌∷◌, ◌++◌, length, vec_len, vec_capacity, IfOk, OnOk, OnErr, IsNone, IfNone, IfSome};
 ghost use Rattle.std.specs.Arc.{arc_value};
 ghost use Rattle.lsp_base.specs.Shares.{unreserved};
 ghost use Rattle.te_base.specs.Values.{values_in};
@@ -9,18 +9,18 @@ ghost use Rattle.step_core.specs.States.{is_up, is_queued, has_waiting};
 ghost use Rattle.step_core.specs.Steps.{step};
 ghost use Rattle.step_core.specs.Laws.{peer_of, OthersStay};
 ghost use Rattle.history_core.specs.Briefs.{brief_of, is_grant};
-ghost use Rattle.history_core.specs.Histories.{Replays, IsSound, IsPast, nothing_happened, kept_step, stepped, is_full, steps_of, grants_of, rolled_up, last_step};
+ghost use Rattle.history_core.specs.Histories.{Replays, IsCounted, IsSound, IsStart, MayBegin, begun, begun_over, nothing_happened, kept_step, stepped, is_full, steps_of, grants_of, rolled_up, last_step};
 
 use crate::fault::Fault;
+use crate::start::Start;
 use crate::step::{Brief, Step};
 use pcep_word::Priority;
-use sequence::{PlainData, Sequence};
 use std::alloc::{AllocError, Global};
 use std::marker::Model;
 use std::mem;
 use std::sync::Arc;
 use step_core::{Base, Event, Reply, SharedEvent, State};
-use te_base::{LinkNumber, LinkValues, TeBase};
+use te_base::{LinkNumber, TeBase};
 use te_snapshot::Topology;
 
 /// The greatest number of steps that are kept.
@@ -31,8 +31,8 @@ pub const LAST_STEP: u64 = 1 << 62;
 
 /// What is known, with the history that led to it from a base.
 pub struct Database {
-    /// The values of all links as the link text has them.
-    text: Sequence<LinkValues>,
+    /// What was known before the first of all steps.
+    start: Start,
     /// What was known before the first of the kept steps.
     base: Base,
     /// How many steps were taken before the base.
@@ -49,7 +49,7 @@ pub struct Database {
 impl Drop for Database {
     fn drop(self) {
         let Database {
-            text,
+            start,
             base,
             rolled: _,
             rolled_grants: _,
@@ -57,7 +57,7 @@ impl Drop for Database {
             history,
             grants: _,
         } = self;
-        drop(text);
+        drop(start);
         drop(base);
         drop(state);
         drop(history);
@@ -69,9 +69,9 @@ impl Model for Database {
 
     ghost Value = { Content };
 
-    ghost view = { λ d. content d.state d.history.items d.base d.text d.rolled d.rolled_grants };
+    ghost view = { λ d. content d.state d.history.items d.base d.start d.rolled d.rolled_grants };
 
-    ghost invariant = { λ d. IsKept d.state d.history.items d.base d.text d.rolled d.rolled_grants d.grants };
+    ghost invariant = { λ d. IsKept d.state d.history.items d.base d.start d.rolled d.rolled_grants d.grants };
 }
 
 /// Returns for how many more steps to reserve room, given how many are kept. The first step reserves room for all of
@@ -103,16 +103,28 @@ fn keep(history: &mut Vec<Step>, grants: &mut u64, event: SharedEvent, reply: &R
     history.push_reserved(Step { event, brief });
 }
 
-/// Copies what is known, and the values of all links once more.
-fn known_at_first(state: &State) -> Result<(Base, Sequence<LinkValues>), AllocError>
-    ensures base { IfOk result (λ known. known.0 ≡ known_in state.now) }
-    ensures text { IfOk result (λ known. known.1 ≡ values_in state.now.te) }
+/// Tests whether no count of what was known is above the number of steps that led to it, nor are the grants, and no more
+/// steps were taken than ever are.
+fn is_counted(base: &Base, steps: u64, grants: u64) -> bool
+    ensures { IsTrue result ↔ IsCounted base.now steps grants }
 {
-    let base = state.copy()?;
-    match base.values.copy() {
-        Ok(text) => Ok((base, text)),
+    base.changes <= steps
+        && base.last_session <= steps
+        && base.last_ticket <= steps
+        && grants <= steps
+        && steps <= LAST_STEP
+}
+
+/// Copies what is known twice.
+fn known_twice(state: &State) -> Result<(Base, Base), AllocError>
+    ensures first { IfOk result (λ known. known.0 ≡ known_in state.now) }
+    ensures second { IfOk result (λ known. known.1 ≡ known_in state.now) }
+{
+    let first = state.copy()?;
+    match state.copy() {
+        Ok(second) => Ok((first, second)),
         Err(error) => {
-            drop(base);
+            drop(first);
             Err(error)
         }
     }
@@ -124,15 +136,51 @@ impl Database {
         ensures { IfOk result (λ database. database ≡ nothing_happened te) }
     {
         let state = State::new(alloc, te)?;
-        match known_at_first(&state) {
-            Ok((base, text)) => Ok(Database {
-                text,
+        Database::begun(alloc, state, 0, 0)
+    }
+
+    /// Makes the database that begins at what was read, over a network of these nodes and links, after so many steps and
+    /// grants. `None` if it may not stand, or a count of it is above the number of steps. Drops what it is given if
+    /// memory runs out.
+    pub fn over(
+        alloc: Global,
+        te: TeBase,
+        base: Base,
+        steps: u64,
+        grants: u64,
+    ) -> Result<Option<Database>, AllocError>
+        ensures made { IfOk result (λ made. IfSome made (λ database. database ≡ begun_over te base steps grants)) }
+        ensures begins { IfOk result (λ made. IfSome made (λ _. MayBegin te base steps grants)) }
+        ensures refused { IfOk result (λ made. IfNone made (MayBegin te base steps grants → ⊥)) }
+    {
+        if !is_counted(&base, steps, grants) {
+            return Ok(None);
+        }
+        match State::over(alloc, te, base)? {
+            Some(state) => Ok(Some(Database::begun(alloc, state, steps, grants)?)),
+            None => Ok(None),
+        }
+    }
+
+    /// Makes the database that begins at the state, after so many steps and grants. Drops the state if memory runs out.
+    fn begun(alloc: Global, state: State, steps: u64, grants: u64) -> Result<Database, AllocError>
+        requires starts { IsStart (record { state = state; steps = steps; grants = grants }) }
+        ensures { IfOk result (λ database. database ≡ begun (record { state = state; steps = steps; grants = grants })) }
+    {
+        state.what_stands_may_stand(); // for the proof only
+        match known_twice(&state) {
+            Ok((base, first)) => Ok(Database {
+                start: Start {
+                    base: first,
+                    steps,
+                    grants,
+                },
                 base,
-                rolled: 0,
-                rolled_grants: 0,
+                rolled: steps,
+                rolled_grants: grants,
                 state,
                 history: Vec::new(alloc),
-                grants: 0,
+                grants,
             }),
             Err(error) => {
                 drop(state);
@@ -209,6 +257,7 @@ impl Database {
         ensures unchanged_without_memory { OnErr result (self.new ≡ self.old) }
         ensures replays { Replays self.new }
     {
+        self.state.what_stands_may_stand(); // for the proof only
         let base = self.state.copy()?;
         self.base = base;
         self.rolled += self.history.len() as u64;
@@ -217,11 +266,12 @@ impl Database {
         Ok(mem::replace(&mut self.history, Vec::new(alloc)))
     }
 
-    /// Returns what was known at the last roll, before the first of the kept steps. Before the first roll that is the
-    /// network of the link text, of which nothing was reported. Allocates nothing.
+    /// Returns what was known at the last roll, before the first of the kept steps. Before the first roll that is what
+    /// the database began with. `over` doesn't refuse it after the steps that `rolled` counts. Allocates nothing.
     pub fn base(&self) -> &Base
         ensures known { state_over self.now.state.te result.now ≡ self.now.base }
         ensures values { result.now.values ≡ values_in self.now.base.te }
+        ensures begins { MayBegin self.now.state.te result.now self.now.rolled self.now.rolled_grants }
     {
         &self.base
     }
@@ -231,6 +281,13 @@ impl Database {
         ensures { result ≡ self.now.rolled }
     {
         self.rolled
+    }
+
+    /// Returns how many of the steps before the base were grants. Allocates nothing.
+    pub fn rolled_grants(&self) -> u64
+        ensures { result ≡ self.now.rolled_grants }
+    {
+        self.rolled_grants
     }
 
     /// Lends the kept steps, oldest first. The first has the place `rolled` among all steps.

@@ -3,8 +3,8 @@
 //! `Database` replays: from its base, on one thread, its events give these very briefs and lead to its state
 //! (`specs/Histories.antt`). So what `unreserved` answers is what the reports leave of a link. At most 1,048,576 steps
 //! are kept. A roll makes the state the base, and drops the steps before it, which stay counted. All steps ever taken,
-//! those before the base too, are one legal and sound history from the network of the link text, of which nothing was
-//! reported (`one_history`).
+//! those before the base too, are one legal and sound history (`one_history`). It starts from the network of the link
+//! text, of which nothing was reported, or from what was read, to which earlier steps had led (`Database::over`).
 //!
 //! ```text
 //! fn left_after(database: &mut Database, event: Event) -> Result<Option<i64>, Fault>
@@ -21,6 +21,7 @@
 mod database;
 mod fault;
 mod laws;
+mod start;
 mod step;
 
 pub use database::{Database, LAST_STEP, STEP_LIMIT};

@@ -13,9 +13,9 @@ use Rattle.step_core.specs.States.{State}
 use Rattle.step_core.specs.Steps.{step}
 use Rattle.step_core.specs.declared.event.Event.{Event}
 use Rattle.step_core.proofs.StepLaws.{network_stays}
-use Rattle.history_core.specs.Histories.{Content, Replays}
+use Rattle.history_core.specs.Histories.{Content, StartsFromText, Replays}
 use Rattle.history_laws.specs.WellFormed.{TakesLinksOnce}
-use Rattle.history_laws.proofs.Led.{led}
+use Rattle.history_laws.proofs.Led.{led_from_text}
 use Rattle.history_laws.proofs.Paths.{EachPath, IsKept, step_all}
 use Rattle.history_laws.proofs.Routes.{granted_some}
 
@@ -51,7 +51,7 @@ step_takes s event all =
     let after = step_all (Takes (length s.te.links)) s event (kept s) all in
     subst (λ (n : ℕ). EachPath (Takes n) (step s event).state) (same-length s.te (step s event).state.te (network_stays s event)) after
 
-pub links_once : (d : Content) → Replays d → All (TakesLinksOnce d.state.te.links) d.state.base.paths
-links_once d whole =
-    let all : EachTakes d.state = led EachTakes (λ te. All-nil (Takes (length te.links))) step_takes d whole in
+pub links_once : (d : Content) → Replays d → StartsFromText d → All (TakesLinksOnce d.state.te.links) d.state.base.paths
+links_once d whole starts =
+    let all : EachTakes d.state = led_from_text EachTakes (λ te. All-nil (Takes (length te.links))) step_takes d whole starts in
     All-weaker (Takes (length d.state.te.links)) (TakesLinksOnce d.state.te.links) (λ x some. record { there = some.below; once = some.once }) d.state.base.paths all

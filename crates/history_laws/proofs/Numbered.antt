@@ -13,9 +13,9 @@ use Rattle.commit_core.specs.Offers.{offered_path}
 use Rattle.commit_core.specs.declared.ticket.Ticket.{Ticket}
 use Rattle.step_core.specs.Grants.{path_of}
 use Rattle.step_core.specs.States.{State}
-use Rattle.history_core.specs.Histories.{Content, Replays}
+use Rattle.history_core.specs.Histories.{Content, StartsFromText, Replays}
 use Rattle.history_laws.specs.WellFormed.{IsNumbered}
-use Rattle.history_laws.proofs.Led.{led}
+use Rattle.history_laws.proofs.Led.{led_from_text}
 use Rattle.history_laws.proofs.Paths.{EachPath, IsKept, step_all}
 
 not_zero : (plsp : ℕ) → is_reserved plsp ≡ false → plsp ≢ 0
@@ -38,5 +38,5 @@ kept s = record {
   granted = λ t offer is. granted_numbered s t (unwrap_or offer []);
 }
 
-pub numbered : (d : Content) → Replays d → All IsNumbered d.state.base.paths
-numbered d whole = led (EachPath IsNumbered) (λ te. All-nil IsNumbered) (λ s event all. step_all IsNumbered s event (kept s) all) d whole
+pub numbered : (d : Content) → Replays d → StartsFromText d → All IsNumbered d.state.base.paths
+numbered d whole starts = led_from_text (EachPath IsNumbered) (λ te. All-nil IsNumbered) (λ s event all. step_all IsNumbered s event (kept s) all) d whole starts

@@ -32,9 +32,9 @@ use Rattle.step_core.specs.declared.event.Event.TheVariants.{Up, Report, Marker,
 use Rattle.step_core.specs.declared.peer.Peer.{Peer}
 use Rattle.ticket_table.specs.Tickets.{first_waiting, ticket_at}
 use Rattle.step_core.proofs.StepLaws.{asked-has, booked-has, decided-has, in_vain-has}
-use Rattle.history_core.specs.Histories.{Content, Replays}
+use Rattle.history_core.specs.Histories.{Content, StartsFromText, Replays}
 use Rattle.history_laws.specs.WellFormed.{IsQuietIfDown}
-use Rattle.history_laws.proofs.Led.{led}
+use Rattle.history_laws.proofs.Led.{led_from_text}
 use Rattle.history_laws.proofs.Known.{first_passes, last_passes, test_passes}
 use Rattle.history_laws.proofs.KnownSteps.{decided-if}
 use Rattle.lsp_base.specs.declared.why.Why.{Why}
@@ -140,5 +140,5 @@ step_quiet s Take all = take_quiet s (first_waiting s.tickets) all
 step_quiet s (Commit id offer) all = commit_quiet s offer (ticket_at s.tickets id) all
 step_quiet s (Reload entries) all = decided-has AreQuiet s (must_have_links s.te entries) (done (after_reload s entries)) all all
 
-pub quiet : (d : Content) → Replays d → All IsQuietIfDown d.state.peers
-quiet d whole = led AreQuiet (λ te. All-nil IsQuietIfDown) step_quiet d whole
+pub quiet : (d : Content) → Replays d → StartsFromText d → All IsQuietIfDown d.state.peers
+quiet d whole starts = led_from_text AreQuiet (λ te. All-nil IsQuietIfDown) step_quiet d whole starts

@@ -1,9 +1,10 @@
-//! Laws of every database. They follow from its history: whatever holds of the empty network and is kept by each step
-//! holds of the state of each database, whatever tables keep that state.
+//! Laws of databases. They follow from the history: whatever holds at its start and is kept by each step holds of the
+//! state, whatever tables keep that state. Some are of every database, and some only of those whose steps start from the
+//! network of the link text, of which nothing was reported. The database of a server is one of these.
 #![tactic(auto)]
 
 ghost use Rattle.std.specs.Prelude.{◌≡◌, All};
-ghost use Rattle.history_core.specs.Histories.{Content, Replays};
+ghost use Rattle.history_core.specs.Histories.{Content, Replays, StartsFromText};
 ghost use Rattle.history_laws.specs.Plain.{plain, plain_event, plain_outcome};
 ghost use Rattle.history_laws.specs.WellFormed.{AreOfKnownPeers, IsNumbered, IsQuietIfDown, TakesLinksOnce};
 ghost use Rattle.step_core.specs.Consistent.{IsConsistent};
@@ -26,25 +27,27 @@ pub fn same_replies()
     ensures states { (d e : Content) (event : Event) → Replays d → AreAlike d.state e.state → AreAlike (step d.state event).state (step e.state event).state }
 {}
 
-/// Shows that each path, each record and each awaited name of a database is of a peer that it knows.
+/// Shows that each path, each record and each awaited name is of a known peer, if the steps start from the link text.
 pub fn of_known_peers()
-    ensures { (d : Content) → Replays d → AreOfKnownPeers d.state }
+    ensures { (d : Content) → Replays d → StartsFromText d → AreOfKnownPeers d.state }
 {}
 
 /// Shows that no message waits for a peer that is down, and that such a peer isn't synchronizing (RFC 8231 section
-/// 5.6).
+/// 5.6), if the steps start from the link text.
 pub fn quiet_if_down()
-    ensures { (d : Content) → Replays d → All IsQuietIfDown d.state.peers }
+    ensures { (d : Content) → Replays d → StartsFromText d → All IsQuietIfDown d.state.peers }
 {}
 
-/// Shows that no reported path has PLSP-ID 0, which is reserved (RFC 8231 section 7.3).
+/// Shows that no reported path has PLSP-ID 0, which is reserved (RFC 8231 section 7.3), if the steps start from the link
+/// text.
 pub fn reports_are_numbered()
-    ensures { (d : Content) → Replays d → All IsNumbered d.state.base.paths }
+    ensures { (d : Content) → Replays d → StartsFromText d → All IsNumbered d.state.base.paths }
 {}
 
-/// Shows that each link of each path, reported or granted, is one of the network's, and that no path has a link twice.
+/// Shows that each link of each path, reported or granted, is one of the network's, and that no path has a link twice,
+/// if the steps start from the link text.
 pub fn links_stand_once()
-    ensures { (d : Content) → Replays d → All (TakesLinksOnce d.state.te.links) d.state.base.paths }
+    ensures { (d : Content) → Replays d → StartsFromText d → All (TakesLinksOnce d.state.te.links) d.state.base.paths }
 {}
 
 /// Shows that local protection (flag L of LSPA, RFC 5440 section 7.11) decides nothing. Without it each event gets the

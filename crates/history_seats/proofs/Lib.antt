@@ -4,4 +4,4 @@ mod Whole
 mod Folding
 pub mod Pasts
 pub mod AllSteps
-mod StepBytes
+pub mod StepBytes

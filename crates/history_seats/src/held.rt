@@ -3,7 +3,7 @@ ghost use Rattle.std.specs.Prelude.{◌≡◌, ◌<◌, ◌≤◌, ◌↔◌, Al
 ghost use mathlib.Core.List.{IsPrefix};
 ghost use Rattle.step_core.specs.Steps.{step};
 ghost use Rattle.history_core.specs.Briefs.{brief_of};
-ghost use Rattle.history_core.specs.Histories.{kept_step, is_full, steps_of, grants_of};
+ghost use Rattle.history_core.specs.Histories.{beginning, kept_step, is_full, steps_of, grants_of};
 ghost use Rattle.history_tokens.specs.declared.rule.Happening.TheVariants.{Took, Rolled};
 ghost use Rattle.history_seats.specs.Past.{database_at, with_seen, stepped_at};
 ghost use Rattle.history_seats.specs.Seeing.{HasSeenOf};
@@ -184,7 +184,7 @@ impl<B: Brands> Held<B> {
         history: Unnamed<Event>,
     ) -> Result<(Held<B>, Vec<Seat<B>>), AllocError>
         requires none_taken { steps_of database ≡ 0 }
-        requires text { database.text ≡ B.text }
+        requires start { database.start ≡ beginning B.text }
         requires history { history ≡ B.log }
         requires seats { (1 ≤ n) × (n ≤ 256) }
         requires steps { (steps.name ≡ B.steps) × (steps.parts ≡ B.seats) × (steps.parts ≡ n) }

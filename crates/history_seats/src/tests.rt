@@ -1,6 +1,6 @@
 //! Two seats over two routers and one link. Their receipts are forged, and the audit says how.
 ghost use Rattle.std.specs.Prelude.{◌≡◌, IfOk};
-ghost use Rattle.history_core.specs.Histories.{steps_of};
+ghost use Rattle.history_core.specs.Histories.{StartsFromText, beginning, steps_of};
 ghost use Rattle.history_seats.specs.Audits.{IsAudited};
 
 use crate::receipt::grant_count;
@@ -101,7 +101,7 @@ fn faults_have_numbers_and_texts(rt: HostRuntime) -> Result<(), Fail> {
 }
 
 fn new_database(alloc: Global) -> Result<Database, Fail>
-    ensures { IfOk result (λ database. steps_of database ≡ 0) }
+    ensures { IfOk result (λ database. (steps_of database ≡ 0) × StartsFromText database) }
 {
     let te = TeBase::read(alloc, LINK)?;
     Ok(Database::new(alloc, te)?)
@@ -138,7 +138,7 @@ fn run<B: Brands, R: Abort>(
     requires steps { (steps.name ≡ B.steps) × (steps.parts ≡ B.seats) × (steps.parts ≡ 2) }
     requires grants { (grants.name ≡ B.grants) × (grants.parts ≡ B.seats) × (grants.parts ≡ 2) }
     requires room { (room.table ≡ B.table) × (room.seats ≡ B.seats) × (room.seats ≡ 2) }
-    requires database { (steps_of database ≡ 0) × (database.text ≡ B.text) }
+    requires database { (steps_of database ≡ 0) × (database.start ≡ beginning B.text) }
     requires history { history ≡ B.log }
 {
     let (mut held, mut seats) = Held::<B>::new(alloc, database, 2, steps, grants, room, history)?;
@@ -157,7 +157,7 @@ fn run_closed<B: Brands>(
     requires steps { (steps.name ≡ B.steps) × (steps.parts ≡ B.seats) × (steps.parts ≡ 2) }
     requires grants { (grants.name ≡ B.grants) × (grants.parts ≡ B.seats) × (grants.parts ≡ 2) }
     requires room { (room.table ≡ B.table) × (room.seats ≡ B.seats) × (room.seats ≡ 2) }
-    requires database { (steps_of database ≡ 0) × (database.text ≡ B.text) }
+    requires database { (steps_of database ≡ 0) × (database.start ≡ beginning B.text) }
     requires history { history ≡ B.log }
 {
     let (held, mut seats) = Held::<B>::new(alloc, database, 2, steps, grants, room, history)?;

@@ -70,13 +70,14 @@ family kind name help labels samples = record { kind = kind; name = name; help =
 abbrev pub if_known : Kind → List ℕ → List ℕ → List (List ℕ) → Option ℕ → List Family
 if_known kind name help labels n = cond (is_none n) [] (family kind name help labels (known n) ∷ [])
 
--- which program it is, and what the system says of the process
+-- which program it is, what the system says of the process, and how far its journal is
 unfoldable pub program : ServerInfo → Process → List Family
 program info p =
     family Gauge (codes "pced_build_info") (codes "The version of the program, the logic of its proofs, and the commit of its sources.") (codes "version" ∷ codes "logic" ∷ codes "commit" ∷ []) (build info)
     ∷ (if_known Gauge (codes "process_resident_memory_bytes") (codes "Memory of the process that is in RAM.") [] p.resident_bytes
     ++ (if_known Gauge (codes "process_open_fds") (codes "File descriptors that are open.") [] p.open_descriptors
-    ++ (if_known Gauge (codes "process_max_fds") (codes "File descriptors that may be open.") [] p.descriptor_limit ++ [])))
+    ++ (if_known Gauge (codes "process_max_fds") (codes "File descriptors that may be open.") [] p.descriptor_limit
+    ++ (if_known Gauge (codes "pced_journal_steps") (codes "Steps that the journal has.") [] p.journal_steps ++ []))))
 
 -- what was counted
 unfoldable pub counted_families : Counters → List Family

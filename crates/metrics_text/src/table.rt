@@ -18,7 +18,7 @@ use pce_view::{LspState, ServerInfo, ShownState};
 use server_counts::{BOUNDS_US, Counted, Counters, MessageKind, Timed, Way};
 use std::alloc::{AllocError, Global};
 
-/// What the system says of the process.
+/// What the system says of the process, and how far its journal is.
 #[derive(Clone, Copy)]
 pub struct Process {
     /// Its memory that is in RAM.
@@ -27,6 +27,8 @@ pub struct Process {
     pub open_descriptors: Option<u64>,
     /// The number of file descriptors that may be open.
     pub descriptor_limit: Option<u64>,
+    /// How many steps the journal has, if one is written.
+    pub journal_steps: Option<u64>,
 }
 
 /// What the metrics are of.
@@ -317,7 +319,7 @@ macro_rules! rows {
     };
 }
 
-/// Adds which program it is, and what the system says of the process.
+/// Adds which program it is, what the system says of the process, and how far its journal is.
 #[tactic(auto, unfolding(crate::specs::Table::program))]
 fn put_program(text: &mut Vec<u8>, of: &Sources<'_>, process: Process) -> Result<(), AllocError>
     ensures { OnOk result (text.new.items ≡ text.old.items
@@ -331,6 +333,7 @@ fn put_program(text: &mut Vec<u8>, of: &Sources<'_>, process: Process) -> Result
             Gauge "process_resident_memory_bytes" "Memory of the process that is in RAM." [] Known(process.resident_bytes);
             Gauge "process_open_fds" "File descriptors that are open." [] Known(process.open_descriptors);
             Gauge "process_max_fds" "File descriptors that may be open." [] Known(process.descriptor_limit);
+            Gauge "pced_journal_steps" "Steps that the journal has." [] Known(process.journal_steps);
         },
     )
 }

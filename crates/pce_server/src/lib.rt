@@ -13,13 +13,13 @@
 //! {
 //!     let orders = Orders { workers: 2, sessions: Sessions::Endless, keep_seconds: 60, settle_seconds: 0, answer_seconds: 120, history_megabytes: 512, descriptors: None };
 //!     let routers = Routers { known: &None, settle_for: &[] };
-//!     let listeners = Listeners { routers: listener, control: None, viewers: None };
+//!     let listeners = Listeners { routers: listener, control: None, viewers: None, journal: None };
 //!     serve_run(rt, listeners, te, &plan, orders, routers, &mut io::empty(), &mut io::sink())
 //! }
 //! ```
 //!
 //! Each kind of thread has a crate of its own: `server_connections` (the acceptor and the connections),
-//! `server_operators`, `server_viewers`, `server_workers` (also the timer) and `server_log`. They are built on
+//! `server_operators`, `server_viewers`, `server_journal`, `server_workers` (also the timer) and `server_log`. They are built on
 //! `server_base`, which has what each thread is lent. Here they are started and joined.
 //!
 //! - `starting`: what a run logs when it starts, and how many connections have a place in it
@@ -30,6 +30,7 @@ mod server;
 mod starting;
 
 pub use server::{Listeners, Routers, serve_run};
+pub use server_journal::JournalPlace;
 pub use server_log::ErrorOutput;
 pub use server_operators::FilePlan;
 pub use server_rules::{AT_ONCE, Orders, Sessions};

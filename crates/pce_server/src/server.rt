@@ -4,13 +4,14 @@ ghost use Rattle.std.specs.List.{list_all};
 ghost use Rattle.server_rules.specs.Ranges.{AreOrders};
 ghost use Rattle.pce_server.specs.RunEnds.{is_down, EndsIn};
 
-use crate::starting::{few_descriptors, listening_line, live_of, roll_at};
+use crate::starting::{few_descriptors, journal_seats, listening_line, live_of, roll_at};
 use history_core::Database;
 use history_seats::Brands;
 use log::Log;
 use place_tokens::Unopened;
 use server_base::{Context, LinkEnds, RunState, SeatPool, ends_of};
 use server_connections::accept_all;
+use server_journal::{JournalPlace, keep_journal};
 use server_log::{LogLine, LogQueue, is_debug_wanted, write_last, write_log};
 use server_operators::{Operators, control_seats, end_with, hear_controls, hear_operator};
 use server_rules::Orders;
@@ -25,6 +26,7 @@ use std::marker::Brand;
 use std::net::{Net, TcpListener, TcpStream};
 use std::os::unix::net::UnixListener;
 use std::sync::Wait;
+use std::sync::atomic::{AtomicBool, Ordering};
 use std::sync::ledger::Blank;
 use std::thread;
 use std::thread::{JoinHandle, Threads};
@@ -32,7 +34,7 @@ use std::time::{Clock, Instant};
 use step_core::Peer;
 use te_base::TeBase;
 
-/// Where clients reach a run.
+/// Where clients reach a run, and where its journal goes.
 #[derive(Drop)]
 pub struct Listeners<'a> {
     pub routers: &'a TcpListener,
@@ -40,6 +42,8 @@ pub struct Listeners<'a> {
     pub control: Option<&'a UnixListener>,
     /// Where viewers connect, if they may.
     pub viewers: Option<ViewerListener<'a>>,
+    /// Where the journal goes, if one is kept.
+    pub journal: Option<JournalPlace<'a>>,
 }
 
 /// Which routers are served, and which are waited for.
@@ -85,6 +89,7 @@ where
     let seats = 2 * live_of(orders.sessions)
         + orders.workers
         + 4
+        + journal_seats(&listeners.journal)
         + control_seats(listeners.control);
     let (steps, grants) = (Blank::new(seats), Blank::new(seats));
     let room = Unopened::new(rt.alloc(), seats)?;
@@ -333,6 +338,7 @@ where
         listeners.routers,
         listeners.control,
         listeners.viewers.as_ref(),
+        listeners.journal.as_ref(),
         orders,
         reader,
         writer,
@@ -356,12 +362,14 @@ fn log_all<R: Wait + Clock + Net + Log, B: Brands>(context: &Context<'_, R, B>) 
 }
 
 /// Joins the threads in order, those that could be started: the acceptor first, since workers are needed as long as there
-/// are connections, and the log last.
+/// are connections, then the workers and the timer, the journal once no more steps come, and the log last.
 fn end_threads<R: Wait + Threads + Clock, B: Brands>(
     context: &Context<'_, R, B>,
     acceptor: Option<JoinHandle<()>>,
     controls: Option<JoinHandle<()>>,
     keeper: Option<JoinHandle<()>>,
+    journal: Option<JoinHandle<()>>,
+    written: &AtomicBool,
 ) {
     let rt = context.rt;
     if let Some(acceptor) = acceptor {
@@ -375,17 +383,22 @@ fn end_threads<R: Wait + Threads + Clock, B: Brands>(
     if let Some(keeper) = keeper {
         keeper.join(rt);
     }
+    written.store(true, Ordering::SeqCst);
+    if let Some(journal) = journal {
+        journal.join(rt);
+    }
     context.log.end(rt);
 }
 
 /// Starts the threads, serves the operator, and joins the threads. The slots are those of connections, then of workers,
-/// of the seat that makes room, of the seat that drops a covered grant, of the timer, of the operator, and of those at
-/// the control socket.
+/// of the seat that makes room, of the seat that drops a covered grant, of the timer, of the operator, of the journal if
+/// there is one, and of those at the control socket.
 fn run_threads<B: Brands + Send + Sync, R, I: TimedRead, O: Write, P: Plan + Sync>(
     context: &Context<'_, R, B>,
     routers: &TcpListener,
     control: Option<&UnixListener>,
     viewers: Option<&ViewerListener<'_>>,
+    journal: Option<&JournalPlace<'_>>,
     orders: Orders,
     reader: &mut I,
     writer: &mut O,
@@ -405,10 +418,18 @@ where
     let first = context.seats;
     let keeper_at = context.closer.saturating_add(1);
     let operator_at = keeper_at.saturating_add(1);
+    let journal_at = operator_at.saturating_add(1);
+    let control_at = match journal {
+        Some(_) => journal_at.saturating_add(1),
+        None => journal_at,
+    };
+    let roll_at = roll_at(orders);
+    let written = AtomicBool::new(false);
+    let written = &written;
     let operators = Operators {
         context,
         plan,
-        first: operator_at.saturating_add(1),
+        first: control_at,
     };
     let operators = &operators;
     thread::scope(thread::scope_env(), rt, |scope| {
@@ -419,6 +440,18 @@ where
             has_worker |= scope.spawn(move || work(context, at)).is_ok();
         }
         let keeper = scope.spawn(move || keep_time(context, keeper_at));
+        let journal = match journal {
+            Some(place) => {
+                let writer = scope.spawn(move || {
+                    keep_journal(context, place, journal_at, roll_at, written)
+                });
+                if writer.is_err() {
+                    context.say(LogLine::JournalGone);
+                }
+                writer.ok()
+            }
+            None => None,
+        };
         let sessions = orders.sessions;
         let acceptor = scope.spawn(move || accept_all(context, routers, sessions));
         let controls = match control {
@@ -439,6 +472,13 @@ where
         if let Some(end) = hear_operator(context, operator_at, reader, writer, plan) {
             end_with(context, end, sessions, control.is_some());
         }
-        end_threads(context, acceptor.ok(), controls, keeper.ok());
+        end_threads(
+            context,
+            acceptor.ok(),
+            controls,
+            keeper.ok(),
+            journal,
+            written,
+        );
     });
 }

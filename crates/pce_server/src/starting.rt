@@ -2,6 +2,7 @@
 ghost use Rattle.std.specs.Prelude.{◌≡◌, ◌*◌, ◌≤◌};
 ghost use Rattle.server_rules.specs.Ranges.{AreSessions, AreOrders};
 
+use server_journal::JournalPlace;
 use server_log::LogLine;
 use server_rules::{AT_ONCE, Orders, Sessions};
 use server_talk::peer_of;
@@ -25,6 +26,16 @@ pub(crate) fn roll_at(orders: Orders) -> RollAt
     RollAt {
         steps: ROLL_STEPS,
         bytes: orders.history_megabytes * 500_000,
+    }
+}
+
+/// Counts the seats for the thread that writes the journal.
+pub(crate) fn journal_seats(journal: &Option<JournalPlace<'_>>) -> u64
+    ensures { result ≤ 1 }
+{
+    match journal {
+        Some(_) => 1,
+        None => 0,
     }
 }
 

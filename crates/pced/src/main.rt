@@ -4,7 +4,8 @@
 //! writes what they print: the bytes and the ends of PCEP sessions, the replies to state reports, the bandwidth book,
 //! the history. The proof of what a script prints is that of `pce_engine::run_script`. Here are the arguments, the exit
 //! statuses and the texts on standard error; docs/FORMAT.md lists all of them. `pced decode` says in words what
-//! messages are (`message_words`), `pced check` what is wrong in a link text (`te_words`).
+//! messages are (`message_words`), `pced check` what is wrong in a link text (`te_words`). `pced replay` replays the
+//! journal of a server (`replay_commands`).
 #![tactic(auto)]
 
 mod serve;
@@ -23,6 +24,7 @@ use pced_commands::{
     serve_status, tell_all, tell_status, watch_in, watch_server,
 };
 use pced_words::{ServeWords, Task, TellWords, parse};
+use replay_commands::replay_journal;
 use script_commands::{decode, end, explain_script, fail, open_standard, print_script};
 use serve::serve;
 use std::alloc::Global;
@@ -151,6 +153,7 @@ fn run<
         Ok(Task::Decode) => decode(rt),
         Ok(Task::Check(file)) => check(files, file),
         Ok(Task::Serve(words)) => serve_to_end(rt, files, &words),
+        Ok(Task::Replay(words)) => Ok(replay_journal(files, &words)),
         Ok(Task::Tell(words)) => end_lines(rt, tell_or_watch(rt, files, &words)),
     }
 }

@@ -3,10 +3,12 @@ ghost use Rattle.std.specs.Prelude.{◌≤◌};
 ghost use Rattle.server_rules.specs.Ranges.{AreSessions, AreOrders};
 
 use control_socket::{ControlFile, close_path, open_path};
+use journal_writing::{JournalFolder, has_mark, moment_name};
 use log::{LevelFilter, Log, Logged};
 use pce_engine::TeFault;
 use pce_server::{
-    Fault, FilePlan, Listeners, Orders, Routers, RunFault, Sessions, ViewerListener, serve_run,
+    Fault, FilePlan, JournalPlace, Listeners, Orders, Routers, RunFault, Sessions, ViewerListener,
+    serve_run,
 };
 use pced_commands::{ServeFault, Stamped, add_checked, descriptor_limit};
 use pced_words::ServeWords;
@@ -14,13 +16,13 @@ use pcep_word::Ipv4;
 use server_talk::{PolledInput, PolledOutput};
 use std::alloc::Global;
 use std::fmt::Write;
-use std::fs::Files;
+use std::fs::{File, Files};
 use std::hash::RandomState;
 use std::io;
 use std::io::{IsTerminal, Read};
 use std::net::{Ipv4Addr, Net, SocketAddr, TcpListener, TcpStream};
 use std::os::unix::net::UnixListener;
-use std::rt::Runtime;
+use std::rt::{Clock, Runtime};
 use std::str::FromStr;
 use std::sync::Wait;
 use std::thread::Threads;
@@ -274,6 +276,7 @@ fn listeners_at<'a>(
     places: &'a [u8],
     name: &'a str,
     files: &'a HostRuntime,
+    journal: Option<JournalPlace<'a>>,
 ) -> Listeners<'a> {
     let viewers = match (http, keys) {
         (Some(listener), Some(keys)) => Some(ViewerListener {
@@ -289,6 +292,90 @@ fn listeners_at<'a>(
         routers,
         control,
         viewers,
+        journal,
+    }
+}
+
+/// Returns the name of a run that keeps a journal, which is the moment at which it begins.
+fn run_name(
+    files: &HostRuntime,
+    alloc: Global,
+    told: &mut String,
+    is_wanted: bool,
+) -> Result<String, ServeFault> {
+    if !is_wanted {
+        return Ok(String::new(alloc));
+    }
+    let name = match files.since_1970() {
+        Ok(now) => moment_name(alloc, now),
+        Err(_) => Ok(None),
+    };
+    match name {
+        Ok(Some(name)) => Ok(name),
+        Ok(None) => {
+            let _told = told.push_str("cannot begin a journal: the system has no clock");
+            Err(ServeFault::Device)
+        }
+        Err(_) => Err(ServeFault::Run(RunFault::Store(Fault::OutOfMemory))),
+    }
+}
+
+/// Returns where the files of a run's journal go, if one is kept.
+fn journal_folder<'a>(
+    files: &'a HostRuntime,
+    told: &mut String,
+    words: &'a ServeWords<'_>,
+    run: &'a str,
+    text: &'a [u8],
+) -> Result<Option<JournalFolder<'a>>, ServeFault> {
+    let Some(folder) = words.journal else {
+        return Ok(None);
+    };
+    let Ok(text) = str::from_utf8(text) else {
+        return Err(ServeFault::Te(TeFault::NotToml));
+    };
+    if has_mark(text) {
+        let _told = write!(
+            told,
+            "--journal {folder}: a line --- stands in the link text"
+        );
+        return Err(ServeFault::BadArgument);
+    }
+    Ok(Some(JournalFolder {
+        files,
+        folder,
+        run,
+        text,
+        limit: words.journal_megabytes.saturating_mul(1_000_000),
+    }))
+}
+
+/// Begins the first file of the journal, if one is kept.
+fn begin_journal(
+    told: &mut String,
+    folder: &Option<JournalFolder<'_>>,
+) -> Result<Option<File>, ServeFault> {
+    let Some(folder) = folder else {
+        return Ok(None);
+    };
+    match folder.begin() {
+        Ok(file) => Ok(Some(file)),
+        Err(error) => {
+            let path = folder.folder;
+            let _told = write!(told, "cannot begin a journal in {path}: {error}");
+            Err(device_fault(&error))
+        }
+    }
+}
+
+/// Returns where the journal goes on, if one is kept.
+fn journal_at<'a>(
+    folder: &'a Option<JournalFolder<'a>>,
+    file: &'a Option<File>,
+) -> Option<JournalPlace<'a>> {
+    match (folder, file) {
+        (Some(folder), Some(file)) => Some(JournalPlace { folder, file }),
+        _ => None,
     }
 }
 
@@ -349,6 +436,8 @@ struct Setting<'a> {
     http_name: &'a str,
     level: LevelFilter,
     settle_for: &'a [u32],
+    /// The link text, with which each file of a journal begins.
+    text: Vec<u8>,
     /// The network, for threads that read the link text anew.
     te: TeBase,
     /// It once more, if only its routers are served.
@@ -386,14 +475,17 @@ fn setting_of<'a>(
     let settle_for = settle_for_of(told, words)?;
     let text = read_text(files, told, words.file)?;
     let base = base_in(alloc, told, &text)?;
+    let te = base_in(alloc, told, &text)?;
+    let known = known_in(alloc, told, &text, words.only_known)?;
     let setting = Setting {
         place,
         http_place,
         http_name,
         level,
         settle_for,
-        te: base_in(alloc, told, &text)?,
-        known: known_in(alloc, told, &text, words.only_known)?,
+        text,
+        te,
+        known,
     };
     Ok((base, setting))
 }
@@ -429,6 +521,36 @@ fn output_of<'a, R: Net + AllocGlobal, O: io::Write>(
 /// Serves until the end of the run. Each operator's thread reads the link text through the system's own `files`. If the
 /// start fails, adds to `told` what failed, on what and why.
 pub fn serve<
+    'a,
+    R: Runtime<A = Global>
+        + Net<Listener = TcpListener, Stream = TcpStream>
+        + Wait
+        + Threads
+        + Log
+        + Sync,
+>(
+    rt: &R,
+    files: &'a HostRuntime,
+    words: &'a ServeWords<'_>,
+    told: &mut String,
+) -> Result<(), ServeFault> {
+    let (base, setting) = setting_of(rt.alloc(), files, words, told)?;
+    let run = run_name(files, rt.alloc(), told, words.journal.is_some())?;
+    let folder = journal_folder(files, told, words, &run, &setting.text)?;
+    let journal = begin_journal(told, &folder)?;
+    serve_setting(
+        rt,
+        files,
+        words,
+        told,
+        base,
+        &setting,
+        journal_at(&folder, &journal),
+    )
+}
+
+/// Serves with what the words and the link text say until the end of the run.
+fn serve_setting<
     R: Runtime<A = Global>
         + Net<Listener = TcpListener, Stream = TcpStream>
         + Wait
@@ -440,8 +562,10 @@ pub fn serve<
     files: &HostRuntime,
     words: &ServeWords<'_>,
     told: &mut String,
+    base: TeBase,
+    setting: &Setting<'_>,
+    journal: Option<JournalPlace<'_>>,
 ) -> Result<(), ServeFault> {
-    let (base, setting) = setting_of(rt.alloc(), files, words, told)?;
     let listener = listen(rt, told, setting.place)?;
     let http = listen_http(rt, told, setting.http_place)?;
     let places = places_of(rt.alloc(), &setting.te, http.is_some())?;
@@ -462,6 +586,7 @@ pub fn serve<
         &places,
         setting.http_name,
         files,
+        journal,
     );
     let outcome = serve_run(
         &logged,

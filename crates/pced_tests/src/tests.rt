@@ -1,7 +1,7 @@
 //! Routers and operators over four routers A, B, C and D, with links A-B, B-D, A-C and C-D of 1,000,000 bytes per
 //! second.
 ghost use Rattle.std.specs.Prelude.{◌≡◌, IfOk};
-ghost use Rattle.history_core.specs.Histories.{steps_of};
+ghost use Rattle.history_core.specs.Histories.{StartsFromText, steps_of};
 
 use history_core::Database;
 use std::alloc::Global;
@@ -53,7 +53,7 @@ fn diamond(alloc: Global) -> Result<TeBase, Fail> {
 
 /// Makes a database of which nothing was reported.
 fn new_database(alloc: Global) -> Result<Database, Fail>
-    ensures { IfOk result (λ database. steps_of database ≡ 0) }
+    ensures { IfOk result (λ database. (steps_of database ≡ 0) × StartsFromText database) }
 {
     Ok(Database::new(alloc, diamond(alloc)?)?)
 }

@@ -79,6 +79,10 @@ pub struct ServeWords<'a> {
     pub http: Option<&'a str>,
     /// The name by which viewers may ask for the server.
     pub http_name: Option<&'a str>,
+    /// The path of the folder of the journal, if there is to be one.
+    pub journal: Option<&'a str>,
+    /// At how many megabytes a file of the journal goes on to the next roll at most; 0: without a bound.
+    pub journal_megabytes: u64,
     /// The most verbose level that is logged.
     pub log: &'a str,
     /// Only routers whose address a node of the network owns are heard.
@@ -101,6 +105,21 @@ pub struct TellWords<'a> {
     pub is_quiet: bool,
 }
 
+/// The words of `replay`.
+#[derive(Drop)]
+pub struct ReplayWords<'a> {
+    /// The paths of a journal's files, in their order.
+    pub files: Vec<&'a str>,
+    /// The step or the moment up to which is replayed, if not to the end.
+    pub at: Option<&'a str>,
+    /// Two moments or steps between which is compared, or none.
+    pub diff: Vec<&'a str>,
+    /// Lines that show something of what is known then.
+    pub lines: Vec<&'a str>,
+    /// They are answered as JSON.
+    pub is_json: bool,
+}
+
 /// What the words ask for.
 #[derive(Drop)]
 pub enum Task<'a> {
@@ -112,6 +131,7 @@ pub enum Task<'a> {
     Check(&'a str),
     Serve(ServeWords<'a>),
     Tell(TellWords<'a>),
+    Replay(ReplayWords<'a>),
 }
 
 fn explain_arg<'a>(alloc: Global) -> Arg<'a> {
@@ -289,6 +309,24 @@ fn only_known_arg<'a>(alloc: Global) -> Arg<'a> {
         .help("Only routers whose address a node of the link text owns are heard")
 }
 
+fn journal_arg<'a>(alloc: Global) -> Arg<'a> {
+    Arg::new(alloc, "journal")
+        .long("journal")
+        .value_name("FOLDER")
+        .action(ArgAction::Set)
+        .help("A folder for a file that has each step of the run, for `pced replay`")
+}
+
+fn journal_limit_arg<'a>(alloc: Global) -> Arg<'a> {
+    Arg::new(alloc, "journal-limit")
+        .long("journal-limit")
+        .value_name("MB")
+        .action(ArgAction::Set)
+        .value_parser(value_parser!(u64).range(0..=1048576))
+        .default_value("1024")
+        .help("From how many megabytes on a file is followed by another, 0 to 1048576; 0: none")
+}
+
 fn log_arg<'a>(alloc: Global) -> Arg<'a> {
     Arg::new(alloc, "log")
         .long("log")
@@ -316,6 +354,8 @@ fn serve_command<'a>(alloc: Global) -> Result<Command<'a>, AllocError> {
         .arg(history_arg(alloc))?
         .arg(settle_for_arg(alloc))?
         .arg(only_known_arg(alloc))?
+        .arg(journal_arg(alloc))?
+        .arg(journal_limit_arg(alloc))?
         .arg(log_arg(alloc))?
         .arg(endless_arg(alloc)?)
 }
@@ -360,6 +400,52 @@ fn tell_command<'a>(alloc: Global) -> Result<Command<'a>, AllocError> {
         .arg(lines_arg(alloc))
 }
 
+fn journal_files_arg<'a>(alloc: Global) -> Arg<'a> {
+    Arg::new(alloc, "file")
+        .value_name("FILE")
+        .required(true)
+        .num_args(1..)
+        .action(ArgAction::Append)
+        .help("The files of a run's journal, in the order of their names")
+}
+
+fn at_arg<'a>(alloc: Global) -> Arg<'a> {
+    Arg::new(alloc, "at")
+        .long("at")
+        .value_name("STEP|TIME")
+        .action(ArgAction::Set)
+        .help("Replay up to this step, or to the last step of this time, as 2026-11-29T01:30:00Z")
+}
+
+fn diff_arg<'a>(alloc: Global) -> Result<Arg<'a>, AllocError> {
+    Arg::new(alloc, "diff")
+        .long("diff")
+        .value_names(&["A", "B"])
+        .num_args(2)
+        .action(ArgAction::Set)
+        .help("Which links and LSPs differ between two steps or times")
+        .conflicts_with("at")
+}
+
+fn shown_lines_arg<'a>(alloc: Global) -> Arg<'a> {
+    Arg::new(alloc, "line")
+        .value_name("LINE")
+        .num_args(..)
+        .last(true)
+        .action(ArgAction::Append)
+        .help("Lines that show what was known then, each a word: book, links, lsps and others")
+}
+
+fn replay_command<'a>(alloc: Global) -> Result<Command<'a>, AllocError> {
+    Command::new(alloc, "replay")
+        .about("Replays a journal, compares each reply, and shows what was known at any step")
+        .arg(json_arg(alloc))?
+        .arg(at_arg(alloc))?
+        .arg(diff_arg(alloc)?)?
+        .arg(journal_files_arg(alloc))?
+        .arg(shown_lines_arg(alloc))
+}
+
 fn command<'a>(alloc: Global) -> Result<Command<'a>, AllocError> {
     Command::new(alloc, "pced")
         .version(VERSION)
@@ -369,7 +455,8 @@ fn command<'a>(alloc: Global) -> Result<Command<'a>, AllocError> {
         .subcommand(decode_command(alloc))?
         .subcommand(check_command(alloc)?)?
         .subcommand(serve_command(alloc)?)?
-        .subcommand(tell_command(alloc)?)
+        .subcommand(tell_command(alloc)?)?
+        .subcommand(replay_command(alloc)?)
 }
 
 fn sessions_in(matches: &ArgMatches<'_>) -> Sessions {
@@ -414,6 +501,8 @@ fn serve_words<'a>(alloc: Global, matches: &ArgMatches<'a>) -> Result<ServeWords
         control: matches.get_str("control"),
         http: matches.get_str("http"),
         http_name: matches.get_str("http-name"),
+        journal: matches.get_str("journal"),
+        journal_megabytes: matches.get_one::<u64>("journal-limit").unwrap_or(1024),
         log: matches.get_str("log").unwrap_or("info"),
         only_known: matches.get_flag("only-known"),
         settle_for: addresses_in(alloc, matches.get_strs("settle-for").unwrap_or(&[]))?,
@@ -441,6 +530,32 @@ fn tell_words<'a>(alloc: Global, matches: &ArgMatches<'a>) -> Result<TellWords<'
     })
 }
 
+/// Returns the words of an argument, in their order.
+fn all_words<'a>(
+    alloc: Global,
+    matches: &ArgMatches<'a>,
+    id: &str,
+) -> Result<Vec<&'a str>, AllocError> {
+    let mut words = Vec::new(alloc);
+    for word in matches.get_strs(id).unwrap_or(&[]) {
+        words.push(*word)?;
+    }
+    Ok(words)
+}
+
+fn replay_words<'a>(
+    alloc: Global,
+    matches: &ArgMatches<'a>,
+) -> Result<ReplayWords<'a>, AllocError> {
+    Ok(ReplayWords {
+        files: all_words(alloc, matches, "file")?,
+        at: matches.get_str("at"),
+        diff: all_words(alloc, matches, "diff")?,
+        lines: all_words(alloc, matches, "line")?,
+        is_json: matches.get_flag("json"),
+    })
+}
+
 /// Reads what the words ask for. The first of them is the program's name.
 pub fn parse<'a>(alloc: Global, words: &'a [String]) -> Result<Task<'a>, Error> {
     let matches = command(alloc)?.try_get_matches_from(words)?;
@@ -449,6 +564,9 @@ pub fn parse<'a>(alloc: Global, words: &'a [String]) -> Result<Task<'a>, Error> 
     }
     if let Some(matches) = matches.subcommand_matches("tell") {
         return Ok(Task::Tell(tell_words(alloc, matches)?));
+    }
+    if let Some(matches) = matches.subcommand_matches("replay") {
+        return Ok(Task::Replay(replay_words(alloc, matches)?));
     }
     if let Some(matches) = matches.subcommand_matches("check") {
         return Ok(Task::Check(matches.get_str("file").unwrap_or("")));

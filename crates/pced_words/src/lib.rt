@@ -3,4 +3,4 @@
 
 mod arguments;
 
-pub use arguments::{ServeWords, Task, TellWords, parse};
+pub use arguments::{ReplayWords, ServeWords, Task, TellWords, parse};

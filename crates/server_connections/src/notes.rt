@@ -1,13 +1,12 @@
 //! What a connection's thread notes and logs about its session.
 use crate::asked::{AskedLook, AskedLsp};
 use crate::reading::Reading;
-use crate::sayings::{
-    answer_of, lsp_of, path_happening, replaced_lsp, session_happening, trial_happening,
-};
+use crate::sayings::{answer_of, path_happening, replaced_lsp, session_happening, trial_happening};
 use crate::sent::SentRequests;
 use engine_core::{Call, Event, Reply};
 use history_seats::Brands;
 use lsp_base::Why;
+use path_sayings::lsp_of;
 use pcep_messages::{Errors, Initiate, Message, StateReport};
 use pcep_objects::{Capabilities, Open, Plsp};
 use server_base::{Context, Standing, StandsLook};

@@ -47,6 +47,7 @@ kind_number kind.Answered = 27
 kind_number kind.Ordered = 28
 kind_number kind.Reloaded = 29
 kind_number kind.NotBooked = 30
+kind_number kind.Journal = 31
 
 abbrev pub subject : Kind → List ℕ
 subject kind.Listening = codes "listening"
@@ -80,6 +81,7 @@ subject kind.Answered = codes "answered"
 subject kind.Ordered = codes "operator lines"
 subject kind.Reloaded = codes "reload"
 subject kind.NotBooked = codes "not booked"
+subject kind.Journal = codes "journal"
 
 abbrev pub kind_of : LogLine → Kind
 kind_of (line.Listening address port nodes links) = kind.Listening
@@ -95,6 +97,7 @@ kind_of (line.WorkerFault fault) = kind.Worker
 kind_of line.OperatorGone = kind.Operator
 kind_of line.ControlGone = kind.ControlSocket
 kind_of line.ViewersGone = kind.Viewers
+kind_of line.JournalGone = kind.Journal
 kind_of (line.Refused peer number) = kind.Refused
 kind_of line.Settled = kind.Settled
 kind_of (line.Stranger address count) = kind.Stranger
@@ -123,6 +126,7 @@ level_of (line.WorkerFault fault) = Warn
 level_of line.OperatorGone = Warn
 level_of line.ControlGone = Warn
 level_of line.ViewersGone = Warn
+level_of line.JournalGone = Warn
 level_of (line.Refused peer number) = Debug
 level_of line.Settled = Info
 level_of (line.Stranger address count) = Warn
@@ -151,6 +155,7 @@ router_of (line.WorkerFault fault) = 0
 router_of line.OperatorGone = 0
 router_of line.ControlGone = 0
 router_of line.ViewersGone = 0
+router_of line.JournalGone = 0
 router_of (line.Refused peer number) = peer
 router_of line.Settled = 0
 router_of (line.Stranger address count) = address

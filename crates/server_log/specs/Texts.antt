@@ -39,6 +39,7 @@ line_text (line.WorkerFault fault) = codes "worker: " +> fault_text fault
 line_text line.OperatorGone = codes "stdin closed"
 line_text line.ControlGone = codes "control socket stopped"
 line_text line.ViewersGone = codes "http stopped"
+line_text line.JournalGone = codes "journal gone"
 line_text (line.Refused peer number) = codes "refused " +> decimal number +> codes " " +> text_of peer
 line_text line.Settled = codes "settled"
 line_text (line.Stranger address count) = codes "unknown router " +> text_of address +> codes " count=" +> decimal count

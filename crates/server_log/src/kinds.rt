@@ -36,10 +36,11 @@ pub enum Kind {
     Ordered,
     Reloaded,
     NotBooked,
+    Journal,
 }
 
 /// All kinds, by their numbers.
-pub(crate) const KINDS: [Kind; 31] = [
+pub(crate) const KINDS: [Kind; 32] = [
     Kind::Listening,
     Kind::Up,
     Kind::InSync,
@@ -71,13 +72,14 @@ pub(crate) const KINDS: [Kind; 31] = [
     Kind::Ordered,
     Kind::Reloaded,
     Kind::NotBooked,
+    Kind::Journal,
 ];
 
 impl Kind {
-    /// Gives its number, below 31.
+    /// Gives its number, below 32.
     pub(crate) fn number(self) -> usize
         ensures number { result ≡ kind_number self }
-        ensures few { result < 31 }
+        ensures few { result < 32 }
     {
         match self {
             Kind::Listening => 0,
@@ -111,6 +113,7 @@ impl Kind {
             Kind::Ordered => 28,
             Kind::Reloaded => 29,
             Kind::NotBooked => 30,
+            Kind::Journal => 31,
         }
     }
 
@@ -150,6 +153,7 @@ impl Kind {
             Kind::Ordered => "operator lines",
             Kind::Reloaded => "reload",
             Kind::NotBooked => "not booked",
+            Kind::Journal => "journal",
         }
     }
 }

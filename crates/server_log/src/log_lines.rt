@@ -74,6 +74,8 @@ pub enum LogLine {
     ControlGone,
     /// Viewers can't be served.
     ViewersGone,
+    /// The journal is written no further.
+    JournalGone,
     /// The state refused an event of the peer, by this number.
     Refused {
         peer: u32,
@@ -152,6 +154,7 @@ impl LogLine {
             LogLine::OperatorGone => Kind::Operator,
             LogLine::ControlGone => Kind::ControlSocket,
             LogLine::ViewersGone => Kind::Viewers,
+            LogLine::JournalGone => Kind::Journal,
             LogLine::Refused { .. } => Kind::Refused,
             LogLine::Settled => Kind::Settled,
             LogLine::Stranger { .. } => Kind::Stranger,
@@ -207,6 +210,7 @@ impl LogLine {
             | LogLine::OperatorGone
             | LogLine::ControlGone
             | LogLine::ViewersGone
+            | LogLine::JournalGone
             | LogLine::Stranger { .. }
             | LogLine::BelowZero { .. }
             | LogLine::FewDescriptors { .. }

@@ -120,6 +120,7 @@ impl fmt::Display for LogLine {
             LogLine::OperatorGone => f.write_str("stdin closed"),
             LogLine::ControlGone => f.write_str("control socket stopped"),
             LogLine::ViewersGone => f.write_str("http stopped"),
+            LogLine::JournalGone => f.write_str("journal gone"),
             LogLine::Refused { peer, number } => {
                 let peer = Ipv4(peer);
                 write!(f, "refused {number} {peer}")

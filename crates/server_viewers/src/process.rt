@@ -55,11 +55,12 @@ fn open_descriptors(rt: &HostRuntime) -> Option<u64> {
     Some(count.saturating_sub(1))
 }
 
-/// Reads what the system says about the process.
-pub(crate) fn process_of(rt: &HostRuntime) -> Process {
+/// Reads what the system says about the process. Its journal has `journal_steps` steps, if one is written.
+pub(crate) fn process_of(rt: &HostRuntime, journal_steps: Option<u64>) -> Process {
     Process {
         resident_bytes: resident_bytes(rt),
         open_descriptors: open_descriptors(rt),
         descriptor_limit: descriptor_limit(rt),
+        journal_steps,
     }
 }

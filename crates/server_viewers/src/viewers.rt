@@ -153,7 +153,7 @@ fn answer_metrics<R: Wait + Clock, B: Brands>(
         residuals: &[],
     };
     let counters = *run_view.counters.lock(run_view.rt);
-    let process = process_of(files);
+    let process = process_of(files, run_view.shared.journal_steps());
     let text = numbers_text(run_view, front, &info, &counters, process)?;
     give_metrics(response, text)
 }

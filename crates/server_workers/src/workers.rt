@@ -38,6 +38,9 @@ const MARK_EVERY_MS: u64 = 1_000;
 /// The time between two moments at which the timer looks after grants, in milliseconds.
 const UPKEEP_EVERY_MS: u64 = 500;
 
+/// How long a roll waits for the journal, in milliseconds.
+const JOURNAL_WAIT_MS: u64 = 5_000;
+
 /// How often submitting the owed Downs is tried at the end of a run.
 const LAST_TRIES: u32 = 500;
 
@@ -72,6 +75,24 @@ fn roll_if_nearly_full<R: Wait + Clock, B: Brands>(
     seat: &mut Seat<B>,
 ) {
     let _is_rolled = note_rolled(context, context.shared.roll_if_due(context.rt, seat));
+}
+
+/// Lets rolls wait for the journal no longer, once one has waited for five seconds. Takes and returns since when one has
+/// waited.
+fn bound_wait<R: Wait + Clock, B: Brands>(
+    context: &Context<'_, R, B>,
+    seat: &mut Seat<B>,
+    since_ms: Option<u64>,
+) -> Option<u64> {
+    if !context.shared.is_roll_waiting(context.rt, seat) {
+        return None;
+    }
+    let now_ms = context.moments().now_ms();
+    let since_ms = since_ms.unwrap_or(now_ms);
+    if now_ms.saturating_sub(since_ms) >= JOURNAL_WAIT_MS {
+        context.shared.note_journal_gone();
+    }
+    Some(since_ms)
 }
 
 /// Rolls the history if memory ran out for a thread that can't roll it.
@@ -474,11 +495,13 @@ fn run_timer<R: Wait + Clock, B: Brands>(context: &Context<'_, R, B>, seat: &mut
     let mut folded = 0u64;
     let mut seen = Seen::new(context.alloc);
     let mut upkeep_ms = 0u64;
+    let mut waits_since_ms = None;
     for _ in context.rt.forever() {
         if context.shared.is_over() {
             return;
         }
         spare_others(context, seat);
+        waits_since_ms = bound_wait(context, seat, waits_since_ms);
         roll_if_nearly_full(context, seat);
         folded = fold_all(context, seat, folded);
         due_ms = mark_steps(context, &mut front, due_ms);

@@ -1,7 +1,7 @@
 //! When a history is rolled.
 ghost use Rattle.std.specs.Prelude.{◌≡◌};
 ghost use Rattle.history_seats.specs.Past.{database_at};
-ghost use Rattle.shared_pce.specs.Rolls.{beside, is_due, of_seat};
+ghost use Rattle.shared_pce.specs.Rolls.{beside, is_due, is_let_go, late, of_seat};
 
 use history_seats::{Brands, Held};
 
@@ -40,6 +40,16 @@ impl RollAt {
         }
     }
 
+    /// Returns when a roll waits for a journal no longer: at 40,000 steps more, or twice the bytes.
+    pub fn late(self) -> RollAt
+        ensures { result ≡ late self }
+    {
+        RollAt {
+            steps: self.steps.saturating_add(40_000),
+            bytes: self.bytes.saturating_mul(2),
+        }
+    }
+
     /// Subtracts half of what the receipts of rolled steps take from the bytes. A megabyte stays, so that each roll
     /// drops something.
     pub fn beside(self, unfolded: u64) -> RollAt
@@ -59,4 +69,15 @@ pub(crate) fn is_due<B: Brands>(held: &Held<B>, at: RollAt) -> bool
     let steps = held.database().history().len() as u64;
     let bytes = held.kept_bytes();
     at.steps <= steps || at.bytes <= bytes
+}
+
+/// Tests whether the history is to be rolled at `at`, if a journal has `written` steps. `whole` says what the history may
+/// take.
+pub(crate) fn is_let_go<B: Brands>(held: &Held<B>, written: u64, whole: RollAt, at: RollAt) -> bool
+    ensures { result ≡ is_let_go written whole at (database_at B.text held.now) }
+{
+    if !is_due(held, at) {
+        return false;
+    }
+    held.database().steps() <= written || is_due(held, whole.late())
 }

@@ -4,7 +4,7 @@ ghost use mathlib.Core.List.{IsPrefix};
 ghost use Rattle.step_core.specs.States.{has_waiting, is_queued};
 ghost use Rattle.te_base.specs.Values.{values_in};
 ghost use Rattle.te_snapshot.specs.Left.{all_left};
-ghost use Rattle.history_core.specs.Histories.{Replays, IsSound, is_full, steps_of, grants_of};
+ghost use Rattle.history_core.specs.Histories.{Replays, IsSound, beginning, is_full, steps_of, grants_of};
 ghost use Rattle.history_tokens.specs.declared.rule.Happening.{Happening};
 ghost use Rattle.step_core.specs.declared.event.Event.{Event};
 ghost use Rattle.history_seats.specs.Past.{database_at};
@@ -29,6 +29,7 @@ use sequence::PlainData;
 use server_counts::ResidualRow;
 use short_lock::acquire;
 use std::alloc::{AllocError, Global};
+use std::sync::atomic::AtomicU64;
 use std::sync::ledger::Blank;
 use std::sync::{Mutex, Wait};
 use te_base::LinkValues;
@@ -36,6 +37,9 @@ use te_base::LinkValues;
 mod drops;
 mod rolls;
 mod turns;
+
+/// Stands for the steps of a journal if none is written: no roll waits for it.
+const NO_JOURNAL: u64 = u64::MAX;
 
 /// One database for all threads, under one lock.
 pub struct Shared<B: Brands> {
@@ -48,6 +52,8 @@ pub struct Shared<B: Brands> {
     unfolded: Mutex<Unfolded>,
     /// When the history is rolled before a step, if no receipts of rolled steps are left.
     roll_at: RollAt,
+    /// How many steps the journal has. 2^64 - 1 if none is written.
+    written: AtomicU64,
 }
 
 /// Drops each part. Written by hand because a derived drop would be proved again for every owner.
@@ -60,6 +66,7 @@ impl<B: Brands> Drop for Shared<B> {
             residuals,
             unfolded,
             roll_at: _,
+            written: _,
         } = self;
         drop(held);
         drop(bell);
@@ -82,7 +89,7 @@ impl<B: Brands> Shared<B> {
         roll_at: RollAt,
     ) -> Result<(Shared<B>, Vec<Seat<B>>), AllocError>
         requires none_taken { steps_of database ≡ 0 }
-        requires text { database.text ≡ B.text }
+        requires start { database.start ≡ beginning B.text }
         requires history { history ≡ B.log }
         requires seats { (1 ≤ seats) × (seats ≤ 256) }
         requires steps { (steps.name ≡ B.steps) × (steps.parts ≡ B.seats) × (steps.parts ≡ seats) }
@@ -98,6 +105,7 @@ impl<B: Brands> Shared<B> {
             residuals: Mutex::new(ResidualLog::new(alloc)),
             unfolded: Mutex::new(Unfolded::new()),
             roll_at,
+            written: AtomicU64::new(NO_JOURNAL),
         };
         Ok((shared, seats))
     }
@@ -354,6 +362,7 @@ impl<B: Brands> Shared<B> {
             residuals,
             unfolded,
             roll_at,
+            written,
         } = self;
         let mut held = held.into_inner();
         let mut seats = seats;
@@ -366,6 +375,7 @@ impl<B: Brands> Shared<B> {
                     residuals,
                     unfolded,
                     roll_at,
+                    written,
                 },
                 seats,
                 fault,

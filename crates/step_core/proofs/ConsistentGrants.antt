@@ -46,7 +46,7 @@ use Rattle.lsp_base.proofs.Distinct.{set_records_distinct}
 -- ---- SRP-IDs that are free
 
 -- no grant or awaited removal has an SRP-ID that isn't used
-none_used : (base : Lsps) (n k : ℕ) → is_srp_used base n k ≡ false → asked_as base n k ≡ 0
+pub none_used : (base : Lsps) (n k : ℕ) → is_srp_used base n k ≡ false → asked_as base n k ≡ 0
 none_used base n k free =
     let grants = count_of_none (is_grant_as n k) base.paths (left (list_any (is_grant_as n k) base.paths) _ free) in
     let removals = count_of_none (is_removed_as n k) base.records (right (list_any (is_grant_as n k) base.paths) _ free) in
@@ -60,7 +60,7 @@ none_used base n k free =
     right true b is = absurd (cc (is))
     right false b is = is
 
-used_by : (base : Lsps) (n k : ℕ) → asked_as base n k ≡ 0 → is_srp_used base n k ≡ false
+pub used_by : (base : Lsps) (n k : ℕ) → asked_as base n k ≡ 0 → is_srp_used base n k ≡ false
 used_by base n k none =
     let grants = none_of (is_grant_as n k) base.paths (omega (arith, none)) in
     let removals = none_of (is_removed_as n k) base.records (omega (arith, none)) in

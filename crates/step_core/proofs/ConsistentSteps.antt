@@ -246,7 +246,7 @@ keeps_ask : (s : State) (n : ℕ) (purpose : Purpose) (o : Option Constraints) �
 keeps_ask s n purpose None c = keeps_all s c
 keeps_ask s n purpose (Some constraints) c =
     let t = new_ticket s n purpose constraints in
-    decided-has (Keeps s) s (must_have_ends s.te constraints ⨟ may_have_one_more s.tickets) (with_ticket s t) (keeps_all s c) (keeps_tickets s _ c refl refl refl (order_pushed t s.last_ticket s.tickets refl refl c.tickets))
+    decided-has (Keeps s) s (must_have_ends s.te constraints ⨟ may_have_one_more s.tickets) (with_ticket s t) (keeps_all s c) (keeps_tickets s _ c refl refl refl (order_pushed t s.last_ticket s.tickets (omega arith) refl c.tickets))
 
 -- ---- any event
 

@@ -28,3 +28,4 @@ pub mod PermutedShares
 pub mod PermutedLists
 pub mod PermutedEffects
 pub mod AlikeSteps
+pub mod Standing

@@ -11,3 +11,4 @@ pub mod Steps
 pub mod Laws
 pub mod Sound
 pub mod Consistent
+pub mod Standing

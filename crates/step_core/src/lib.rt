@@ -9,6 +9,10 @@
 //! (`specs/Networks.antt`). Every state that events lead to is consistent (`specs/Consistent.antt`), and the order of
 //! its paths, records and names makes no difference to what follows (`order_makes_no_difference`).
 //!
+//! A state begins with nothing (`State::new`), or with what was read (`State::over`). What was read is refused exactly
+//! if it may not stand over the network (`MayStand` of `specs/Bases.antt`). What was copied from a state may stand
+//! (`State::what_stands_may_stand`).
+//!
 //! ```text
 //! fn left_after(state: &mut State, event: &Event) -> Result<Option<i64>, AllocError>
 //!     requires changes { state.old.changes < 2 ^ 62 }

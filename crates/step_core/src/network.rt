@@ -2,7 +2,8 @@
 ghost use Rattle.std.specs.Prelude.{◌≡◌, ◌↔◌, ◌<◌, ◌≤◌, ◌+◌, ◌^◌, ◌++◌, ◌∷◌, [], Some, None, false, List, length, find, OnOk, OnErr, IsNone, IfOk, IfErr, IfSome, option_copied};
 ghost use Rattle.std.specs.Arc.{arc_value};
 ghost use Rattle.std.specs.List.{list_any};
-ghost use Rattle.lsp_base.specs.Lsps.{HasAll, no_lsps, changed, with_stale, without};
+ghost use Rattle.lsp_base.specs.Lsps.{HasAll, no_lsps, changed, effect_of, lsp_at, with_stale, without};
+ghost use Rattle.delegate_rules.specs.Effects.{one_record};
 ghost use Rattle.lsp_base.specs.Rooms.{IsWithinLimit, HasRoom};
 ghost use Rattle.lsp_base.specs.Shares.{unreserved};
 ghost use Rattle.lsp_base.specs.declared.path.Path.{Path};
@@ -22,7 +23,8 @@ use crate::queue::Queue;
 use bandwidth_book::Book;
 use commit_core::{PeerView, Ticket, Verdict, judge, own_tunnel};
 use link_reload::{LinkReload, reload};
-use lsp_base::{Effect, LspBase, Path, Tunnel, Why};
+use lsp_base::{Effect, Lsp, LspBase, Path, Record, RecordChange, Tunnel, Why};
+use lsp_words::Plsp;
 use pcep_messages::Message;
 use pcep_word::Priority;
 use sequence::Sequence;
@@ -35,13 +37,29 @@ use te_snapshot::{OwnShares, Snapshot, Topology};
 /// The links and nodes, what is known of the LSPs over them, the names of granted initiations that no report has named
 /// yet, and the book of what the paths reserve. A contract doesn't see the book: for every value of `Network` the book
 /// stands for its paths.
-#[derive(Drop)]
 pub struct Network {
     alloc: Global,
     te: TeBase,
     lsps: LspBase,
     names: NameTable,
     book: Book,
+}
+
+/// Drops each part. Written by hand because a derived drop would be proved again for every owner.
+impl Drop for Network {
+    fn drop(self) {
+        let Network {
+            alloc: _,
+            te,
+            lsps,
+            names,
+            book,
+        } = self;
+        drop(te);
+        drop(lsps);
+        drop(names);
+        drop(book);
+    }
 }
 
 impl Model for Network {
@@ -86,6 +104,18 @@ fn granting(alloc: Global, path: Path) -> Result<Effect, AllocError>
 {
     let added = vec![in alloc; path]?;
     Ok(Effect::new(Vec::new(alloc), added, Vec::new(alloc), false))
+}
+
+/// Makes the effect that sets a record, and nothing else.
+fn setting(alloc: Global, plsp: Plsp, lsp: Lsp) -> Result<Effect, AllocError>
+    ensures { IfOk result (λ effect. effect ≡ effect_of [] [] (one_record plsp lsp) false) }
+{
+    let change = RecordChange {
+        plsp,
+        lsp: Some(lsp),
+    };
+    let records = vec![in alloc; change]?;
+    Ok(Effect::new(Vec::new(alloc), Vec::new(alloc), records, false))
 }
 
 /// Makes room for a name, if there is one.
@@ -185,6 +215,40 @@ impl Network {
         queue.push(message)?;
         make_change(&mut self.lsps, &mut self.book, peer, effect);
         hold_name(&mut self.names, name);
+        Ok(())
+    }
+
+    /// Adds a path at the end, and changes nothing else.
+    pub fn add_path(&mut self, path: Path) -> Result<(), AllocError>
+        requires few { length self.old.base.paths < 16384 }
+        ensures added { OnOk result (self.new ≡ record self.old { base = record self.old.base { paths = self.old.base.paths ++ path ∷ [] } }) }
+        ensures unchanged_without_memory { OnErr result (self.new ≡ self.old) }
+    {
+        let peer = path.peer;
+        let effect = granting(self.alloc, path)?;
+        self.carry_out(peer, effect)
+    }
+
+    /// Adds a record at the end, and changes nothing else.
+    pub fn add_record(&mut self, known: Record) -> Result<(), AllocError>
+        requires absent { lsp_at self.old.base.records known.peer known.plsp ≡ None }
+        ensures added { OnOk result (self.new ≡ record self.old { base = record self.old.base { records = self.old.base.records ++ known ∷ [] } }) }
+        ensures unchanged_without_memory { OnErr result (self.new ≡ self.old) }
+    {
+        let Record { peer, plsp, lsp } = known;
+        let _few = self.lsps.paths();
+        let effect = setting(self.alloc, plsp, lsp)?;
+        self.carry_out(peer, effect)
+    }
+
+    /// Adds the name of a grant that has none at the end, and changes nothing else.
+    pub fn add_name(&mut self, name: AwaitedName) -> Result<(), AllocError>
+        requires absent { list_any (is_of_grant name.peer name.srp) self.old.names ≡ false }
+        ensures added { OnOk result (self.new ≡ record self.old { names = self.old.names ++ name ∷ [] }) }
+        ensures unchanged_without_memory { OnErr result (self.new ≡ self.old) }
+    {
+        self.names.reserve()?;
+        self.names.add(name);
         Ok(())
     }
 

@@ -1,5 +1,5 @@
 //! Peers in the order in which they came.
-ghost use Rattle.std.specs.Prelude.{◌≡◌, ◌<◌, ◌≤◌, ◌++◌, ◌∷◌, [], not, find, filter, position, length, vec_capacity, option_copied, IfOk};
+ghost use Rattle.std.specs.Prelude.{◌≡◌, ◌<◌, ◌≤◌, ◌++◌, ◌∷◌, [], not, find, filter, position, length, vec_capacity, option_copied, IfOk, OnOk};
 ghost use Rattle.std.specs.List.{list_all};
 ghost use Rattle.step_core.specs.Consistent.{has_srps_left};
 ghost use Rattle.step_core.specs.States.{is_peer};
@@ -89,12 +89,20 @@ impl PeerList {
         self.items.iter().all(|peer| peer.last_srp < GREATEST_SRP)
     }
 
-    /// Adds a peer at the end.
+    /// Adds a peer at the end, in the room that there is.
     pub fn push(&mut self, peer: Peer)
         requires { length self.old < 64 }
         ensures { self.new ≡ self.old ++ peer ∷ [] }
     {
         self.items.push_reserved(peer);
+    }
+
+    /// Adds a peer at the end, and makes room for it.
+    pub fn add(&mut self, peer: Peer) -> Result<(), AllocError>
+        ensures added { OnOk result (self.new ≡ self.old ++ peer ∷ []) }
+    {
+        self.items.push(peer)?;
+        Ok(())
     }
 
     /// Removes the peer.

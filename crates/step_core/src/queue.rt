@@ -48,6 +48,13 @@ impl Queue {
         self.messages.len()
     }
 
+    /// Lends the waiting messages, oldest first.
+    pub fn as_slice(&self) -> &[Message]
+        ensures { result.now ≡ self.now }
+    {
+        self.messages.as_slice()
+    }
+
     /// Appends a message.
     pub fn push(&mut self, message: Message) -> Result<(), AllocError>
         ensures added { OnOk result (self.new ≡ self.old ++ message ∷ []) }

@@ -1,11 +1,11 @@
 //! The whole state, queries of it, and one step of it.
-ghost use Rattle.std.specs.Prelude.{ℕ, Ok, true, ◌≡◌, ◌&&◌, ◌<◌, ◌≤◌, ◌^◌, ◌↔◌, length, find, IfOk, OnOk, OnErr, IsNone, IfSome, option_copied};
+ghost use Rattle.std.specs.Prelude.{ℕ, Ok, true, ◌≡◌, ◌&&◌, ◌<◌, ◌≤◌, ◌^◌, ◌↔◌, length, find, IfOk, OnOk, OnErr, IsNone, IfNone, IfSome, option_copied};
 ghost use Rattle.std.specs.Arc.{arc_value};
 ghost use Rattle.std.specs.List.{list_all};
 ghost use Rattle.lsp_base.specs.Shares.{unreserved};
 ghost use Rattle.step_core.specs.States.{empty, is_up, is_queued, has_waiting};
 ghost use Rattle.step_core.specs.Consistent.{AreFree, IsConsistent, has_srps_left};
-ghost use Rattle.step_core.specs.Bases.{known_in};
+ghost use Rattle.step_core.specs.Bases.{MayStand, known_in, state_over};
 ghost use Rattle.step_core.specs.Steps.{step};
 ghost use Rattle.step_core.specs.Laws.{peer_of, OthersStay, CountsRise};
 ghost use Rattle.step_core.specs.Sound.{IsSoundGrant};
@@ -34,6 +34,7 @@ use ticket_table::TicketTable;
 
 mod asks;
 mod grants;
+mod over;
 mod reloads;
 mod reports;
 mod requests;
@@ -232,7 +233,8 @@ fn do_srps_rise(rose: bool, tables: &Tables) -> bool
 #[derive(Drop)]
 pub struct State {
     tables: Tables,
-    /// No peer was ever given the greatest SRP-ID, so none in use is above the last that its peer was given.
+    /// True only if no peer was ever given the greatest SRP-ID, so none in use is above the last that its peer was given.
+    /// This isn't known of a state that was read.
     srps_rise: bool,
 }
 
@@ -257,6 +259,21 @@ impl State {
             tables: Tables::new(alloc, te)?,
             srps_rise: true,
         })
+    }
+
+    /// Makes the state that knows what was read, over a network of these nodes and links. `None` if it may not stand.
+    pub fn over(alloc: Global, te: TeBase, base: Base) -> Result<Option<State>, AllocError>
+        ensures made { IfOk result (λ made. IfSome made (λ state. state ≡ state_over te base)) }
+        ensures stands { IfOk result (λ made. IfSome made (λ _. MayStand te base)) }
+        ensures refused { IfOk result (λ made. IfNone made (MayStand te base → ⊥)) }
+    {
+        match Tables::over(alloc, te, base)? {
+            Some(tables) => Ok(Some(State {
+                tables,
+                srps_rise: false,
+            })),
+            None => Ok(None),
+        }
     }
 
     /// Takes one event. It makes all the room that it needs before it changes anything.
@@ -377,5 +394,13 @@ impl State {
         ensures { IfOk result (λ base. base ≡ known_in self.now) }
     {
         self.tables.copy()
+    }
+
+    /// Shows that what is known may stand over the network. So what `copy` returned is never refused when it is read
+    /// again. It does nothing.
+    pub fn what_stands_may_stand(&self)
+        ensures { MayStand self.now.te (known_in self.now) }
+    {
+        let _few = self.tables.lsps().paths();
     }
 }

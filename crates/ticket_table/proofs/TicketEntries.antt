@@ -1,5 +1,5 @@
 -- Tickets as a map holds them, each under its number.
-use Rattle.std.proofs.Common.{◌≡◌, ℕ, ◌+◌, ◌≤◌, Bool, true, false, true≢false, cond, nat_eq, nat_le, List, [], ◌∷◌, ◌++◌, None, Some, IfSome, is_some, find, refl, sym, ap, subst, ◌∙◌, arith}
+use Rattle.std.proofs.Common.{◌≡◌, ℕ, ◌+◌, ◌≤◌, ◌<◌, Bool, true, false, true≢false, cond, nat_eq, nat_le, List, [], ◌∷◌, ◌++◌, None, Some, IfSome, is_some, find, refl, sym, ap, subst, ◌∙◌, arith}
 use Rattle.std.specs.Cmp.{nat_eq_equiv}
 use Rattle.std.specs.List.{list_all}
 use Rattle.std.specs.Map.{lookup, remove_entry, set_value, values_of}
@@ -18,16 +18,16 @@ pub found : (id : ℕ) (es : List (ℕ × Ticket)) → AreNumbered es → lookup
 found id [] h = refl
 found id (e ∷ es) h = λ j. cond (same_test id e h.0 j) (Some e.1) (found id es h.1 j)
 
--- ---- a ticket of the next number
+-- ---- a ticket of a number above the last
 
-pub pushed : (t : Ticket) (last : ℕ) (es : List (ℕ × Ticket)) → t.id ≡ last + 1 → AreNumbered es → list_all (λ u. nat_le u.id last) (values_of es) ≡ true → insert_entry nat_eq es t.id t ≡ es ++ (t.id, t) ∷ []
-pushed t last [] next h given = refl
-pushed t last (e ∷ es) next h given =
+pub pushed : (t : Ticket) (last : ℕ) (es : List (ℕ × Ticket)) → last < t.id → AreNumbered es → list_all (λ u. nat_le u.id last) (values_of es) ≡ true → insert_entry nat_eq es t.id t ≡ es ++ (t.id, t) ∷ []
+pushed t last [] above h given = refl
+pushed t last (e ∷ es) above h given =
     let parts = and_parts (nat_le e.1.id last) (list_all (λ u. nat_le u.id last) (values_of es)) given in
     let low = le_of e.1.id last parts.0 in
     let own = h.0 in
-    let other : nat_eq t.id e.0 ≡ false = ne_eqb t.id e.0 (λ same. omega (arith, same, next, own, low)) in
-    ap (λ c. cond c ((e.0, t) ∷ es) (e ∷ insert_entry nat_eq es t.id t)) other ∙ ap (λ l. e ∷ l) (pushed t last es next h.1 parts.1)
+    let other : nat_eq t.id e.0 ≡ false = ne_eqb t.id e.0 (λ same. omega (arith, same, above, own, low)) in
+    ap (λ c. cond c ((e.0, t) ∷ es) (e ∷ insert_entry nat_eq es t.id t)) other ∙ ap (λ l. e ∷ l) (pushed t last es above h.1 parts.1)
 
 pub pushed_values : (t : Ticket) (es : List (ℕ × Ticket)) → values_of (es ++ (t.id, t) ∷ []) ≡ values_of es ++ t ∷ []
 pushed_values t [] = refl
@@ -118,10 +118,10 @@ waiting_found n edit (x ∷ xs) t h is = by (is_waiting x) is (λ later. found_f
 pub take_written : (changes : ℕ) (es : List (ℕ × Ticket)) (waiting ticket : Ticket) → AreNumbered es → AreRising (values_of es) → first_waiting (values_of es) ≡ Some waiting → Some ticket ≡ lookup (nat_eq waiting.id) es
     → values_of (set_value (nat_eq waiting.id) es (record ticket { taken = true; tries = waiting.tries + 1; seen = changes })) ≡ take_first (values_of es) changes
 take_written changes es waiting ticket h rising first there =
-    let f = waiting_found 0 (searched_for changes) (values_of es) waiting rising first in
+    let f = waiting_found 1 (searched_for changes) (values_of es) waiting rising first in
     let same : ticket ≡ waiting = ap (λ o. unwrap_or o ticket) (there ∙ found waiting.id es h ∙ f.0) in
     let w : record ticket { taken = true; tries = waiting.tries + 1; seen = changes } ≡ searched_for changes ticket = ap (λ (t : Ticket). record ticket { taken = true; tries = t.tries + 1; seen = changes }) (sym same) in
     written (searched_for changes) _ waiting.id es h (subst (λ o. IfSome o (λ t. record ticket { taken = true; tries = waiting.tries + 1; seen = changes } ≡ searched_for changes t)) there w) ∙ f.1
 
 pub there_waiting : (es : List (ℕ × Ticket)) (waiting : Ticket) → AreNumbered es → AreRising (values_of es) → first_waiting (values_of es) ≡ Some waiting → lookup (nat_eq waiting.id) es ≡ Some waiting
-there_waiting es waiting h rising first = found waiting.id es h ∙ (waiting_found 0 (searched_for 0) (values_of es) waiting rising first).0
+there_waiting es waiting h rising first = found waiting.id es h ∙ (waiting_found 1 (searched_for 0) (values_of es) waiting rising first).0

@@ -20,7 +20,7 @@ le_of a b is = grind (arith, nat_tests)
 of_le : (a b : ℕ) → a ≤ b → nat_le a b ≡ true
 of_le a b le = grind (arith, nat_tests)
 
--- ---- one more ticket, with the next number
+-- ---- one more ticket, with a number above the last
 
 rising_pushed : (t : Ticket) (least last : ℕ) (ts : List Ticket) → least ≤ t.id → last < t.id → AreRisingFrom least ts → list_all (is_given last) ts ≡ true → AreRisingFrom least (ts ++ t ∷ [])
 rising_pushed t least last [] low above rising given = (low, tt)
@@ -36,11 +36,27 @@ given_pushed t last (x ∷ xs) more given =
     let low = le_of x.id last parts.0 in
     and_from (is_given t.id x) (list_all (is_given t.id) (xs ++ t ∷ [])) (of_le x.id t.id (omega (arith, low, more))) (given_pushed t last xs more parts.1)
 
-pub order_pushed : (t : Ticket) (last : ℕ) (ts : List Ticket) → t.id ≡ last + 1 → has_tries_left t ≡ true → AreInOrder last ts → AreInOrder t.id (ts ++ t ∷ [])
-order_pushed t last ts next left o = record {
-  rising = rising_pushed t 0 last ts (omega arith) (omega (arith, next)) o.rising o.given;
-  given = given_pushed t last ts (omega (arith, next)) o.given;
+pub order_pushed : (t : Ticket) (last : ℕ) (ts : List Ticket) → last < t.id → has_tries_left t ≡ true → AreInOrder last ts → AreInOrder t.id (ts ++ t ∷ [])
+order_pushed t last ts above left o = record {
+  rising = rising_pushed t 1 last ts (omega (arith, above)) above o.rising o.given;
+  given = given_pushed t last ts (omega (arith, above)) o.given;
   tries = tries_after_push t ts left o.tries;
+}
+
+-- ---- numbers that are skipped
+
+given_skipped : (last later : ℕ) (ts : List Ticket) → last ≤ later → list_all (is_given last) ts ≡ true → list_all (is_given later) ts ≡ true
+given_skipped last later [] more given = refl
+given_skipped last later (x ∷ xs) more given =
+    let parts = and_parts (is_given last x) (list_all (is_given last) xs) given in
+    let low = le_of x.id last parts.0 in
+    and_from (is_given later x) (list_all (is_given later) xs) (of_le x.id later (omega (arith, low, more))) (given_skipped last later xs more parts.1)
+
+pub order_skipped : (last later : ℕ) (ts : List Ticket) → last ≤ later → AreInOrder last ts → AreInOrder later ts
+order_skipped last later ts more o = record {
+  rising = o.rising;
+  given = given_skipped last later ts more o.given;
+  tries = o.tries;
 }
 
 -- ---- a ticket that ends
@@ -67,7 +83,7 @@ given_dropped test last (t ∷ ts) given = let parts = and_parts (is_given last 
 
 pub order_without : (id last : ℕ) (ts : List Ticket) → AreInOrder last ts → AreInOrder last (without_ticket ts id)
 order_without id last ts o = record {
-  rising = rising_dropped (is_ticket id) 0 ts o.rising;
+  rising = rising_dropped (is_ticket id) 1 ts o.rising;
   given = given_dropped (is_ticket id) last ts o.given;
   tries = tries_after_drop (is_ticket id) ts o.tries;
 }
@@ -92,14 +108,14 @@ given_edited test edit same last (t ∷ ts) = by (test t) (given_edited test edi
 
 pub order_taken : (changes last : ℕ) (ts : List Ticket) → AreInOrder last ts → AreInOrder last (take_first ts changes)
 order_taken changes last ts o = record {
-  rising = rising_edited is_waiting (searched_for changes) (λ t. refl) 0 ts o.rising;
+  rising = rising_edited is_waiting (searched_for changes) (λ t. refl) 1 ts o.rising;
   given = given_edited is_waiting (searched_for changes) (λ t. refl) last ts ∙ o.given;
   tries = tries_after_take changes ts o.tries;
 }
 
 pub order_put_back : (id last : ℕ) (ts : List Ticket) → IfSome (ticket_at ts id) (λ t. t.tries < 4) → AreInOrder last ts → AreInOrder last (put_back ts id)
 order_put_back id last ts few o = record {
-  rising = rising_edited (is_ticket id) waiting_again (λ t. refl) 0 ts o.rising;
+  rising = rising_edited (is_ticket id) waiting_again (λ t. refl) 1 ts o.rising;
   given = given_edited (is_ticket id) waiting_again (λ t. refl) last ts ∙ o.given;
   tries = tries_after_put_back id ts few o.tries;
 }
@@ -123,4 +139,4 @@ least_of n (x ∷ xs) t h is = by (is_waiting x) refl is (least_of (x.id + 1) xs
 
 -- the first waiting ticket has the least number of all that wait
 pub least : (ts : List Ticket) (t : Ticket) → AreRising ts → first_waiting ts ≡ Some t → All (λ u. is_waiting u ≡ true → t.id ≤ u.id) ts
-least ts t h is = All-from_recursion (λ u. is_waiting u ≡ true → t.id ≤ u.id) ts (least_of 0 ts t h is)
+least ts t h is = All-from_recursion (λ u. is_waiting u ≡ true → t.id ≤ u.id) ts (least_of 1 ts t h is)

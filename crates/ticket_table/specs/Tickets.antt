@@ -83,9 +83,9 @@ abbrev pub AreRisingFrom : ℕ → List Ticket → Type 0
 AreRisingFrom least [] = Unit {0}
 AreRisingFrom least (t ∷ ts) = (least ≤ t.id) × AreRisingFrom (t.id + 1) ts
 
--- each number is greater than those before it
+-- each number is greater than those before it, and none is 0
 abbrev pub AreRising : List Ticket → Type 0
-AreRising tickets = AreRisingFrom 0 tickets
+AreRising tickets = AreRisingFrom 1 tickets
 
 -- a ticket is searched for at most four times; while it waits, it was searched for fewer times
 abbrev pub has_tries_left : Ticket → Bool
@@ -95,13 +95,13 @@ abbrev pub all_have_tries : List Ticket → Bool
 all_have_tries tickets = list_all has_tries_left tickets
 
 pub record AreInOrder (last : ℕ) (tickets : List Ticket) : Type 0 where
-  -- the numbers rise, and none is above the last that was given
+  -- the numbers rise, and none is above the last that was given or skipped
   pub rising : AreRising tickets
   pub given : list_all (λ t. nat_le t.id last) tickets ≡ true
   -- none is searched for too often
   pub tries : all_have_tries tickets ≡ true
 
--- the tickets in order, and the last number that was given
+-- the tickets in order, and the last number that was given or skipped
 pub record TicketTable : Type 0 where
   pub tickets : List Ticket
   pub last : ℕ

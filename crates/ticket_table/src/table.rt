@@ -14,8 +14,8 @@ use std::marker::Model;
 /// The greatest number of tickets at a time.
 pub const TICKET_LIMIT: usize = 1024;
 
-/// The tickets, in the order of their numbers, and the last number that was given. None was taken more than four times,
-/// and a waiting one fewer times.
+/// The tickets, in the order of their numbers, and the last number that was given or skipped. None was taken more than
+/// four times, and a waiting one fewer times.
 #[derive(Drop)]
 pub struct TicketTable {
     map: IndexMap<u64, StandingTicket>,
@@ -97,16 +97,16 @@ impl TicketTable {
         Ok(copies)
     }
 
-    /// Returns the number of the last ticket, or 0 if there was none.
+    /// Returns the last number that was given or skipped, or 0 if there was none.
     pub fn last(&self) -> u64
         ensures { result ≡ self.now.last }
     {
         self.last
     }
 
-    /// Adds a ticket with the next number at the end.
+    /// Adds a ticket at the end. Its number is above the last one.
     pub fn push(&mut self, ticket: Ticket) -> Result<(), AllocError>
-        requires number { ticket.id ≡ self.old.last + 1 }
+        requires number { self.old.last < ticket.id }
         requires tries { has_tries_left ticket ≡ true }
         ensures added { OnOk result (self.new ≡ record { tickets = self.old.tickets ++ ticket ∷ []; last = ticket.id }) }
         ensures unchanged { OnErr result (self.new ≡ self.old) }
@@ -116,6 +116,14 @@ impl TicketTable {
         self.map.insert(id, standing)?;
         self.last = id;
         Ok(())
+    }
+
+    /// Skips the numbers up to this one. Each later ticket has a number above it.
+    pub fn skip_to(&mut self, last: u64)
+        requires { self.old.last ≤ last }
+        ensures { self.new ≡ record self.old { last = last } }
+    {
+        self.last = last;
     }
 
     /// Finds the ticket of the number.

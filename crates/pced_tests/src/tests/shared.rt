@@ -1,6 +1,6 @@
 //! A database that two seats share, and what happens to it in each case.
 ghost use Rattle.std.specs.Prelude.{◌≡◌, IfSome};
-ghost use Rattle.history_core.specs.Histories.{steps_of};
+ghost use Rattle.history_core.specs.Histories.{StartsFromText, beginning, steps_of};
 
 use super::meeting::{ask_and_meet, both_are_granted, is_refused_without_a_seat};
 use super::others::{are_down, serve_all};
@@ -60,7 +60,7 @@ fn act<R: Threads + Wait + Clock + Abort + Sync, B: Brands + Send + Sync>(
 
 /// Makes a database of which nothing was reported, if there is memory for it.
 fn quiet_database(alloc: Global) -> Option<Database>
-    ensures { IfSome result (λ database. steps_of database ≡ 0) }
+    ensures { IfSome result (λ database. (steps_of database ≡ 0) × StartsFromText database) }
 {
     let Ok(te) = TeBase::read(alloc, DIAMOND) else {
         return None;
@@ -102,7 +102,7 @@ fn on_shared<B: Brands + Send + Sync, R: Threads + Wait + Clock + Abort + Sync>(
     room: Unopened,
     history: Unnamed<Event>,
 ) -> Result<bool, Fail>
-    requires database { (steps_of database ≡ 0) × (database.text ≡ B.text) }
+    requires database { (steps_of database ≡ 0) × (database.start ≡ beginning B.text) }
     requires history { history ≡ B.log }
     requires steps { (steps.name ≡ B.steps) × (steps.parts ≡ B.seats) × (steps.parts ≡ 2) }
     requires grants { (grants.name ≡ B.grants) × (grants.parts ≡ B.seats) × (grants.parts ≡ 2) }

@@ -1,16 +1,17 @@
 //! Rolls: the state becomes the base of the history, and the kept steps are dropped. Their memory is freed once each
 //! seat has folded its receipts.
-ghost use Rattle.std.specs.Prelude.{ℕ, ◌≡◌, true, All, IfOk, OnErr};
+ghost use Rattle.std.specs.Prelude.{ℕ, ◌≡◌, ◌&&◌, not, true, All, IfOk, OnErr};
 ghost use mathlib.Core.List.{IsPrefix};
 ghost use Rattle.history_core.specs.Histories.{is_full};
 ghost use Rattle.history_seats.specs.Past.{database_at, with_seen};
 ghost use Rattle.history_seats.specs.Receipts.{after_fold};
-ghost use Rattle.shared_pce.specs.Rolls.{beside, is_due, of_seat};
+ghost use Rattle.shared_pce.specs.Rolls.{beside, is_due, is_let_go, of_seat};
 ghost use Rattle.shared_pce.specs.Residuals.{IsLookedAt, WasLeft};
-ghost use Rattle.shared_pce.specs.Turns.{IsRolledIf, Received, SeesMore, RolledUp, RollsIf};
+ghost use Rattle.shared_pce.specs.Turns.{GivesIf, IsRolledIf, Received, SeesMore, RolledUp, RollsIf};
 
-use super::Shared;
-use crate::due::{RollAt, SPARE_AT, is_due};
+use super::{NO_JOURNAL, Shared};
+use crate::due::{RollAt, SPARE_AT, is_due, is_let_go};
+use crate::rolled::RolledSteps;
 use crate::stepped::{Stepped, step_seen};
 use history_core::{Fault, SharedEvent, Step};
 use history_seats::{Brands, Held, Receipt, Seat, receipt_bytes};
@@ -18,20 +19,24 @@ use pcep_word::Priority;
 use short_lock::acquire;
 use std::alloc::AllocError;
 use std::sync::Wait;
+use std::sync::atomic::Ordering;
 
-/// Rolls the history if it is due, while the lock is held, and returns the steps that were kept, so that they can be
-/// dropped after it is freed. `None` if it isn't due. If memory runs out nothing has changed.
+/// Rolls the history if it is due and a journal lacks none of its steps, while the lock is held, and returns the steps
+/// that were kept, so that they can be dropped after it is freed. `None` if it isn't rolled. If memory runs out nothing
+/// has changed.
 fn roll_due<B: Brands>(
     held: &mut Held<B>,
     seat: &mut Seat<B>,
+    written: u64,
+    whole: RollAt,
     at: RollAt,
 ) -> Result<Option<Vec<Step>>, AllocError>
-    ensures rolled { IfOk result (IsRolledIf (is_due at (database_at B.text held.old)) held.old held.new) }
+    ensures rolled { IfOk result (IsRolledIf (is_let_go written whole at (database_at B.text held.old)) held.old held.new) }
     ensures unchanged_without_memory { OnErr result (held.new ≡ held.old) }
     ensures sees { SeesMore seat.old seat.new }
 {
     held.show_seat(seat);
-    if !is_due(held, at) {
+    if !is_let_go(held, written, whole, at) {
         return Ok(None);
     }
     let dropped = held.take_rolled(seat)?;
@@ -86,6 +91,31 @@ impl<B: Brands> Shared<B> {
         Ok(Some(steps))
     }
 
+    /// Rolls the history if it is due at `at`, and returns the steps that were kept, so that a journal can write each of
+    /// them. `None` if it isn't due.
+    pub fn take_rolled_if<R: Wait>(
+        &self,
+        rt: &R,
+        seat: &mut Seat<B>,
+        at: RollAt,
+    ) -> Result<Option<RolledSteps>, AllocError>
+        ensures rolled { IfOk result (GivesIf (is_due at) B.text seat.old seat.new) }
+        ensures unchanged_without_memory { OnErr result (SeesMore seat.old seat.new) }
+    {
+        let mut held = acquire(rt, &self.held);
+        held.show_seat(seat);
+        let is_due = is_due(&held, at);
+        if !is_due {
+            return Ok(None);
+        }
+        let bytes = held.kept_bytes();
+        let first = held.database().rolled();
+        let steps = held.take_rolled(seat)?;
+        self.note_roll(rt, bytes);
+        drop(held);
+        Ok(Some(RolledSteps { first, steps }))
+    }
+
     /// Rolls the history before a step, if it takes as much memory as it may, given the receipts of rolled steps.
     /// Returns the steps that were kept, so that they can be dropped after the lock is freed. If memory runs out, the
     /// step is taken anyway.
@@ -94,7 +124,7 @@ impl<B: Brands> Shared<B> {
     {
         let at = self.due_at(rt);
         let bytes = held.kept_bytes();
-        match roll_due(held, seat, at) {
+        match roll_due(held, seat, self.written(), self.roll_at, at) {
             Ok(Some(dropped)) => {
                 self.note_roll(rt, bytes);
                 Some(dropped)
@@ -124,6 +154,32 @@ impl<B: Brands> Shared<B> {
         Ok((stepped, rolled))
     }
 
+    /// Rolls the history if it is due and a journal lacks none of its steps. If it lacks some, the roll waits until the
+    /// history takes twice what it may.
+    fn roll_if_written<R: Wait>(
+        &self,
+        rt: &R,
+        seat: &mut Seat<B>,
+        written: u64,
+        at: RollAt,
+    ) -> Result<Option<u64>, AllocError>
+        ensures rolled { IfOk result (RollsIf (is_let_go written self.now.roll_at at) B.text seat.old seat.new) }
+        ensures unchanged_without_memory { OnErr result (SeesMore seat.old seat.new) }
+    {
+        let mut held = acquire(rt, &self.held);
+        held.show_seat(seat);
+        if !is_let_go(&held, written, self.roll_at, at) {
+            return Ok(None);
+        }
+        let bytes = held.kept_bytes();
+        let dropped = held.take_rolled(seat)?;
+        let steps = held.database().rolled();
+        self.note_roll(rt, bytes);
+        drop(held);
+        drop(dropped);
+        Ok(Some(steps))
+    }
+
     /// Rolls the history if it takes as much memory as it may, given the receipts of rolled steps, as each step does
     /// first.
     pub fn roll_if_due<R: Wait>(
@@ -131,11 +187,48 @@ impl<B: Brands> Shared<B> {
         rt: &R,
         seat: &mut Seat<B>,
     ) -> Result<Option<u64>, AllocError>
-        ensures rolled { IfOk result (λ r. (unfolded : ℕ) × RollsIf (is_due (beside unfolded self.now.roll_at)) B.text seat.old seat.new r) }
+        ensures rolled { IfOk result (λ r. (unfolded written : ℕ) × RollsIf (is_let_go written self.now.roll_at (beside unfolded self.now.roll_at)) B.text seat.old seat.new r) }
         ensures unchanged_without_memory { OnErr result (SeesMore seat.old seat.new) }
     {
         let at = self.due_at(rt);
-        self.roll_if(rt, seat, at)
+        self.roll_if_written(rt, seat, self.written(), at)
+    }
+
+    /// Tests whether a roll is due and waits for a journal.
+    pub fn is_roll_waiting<R: Wait>(&self, rt: &R, seat: &mut Seat<B>) -> bool
+        ensures sees { SeesMore seat.old seat.new }
+        ensures waits { (unfolded written : ℕ) × (let d = database_at B.text seat.new.seen in let at = beside unfolded self.now.roll_at in result ≡ (is_due at d && not (is_let_go written self.now.roll_at at d))) }
+    {
+        let at = self.due_at(rt);
+        let written = self.written();
+        let mut held = acquire(rt, &self.held);
+        held.show_seat(seat);
+        is_due(&held, at) && !is_let_go(&held, written, self.roll_at, at)
+    }
+
+    /// Notes how many steps a journal has. From then on rolls wait for it.
+    pub fn note_written(&self, steps: u64) {
+        self.written.store(steps, Ordering::SeqCst);
+    }
+
+    /// Notes that no journal is written any more, or that rolls wait for it no longer.
+    pub fn note_journal_gone(&self) {
+        self.written.store(NO_JOURNAL, Ordering::SeqCst);
+    }
+
+    /// Returns how many steps a journal has. `None` if none is written.
+    pub fn journal_steps(&self) -> Option<u64> {
+        let steps = self.written();
+        if steps == NO_JOURNAL {
+            None
+        } else {
+            Some(steps)
+        }
+    }
+
+    /// Returns how many steps a journal has, or 2^64 - 1 if none is written.
+    fn written(&self) -> u64 {
+        self.written.load(Ordering::SeqCst)
     }
 
     /// Does the same if no further step can be kept.
@@ -203,7 +296,7 @@ impl<B: Brands> Shared<B> {
         ensures begins { IsPrefix seat.old.seen seat.new.seen }
         ensures folded { seat.new ≡ with_seen seat.new.seen (after_fold (database_at B.text seat.new.seen).rolled seat.old) }
     {
-        let _rolled = self.roll_if(rt, seat, self.roll_at.of_seat());
+        let _rolled = self.roll_if_written(rt, seat, self.written(), self.roll_at.of_seat());
         self.fold(rt, seat);
     }
 

@@ -12,9 +12,9 @@ invariant_of-result g c =
     let text = g.B.StepNumbers.text in
     let d = c.args.database in
     let replays = c.history-none.ensures.replays in
-    let is : d ≡ database_at text [] = at_first text d replays c.requires.none_taken c.requires.text in (
+    let is : d ≡ database_at text [] = at_first text d replays c.requires.none_taken c.requires.start in (
       c.open-steps.ensures.total ∙ sym c.requires.none_taken,
-      c.open-grants.ensures.total ∙ sym (none_granted text d replays c.requires.none_taken c.requires.text),
+      c.open-grants.ensures.total ∙ sym (none_granted text d replays c.requires.none_taken c.requires.start),
       search rules,
       search rules,
       search rules,
@@ -23,4 +23,4 @@ invariant_of-result g c =
     )
 
 pub returns-in-Ok-clause-database : goal.returns-in-Ok-clause-database
-returns-in-Ok-clause-database g c = (c.seated.ensures.nothing_happened, at_first g.B.StepNumbers.text c.args.database c.history-none.ensures.replays c.requires.none_taken c.requires.text)
+returns-in-Ok-clause-database g c = (c.seated.ensures.nothing_happened, at_first g.B.StepNumbers.text c.args.database c.history-none.ensures.replays c.requires.none_taken c.requires.start)

@@ -1,0 +1,5 @@
+pub mod LastPeer
+pub mod Texts
+pub mod WordsAgain
+pub mod ItemsAgain
+pub mod BasesAgain

@@ -1,0 +1,9 @@
+use Rattle.std.proofs.Common.{◌≡◌, ◌++◌, map, string_bytes, drop}
+use Rattle.base_lines.specs.Lines.{text_of_items}
+use Rattle.base_lines.specs.declared.item.Item.TheVariants as item
+use Rattle.base_lines.proofs.lines.add_values.Given as goal
+
+-- the text so far and the lines that are left make the whole
+abbrev pub invariant-loop-value : goal.invariant-loop-value
+invariant-loop-value l =
+    string_bytes l.text ++ text_of_items (map (λ x. item.Value x) (drop l.value-index l.values)) ≡ string_bytes l.fn.text ++ text_of_items (map (λ x. item.Value x) l.fn.values)

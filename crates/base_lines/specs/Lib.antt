@@ -1,0 +1,5 @@
+pub mod Words
+pub mod WordsIn
+pub mod Items
+pub mod Lines
+pub mod Normal

@@ -1,0 +1,4 @@
+pub mod Framing
+pub mod Objects
+pub mod Reports
+pub mod Requests

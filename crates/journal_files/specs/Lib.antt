@@ -1,0 +1,4 @@
+pub mod Heads
+pub mod Moments
+pub mod Order
+pub mod Files

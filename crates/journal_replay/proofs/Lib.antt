@@ -1,0 +1,3 @@
+pub mod Points
+pub mod Legal
+pub mod Expecting

@@ -1,0 +1,4 @@
+pub mod Words
+pub mod Joined
+pub mod First
+pub mod Written

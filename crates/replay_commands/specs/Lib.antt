@@ -1,0 +1,4 @@
+pub mod Until
+pub mod Ends
+pub mod Shown
+pub mod Bases

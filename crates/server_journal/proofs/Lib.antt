@@ -1,0 +1,5 @@
+pub mod Lines
+pub mod Notes
+pub mod Following
+pub mod Beginning
+pub mod Onward
