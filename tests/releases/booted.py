@@ -137,8 +137,15 @@ def under_systemd(program):
     yield machine.dpkg("--remove", "pced")[2], 0
     yield router.hear_of(7), pcep.CLOSE
     yield machine.says("test", "-e", "/run/pced")[2], 1
+    # (each server that came up has left a journal: the one that was killed too)
+    journals = sorted(os.listdir(f"{machine.root}/var/lib/private/pced"))
+    yield len(journals) >= 5, True
+    for name in journals:
+        out, err, status = ran(program, "replay", f"{machine.root}/var/lib/private/pced/{name}")
+        yield (status, "each reply as recorded" in out or "no step" in out), (0, True)
     yield machine.dpkg("--purge", "pced")[2], 0
     yield os.path.exists(machine.root + roots.NETWORK), False
+    yield any(os.path.lexists(f"{machine.root}/var/lib/{name}") for name in ("pced", "private/pced")), False
 
 
 TIMER = "pced-network.timer"

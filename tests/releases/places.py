@@ -33,7 +33,7 @@ def what_is_installed(program):
     yield ran(f"{prefix}/bin/pced", "--version"), (f"pced 0.1.0 logic {repository.logic} commit {repository.git('rev-parse', 'HEAD')}\n", "", 0)
     port = free_port()
     network = running.makes_known(text_of(f"{prefix}/{CONFIGURATION[0]}"))
-    options = running.options_of(text_of(f"{prefix}/{CONFIGURATION[1]}"), port)
+    options = running.options_of(text_of(f"{prefix}/{CONFIGURATION[1]}"), port, base.room())
     base.put(f"{prefix}/{CONFIGURATION[0]}", network)
     base.put(f"{prefix}/{CONFIGURATION[1]}", options)
     os.remove(f"{prefix}/bin/pced")
@@ -46,6 +46,7 @@ def what_is_installed(program):
     yield (service.check[1], service.is_up), (0, True)
     yield from running.serves_a_router(service)
     yield service.ended(), (0, "audited")
+    yield service.replayed(), [running.RECORDED]
     base.put(f"{prefix}/{UNIT}", unit)
     left = [["left", f"{path}: it was changed"] for path in paths[-2:]]
     out, err, status = installed("--uninstall")
@@ -80,12 +81,13 @@ def the_tar_file_serves(program):
     port = free_port()
     base.put(unit, text_of(unit).replace("/run/pced", into).replace("/usr/local/bin", f"{top}/bin").replace("/etc/", f"{top}/etc/"))
     base.put(f"{top}/etc/pced/network.toml", running.makes_known(text_of(f"{top}/etc/pced/network.toml")))
-    base.put(f"{top}/etc/default/pced", running.options_of(text_of(f"{top}/etc/default/pced"), port))
+    base.put(f"{top}/etc/default/pced", running.options_of(text_of(f"{top}/etc/default/pced"), port, base.room()))
     service = running.Service(top, unit, enters=False)
     yield (service.check[1], service.is_up), (0, True)
     yield from running.serves_a_router(service)
     yield [said.splitlines()[-1:] if status == 0 else said for said, status in [service.ran("ExecReload")]], [["done"]]
     yield from running.hears_its_close(service)
+    yield service.replayed(), [running.RECORDED]
     out, err, status = ran(f"{top}/share/doc/pced/examples/demo", "--http", "0")
     yield (out.splitlines()[-1:], err, status), (["The demo has ended."], "", 0)
 
@@ -108,7 +110,7 @@ def the_tar_file_as_a_service(program):
     unit = f"{local}/{UNIT}"
     base.put(unit, text_of(unit).replace("/run/pced", into).replace("/usr/local/bin", f"{local}/bin").replace("/etc/", f"{root}/etc/"))
     network = running.makes_known(text_of(f"{root}/etc/pced/network.toml"))
-    options = running.options_of(text_of(f"{root}/etc/default/pced"), free_port())
+    options = running.options_of(text_of(f"{root}/etc/default/pced"), free_port(), base.room())
     base.put(f"{root}/etc/pced/network.toml", network)
     base.put(f"{root}/etc/default/pced", options)
     service = running.Service(root, unit, enters=False)
@@ -117,6 +119,7 @@ def the_tar_file_as_a_service(program):
     yield [text_of(f"{root}/etc/{name}") for name in ("pced/network.toml", "default/pced")], [network, options]
     yield from running.serves_a_router(service)
     yield from running.hears_its_close(service)
+    yield service.replayed(), [running.RECORDED]
     remove = re.search(r"^cd /usr/local && (rm .*)$", text_of(f"{base.ROOT}/docs/OPERATING.md"), re.M)[1]
     yield ran("sh", "-c", remove, cwd=local), ("", "", 0)
     yield base.sums(local), {}

@@ -142,7 +142,7 @@ class Machine:
 
 
 def a_life_of_the_package(program):
-    """Installed, edited, started, reloaded, upgraded, removed and purged: what the operator wrote stays until the purge."""
+    """Installed, edited, started, reloaded, upgraded, removed and purged: what the operator wrote, and the journals, stay until the purge."""
     base.needs("dpkg-deb", "chroot", "find")
     machine = Machine()
     before = machine.files()
@@ -153,7 +153,8 @@ def a_life_of_the_package(program):
     network = machine.edit(NETWORK, running.makes_known)
     options = machine.edit(OPTIONS, lambda text: running.options_of(text, free_port()))
     os.makedirs(f"{machine.root}/run/pced", mode=0o700)  # (as RuntimeDirectory=pced has it)
-    os.makedirs(f"{machine.root}/var/lib/pced", mode=0o700)  # (as StateDirectory=pced has it)
+    os.makedirs(f"{machine.root}/var/lib/private/pced", mode=0o700)  # (as StateDirectory=pced and DynamicUser=yes have it)
+    os.symlink("private/pced", machine.root + running.STATE)
     service = running.Service(machine.root)
     yield (service.check[1], service.is_up), (0, True)
     yield from running.serves_a_router(service)
@@ -165,6 +166,7 @@ def a_life_of_the_package(program):
     service = running.Service(machine.root)
     yield from running.serves_a_router(service)
     yield service.ended(), (0, "audited")
+    yield service.replayed(), [running.RECORDED] * 2
     shutil.rmtree(f"{machine.root}/run/pced")
     newer = package_of(program, "0.1.2", 'PCED_OPTIONS="--listen 127.0.0.1:4189"\n')
     yield machine.installs(newer, "--force-confold"), (0, [])
@@ -175,8 +177,10 @@ def a_life_of_the_package(program):
     yield machine.state(), "deinstall ok config-files"
     yield [machine.text(path) for path in (NETWORK, OPTIONS)], [network, options]
     yield os.path.exists(f"{machine.root}/usr/libexec/pced"), False
+    yield len(os.listdir(f"{machine.root}/var/lib/private/pced")), 2
     yield machine.dpkg("--purge", "pced")[2], 0
-    yield {path for path in machine.files() - before if not path.startswith("./var/lib/systemd")}, set()  # (of deb-systemd-helper)
+    left = {path for path in machine.files() - before if not path.startswith("./var/lib/systemd")}  # (of deb-systemd-helper)
+    yield left, {"./var/lib/private"}
 
 
 def reloads(machine, service, network):

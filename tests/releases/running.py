@@ -1,4 +1,5 @@
 """The installed server: started as its unit says, with routers outside of its root."""
+import os
 import re
 import shlex
 import subprocess
@@ -13,6 +14,8 @@ from .base import comes, text_of
 # a network whose node R is at the address that the first router connects from
 KNOWN = ' {name="R",id="127.0.1.1"},\n {name="A",id="10.0.0.1"}'
 FREE = "1000000"
+STATE = "/var/lib/pced"  # the folder that a service of systemd is given by StateDirectory=pced
+RECORDED = ("each reply as recorded\n", 0)
 
 
 class Unit:
@@ -78,6 +81,15 @@ class Service:
                               stdin=subprocess.DEVNULL, capture_output=True, text=True, timeout=base.TIMEOUT_S)
         return done.stdout
 
+    def replayed(self):
+        """What `replay` says last of each journal that it has left, and the status."""
+        folder, said = self.started[self.started.index("--journal") + 1], []
+        for name in sorted(os.listdir(f"{self.root}{folder}" if self.enters else folder)):
+            done = subprocess.run(self.inside([self.started[0], "replay", f"{folder}/{name}"]), env=self.environment, stdin=subprocess.DEVNULL,
+                                  stdout=subprocess.PIPE, stderr=subprocess.STDOUT, text=True, timeout=base.TIMEOUT_S)
+            said.append((done.stdout.split(": ")[-1], done.returncode))
+        return said
+
     def ended(self):
         """The status after TERM to the first process, as `systemctl stop` sends it, and the last word of the log."""
         self.process.terminate()
@@ -98,9 +110,9 @@ def makes_known(text):
     return text.replace(' {name="A",id="10.0.0.1"}', KNOWN, 1)
 
 
-def options_of(text, port):
-    """The options of a service that listens on loopback only, at a port of its own."""
-    return re.sub(r"--listen \S+", f"--listen 127.0.0.1:{port}", text)
+def options_of(text, port, journals=STATE):
+    """The options of a service that listens on loopback only, at a port of its own, and leaves its journals in a folder."""
+    return re.sub(r"--listen \S+", f"--listen 127.0.0.1:{port}", text).replace(STATE, journals)
 
 
 def serves_a_router(service):

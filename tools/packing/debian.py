@@ -37,8 +37,11 @@ set -e
 if [ "$1" = remove ] && [ -d /run/systemd/system ]; then
     systemctl --system daemon-reload > /dev/null || true
 fi
-if [ "$1" = purge ] && command -v deb-systemd-helper > /dev/null; then
-    deb-systemd-helper purge pced.service pced-network.timer > /dev/null || true
+if [ "$1" = purge ]; then
+    rm -rf /var/lib/pced /var/lib/private/pced # the journals: the first is a link to the second (StateDirectory, DynamicUser)
+    if command -v deb-systemd-helper > /dev/null; then
+        deb-systemd-helper purge pced.service pced-network.timer > /dev/null || true
+    fi
 fi
 """
 SUMMARY = "stateful path computation element for MPLS-TE"

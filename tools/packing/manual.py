@@ -19,8 +19,8 @@ def marked(form):
     for part in form.replace(",", " ,").split():
         if found := re.fullmatch(r"\[(\w+)\](\.*)", part):
             made.append(f"Op Ar {found[1]} ..." if found[2] else f"Op Ar {found[1]}")
-        elif found := re.fullmatch(r"<(.+)>", part):
-            made.append(f"Ar {found[1]}")
+        elif found := re.fullmatch(r"<([^>]+)>(\.*)", part):
+            made.append(f"Ar {found[1]} ..." if found[2] else f"Ar {found[1]}")
         elif part.startswith("-"):
             made.append("Fl " + part[1:].replace("-", "\\-", 1) if part.startswith("--") else f"Fl {part[1:]}")
         else:
