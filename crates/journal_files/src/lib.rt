@@ -45,5 +45,5 @@ mod moments;
 mod order;
 
 pub use laws::files_are_in_order;
-pub use moments::is_moment;
+pub use moments::{is_moment, not_before};
 pub use order::{Kind, Order, Part};

@@ -44,8 +44,8 @@ pub fn is_moment(line: &str) -> bool
     fits(PATTERN.as_bytes(), line.as_bytes())
 }
 
-/// Tests whether a moment isn't before another. Texts of moments are in their order.
-pub(crate) fn not_before(moment: &[u8], other: &[u8]) -> bool
+/// Tests whether a moment isn't before another, given their lines. Nothing is before the empty line.
+pub fn not_before(moment: &[u8], other: &[u8]) -> bool
     ensures { result ≡ not_before moment.now other.now }
 {
     for i in 0..other.len() {

@@ -6,7 +6,7 @@
 //! - `until`: up to which step is replayed (`specs/Until.antt`)
 //! - `said`: what routers said in their reports beside what the state keeps (`path_sayings`)
 //! - `base`: the base of the file that is read (`specs/Bases.antt`)
-//! - `run`: what is known, line by line
+//! - `run`: what is known, line by line (`specs/Runs.antt`)
 //! - `ends`: how a replay ends, in words and as an exit status (`specs/Ends.antt`)
 //! - `shown`: lines that show something
 //! - `compared`: which links and LSPs differ

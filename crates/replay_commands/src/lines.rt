@@ -1,6 +1,4 @@
 //! The lines of a file, in bounded memory.
-ghost use Rattle.std.specs.Prelude.{◌≤◌, IfOk, vec_len};
-
 use crate::ends::ReplayEnd;
 use std::io;
 use std::io::{BufRead, ErrorKind, Read};

@@ -1,7 +1,12 @@
 //! What is known, line by line.
-ghost use Rattle.std.specs.Prelude.{OnOk};
+ghost use Rattle.std.specs.Prelude.{◌≡◌, true, Ok, IfOk, OnOk};
+ghost use Rattle.te_base.specs.LinkText.{base_of};
+ghost use Rattle.journal_files.specs.Order.{has_steps};
 ghost use Rattle.journal_replay.specs.Replays.{point_of, Takes};
 ghost use Rattle.journal_replay.specs.declared.taken.Taken.TheVariants.{AsRecorded};
+ghost use Rattle.replay_commands.specs.Bases.{TakesLine};
+ghost use Rattle.replay_commands.specs.Runs.{BeginsNetwork, EndsText, EndsBase, Replays, Knows, Goes};
+ghost use Rattle.replay_commands.specs.Until.{is_past, has_passed};
 
 use crate::base::FileBase;
 use crate::ends::ReplayEnd;
@@ -9,7 +14,7 @@ use crate::said::note_last;
 use crate::until::Until;
 use base_lines::BaseReader;
 use history_core::Database;
-use journal_files::{Kind, Order, Part, is_moment};
+use journal_files::{Kind, Order, Part, is_moment, not_before};
 use journal_replay::{Taken, replay_line};
 use server_rules::PathWords;
 use std::alloc::{AllocError, Global};
@@ -51,7 +56,9 @@ fn replay_step(
 }
 
 /// Reads the network of a link text.
-fn network_of(alloc: Global, text: &str, bad_line: ReplayEnd) -> Result<TeBase, ReplayEnd> {
+fn network_of(alloc: Global, text: &str, bad_line: ReplayEnd) -> Result<TeBase, ReplayEnd>
+    ensures { IfOk result (λ te. base_of text.now ≡ Ok te) }
+{
     match TeBase::read(alloc, text) {
         Ok(te) => Ok(te),
         Err(TeFault::OutOfMemory) => Err(ReplayEnd::OutOfMemory),
@@ -194,19 +201,27 @@ impl Run {
     }
 
     /// Tests whether the file has come to its steps.
-    pub(crate) fn has_steps(&self) -> bool {
+    pub(crate) fn has_steps(&self) -> bool
+        ensures { result ≡ has_steps self.now.order.part }
+    {
         matches!(self.order.part, Part::Steps)
     }
 
     /// Adds a line of the file's link text.
-    fn add_text(&mut self, line: &str) -> Result<(), AllocError> {
+    fn add_text(&mut self, line: &str) -> Result<(), AllocError>
+        ensures order { self.new.order ≡ self.old.order }
+        ensures database { self.new.database ≡ self.old.database }
+    {
         self.text.push_str(line)?;
         self.text.push_str("\n")
     }
 
     /// Begins with the network of the first file's link text: at once, with nothing reported, if its steps are those of
     /// the run's start, else once its base is whole.
-    fn begin_network(&mut self) -> Result<(), ReplayEnd> {
+    fn begin_network(&mut self) -> Result<(), ReplayEnd>
+        ensures order { self.new.order ≡ self.old.order }
+        ensures begins { OnOk result (BeginsNetwork self.old self.new) }
+    {
         let te = network_of(self.alloc, &self.text, self.bad_line())?;
         self.first = self.order.next;
         self.known = mem::replace(&mut self.text, String::new(self.alloc));
@@ -219,7 +234,10 @@ impl Run {
     }
 
     /// Ends the link text of a file. That of a later file is the one of the first.
-    fn end_text(&mut self) -> Result<(), ReplayEnd> {
+    fn end_text(&mut self) -> Result<(), ReplayEnd>
+        ensures order { self.new.order ≡ self.old.order }
+        ensures ends { OnOk result (EndsText self.old.database self.old self.new) }
+    {
         let has_base = !self.has_steps();
         let bad_line = self.bad_line();
         let Some(database) = &self.database else {
@@ -236,7 +254,12 @@ impl Run {
     }
 
     /// Takes a line of a base, or the one after it.
-    fn take_base(&mut self, line: &str) -> Result<(), ReplayEnd> {
+    fn take_base(&mut self, line: &str) -> Result<(), ReplayEnd>
+        ensures order { self.new.order ≡ self.old.order }
+        ensures database { self.new.database ≡ self.old.database }
+        ensures first { self.new.first ≡ self.old.first }
+        ensures takes { OnOk result (TakesLine self.old.base line.now true self.new.base) }
+    {
         if self.base.take(self.alloc, line)? {
             Ok(())
         } else {
@@ -245,7 +268,10 @@ impl Run {
     }
 
     /// Ends a base. The replay begins at that of the first file, and a later file's lacks no line.
-    fn end_base(&mut self) -> Result<(), ReplayEnd> {
+    fn end_base(&mut self) -> Result<(), ReplayEnd>
+        ensures order { self.new.order ≡ self.old.order }
+        ensures ends { OnOk result (EndsBase self.old self.old.base self.new) }
+    {
         let bad_line = self.bad_line();
         let base = mem::replace(&mut self.base, FileBase::None);
         if let Some(database) = base.end(self.alloc, self.first, bad_line)? {
@@ -256,7 +282,10 @@ impl Run {
     }
 
     /// Replays a step.
-    fn take_step(&mut self, line: &str) -> Result<(), ReplayEnd> {
+    fn take_step(&mut self, line: &str) -> Result<(), ReplayEnd>
+        ensures order { self.new.order ≡ self.old.order }
+        ensures replays { OnOk result (Replays self.old.database line.now self.new.database) }
+    {
         let bad_line = self.bad_line();
         match &mut self.database {
             Some(database) => {
@@ -269,7 +298,9 @@ impl Run {
 
     /// Tests whether the next line is past what is asked for. A line that isn't one of a step or with the time counts
     /// as the next step's.
-    fn is_past(&self, line: &str, until: &Until) -> bool {
+    fn is_past(&self, line: &str, until: &Until) -> bool
+        ensures { result ≡ is_past until.now self.now.order line.now }
+    {
         if !self.has_steps() {
             return false;
         }
@@ -279,33 +310,46 @@ impl Run {
         until.is_past_step(self.order.next)
     }
 
+    /// Takes a line of this kind.
+    fn take_kind(&mut self, kind: Kind, line: &str) -> Result<(), ReplayEnd>
+        ensures order { self.new.order ≡ self.old.order }
+        ensures knows { OnOk result (Knows kind self.old line.now self.new) }
+    {
+        match kind {
+            Kind::Head | Kind::Moment => Ok(()),
+            Kind::Text => Ok(self.add_text(line)?),
+            Kind::Mark => self.end_text(),
+            Kind::Base => self.take_base(line),
+            Kind::End => {
+                self.take_base(line)?;
+                self.end_base()
+            }
+            Kind::Step => self.take_step(line),
+            Kind::Bad => Err(self.bad_line()),
+        }
+    }
+
     /// Takes the next line of a file, unless it is past what is asked for: then nothing has changed.
-    pub(crate) fn take(&mut self, line: &str, until: &Until) -> Result<After, ReplayEnd> {
+    pub(crate) fn take(&mut self, line: &str, until: &Until) -> Result<After, ReplayEnd>
+        ensures { IfOk result (λ after. Goes until.now self.old line.now after self.new) }
+    {
         if self.is_past(line, until) {
             return Ok(After::Enough);
         }
         self.line = self.line.saturating_add(1);
-        match self.order.take(self.alloc, line)? {
-            Kind::Head | Kind::Moment => {}
-            Kind::Text => self.add_text(line)?,
-            Kind::Mark => self.end_text()?,
-            Kind::Base => self.take_base(line)?,
-            Kind::End => {
-                self.take_base(line)?;
-                self.end_base()?;
-            }
-            Kind::Step => self.take_step(line)?,
-            Kind::Bad => return Err(self.bad_line()),
-        }
+        let kind = self.order.take(self.alloc, line)?;
+        self.take_kind(kind, line)?;
         Ok(After::More)
     }
 
     /// Tests whether this lies before what was replayed.
-    pub(crate) fn has_passed(&self, until: &Until) -> bool {
+    pub(crate) fn has_passed(&self, until: &Until) -> bool
+        ensures { result ≡ has_passed until.now self.now.order }
+    {
         match until {
             Until::End => false,
-            Until::Step(last) => self.order.next > last.saturating_add(1),
-            Until::Moment(last) => self.order.moment.as_slice() > last.as_bytes(),
+            Until::Step(last) => self.order.next.saturating_sub(1) > *last,
+            Until::Moment(last) => !not_before(last.as_bytes(), self.order.moment.as_slice()),
         }
     }
 }

@@ -1,9 +1,9 @@
 //! Up to which step is replayed.
 ghost use Rattle.std.specs.Prelude.{◌≡◌};
-ghost use Rattle.replay_commands.specs.Until.{is_past_step, is_before_step};
+ghost use Rattle.replay_commands.specs.Until.{is_past_step, is_past_moment, is_before_step};
 
 use asks::long_number_in;
-use journal_files::is_moment;
+use journal_files::{is_moment, not_before};
 use std::alloc::{AllocError, Global};
 
 /// Up to which step is replayed.
@@ -51,11 +51,12 @@ impl Until {
         }
     }
 
-    /// Tests whether the steps after this line with the time aren't replayed any more. Lines of moments are in the
-    /// order of time.
-    pub(crate) fn is_past_moment(&self, line: &str) -> bool {
+    /// Tests whether the steps after this line with the time aren't replayed any more.
+    pub(crate) fn is_past_moment(&self, line: &str) -> bool
+        ensures { result ≡ is_past_moment self.now line.now }
+    {
         match self {
-            Until::Moment(last) => line.as_bytes() > last.as_bytes(),
+            Until::Moment(last) => !not_before(last.as_bytes(), line.as_bytes()),
             _ => false,
         }
     }

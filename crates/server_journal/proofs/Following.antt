@@ -21,20 +21,33 @@ use Rattle.journal_writing.proofs.Seen.{from_place, of_all}
 use Rattle.journal_writing.specs.Texts.{lines_of}
 use Rattle.shared_pce.specs.Turns.{GivesIf}
 use Rattle.shared_pce.specs.declared.rolled.RolledSteps.{RolledSteps}
-use Rattle.server_journal.specs.Writes.{Writes, AreLines, GoesOn}
+use Rattle.server_journal.specs.Writes.{Writes, WritesOn, GoesOn}
 use Rattle.server_journal.proofs.Lines.{text_joined, moments_first, lines_only}
 
--- the journal goes on by steps that come next
-goes_by : (text : Ted) (past : List (Happening Event)) (from to : ℕ) (steps : List Step) (a b : Option (List ℕ)) → take (length steps) (drop from (steps_at text past)) ≡ steps
-    → to ≡ from + length steps → Writes from steps a b → GoesOn text past from to a b
-goes_by text past from to steps a b is next writes = record {
+-- steps that come next are written
+writes_next : (text : Ted) (past : List (Happening Event)) (from to : ℕ) (steps : List Step) (a b : Option (List ℕ)) → take (length steps) (drop from (steps_at text past)) ≡ steps
+    → to ≡ from + length steps → Writes from steps a b → WritesOn text past from to a b
+writes_next text past from to steps a b is next writes = record {
   count = length steps;
   next = next;
   taken = ap length is;
-  lines = writes.moments ++ lines_of from steps;
-  are = subst (λ (s : List Step). AreLines from s (writes.moments ++ lines_of from steps)) (sym is) (moments_first from steps writes.moments (lines_of from steps) writes.are (lines_only from steps));
-  written = subst (λ (t : List ℕ). Appends a b t) (sym (text_joined writes.moments (lines_of from steps))) writes.written;
+  writes = subst (λ (s : List Step). Writes from s a b) (sym is) writes;
 }
+
+-- the journal goes on by one call
+pub by_one : (text : Ted) (past : List (Happening Event)) (from to : ℕ) (a b : Option (List ℕ)) → WritesOn text past from to a b → GoesOn text past from to a b
+by_one text past from to a b one =
+    let steps : List Step = take one.count (drop from (steps_at text past)) in
+    let moments : List (List ℕ) = one.writes.moments in
+    let lines : List (List ℕ) = lines_of from steps in
+    record {
+      count = one.count;
+      next = one.next;
+      taken = one.taken;
+      lines = moments ++ lines;
+      are = moments_first from steps moments lines one.writes.are (lines_only from steps);
+      written = subst (λ (t : List ℕ). Appends a b t) (sym (text_joined moments lines)) one.writes.written;
+    }
 
 -- ---- by a look
 
@@ -42,11 +55,11 @@ as_many : (n : ℕ) (xs : List Step) → take (length (take n xs)) xs ≡ take n
 as_many n xs = ap (λ (k : ℕ). take k xs) (length-take n xs) ∙ take_min n xs
 
 pub followed : (text : Ted) (past : List (Happening Event)) (from to : ℕ) (seen : List Step) (a b : Option (List ℕ)) → AreFrom from (database_at text past) seen
-    → to ≡ from + length seen → Writes from seen a b → GoesOn text past from to a b
+    → to ≡ from + length seen → Writes from seen a b → WritesOn text past from to a b
 followed text past from to seen a b are next writes =
     let rest : List Step = drop from (steps_at text past) in
     let is : seen ≡ take most_seen rest = of_all from (database_at text past) (steps_at text past) seen (are_all text past) are in
-    goes_by text past from to seen a b (ap (λ (s : List Step). take (length s) rest) is ∙ as_many most_seen rest ∙ sym is) next writes
+    writes_next text past from to seen a b (ap (λ (s : List Step). take (length s) rest) is ∙ as_many most_seen rest ∙ sym is) next writes
 
 -- as many are seen as come next, 512 at most
 pub all_that_come : (text : Ted) (past : List (Happening Event)) (from : ℕ) (seen : List Step) → AreFrom from (database_at text past) seen
@@ -66,23 +79,24 @@ same_steps text past = rolls_leave (empty text) past
 
 pub rolled_on : (text : Ted) (past : List (Happening Event)) (from to : ℕ) (a b : Option (List ℕ)) → (database_at text past).rolled ≤ from
     → to ≡ from + length (drop (from - (database_at text past).rolled) (database_at text past).history)
-    → Writes from (drop (from - (database_at text past).rolled) (database_at text past).history) a b → GoesOn text (past ++ Rolled ∷ []) from to a b
+    → Writes from (drop (from - (database_at text past).rolled) (database_at text past).history) a b → WritesOn text (past ++ Rolled ∷ []) from to a b
 rolled_on text past from to a b begun next writes =
     let d : Content = database_at text past in
     let rest : List Step = drop (from - d.rolled) d.history in
     let is : rest ≡ drop from (steps_at text past) = from_place from d (steps_at text past) (are_all text past) begun in
     let all : drop from (steps_at text (past ++ Rolled ∷ [])) ≡ rest = ap (drop from) (same_steps text past) ∙ sym is in
-    goes_by text (past ++ Rolled ∷ []) from to rest a b (ap (take (length rest)) all ∙ take-length rest) next writes
+    writes_next text (past ++ Rolled ∷ []) from to rest a b (ap (take (length rest)) all ∙ take-length rest) next writes
 
-pub not_rolled : (text : Ted) (past : List (Happening Event)) (from : ℕ) (a : Option (List ℕ)) → GoesOn text past from from a a
-not_rolled text past from a = record {
+pub none_written : (text : Ted) (past : List (Happening Event)) (from : ℕ) (a : Option (List ℕ)) → WritesOn text past from from a a
+none_written text past from a = record {
   count = 0;
   next = omega arith;
   taken = refl;
-  lines = [];
-  are = tt;
-  written = Appends-nil a;
+  writes = record { moments = []; are = tt; written = Appends-nil a };
 }
+
+pub stays : (text : Ted) (past : List (Happening Event)) (from : ℕ) (a : Option (List ℕ)) → GoesOn text past from from a a
+stays text past from a = by_one text past from from a a (none_written text past from a)
 
 -- once the rolled steps are written, all are
 all_written : (text : Ted) (past : List (Happening Event)) (from to : ℕ) → (database_at text past).rolled ≤ from → from ≤ (database_at text past).rolled + length (database_at text past).history

@@ -15,8 +15,8 @@ use Rattle.history_tokens.specs.declared.rule.Happening.TheVariants.{Took, Rolle
 use Rattle.history_seats.specs.Past.{steps_from, steps_at}
 use Rattle.line_words.specs.Written.{text_of}
 use Rattle.journal_writing.specs.Steps.{most_seen}
-use Rattle.server_journal.specs.Writes.{AreLines, GoesOn}
-use Rattle.server_journal.proofs.Following.{not_rolled}
+use Rattle.server_journal.specs.Writes.{WritesOn, AreLines, GoesOn}
+use Rattle.server_journal.proofs.Following.{by_one, stays}
 use Rattle.server_journal.proofs.Lines.{text_joined, lines_joined}
 
 -- ---- of what more has happened, the steps stand where they stood
@@ -92,7 +92,7 @@ further text past more from mid to a b c one begins other =
 
 -- more has happened, and nothing was written
 pub seen_on : (text : Ted) (past more : List (Happening Event)) (from to : ℕ) (a b : Option (List ℕ)) → GoesOn text past from to a b → IsPrefix past more → GoesOn text more from to a b
-seen_on text past more from to a b one begins = further text past more from to to a b b one begins (not_rolled text more to b)
+seen_on text past more from to a b one begins = further text past more from to to a b b one begins (stays text more to b)
 
 -- after a turn more was seen, and nothing else was written
 pub seen_after : (text : Ted) (past mid more : List (Happening Event)) (from turned to last : ℕ) (a b c : Option (List ℕ)) → GoesOn text past from turned a b → IsPrefix past mid → GoesOn text mid turned to b c → IsPrefix mid more → last ≡ to
@@ -103,8 +103,9 @@ seen_after text past mid more from turned to last a b c one begins other on same
 
 -- a turn goes on by its second part, if that ends well
 pub then_more : {T E : Type 0} (r : Result T E) (text : Ted) (past more : List (Happening Event)) (from mid to : ℕ) (a b c : Option (List ℕ))
-    → GoesOn text past from mid a b → IsPrefix past more → OnOk r (GoesOn text more mid to b c) → OnOk r (GoesOn text more from to a c)
-then_more (Ok x) text past more from mid to a b c one begins other = further text past more from mid to a b c one begins other
+    → WritesOn text past from mid a b → IsPrefix past more → OnOk r (WritesOn text more mid to b c) → OnOk r (GoesOn text more from to a c)
+then_more (Ok x) text past more from mid to a b c one begins other =
+    further text past more from mid to a b c (by_one text past from mid a b one) begins (by_one text more mid to b c other)
 then_more (Err e) text past more from mid to a b c one begins other = tt
 
 -- if none comes next, all were written

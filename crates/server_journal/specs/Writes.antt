@@ -35,8 +35,15 @@ AreLines place [] lines = AreMoments lines
 AreLines place (s ∷ steps) lines =
     (moments : List (List ℕ)) × (rest : List (List ℕ)) × AreMoments moments × (lines ≡ moments ++ line_of (placed place s) ∷ rest) × AreLines (place + 1) steps rest
 
--- The journal has gone on from one place to another, through the one history of which this has been seen: each step in between
--- was written, in its order, and no other. So many steps were taken from there on.
+-- One call has written the journal on from one place to another, through the one history of which this has been seen: each step
+-- in between, so many, in its order, and no other. Lines with the time may stand in front of them, and nowhere else.
+pub record WritesOn (text : Ted) (past : List (Happening Event)) (from to : ℕ) (old new : Option (List ℕ)) : Type 0 where
+  pub count : ℕ
+  pub next : to ≡ from + count
+  pub taken : length (take count (drop from (steps_at text past))) ≡ count
+  pub writes : Writes from (take count (drop from (steps_at text past))) old new
+
+-- The same of several calls, one after the other: lines with the time may stand in front of the steps of each.
 pub record GoesOn (text : Ted) (past : List (Happening Event)) (from to : ℕ) (old new : Option (List ℕ)) : Type 0 where
   pub count : ℕ
   pub next : to ≡ from + count

@@ -3,7 +3,7 @@ ghost use Rattle.std.specs.Prelude.{◌≡◌, [], drop, OnOk, IfOk, IfNone};
 ghost use mathlib.Core.List.{IsPrefix};
 ghost use Rattle.history_seats.specs.Past.{steps_at};
 ghost use Rattle.server_journal.specs.Bases.{base_at};
-ghost use Rattle.server_journal.specs.Writes.{GoesOn};
+ghost use Rattle.server_journal.specs.Writes.{WritesOn, GoesOn};
 ghost use Rattle.server_journal.specs.declared.keeper.Next.TheVariants.{End};
 
 use crate::steps::{Progress, begin, follow, roll, see_base};
@@ -57,7 +57,7 @@ fn follow_on<R: Wait + Clock, B: Brands, W: Write>(
     is_over: bool,
 ) -> Result<Next, JournalFault>
     ensures begins { IsPrefix seat.old.seen seat.new.seen }
-    ensures goes_on { OnOk result (GoesOn B.text seat.new.seen progress.old.next progress.new.next (W.contents writer.old) (W.contents writer.new)) }
+    ensures writes { OnOk result (WritesOn B.text seat.new.seen progress.old.next progress.new.next (W.contents writer.old) (W.contents writer.new)) }
     ensures whole { IfOk result (λ next. next ≡ End → drop progress.new.next (steps_at B.text seat.new.seen) ≡ []) }
 {
     let (rt, alloc) = (context.rt, context.alloc);
@@ -77,6 +77,7 @@ fn follow_on<R: Wait + Clock, B: Brands, W: Write>(
 }
 
 /// Rolls the history if it is due; else writes the steps that come next.
+#[tactic(auto, using(crate::proofs::Following::by_one))]
 fn turn<R: Wait + Clock, B: Brands, W: Write>(
     context: &Context<'_, R, B>,
     seat: &mut Seat<B>,
@@ -184,7 +185,7 @@ fn next_file<R: Wait + Clock, B: Brands>(
 }
 
 /// Writes each step until no more come, or the history was rolled and the file is full. Then it returns the next file.
-#[tactic(auto, using(crate::proofs::Onward::further, crate::proofs::Onward::seen_on, crate::proofs::Following::not_rolled))]
+#[tactic(auto, using(crate::proofs::Onward::further, crate::proofs::Onward::seen_on, crate::proofs::Following::stays))]
 fn write_on<R: Wait + Clock, B: Brands, W: Write>(
     context: &Context<'_, R, B>,
     folder: &JournalFolder<'_>,

@@ -6,7 +6,7 @@ ghost use Rattle.history_seats.specs.Past.{database_at, steps_at};
 ghost use Rattle.journal_writing.specs.Steps.{most_seen};
 ghost use Rattle.shared_pce.specs.Turns.{SeesMore};
 ghost use Rattle.server_journal.specs.Bases.{base_at, Begins};
-ghost use Rattle.server_journal.specs.Writes.{Notes, Writes, GoesOn};
+ghost use Rattle.server_journal.specs.Writes.{Notes, Writes, WritesOn};
 
 use base_lines::PlacedBase;
 use history_core::Step;
@@ -122,7 +122,7 @@ pub(crate) fn follow<R: Wait + Clock, B: Brands, W: Write>(
     ensures sees { SeesMore seat.old seat.new }
     ensures next { IfOk result (λ count. progress.new.next ≡ progress.old.next + count) }
     ensures count { IfOk result (λ count. count ≡ length (take most_seen (drop progress.old.next (steps_at B.text seat.new.seen)))) }
-    ensures goes_on { OnOk result (GoesOn B.text seat.new.seen progress.old.next progress.new.next (W.contents writer.old) (W.contents writer.new)) }
+    ensures writes { OnOk result (WritesOn B.text seat.new.seen progress.old.next progress.new.next (W.contents writer.old) (W.contents writer.new)) }
 {
     let look = StepsLook {
         from: progress.next,
@@ -166,7 +166,7 @@ fn write_rest<R: Clock, W: Write>(
 }
 
 /// Rolls the history if it is due, and writes those of its steps that weren't written yet. Returns whether it was rolled.
-#[tactic(auto, using(crate::proofs::Following::rolled_on, crate::proofs::Following::not_rolled))]
+#[tactic(auto, using(crate::proofs::Following::rolled_on, crate::proofs::Following::none_written))]
 pub(crate) fn roll<R: Wait + Clock, B: Brands, W: Write>(
     rt: &R,
     alloc: Global,
@@ -178,7 +178,7 @@ pub(crate) fn roll<R: Wait + Clock, B: Brands, W: Write>(
 ) -> Result<bool, JournalFault>
     ensures begins { IsPrefix seat.old.seen seat.new.seen }
     ensures all_written { result ≡ Ok true → progress.new.next ≡ steps_of (database_at B.text seat.new.seen) }
-    ensures goes_on { OnOk result (GoesOn B.text seat.new.seen progress.old.next progress.new.next (W.contents writer.old) (W.contents writer.new)) }
+    ensures writes { OnOk result (WritesOn B.text seat.new.seen progress.old.next progress.new.next (W.contents writer.old) (W.contents writer.new)) }
 {
     match shared.take_rolled_if(rt, seat, at)? {
         Some(rolled) => {

@@ -10,4 +10,4 @@ pub returns-then-not-branch-clause-goes_on : goal.returns-then-not-branch-clause
 returns-then-not-branch-clause-goes_on g c =
     let contents = g.W.Write.contents in
     then_more c.follow_on.result g.B.StepNumbers.text c.roll.new.seat.seen c.follow_on.new.seat.seen c.args.progress.now.next c.roll.new.progress.next c.follow_on.new.progress.next
-    (contents c.args.writer.now) (contents c.roll.new.writer) (contents c.follow_on.new.writer) c.in_ok-roll.ensures.goes_on c.follow_on.ensures.begins c.follow_on.ensures.goes_on
+    (contents c.args.writer.now) (contents c.roll.new.writer) (contents c.follow_on.new.writer) c.in_ok-roll.ensures.writes c.follow_on.ensures.begins c.follow_on.ensures.writes

@@ -1,13 +1,13 @@
 use Rattle.std.proofs.Common.{refl}
 use Rattle.history_tokens.proofs.Beginnings.{prefix_same, prefix_trans}
-use Rattle.server_journal.proofs.Following.{not_rolled}
+use Rattle.server_journal.proofs.Following.{stays}
 use Rattle.server_journal.proofs.Onward.{further, seen_after}
 use Rattle.server_journal.proofs.keeper.write_on.Goals as goal
 
 pub loop-init : goal.loop-init
 loop-init g c = record {
   begins = prefix_same c.args.seat.now.seen c.args.seat.now.seen refl;
-  goes_on = not_rolled g.B.StepNumbers.text c.args.seat.now.seen c.args.progress.now.next (g.W.Write.contents c.args.writer.now);
+  goes_on = stays g.B.StepNumbers.text c.args.seat.now.seen c.args.progress.now.next (g.W.Write.contents c.args.writer.now);
 }
 
 pub loop-preserved-in-Turn : goal.loop-preserved-in-Turn
